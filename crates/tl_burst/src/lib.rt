@@ -1,0 +1,4 @@
+//! TileLink's messages, and the bursts of beats that carry them.
+#![tactic(auto)]
+
+pub mod message;

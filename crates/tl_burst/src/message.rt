@@ -1,0 +1,77 @@
+//! Messages: the control fields of their channel, and the data of all of their beats.
+
+ghost use Rattle.std.specs.Prelude.{◌≤◌};
+
+use tl_beat::opcode::{OpA, OpB, OpC, OpD};
+
+/// A message of channel A.
+#[derive(Clone, Copy, Debug, PartialEq, Eq)]
+pub struct MessageA<const W: usize> {
+    pub opcode: OpA,
+    pub param: u8,
+    pub size: u8,
+    pub source: u8,
+    pub address: u32,
+    pub payload: [u8; 64],
+    pub mask: u64,
+    pub corrupt: u16,
+    pub ghost small: { size ≤ 6 },
+}
+
+/// A message of channel B.
+#[derive(Clone, Copy, Debug, PartialEq, Eq)]
+pub struct MessageB<const W: usize> {
+    pub opcode: OpB,
+    pub param: u8,
+    pub size: u8,
+    pub source: u8,
+    pub address: u32,
+    pub payload: [u8; 64],
+    pub mask: u64,
+    pub corrupt: u16,
+    pub ghost small: { size ≤ 6 },
+}
+
+/// A message of channel C.
+#[derive(Clone, Copy, Debug, PartialEq, Eq)]
+pub struct MessageC<const W: usize> {
+    pub opcode: OpC,
+    pub param: u8,
+    pub size: u8,
+    pub source: u8,
+    pub address: u32,
+    pub payload: [u8; 64],
+    pub corrupt: u16,
+    pub ghost small: { size ≤ 6 },
+}
+
+/// A message of channel D.
+#[derive(Clone, Copy, Debug, PartialEq, Eq)]
+pub struct MessageD<const W: usize> {
+    pub opcode: OpD,
+    pub param: u8,
+    pub size: u8,
+    pub source: u8,
+    pub sink: u8,
+    pub denied: bool,
+    pub payload: [u8; 64],
+    pub corrupt: u16,
+    pub ghost small: { size ≤ 6 },
+}
+
+/// A message of channel E, the GrantAck.
+#[derive(Clone, Copy, Debug, PartialEq, Eq)]
+pub struct MessageE {
+    pub sink: u8,
+}
+
+/// A message of any channel. Payload byte `W * i + j` is lane `j` of beat `i`, mask bit `W * i + j`
+/// likewise (channels A and B), and corrupt bit `i` is that of beat `i`.
+#[derive(Clone, Copy, Debug, PartialEq, Eq)]
+pub enum Message<const W: usize> {
+    A(MessageA<W>),
+    B(MessageB<W>),
+    C(MessageC<W>),
+    D(MessageD<W>),
+    E(MessageE),
+}

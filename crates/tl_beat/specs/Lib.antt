@@ -1,2 +1,6 @@
+pub mod Digits
+pub mod Line
+pub mod Names
 pub mod Opcode
+pub mod Reading
 pub mod Width

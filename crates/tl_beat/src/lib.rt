@@ -2,4 +2,5 @@
 #![tactic(auto)]
 
 pub mod beat;
+pub mod fault;
 pub mod opcode;

@@ -1,5 +1,5 @@
 -- Hexadecimal digits, lower-case, the highest first.
-use Rattle.std.specs.Prelude.{ℕ, zero, suc, ◌+◌, ◌-◌, ◌*◌, ◌/◌, ◌%◌, ◌^◌, Bool, true, false, ◌&&◌, ◌||◌, List, [], ◌∷◌, ◌++◌, length, Option, Some, None, ◌==◌, nat_le, nat_lt, if◌then◌else◌}
+use Rattle.std.specs.Prelude.{ℕ, zero, suc, ◌+◌, ◌-◌, ◌*◌, ◌/◌, ◌%◌, ◌^◌, Bool, true, false, ◌&&◌, ◌||◌, List, [], ◌∷◌, ◌++◌, Option, Some, None, ◌==◌, nat_le, nat_lt, if◌then◌else◌}
 
 -- ---- from numbers to text
 
@@ -65,7 +65,8 @@ lanes_before lanes (c ∷ d ∷ cs) = lanes_before ((16 * digit_value c + digit_
 
 abbrev pub is_dash : List ℕ → Bool
 is_dash [] = false
-is_dash (c ∷ cs) = (c == 45) && (length cs == 0)
+is_dash (c ∷ []) = c == 45
+is_dash (c ∷ d ∷ cs) = false
 
 -- the field is a dash, or the digits of w lanes
 abbrev pub is_data : ℕ → List ℕ → Bool
@@ -77,7 +78,8 @@ data_of field = if is_dash field then None else Some (lanes_before [] field)
 -- the field is 0 or 1
 abbrev pub is_bit : List ℕ → Bool
 is_bit [] = false
-is_bit (c ∷ cs) = ((c == 48) || (c == 49)) && (length cs == 0)
+is_bit (c ∷ []) = (c == 48) || (c == 49)
+is_bit (c ∷ d ∷ cs) = false
 
 abbrev pub bit_of : List ℕ → Bool
 bit_of [] = false

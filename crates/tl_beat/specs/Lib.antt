@@ -1,4 +1,5 @@
 pub mod Digits
+pub mod FromLeft
 pub mod Line
 pub mod Names
 pub mod Opcode

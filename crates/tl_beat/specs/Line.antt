@@ -1,5 +1,5 @@
 -- The one line of text that spells a beat, and what is wrong with a line that spells none.
-use Rattle.std.specs.Prelude.{◌≡◌, ◌<◌, ◌≤◌, ◌^◌, ◌-◌, ◌/◌, ℕ, Bool, true, false, not, ◌&&◌, ◌||◌, List, [], ◌∷◌, ◌++◌, length, take, All, Option, Some, None, is_none, option_map, nat_lt, nat_le, ◌==◌, if◌then◌else◌, slice_index_or}
+use Rattle.std.specs.Prelude.{◌≡◌, ◌<◌, ◌^◌, ◌-◌, ◌/◌, ℕ, Bool, true, false, not, ◌&&◌, ◌||◌, List, [], ◌∷◌, ◌++◌, length, take, All, Option, Some, None, is_none, option_map, nat_lt, ◌==◌, if◌then◌else◌, slice_index_or}
 use Rattle.std.specs.List.{find}
 use Rattle.std.specs.Io.BufRead.{ends_with_byte}
 use Rattle.tl_beat.specs.declared.beat.Link.{Link}
@@ -7,10 +7,6 @@ use Rattle.tl_beat.specs.declared.beat.Beat.{Beat}
 use Rattle.tl_beat.specs.declared.beat.Beat.TheVariants.{A, B, C, D, E}
 use Rattle.tl_beat.specs.declared.opcode.Channel.{Channel}
 use Rattle.tl_beat.specs.declared.opcode.Channel.TheVariants as channel
-use Rattle.tl_beat.specs.declared.opcode.OpA.{OpA}
-use Rattle.tl_beat.specs.declared.opcode.OpB.{OpB}
-use Rattle.tl_beat.specs.declared.opcode.OpC.{OpC}
-use Rattle.tl_beat.specs.declared.opcode.OpD.{OpD}
 use Rattle.tl_beat.specs.declared.fault.LineFault.{LineFault}
 use Rattle.tl_beat.specs.declared.fault.LineFault.TheVariants.{F1, F2, F3, F4, F5, F6}
 use Rattle.tl_beat.specs.Opcode.{a_code, b_code, c_code, d_code, a_carries_data, b_carries_data, c_carries_data, d_carries_data, a_with, b_with, c_with, d_with}
@@ -88,7 +84,8 @@ channels = channel.A ∷ channel.B ∷ channel.C ∷ channel.D ∷ channel.E ∷
 -- the channel whose letter the field is
 abbrev pub channel_named : List ℕ → Option Channel
 channel_named [] = None
-channel_named (c ∷ cs) = if length cs == 0 then find (λ channel. letter_of channel == c) channels else None
+channel_named (c ∷ []) = find (λ channel. c == letter_of channel) channels
+channel_named (c ∷ d ∷ cs) = None
 
 -- any field
 abbrev pub is_any : List ℕ → Bool

@@ -1,5 +1,5 @@
 -- What a line is read as, by the pieces between its spaces.
-use Rattle.std.specs.Prelude.{◌≡◌, refl, ℕ, ◌/◌, Bool, true, false, not, ◌||◌, List, [], ◌∷◌, length, Option, Some, None, is_some, Result, Ok, Err, nat_lt, ◌==◌, if◌then◌else◌}
+use Rattle.std.specs.Prelude.{◌≡◌, refl, ℕ, ◌/◌, Bool, true, false, not, ◌||◌, List, [], ◌∷◌, length, Option, Some, None, is_some, Result, Ok, Err, nat_lt, if◌then◌else◌}
 use Rattle.std.specs.Io.BufRead.{ends_with_byte}
 use Rattle.tl_beat.specs.declared.beat.Link.{Link}
 use Rattle.tl_beat.specs.declared.beat.BeatA.{BeatA}
@@ -10,15 +10,11 @@ use Rattle.tl_beat.specs.declared.beat.Beat.{Beat}
 use Rattle.tl_beat.specs.declared.beat.Beat.TheVariants as beat
 use Rattle.tl_beat.specs.declared.opcode.Channel.{Channel}
 use Rattle.tl_beat.specs.declared.opcode.Channel.TheVariants as channel
-use Rattle.tl_beat.specs.declared.opcode.OpA.{OpA}
-use Rattle.tl_beat.specs.declared.opcode.OpB.{OpB}
-use Rattle.tl_beat.specs.declared.opcode.OpC.{OpC}
-use Rattle.tl_beat.specs.declared.opcode.OpD.{OpD}
 use Rattle.tl_beat.specs.declared.fault.LineFault.{LineFault}
 use Rattle.tl_beat.specs.declared.fault.LineFault.TheVariants.{F1, F2, F3, F4, F5, F6}
 use Rattle.tl_beat.specs.Opcode.{a_carries_data, b_carries_data, c_carries_data, d_carries_data, a_with, b_with, c_with, d_with}
 use Rattle.tl_beat.specs.Digits.{is_digits, value_of, is_data, data_of, is_bit, bit_of}
-use Rattle.tl_beat.specs.Line.{forms, field, pieces, channel_named, without_last}
+use Rattle.tl_beat.specs.Line.{field, pieces, channel_named, without_last}
 
 infixl 10 ◌>>=◌
 abbrev pub ◌>>=◌ : {A B : Type 0} → Result A LineFault → (A → Result B LineFault) → Result B LineFault
@@ -40,7 +36,7 @@ abbrev pub or_fault : {A : Type 0} → Option A → LineFault → Result A LineF
 or_fault None fault = Err fault
 or_fault (Some x) fault = Ok x
 
--- ---- a beat of fields whose param is at most the channel's greatest, with data where the opcode has it
+-- ---- a beat of numbers: opcode in use, param at most the channel's greatest, data where the opcode has it
 
 abbrev pub at_most : ℕ → ℕ → Result ℕ LineFault
 at_most greatest param = if nat_lt greatest param then Err F5 else Ok param
@@ -52,23 +48,31 @@ agreement false false = Ok refl
 agreement true false = Err F6
 agreement false true = Err F6
 
-abbrev pub beat_a : {w : ℕ} → OpA → ℕ → ℕ → ℕ → ℕ → ℕ → Option (List ℕ) → Bool → Result (BeatA w) LineFault
-beat_a opcode param size source address mask lanes corrupt = do
+abbrev pub made_a : {w : ℕ} → ℕ → ℕ → ℕ → ℕ → ℕ → ℕ → Option (List ℕ) → Bool → Result (BeatA w) LineFault
+made_a opcode param size source address mask lanes corrupt = do
+  opcode ← or_fault (a_with opcode) F4
+  param ← at_most 7 param
   carries ← agreement (is_some lanes) (a_carries_data opcode)
   Ok (record { opcode = opcode; param = param; size = size; source = source; address = address; mask = mask; lanes = lanes; corrupt = corrupt; carries = carries })
 
-abbrev pub beat_b : {w : ℕ} → OpB → ℕ → ℕ → ℕ → ℕ → ℕ → Option (List ℕ) → Bool → Result (BeatB w) LineFault
-beat_b opcode param size source address mask lanes corrupt = do
+abbrev pub made_b : {w : ℕ} → ℕ → ℕ → ℕ → ℕ → ℕ → ℕ → Option (List ℕ) → Bool → Result (BeatB w) LineFault
+made_b opcode param size source address mask lanes corrupt = do
+  opcode ← or_fault (b_with opcode) F4
+  param ← at_most 7 param
   carries ← agreement (is_some lanes) (b_carries_data opcode)
   Ok (record { opcode = opcode; param = param; size = size; source = source; address = address; mask = mask; lanes = lanes; corrupt = corrupt; carries = carries })
 
-abbrev pub beat_c : {w : ℕ} → OpC → ℕ → ℕ → ℕ → ℕ → Option (List ℕ) → Bool → Result (BeatC w) LineFault
-beat_c opcode param size source address lanes corrupt = do
+abbrev pub made_c : {w : ℕ} → ℕ → ℕ → ℕ → ℕ → ℕ → Option (List ℕ) → Bool → Result (BeatC w) LineFault
+made_c opcode param size source address lanes corrupt = do
+  opcode ← or_fault (c_with opcode) F4
+  param ← at_most 7 param
   carries ← agreement (is_some lanes) (c_carries_data opcode)
   Ok (record { opcode = opcode; param = param; size = size; source = source; address = address; lanes = lanes; corrupt = corrupt; carries = carries })
 
-abbrev pub beat_d : {w : ℕ} → OpD → ℕ → ℕ → ℕ → ℕ → Bool → Option (List ℕ) → Bool → Result (BeatD w) LineFault
-beat_d opcode param size source sink denied lanes corrupt = do
+abbrev pub made_d : {w : ℕ} → ℕ → ℕ → ℕ → ℕ → ℕ → Bool → Option (List ℕ) → Bool → Result (BeatD w) LineFault
+made_d opcode param size source sink denied lanes corrupt = do
+  opcode ← or_fault (d_with opcode) F4
+  param ← at_most 3 param
   carries ← agreement (is_some lanes) (d_carries_data opcode)
   Ok (record { opcode = opcode; param = param; size = size; source = source; sink = sink; denied = denied; lanes = lanes; corrupt = corrupt; carries = carries })
 
@@ -88,9 +92,7 @@ reading_a {w} (link ∷ letter ∷ opcode ∷ param ∷ size ∷ source ∷ addr
   mask ← number_in (w / 4) mask
   lanes ← data_in w lanes
   corrupt ← bit_in corrupt
-  opcode ← or_fault (a_with opcode) F4
-  param ← at_most 7 param
-  x ← beat_a opcode param size source address mask lanes corrupt
+  x ← made_a opcode param size source address mask lanes corrupt
   Ok (linked link (beat.A x))
 reading_a _ = Err F1
 
@@ -105,9 +107,7 @@ reading_b {w} (link ∷ letter ∷ opcode ∷ param ∷ size ∷ source ∷ addr
   mask ← number_in (w / 4) mask
   lanes ← data_in w lanes
   corrupt ← bit_in corrupt
-  opcode ← or_fault (b_with opcode) F4
-  param ← at_most 7 param
-  x ← beat_b opcode param size source address mask lanes corrupt
+  x ← made_b opcode param size source address mask lanes corrupt
   Ok (linked link (beat.B x))
 reading_b _ = Err F1
 
@@ -121,9 +121,7 @@ reading_c {w} (link ∷ letter ∷ opcode ∷ param ∷ size ∷ source ∷ addr
   address ← number_in 8 address
   lanes ← data_in w lanes
   corrupt ← bit_in corrupt
-  opcode ← or_fault (c_with opcode) F4
-  param ← at_most 7 param
-  x ← beat_c opcode param size source address lanes corrupt
+  x ← made_c opcode param size source address lanes corrupt
   Ok (linked link (beat.C x))
 reading_c _ = Err F1
 
@@ -138,9 +136,7 @@ reading_d {w} (link ∷ letter ∷ opcode ∷ param ∷ size ∷ source ∷ sink
   denied ← bit_in denied
   lanes ← data_in w lanes
   corrupt ← bit_in corrupt
-  opcode ← or_fault (d_with opcode) F4
-  param ← at_most 3 param
-  x ← beat_d opcode param size source sink denied lanes corrupt
+  x ← made_d opcode param size source sink denied lanes corrupt
   Ok (linked link (beat.D x))
 reading_d _ = Err F1
 

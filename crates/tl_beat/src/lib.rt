@@ -2,5 +2,8 @@
 #![tactic(auto)]
 
 pub mod beat;
+mod channel;
 pub mod fault;
+mod field;
 pub mod opcode;
+pub mod read;

@@ -1,0 +1,11 @@
+pub mod DigitsAt
+pub mod FieldsAt
+pub mod LanesAt
+pub mod Made
+pub mod Pieces
+pub mod Spaces
+pub mod LineAt
+pub mod Faults
+pub mod DigitLaws
+pub mod SpelledLaws
+pub mod ReadLaws

@@ -1,0 +1,110 @@
+//! Reading a line of text as a beat.
+
+ghost use Rattle.std.specs.Prelude.{◌≡◌, ◌==◌, ◌^◌, ◌<◌, ℕ, List, Some, Ok, IfOk, position};
+ghost use Rattle.std.specs.List.{after_first};
+ghost use Rattle.std.specs.Result.{result_err};
+ghost use Rattle.tl_beat.specs.declared.beat.Link.{Link};
+ghost use Rattle.tl_beat.specs.declared.beat.Beat.{Beat};
+ghost use Rattle.tl_beat.specs.FromLeft.{letter_in, spaces_in, body_at, line_at, line_with};
+ghost use Rattle.tl_beat.specs.Line.{Spells, line_fault};
+ghost use Rattle.tl_beat.specs.Reading.{reading};
+ghost use Rattle.tl_beat.specs.Width.{IsWidth};
+
+use crate::beat::{Beat, Link};
+use crate::channel::{line_a, line_b, line_c, line_d, line_e};
+use crate::fault::LineFault;
+
+/// The byte after the first space, if it is a field of its own.
+fn letter(bytes: &[u8]) -> Option<u8>
+    ensures { result ≡ letter_in bytes.now }
+{
+    match bytes {
+        [] => None,
+        [c] => Some(*c),
+        [c, b' ', ..] => Some(*c),
+        [_, _, ..] => None,
+    }
+}
+
+fn first_space(bytes: &[u8]) -> Option<usize>
+    ensures { result ≡ position (λ b. b == 32) bytes.now }
+{
+    bytes.iter().position(|b| *b == b' ')
+}
+
+fn after_space(bytes: &[u8]) -> &[u8]
+    ensures { result.now ≡ after_first (λ b. b == 32) bytes.now }
+{
+    match first_space(bytes) {
+        None => &[],
+        Some(i) => &bytes[i + 1..],
+    }
+}
+
+fn spaces(bytes: &[u8]) -> usize
+    ensures { result ≡ spaces_in bytes.now }
+{
+    bytes.iter().filter(|b| **b == b' ').count()
+}
+
+/// The line of a channel with this letter, which has so many spaces.
+fn line_with<const W: usize>(
+    letter: Option<u8>,
+    spaces: usize,
+    bytes: &[u8],
+) -> Result<(Link, Beat<W>), LineFault>
+    requires { IsWidth W }
+    ensures { result ≡ line_with letter spaces bytes.now }
+{
+    match letter {
+        Some(b'A') if spaces == 9 => line_a(bytes),
+        Some(b'B') if spaces == 9 => line_b(bytes),
+        Some(b'C') if spaces == 8 => line_c(bytes),
+        Some(b'D') if spaces == 9 => line_d(bytes),
+        Some(b'E') if spaces == 2 => line_e(bytes),
+        Some(b'A'..=b'E') => Err(LineFault::F1),
+        _ => Err(LineFault::F2),
+    }
+}
+
+/// A line without its line feed.
+fn body<const W: usize>(bytes: &[u8]) -> Result<(Link, Beat<W>), LineFault>
+    requires { IsWidth W }
+    ensures { result ≡ body_at bytes.now }
+{
+    let spaces = spaces(bytes);
+    if spaces == 0 {
+        return Err(LineFault::F1);
+    }
+    line_with(letter(after_space(bytes)), spaces, bytes)
+}
+
+/// A line, by its length and its line feed first.
+fn whole_line<const W: usize>(line: &[u8]) -> Result<(Link, Beat<W>), LineFault>
+    requires { IsWidth W }
+    ensures { result ≡ line_at line.now }
+{
+    if line.len() > 256 {
+        return Err(LineFault::F1);
+    }
+    match line {
+        [bytes @ .., b'\n'] => body(bytes),
+        _ => Err(LineFault::F1),
+    }
+}
+
+/// Reads a line of text, its line feed included, as a link and a beat of `W` bytes (4, 8 or 16).
+/// A line that spells no beat is refused by its first fault. It reads any bytes and takes no
+/// memory, and a line of more than 256 bytes is refused unread.
+pub fn read_line<const W: usize>(line: &[u8]) -> Result<(Link, Beat<W>), LineFault>
+    requires { IsWidth W }
+
+    // What is read is spelled by the line, whatever the line spells is read, and the fault of
+    // another line is the first of the table.
+    ensures spelled { IfOk result (λ read. Spells line.now read.0 read.1) }
+    ensures every_spelling { (link : Link) (beat : Beat W) → Spells line.now link beat → result ≡ Ok (link, beat) }
+    ensures fault { result_err result ≡ line_fault W line.now }
+    ensures reads { result ≡ reading W line.now }
+{
+    whole_line(line)
+}

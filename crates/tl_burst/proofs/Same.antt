@@ -1,5 +1,5 @@
 -- Beats with the same fields are one.
-use Rattle.std.proofs.Common.{◌≡◌, ℕ, Bool, List, refl, sym, ap, ◌∙◌, subst}
+use Rattle.std.proofs.Common.{◌≡◌, ℕ, Bool, List, refl, ap, subst}
 use Rattle.std.specs.Prelude.{Option, is_some}
 use mathlib.Core.Bool.{Bool-set}
 use Rattle.tl_beat.specs.declared.beat.BeatA.{BeatA}

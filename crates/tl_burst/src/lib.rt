@@ -2,4 +2,6 @@
 #![tactic(auto)]
 
 pub mod burst;
+mod gather;
 pub mod message;
+pub mod part;

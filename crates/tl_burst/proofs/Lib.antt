@@ -1,3 +1,4 @@
 pub mod Same
 pub mod Lanes
 pub mod Bits
+pub mod Control

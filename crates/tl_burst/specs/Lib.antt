@@ -1,2 +1,3 @@
 pub mod Burst
 pub mod Messages
+pub mod Part

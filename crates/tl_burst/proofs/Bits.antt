@@ -20,7 +20,7 @@ split_power a l j le =
 low_part : (m a b j l : ℕ) → l + j ≤ a → (m + b * 2 ^ a) % 2 ^ (j + l) ≡ m % 2 ^ (j + l)
 low_part m a b j l le =
     let p : m + b * 2 ^ a ≡ m + (b * 2 ^ (a - (j + l))) * 2 ^ (j + l) =
-      let s = split_power a l j le in omega (arith, s, ap (λ n. b * n) s) in
+    let s = split_power a l j le in omega (arith, s, ap (λ n. b * n) s) in
     rw p (add-mul-mod_self_right m (b * 2 ^ (a - (j + l))) (2 ^ (j + l)))
 
 field_below : (m a b j l : ℕ) → l + j ≤ a → (m + b * 2 ^ a) / 2 ^ l % 2 ^ j ≡ m / 2 ^ l % 2 ^ j

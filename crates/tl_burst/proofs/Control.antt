@@ -50,7 +50,7 @@ a_op_back a.AcquirePerm = refl
 same_op_a : (x y : OpA) → (a_code x == a_code y) ≡ true → x ≡ y
 same_op_a x y e = sym (a_op_back x) ∙ ap a_op (eqb-true (a_code x) (a_code y) e) ∙ a_op_back y
 
-control_a : {w : ℕ} (x y : BeatA w) → IsTrue (same_control (A x) (A y)) → (x.opcode ≡ y.opcode) × (x.param ≡ y.param) × (x.size ≡ y.size) × (x.source ≡ y.source) × (x.address ≡ y.address)
+pub control_a : {w : ℕ} (x y : BeatA w) → IsTrue (same_control (A x) (A y)) → (x.opcode ≡ y.opcode) × (x.param ≡ y.param) × (x.size ≡ y.size) × (x.source ≡ y.source) × (x.address ≡ y.address)
 control_a x y e =
     let h0 = and_parts (a_code x.opcode == a_code y.opcode) ((x.param == y.param) && ((x.size == y.size) && ((x.source == y.source) && (x.address == y.address)))) e in
     let h1 = and_parts (x.param == y.param) ((x.size == y.size) && ((x.source == y.source) && (x.address == y.address))) h0.1 in
@@ -81,7 +81,7 @@ b_op_back b.ProbePerm = refl
 same_op_b : (x y : OpB) → (b_code x == b_code y) ≡ true → x ≡ y
 same_op_b x y e = sym (b_op_back x) ∙ ap b_op (eqb-true (b_code x) (b_code y) e) ∙ b_op_back y
 
-control_b : {w : ℕ} (x y : BeatB w) → IsTrue (same_control (B x) (B y)) → (x.opcode ≡ y.opcode) × (x.param ≡ y.param) × (x.size ≡ y.size) × (x.source ≡ y.source) × (x.address ≡ y.address)
+pub control_b : {w : ℕ} (x y : BeatB w) → IsTrue (same_control (B x) (B y)) → (x.opcode ≡ y.opcode) × (x.param ≡ y.param) × (x.size ≡ y.size) × (x.source ≡ y.source) × (x.address ≡ y.address)
 control_b x y e =
     let h0 = and_parts (b_code x.opcode == b_code y.opcode) ((x.param == y.param) && ((x.size == y.size) && ((x.source == y.source) && (x.address == y.address)))) e in
     let h1 = and_parts (x.param == y.param) ((x.size == y.size) && ((x.source == y.source) && (x.address == y.address))) h0.1 in
@@ -111,7 +111,7 @@ c_op_back c.ReleaseData = refl
 same_op_c : (x y : OpC) → (c_code x == c_code y) ≡ true → x ≡ y
 same_op_c x y e = sym (c_op_back x) ∙ ap c_op (eqb-true (c_code x) (c_code y) e) ∙ c_op_back y
 
-control_c : {w : ℕ} (x y : BeatC w) → IsTrue (same_control (C x) (C y)) → (x.opcode ≡ y.opcode) × (x.param ≡ y.param) × (x.size ≡ y.size) × (x.source ≡ y.source) × (x.address ≡ y.address)
+pub control_c : {w : ℕ} (x y : BeatC w) → IsTrue (same_control (C x) (C y)) → (x.opcode ≡ y.opcode) × (x.param ≡ y.param) × (x.size ≡ y.size) × (x.source ≡ y.source) × (x.address ≡ y.address)
 control_c x y e =
     let h0 = and_parts (c_code x.opcode == c_code y.opcode) ((x.param == y.param) && ((x.size == y.size) && ((x.source == y.source) && (x.address == y.address)))) e in
     let h1 = and_parts (x.param == y.param) ((x.size == y.size) && ((x.source == y.source) && (x.address == y.address))) h0.1 in
@@ -140,7 +140,7 @@ d_op_back d.ReleaseAck = refl
 same_op_d : (x y : OpD) → (d_code x == d_code y) ≡ true → x ≡ y
 same_op_d x y e = sym (d_op_back x) ∙ ap d_op (eqb-true (d_code x) (d_code y) e) ∙ d_op_back y
 
-control_d : {w : ℕ} (x y : BeatD w) → IsTrue (same_control (D x) (D y)) → (x.opcode ≡ y.opcode) × (x.param ≡ y.param) × (x.size ≡ y.size) × (x.source ≡ y.source) × (x.sink ≡ y.sink) × (x.denied ≡ y.denied)
+pub control_d : {w : ℕ} (x y : BeatD w) → IsTrue (same_control (D x) (D y)) → (x.opcode ≡ y.opcode) × (x.param ≡ y.param) × (x.size ≡ y.size) × (x.source ≡ y.source) × (x.sink ≡ y.sink) × (x.denied ≡ y.denied)
 control_d x y e =
     let h0 = and_parts (d_code x.opcode == d_code y.opcode) ((x.param == y.param) && ((x.size == y.size) && ((x.source == y.source) && ((x.sink == y.sink) && same_bool x.denied y.denied)))) e in
     let h1 = and_parts (x.param == y.param) ((x.size == y.size) && ((x.source == y.source) && ((x.sink == y.sink) && same_bool x.denied y.denied))) h0.1 in

@@ -48,6 +48,15 @@ within_payload {w} (C m) i width lt = within_data w m.size i (c_carries_data m.o
 within_payload {w} (D m) i width lt = within_data w m.size i (d_carries_data m.opcode) width m.small lt
 within_payload {w} (E m) i width lt = one_beat w i width lt
 
+few : (w i : ℕ) → IsWidth w → w * i + w ≤ 64 → i < 16
+few w i (inl e) le = let h : 4 * i + 4 ≤ 64 = rw e at le in omega (arith, h)
+few w i (inr (inl e)) le = let h : 8 * i + 8 ≤ 64 = rw e at le in omega (arith, h)
+few w i (inr (inr e)) le = let h : 16 * i + 16 ≤ 64 = rw e at le in omega (arith, h)
+
+-- a message has 16 beats at most
+pub few_beats : {w : ℕ} (m : Message w) (i : ℕ) → IsWidth w → i < beats_of m → i < 16
+few_beats {w} m i width lt = few w i width (within_payload m i width lt)
+
 slice_is : (xs : List ℕ) (n m : ℕ) → slice_range xs n (n + m) ≡ drop n (take (n + m) xs)
 slice_is xs n m =
     let e : n + m - n ≡ m = omega arith in
@@ -64,8 +73,8 @@ pub zero_behind : (w i n : ℕ) (xs ys : List ℕ) → n ≡ w → length ys ≡
 zero_behind w i n xs ys e len inside zero =
     let next : w * (i + 1) ≡ w * i + w = next_place w i in
     rw next (
-      drop-put_mid (w * i) n xs ys (w * i + w) (omega arith) inside len
-        ∙ sym (drop-drop w (w * i) xs)
-        ∙ ap (drop w) zero
-        ∙ drop-replicate w (64 - w * i) 0
-        ∙ ap (λ k. replicate k 0) (omega arith))
+    drop-put_mid (w * i) n xs ys (w * i + w) (omega arith) inside len
+    ∙ sym (drop-drop w (w * i) xs)
+    ∙ ap (drop w) zero
+    ∙ drop-replicate w (64 - w * i) 0
+    ∙ ap (λ k. replicate k 0) (omega arith))

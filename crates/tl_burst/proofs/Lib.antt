@@ -1,4 +1,5 @@
 pub mod Same
 pub mod Lanes
+pub mod Begun
 pub mod Bits
 pub mod Control

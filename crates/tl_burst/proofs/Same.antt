@@ -23,7 +23,7 @@ made_a w x h = record { opcode = x.0; param = x.1; size = x.2; source = x.3; add
 
 same_made_a : (w : ℕ) (x y : FieldsA) (h : CarriedA x) (k : CarriedA y) → x ≡ y → made_a w x h ≡ made_a w y k
 same_made_a w x y h k e =
-  subst (λ (z : FieldsA). (l : CarriedA z) → made_a w x h ≡ made_a w z l) e
+    subst (λ (z : FieldsA). (l : CarriedA z) → made_a w x h ≡ made_a w z l) e
     (λ l. ap (made_a w x) (Bool-set (is_some x.6) (a_carries_data x.0) h l)) k
 
 pub same_a : {w : ℕ} (x y : BeatA w) → x.opcode ≡ y.opcode → x.param ≡ y.param → x.size ≡ y.size → x.source ≡ y.source → x.address ≡ y.address → x.mask ≡ y.mask → x.lanes ≡ y.lanes → x.corrupt ≡ y.corrupt → x ≡ y
@@ -42,7 +42,7 @@ made_b w x h = record { opcode = x.0; param = x.1; size = x.2; source = x.3; add
 
 same_made_b : (w : ℕ) (x y : FieldsB) (h : CarriedB x) (k : CarriedB y) → x ≡ y → made_b w x h ≡ made_b w y k
 same_made_b w x y h k e =
-  subst (λ (z : FieldsB). (l : CarriedB z) → made_b w x h ≡ made_b w z l) e
+    subst (λ (z : FieldsB). (l : CarriedB z) → made_b w x h ≡ made_b w z l) e
     (λ l. ap (made_b w x) (Bool-set (is_some x.6) (b_carries_data x.0) h l)) k
 
 pub same_b : {w : ℕ} (x y : BeatB w) → x.opcode ≡ y.opcode → x.param ≡ y.param → x.size ≡ y.size → x.source ≡ y.source → x.address ≡ y.address → x.mask ≡ y.mask → x.lanes ≡ y.lanes → x.corrupt ≡ y.corrupt → x ≡ y
@@ -61,7 +61,7 @@ made_c w x h = record { opcode = x.0; param = x.1; size = x.2; source = x.3; add
 
 same_made_c : (w : ℕ) (x y : FieldsC) (h : CarriedC x) (k : CarriedC y) → x ≡ y → made_c w x h ≡ made_c w y k
 same_made_c w x y h k e =
-  subst (λ (z : FieldsC). (l : CarriedC z) → made_c w x h ≡ made_c w z l) e
+    subst (λ (z : FieldsC). (l : CarriedC z) → made_c w x h ≡ made_c w z l) e
     (λ l. ap (made_c w x) (Bool-set (is_some x.5) (c_carries_data x.0) h l)) k
 
 pub same_c : {w : ℕ} (x y : BeatC w) → x.opcode ≡ y.opcode → x.param ≡ y.param → x.size ≡ y.size → x.source ≡ y.source → x.address ≡ y.address → x.lanes ≡ y.lanes → x.corrupt ≡ y.corrupt → x ≡ y
@@ -80,7 +80,7 @@ made_d w x h = record { opcode = x.0; param = x.1; size = x.2; source = x.3; sin
 
 same_made_d : (w : ℕ) (x y : FieldsD) (h : CarriedD x) (k : CarriedD y) → x ≡ y → made_d w x h ≡ made_d w y k
 same_made_d w x y h k e =
-  subst (λ (z : FieldsD). (l : CarriedD z) → made_d w x h ≡ made_d w z l) e
+    subst (λ (z : FieldsD). (l : CarriedD z) → made_d w x h ≡ made_d w z l) e
     (λ l. ap (made_d w x) (Bool-set (is_some x.6) (d_carries_data x.0) h l)) k
 
 pub same_d : {w : ℕ} (x y : BeatD w) → x.opcode ≡ y.opcode → x.param ≡ y.param → x.size ≡ y.size → x.source ≡ y.source → x.sink ≡ y.sink → x.denied ≡ y.denied → x.lanes ≡ y.lanes → x.corrupt ≡ y.corrupt → x ≡ y

@@ -4,6 +4,8 @@ ghost use Rattle.std.specs.Prelude.{◌≡◌, ◌<◌, ◌≤◌, ◌+◌, ◌*
 ghost use Rattle.tl_beat.specs.Opcode.{a_carries_data, b_carries_data, c_carries_data, d_carries_data};
 ghost use Rattle.tl_beat.specs.Width.{IsWidth};
 ghost use Rattle.tl_burst.specs.Burst;
+ghost use Rattle.tl_burst.specs.Messages;
+ghost use Rattle.tl_burst.specs.Part.{IsTakeable};
 ghost use Rattle.tl_burst.specs.Burst.{data_beats, lanes_at, mask_at, bit, beat_of, a_beat_of, b_beat_of, c_beat_of, d_beat_of};
 
 use crate::message::{Message, MessageA, MessageB, MessageC, MessageD};
@@ -72,6 +74,21 @@ pub fn beats_of<const W: usize>(message: &Message<W>) -> u8
         Message::C(m) => beats_for::<W>(c_carries(m.opcode), m.size),
         Message::D(m) => beats_for::<W>(d_carries(m.opcode), m.size),
         Message::E(_) => 1,
+    }
+}
+
+/// How many beats the burst of this beat has.
+pub fn burst_length<const W: usize>(beat: &Beat<W>) -> u8
+    requires width { IsWidth W }
+    requires takeable { IsTakeable beat.now }
+    ensures { result ≡ Messages.burst_length beat.now }
+{
+    match beat {
+        Beat::A(x) => beats_for::<W>(x.lanes.is_some(), x.size),
+        Beat::B(x) => beats_for::<W>(x.lanes.is_some(), x.size),
+        Beat::C(x) => beats_for::<W>(x.lanes.is_some(), x.size),
+        Beat::D(x) => beats_for::<W>(x.lanes.is_some(), x.size),
+        Beat::E(_) => 1,
     }
 }
 

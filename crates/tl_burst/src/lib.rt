@@ -1,6 +1,7 @@
 //! TileLink's messages, and the bursts of beats that carry them.
 #![tactic(auto)]
 
+pub mod assembler;
 pub mod burst;
 mod gather;
 pub mod message;

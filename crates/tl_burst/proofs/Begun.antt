@@ -1,12 +1,12 @@
 -- The beats of a burst that has begun.
-use Rattle.std.proofs.Common.{◌≡◌, ℕ, zero, suc, Bool, true, false, not, List, [], ◌∷◌, length, ◌+◌, ◌<◌, refl, sym, ap, ap₂, ◌∙◌, arith, IsTrue, add-one}
+use Rattle.std.proofs.Common.{◌≡◌, ℕ, zero, suc, Bool, true, false, not, List, [], ◌∷◌, length, ◌+◌, ◌<◌, refl, sym, ap, ap₂, ◌∙◌, subst, arith, IsTrue, add-one}
 use Rattle.std.proofs.lemmas.Bool.{ne_eqb, eq-eqb}
 use Rattle.std.specs.Prelude.{Ok, Err, ◌==◌}
 use Rattle.tl_beat.specs.declared.beat.Beat.{Beat}
 use Rattle.tl_beat.specs.declared.beat.Beat.TheVariants as beat
 use Rattle.tl_burst.specs.declared.message.Message.{Message}
 use Rattle.tl_burst.specs.declared.message.Message.TheVariants.{A, B, C, D, E}
-use Rattle.tl_burst.specs.Burst.{beats_of, beat_of, begun, a_beat_of, b_beat_of, c_beat_of, d_beat_of}
+use Rattle.tl_burst.specs.Burst.{beats_of, beat_of, begun, IsBlankAfter, IsBurst, a_beat_of, b_beat_of, c_beat_of, d_beat_of}
 use Rattle.tl_burst.specs.Messages.{same_control, breaks_burst, burst_length, grown}
 use Rattle.tl_burst.specs.Part.{completes, part_of, place}
 use Rattle.tl_burst.specs.declared.part.Broken.TheVariants.{S1}
@@ -87,3 +87,14 @@ part-refused m burst x zero view some differs = absurd (omega arith)
 part-refused m burst x (suc n) view some differs =
     let breaks : breaks_burst x (begun m (suc n)) ≡ true = rw (control_anywhere x m n, differs) refl in
     rw (← view, breaks) refl
+
+-- the beats and one more are the whole burst
+pub one_more_burst : {w : ℕ} (m : Message w) (beats : List (Beat w)) (n : ℕ) → n ≡ beats_of m → begun m n ≡ beats → IsBlankAfter n m → IsBurst m beats
+one_more_burst m beats n last burst blank = (sym burst ∙ ap (begun m) last, subst (λ k. IsBlankAfter k m) last blank)
+
+pub is_broken : {w : ℕ} (m : Message w) (burst : List (Beat w)) (n : ℕ) (x : Beat w) → begun m n ≡ burst → false ≡ not (breaks_burst x (begun m n)) → breaks_burst x burst ≡ true
+is_broken m burst n x view negated = rw (← view) (go (breaks_burst x (begun m n)) negated)
+  where
+    go : (b : Bool) → false ≡ not b → b ≡ true
+    go true e = refl
+    go false e = e

@@ -1,4 +1,6 @@
 pub mod Same
+pub mod Splitting
+pub mod Whole
 pub mod Lanes
 pub mod Begun
 pub mod Bits

@@ -1,12 +1,13 @@
 //! Messages assembled from the beats of a channel.
 
-ghost use Rattle.std.specs.Prelude.{ℕ, Bool, List, [], ◌∷◌, not, IsTrue, OnErr, OnOk, IfOk, IfSome, is_some, is_err, ◌≡◌, ◌<◌, ◌+◌};
+ghost use Rattle.std.specs.Prelude.{ℕ, Bool, List, [], ◌∷◌, not, IsTrue, OnErr, OnOk, IfOk, if◌then◌else◌, option_to_list, ◌++◌, ◌==◌, IfSome, is_some, is_err, ◌≡◌, ◌<◌, ◌+◌};
 ghost use Rattle.std.specs.Bool.{OnTrue, OnFalse};
 ghost use Rattle.tl_beat.specs.declared.beat.Beat.{Beat};
 ghost use Rattle.tl_beat.specs.Width.{IsWidth};
+ghost use Rattle.tl_burst.specs.declared.message.Message.{Message};
 ghost use Rattle.tl_burst.specs.Burst;
 ghost use Rattle.tl_burst.specs.Burst.{begun, beat_of, IsBlankAfter, IsBurst};
-ghost use Rattle.tl_burst.specs.Messages.{breaks_burst, same_control, grown};
+ghost use Rattle.tl_burst.specs.Messages.{breaks_burst, same_control, grown, Splits};
 ghost use Rattle.tl_burst.specs.Part.{IsTakeable, completes, part_of};
 
 use crate::burst::{beats_of, burst_length};
@@ -92,7 +93,15 @@ impl<const W: usize> Assembler<W> {
         ensures refused { is_err result ≡ breaks_burst beat.now self.old }
         ensures unchanged { OnErr result (self.new ≡ self.old) }
         ensures grows { OnOk result (self.new ≡ grown beat.now self.old) }
-        ensures message { IfOk result (λ m. (is_some m ≡ completes beat.now self.old) × IfSome m (λ m. IsBurst m (beat.now ∷ self.old))) }
+        ensures message { IfOk result (λ m. (is_some m ≡ completes beat.now self.old)
+            × IfSome m (λ m. IsBurst m (beat.now ∷ self.old))) }
+        // the next beat of any message that is zero where no beat carries anything
+        ensures whole { (m : Message W) (i : ℕ) → self.old ≡ begun m i → beat.now ≡ beat_of m i →
+            i < Burst.beats_of m → IsBlankAfter (Burst.beats_of m) m →
+            result ≡ Ok (if i + 1 == Burst.beats_of m then Some m else None) }
+        ensures splits { (beats : List (Beat W)) (messages : List (Message W)) →
+            Splits beats messages self.old →
+            IfOk result (λ m. Splits (beat.now ∷ beats) (option_to_list m ++ messages) self.new) }
     {
         if !prepare(&mut self.message, self.taken, beat) {
             return Err(Broken::S1);

@@ -4,5 +4,6 @@
 pub mod assembler;
 pub mod burst;
 mod gather;
+pub mod law;
 pub mod message;
 pub mod part;

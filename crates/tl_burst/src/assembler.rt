@@ -115,3 +115,6 @@ impl<const W: usize> Assembler<W> {
         Ok(Some(self.message))
     }
 }
+
+#[cfg(test)]
+mod tests;

@@ -193,7 +193,8 @@ fn beat_of_d<const W: usize>(m: &MessageD<W>, i: u8) -> BeatD<W>
 pub fn beat_at<const W: usize>(message: &Message<W>, i: u8) -> Beat<W>
     requires width { IsWidth W }
     requires inside { i < Burst.beats_of message.now }
-    ensures { result ≡ beat_of message.now i }
+    ensures beat { result ≡ beat_of message.now i }
+    ensures takeable { IsTakeable result }
 {
     match message {
         Message::A(m) => Beat::A(beat_of_a(m, i)),

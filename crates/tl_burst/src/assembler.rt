@@ -1,0 +1,120 @@
+//! Messages assembled from the beats of a channel.
+
+ghost use Rattle.std.specs.Prelude.{ℕ, Bool, List, [], ◌∷◌, not, IsTrue, OnErr, OnOk, IfOk, if◌then◌else◌, option_to_list, ◌++◌, ◌==◌, IfSome, is_some, is_err, ◌≡◌, ◌<◌, ◌+◌};
+ghost use Rattle.std.specs.Bool.{OnTrue, OnFalse};
+ghost use Rattle.tl_beat.specs.declared.beat.Beat.{Beat};
+ghost use Rattle.tl_beat.specs.Width.{IsWidth};
+ghost use Rattle.tl_burst.specs.declared.message.Message.{Message};
+ghost use Rattle.tl_burst.specs.Burst;
+ghost use Rattle.tl_burst.specs.Burst.{begun, beat_of, IsBlankAfter, IsBurst};
+ghost use Rattle.tl_burst.specs.Messages.{breaks_burst, same_control, grown, Splits};
+ghost use Rattle.tl_burst.specs.Part.{IsTakeable, completes, part_of};
+
+use crate::burst::{beats_of, burst_length};
+use crate::gather::{blank_for, continues, put_beat};
+use crate::message::{Message, MessageE};
+use crate::part::{Broken, Part};
+use std::marker::Model;
+use tl_beat::beat::Beat;
+
+/// Assembles the messages of one channel. A contract sees the beats of the burst that has begun and
+/// isn't complete, the newest first.
+#[derive(Drop)]
+pub struct Assembler<const W: usize> {
+    /// What the unfinished burst has said so far, and zero where its further beats will write.
+    message: Message<W>,
+    /// How many beats of the message were taken; none where no burst is unfinished.
+    taken: u8,
+}
+
+impl<const W: usize> Model for Assembler<W> {
+    ghost Value = { List (Beat W) };
+
+    ghost view = { λ a. begun a.message a.taken };
+
+    ghost invariant = { λ a. (a.taken < Burst.beats_of a.message) × (0 < a.taken → IsBlankAfter a.taken a.message) };
+}
+
+/// Whether a beat can follow the first `taken` beats of a message. Where there are none yet, the
+/// message becomes the blank one that the beat begins.
+fn prepare<const W: usize>(message: &mut Message<W>, taken: u8, beat: &Beat<W>) -> bool
+    requires width { IsWidth W }
+    requires takeable { IsTakeable beat.now }
+    requires within { taken < Burst.beats_of message.old }
+    requires blank { 0 < taken → IsBlankAfter taken message.old }
+    ensures broken { result ≡ not (breaks_burst beat.now (begun message.old taken)) }
+    ensures unchanged { OnFalse result (message.new ≡ message.old) }
+    ensures same { OnTrue result (IsTrue (same_control beat.now (beat_of message.new 0))) }
+    ensures blank { OnTrue result (IsBlankAfter taken message.new) }
+    ensures within { taken < Burst.beats_of message.new }
+    ensures burst { begun message.new taken ≡ begun message.old taken }
+{
+    if taken == 0 {
+        *message = blank_for(beat);
+        true
+    } else {
+        continues(message, beat)
+    }
+}
+
+impl<const W: usize> Assembler<W> {
+    /// An assembler that has taken no beat.
+    pub fn new() -> Self
+        ensures { result ≡ [] }
+    {
+        Assembler {
+            message: Message::E(MessageE { sink: 0 }),
+            taken: 0,
+        }
+    }
+
+    /// What the beat would be to its burst, or S1 where it differs in a control field from the
+    /// burst that it would continue.
+    pub fn peek(&self, beat: &Beat<W>) -> Result<Part, Broken>
+        requires width { IsWidth W }
+        requires takeable { IsTakeable beat.now }
+        ensures { result ≡ part_of beat.now self.now }
+    {
+        let last = self.taken + 1 == burst_length(beat);
+        if self.taken == 0 {
+            return Ok(if last { Part::Only } else { Part::First });
+        }
+        if !continues(&self.message, beat) {
+            return Err(Broken::S1);
+        }
+        Ok(if last { Part::Last } else { Part::Middle })
+    }
+
+    /// Takes a beat, and answers the message that it completes. Where it differs in a control field
+    /// from the burst that it would continue it is refused by S1, and nothing changes.
+    pub fn take(&mut self, beat: &Beat<W>) -> Result<Option<Message<W>>, Broken>
+        requires width { IsWidth W }
+        requires takeable { IsTakeable beat.now }
+        ensures refused { is_err result ≡ breaks_burst beat.now self.old }
+        ensures unchanged { OnErr result (self.new ≡ self.old) }
+        ensures grows { OnOk result (self.new ≡ grown beat.now self.old) }
+        ensures message { IfOk result (λ m. (is_some m ≡ completes beat.now self.old)
+            × IfSome m (λ m. IsBurst m (beat.now ∷ self.old))) }
+        // the next beat of any message that is zero where no beat carries anything
+        ensures whole { (m : Message W) (i : ℕ) → self.old ≡ begun m i → beat.now ≡ beat_of m i →
+            i < Burst.beats_of m → IsBlankAfter (Burst.beats_of m) m →
+            result ≡ Ok (if i + 1 == Burst.beats_of m then Some m else None) }
+        ensures splits { (beats : List (Beat W)) (messages : List (Message W)) →
+            Splits beats messages self.old →
+            IfOk result (λ m. Splits (beat.now ∷ beats) (option_to_list m ++ messages) self.new) }
+    {
+        if !prepare(&mut self.message, self.taken, beat) {
+            return Err(Broken::S1);
+        }
+        put_beat(&mut self.message, self.taken, beat);
+        if self.taken + 1 < beats_of(&self.message) {
+            self.taken += 1;
+            return Ok(None);
+        }
+        self.taken = 0;
+        Ok(Some(self.message))
+    }
+}
+
+#[cfg(test)]
+mod tests;

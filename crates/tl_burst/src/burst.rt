@@ -1,0 +1,206 @@
+//! The beats of a message (SiFive TileLink Specification 1.8, "Bursts and ordering of beats").
+
+ghost use Rattle.std.specs.Prelude.{◌≡◌, ◌<◌, ◌≤◌, ◌+◌, ◌*◌, ◌==◌, slice_range, if◌then◌else◌};
+ghost use Rattle.tl_beat.specs.Opcode.{a_carries_data, b_carries_data, c_carries_data, d_carries_data};
+ghost use Rattle.tl_beat.specs.Width.{IsWidth};
+ghost use Rattle.tl_burst.specs.Burst;
+ghost use Rattle.tl_burst.specs.Messages;
+ghost use Rattle.tl_burst.specs.Part.{IsTakeable};
+ghost use Rattle.tl_burst.specs.Burst.{data_beats, lanes_at, mask_at, bit, beat_of, a_beat_of, b_beat_of, c_beat_of, d_beat_of};
+
+use crate::message::{Message, MessageA, MessageB, MessageC, MessageD};
+use tl_beat::beat::{Beat, BeatA, BeatB, BeatC, BeatD, BeatE};
+use tl_beat::opcode::{OpA, OpB, OpC, OpD};
+
+fn a_carries(opcode: OpA) -> bool
+    ensures { result ≡ a_carries_data opcode }
+{
+    match opcode {
+        OpA::PutFullData | OpA::PutPartialData | OpA::ArithmeticData | OpA::LogicalData => true,
+        OpA::Get | OpA::Intent | OpA::AcquireBlock | OpA::AcquirePerm => false,
+    }
+}
+
+fn b_carries(opcode: OpB) -> bool
+    ensures { result ≡ b_carries_data opcode }
+{
+    match opcode {
+        OpB::PutFullData | OpB::PutPartialData | OpB::ArithmeticData | OpB::LogicalData => true,
+        OpB::Get | OpB::Intent | OpB::ProbeBlock | OpB::ProbePerm => false,
+    }
+}
+
+fn c_carries(opcode: OpC) -> bool
+    ensures { result ≡ c_carries_data opcode }
+{
+    match opcode {
+        OpC::AccessAckData | OpC::ProbeAckData | OpC::ReleaseData => true,
+        OpC::AccessAck | OpC::HintAck | OpC::ProbeAck | OpC::Release => false,
+    }
+}
+
+fn d_carries(opcode: OpD) -> bool
+    ensures { result ≡ d_carries_data opcode }
+{
+    match opcode {
+        OpD::AccessAckData | OpD::GrantData => true,
+        OpD::AccessAck | OpD::HintAck | OpD::Grant | OpD::ReleaseAck => false,
+    }
+}
+
+/// How many beats of `W` bytes a burst of this size has.
+fn beats_for<const W: usize>(carries_data: bool, size: u8) -> u8
+    requires width { IsWidth W }
+    requires small { size ≤ 6 }
+    ensures { result ≡ (if carries_data then data_beats W size else 1) }
+{
+    let bytes = 1usize << size;
+    if carries_data && bytes > W {
+        (bytes / W) as u8
+    } else {
+        1
+    }
+}
+
+/// How many beats carry the message: `2^size / W` where it carries data and these are more than
+/// `W` bytes, else one.
+pub fn beats_of<const W: usize>(message: &Message<W>) -> u8
+    requires { IsWidth W }
+    ensures { result ≡ Burst.beats_of message.now }
+{
+    match message {
+        Message::A(m) => beats_for::<W>(a_carries(m.opcode), m.size),
+        Message::B(m) => beats_for::<W>(b_carries(m.opcode), m.size),
+        Message::C(m) => beats_for::<W>(c_carries(m.opcode), m.size),
+        Message::D(m) => beats_for::<W>(d_carries(m.opcode), m.size),
+        Message::E(_) => 1,
+    }
+}
+
+/// How many beats the burst of this beat has.
+pub fn burst_length<const W: usize>(beat: &Beat<W>) -> u8
+    requires width { IsWidth W }
+    requires takeable { IsTakeable beat.now }
+    ensures { result ≡ Messages.burst_length beat.now }
+{
+    match beat {
+        Beat::A(x) => beats_for::<W>(x.lanes.is_some(), x.size),
+        Beat::B(x) => beats_for::<W>(x.lanes.is_some(), x.size),
+        Beat::C(x) => beats_for::<W>(x.lanes.is_some(), x.size),
+        Beat::D(x) => beats_for::<W>(x.lanes.is_some(), x.size),
+        Beat::E(_) => 1,
+    }
+}
+
+/// The lanes of beat `i`, where its message carries data.
+fn lanes_of<const W: usize>(carries_data: bool, payload: &[u8; 64], i: u8) -> Option<[u8; W]>
+    requires { W * i + W ≤ 64 }
+    ensures { result ≡ lanes_at carries_data W payload.now i }
+{
+    if !carries_data {
+        return None;
+    }
+    let from = W * i as usize;
+    let mut lanes = [0; W];
+    lanes.copy_from_slice(&payload[from..from + W]);
+    Some(lanes)
+}
+
+fn mask_of<const W: usize>(mask: u64, i: u8) -> u16
+    requires width { IsWidth W }
+    requires inside { W * i + W ≤ 64 }
+    ensures { result ≡ mask_at W mask i }
+{
+    let lanes = (mask >> (W * i as usize)) % (1 << W);
+    lanes as u16
+}
+
+fn bit_of(bits: u16, i: u8) -> bool
+    requires { i < 16 }
+    ensures { result ≡ bit bits i }
+{
+    (bits >> i) % 2 == 1
+}
+
+fn beat_of_a<const W: usize>(m: &MessageA<W>, i: u8) -> BeatA<W>
+    requires width { IsWidth W }
+    requires inside { W * i + W ≤ 64 }
+    ensures { result ≡ a_beat_of m.now i }
+{
+    BeatA {
+        opcode: m.opcode,
+        param: m.param,
+        size: m.size,
+        source: m.source,
+        address: m.address,
+        mask: mask_of::<W>(m.mask, i),
+        lanes: lanes_of(a_carries(m.opcode), &m.payload, i),
+        corrupt: bit_of(m.corrupt, i),
+    }
+}
+
+fn beat_of_b<const W: usize>(m: &MessageB<W>, i: u8) -> BeatB<W>
+    requires width { IsWidth W }
+    requires inside { W * i + W ≤ 64 }
+    ensures { result ≡ b_beat_of m.now i }
+{
+    BeatB {
+        opcode: m.opcode,
+        param: m.param,
+        size: m.size,
+        source: m.source,
+        address: m.address,
+        mask: mask_of::<W>(m.mask, i),
+        lanes: lanes_of(b_carries(m.opcode), &m.payload, i),
+        corrupt: bit_of(m.corrupt, i),
+    }
+}
+
+fn beat_of_c<const W: usize>(m: &MessageC<W>, i: u8) -> BeatC<W>
+    requires width { IsWidth W }
+    requires inside { W * i + W ≤ 64 }
+    ensures { result ≡ c_beat_of m.now i }
+{
+    BeatC {
+        opcode: m.opcode,
+        param: m.param,
+        size: m.size,
+        source: m.source,
+        address: m.address,
+        lanes: lanes_of(c_carries(m.opcode), &m.payload, i),
+        corrupt: bit_of(m.corrupt, i),
+    }
+}
+
+fn beat_of_d<const W: usize>(m: &MessageD<W>, i: u8) -> BeatD<W>
+    requires width { IsWidth W }
+    requires inside { W * i + W ≤ 64 }
+    ensures { result ≡ d_beat_of m.now i }
+{
+    BeatD {
+        opcode: m.opcode,
+        param: m.param,
+        size: m.size,
+        source: m.source,
+        sink: m.sink,
+        denied: m.denied,
+        lanes: lanes_of(d_carries(m.opcode), &m.payload, i),
+        corrupt: bit_of(m.corrupt, i),
+    }
+}
+
+/// Beat `i` of the message: the control fields, its part of payload and mask, its corrupt bit.
+pub fn beat_at<const W: usize>(message: &Message<W>, i: u8) -> Beat<W>
+    requires width { IsWidth W }
+    requires inside { i < Burst.beats_of message.now }
+    ensures beat { result ≡ beat_of message.now i }
+    ensures takeable { IsTakeable result }
+{
+    match message {
+        Message::A(m) => Beat::A(beat_of_a(m, i)),
+        Message::B(m) => Beat::B(beat_of_b(m, i)),
+        Message::C(m) => Beat::C(beat_of_c(m, i)),
+        Message::D(m) => Beat::D(beat_of_d(m, i)),
+        Message::E(m) => Beat::E(BeatE { sink: m.sink }),
+    }
+}

@@ -1,0 +1,19 @@
+//! How the beats of a channel split into messages, as laws.
+
+ghost use Rattle.std.specs.Prelude.{List, ◌≡◌};
+ghost use Rattle.tl_beat.specs.declared.beat.Beat.{Beat};
+ghost use Rattle.tl_beat.specs.declared.opcode.Channel.{Channel};
+ghost use Rattle.tl_beat.specs.Width.{IsWidth};
+ghost use Rattle.tl_burst.specs.declared.message.Message.{Message};
+ghost use Rattle.tl_burst.specs.Messages;
+ghost use Rattle.tl_burst.specs.Messages.{History, Splits, carried_on};
+
+/// Two splits of one list of beats into messages and a rest are the same, and the rest of a
+/// channel's beats is what is unfinished there.
+pub fn split_once<const W: usize>()
+    requires { IsWidth W }
+    ensures once { (beats : List (Beat W)) (messages others : List (Message W)) (rest other : List (Beat W)) →
+        Splits beats messages rest → Splits beats others other → (messages ≡ others) × (rest ≡ other) }
+    ensures unfinished { (ch : Channel) (t : History W) (messages : List (Message W)) (rest : List (Beat W)) →
+        Splits (carried_on ch t) messages rest → rest ≡ Messages.unfinished ch t }
+{}

@@ -3,6 +3,8 @@
 #![tactic(auto)]
 
 pub mod level;
+pub mod param;
 pub mod perm;
 pub mod profile;
+pub mod report;
 pub mod rule;

@@ -1,0 +1,88 @@
+use Rattle.std.specs.Prelude.{ℕ, Bool, true, false, not, List, [], ◌∷◌, ◌++◌, ◌==◌, ◌&&◌, ◌+◌, ◌<◌, ◌≡◌, if◌then◌else◌, length}
+use Rattle.tl_beat.specs.declared.beat.Beat.{Beat}
+use Rattle.tl_beat.specs.declared.beat.Beat.TheVariants.{A, B, C, D, E}
+use Rattle.tl_beat.specs.declared.opcode.Channel.{Channel}
+use Rattle.tl_beat.specs.declared.opcode.Channel.TheVariants as channel
+use Rattle.tl_beat.specs.Opcode.{a_code, b_code, c_code, d_code, a_carries_data, b_carries_data, c_carries_data, d_carries_data}
+use Rattle.tl_burst.specs.declared.message.Message.{Message}
+use Rattle.tl_burst.specs.Burst.{data_beats, beats_of, burst_of, begun, IsBurst}
+
+-- what a link has carried, the newest beat first
+abbrev pub History : ℕ → Type 0
+History w = List (Beat w)
+
+-- how many beats the burst has that this beat belongs to
+abbrev pub burst_length : {w : ℕ} → Beat w → ℕ
+burst_length {w} (A x) = if a_carries_data x.opcode then data_beats w x.size else 1
+burst_length {w} (B x) = if b_carries_data x.opcode then data_beats w x.size else 1
+burst_length {w} (C x) = if c_carries_data x.opcode then data_beats w x.size else 1
+burst_length {w} (D x) = if d_carries_data x.opcode then data_beats w x.size else 1
+burst_length (E x) = 1
+
+abbrev pub channel_of : {w : ℕ} → Beat w → Channel
+channel_of (A x) = channel.A
+channel_of (B x) = channel.B
+channel_of (C x) = channel.C
+channel_of (D x) = channel.D
+channel_of (E x) = channel.E
+
+-- the beat is of the channel
+abbrev pub on : {w : ℕ} → Channel → Beat w → Bool
+on channel.A (A x) = true
+on channel.B (B x) = true
+on channel.C (C x) = true
+on channel.D (D x) = true
+on channel.E (E x) = true
+on _ _ = false
+
+abbrev pub same_bool : Bool → Bool → Bool
+same_bool true b = b
+same_bool false b = not b
+
+-- the control fields agree
+abbrev pub same_control : {w : ℕ} → Beat w → Beat w → Bool
+same_control (A x) (A y) = (a_code x.opcode == a_code y.opcode) && ((x.param == y.param) && ((x.size == y.size) && ((x.source == y.source) && (x.address == y.address))))
+same_control (B x) (B y) = (b_code x.opcode == b_code y.opcode) && ((x.param == y.param) && ((x.size == y.size) && ((x.source == y.source) && (x.address == y.address))))
+same_control (C x) (C y) = (c_code x.opcode == c_code y.opcode) && ((x.param == y.param) && ((x.size == y.size) && ((x.source == y.source) && (x.address == y.address))))
+same_control (D x) (D y) = (d_code x.opcode == d_code y.opcode) && ((x.param == y.param) && ((x.size == y.size) && ((x.source == y.source) && ((x.sink == y.sink) && same_bool x.denied y.denied))))
+same_control (E x) (E y) = x.sink == y.sink
+same_control _ _ = false
+
+-- the beat doesn't continue the burst that is unfinished: a control field differs
+abbrev pub breaks_burst : {w : ℕ} → Beat w → List (Beat w) → Bool
+breaks_burst x [] = false
+breaks_burst x (y ∷ ys) = not (same_control x y)
+
+-- an unfinished burst with its next beat: nothing where that is its last
+abbrev pub grown : {w : ℕ} → Beat w → List (Beat w) → List (Beat w)
+grown x burst = if length burst + 1 == burst_length x then [] else x ∷ burst
+
+-- the beats of the burst that has begun on the channel and isn't complete, the newest first
+unfoldable pub unfinished : {w : ℕ} → Channel → History w → List (Beat w)
+unfinished ch [] = []
+unfinished ch (x ∷ t) = if on ch x then grown x (unfinished ch t) else unfinished ch t
+
+-- the beats of a channel, the newest first
+unfoldable pub carried_on : {w : ℕ} → Channel → History w → List (Beat w)
+carried_on ch [] = []
+carried_on ch (x ∷ t) = if on ch x then x ∷ carried_on ch t else carried_on ch t
+
+-- the bursts of these messages one after another, the newest message and beat first
+unfoldable pub bursts : {w : ℕ} → List (Message w) → List (Beat w)
+bursts [] = []
+bursts (m ∷ ms) = burst_of m ++ bursts ms
+
+-- a proper beginning of the burst of some message, or nothing
+abbrev pub IsBeginning : {w : ℕ} → List (Beat w) → Type 0
+IsBeginning {w} rest = (m : Message w) × (n : ℕ) × (n < beats_of m) × (rest ≡ begun m n)
+
+abbrev pub AllWhole : {w : ℕ} → List (Message w) → Type 0
+AllWhole [] = Unit {0}
+AllWhole (m ∷ ms) = IsBurst m (burst_of m) × AllWhole ms
+
+-- The beats are the bursts of these messages, one after another, and then this rest, which begins
+-- one more burst or is empty. All lists have the newest first.
+pub record Splits {w : ℕ} (beats : List (Beat w)) (messages : List (Message w)) (rest : List (Beat w)) : Type 0 where
+  pub whole : beats ≡ rest ++ bursts messages
+  pub messages_are_whole : AllWhole messages
+  pub rest_begins : IsBeginning rest

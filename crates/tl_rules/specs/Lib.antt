@@ -1,1 +1,2 @@
+pub mod Legality
 pub mod Param

@@ -2,7 +2,9 @@
 //! operations.
 #![tactic(auto)]
 
+mod field;
 pub mod level;
+mod mask;
 pub mod param;
 pub mod perm;
 pub mod profile;

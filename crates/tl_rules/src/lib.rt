@@ -2,6 +2,7 @@
 //! operations.
 #![tactic(auto)]
 
+mod channel;
 mod field;
 pub mod level;
 mod mask;

@@ -1,3 +1,4 @@
 pub mod Lanes
 pub mod Masks
+pub mod Verdicts
 pub mod Widths

@@ -4,6 +4,7 @@
 
 mod channel;
 mod field;
+pub mod legality;
 pub mod level;
 mod mask;
 pub mod param;

@@ -1,4 +1,5 @@
 pub mod Lanes
 pub mod Masks
+pub mod Merges
 pub mod Verdicts
 pub mod Widths

@@ -1,3 +1,5 @@
 pub mod Control
+pub mod Effect
 pub mod Legality
+pub mod Merge
 pub mod Param

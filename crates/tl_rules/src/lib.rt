@@ -2,11 +2,13 @@
 //! operations.
 #![tactic(auto)]
 
+pub mod answer;
 mod channel;
 mod field;
 pub mod legality;
 pub mod level;
 mod mask;
+pub mod merge;
 pub mod param;
 pub mod perm;
 pub mod profile;

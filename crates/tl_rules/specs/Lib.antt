@@ -3,3 +3,4 @@ pub mod Effect
 pub mod Legality
 pub mod Merge
 pub mod Param
+pub mod Place

@@ -3,6 +3,7 @@
 #![tactic(auto)]
 
 pub mod answer;
+mod atomic;
 mod channel;
 mod field;
 pub mod legality;
@@ -11,6 +12,7 @@ mod mask;
 pub mod merge;
 pub mod param;
 pub mod perm;
+mod place;
 pub mod profile;
 pub mod report;
 pub mod rule;

@@ -1,0 +1,6 @@
+pub mod Lanes
+pub mod Masks
+pub mod Merges
+pub mod Places
+pub mod Verdicts
+pub mod Widths

@@ -1,0 +1,6 @@
+use Rattle.std.proofs.Common.{rules, arith}
+use Rattle.tl_rules.proofs.Places.{over_zeros_to_end}
+use Rattle.tl_rules.proofs.place.move_up.Goals as goal
+
+pub returns : goal.returns
+returns c = over_zeros_to_end c.args.by c.args.bytes.now _ c.put.new.bytes c.requires c.told-bytes (search rules) c.put.ensures

@@ -1,0 +1,8 @@
+use Rattle.std.proofs.Common.{◌≡◌, ◌+◌, ◌-◌, refl, arith}
+use Rattle.tl_rules.proofs.Places.{low_bytes}
+use Rattle.tl_rules.proofs.place.number_at.Goals as goal
+
+pub returns : goal.returns
+returns c =
+    let count : c.args.at + c.args.count - c.args.at ≡ c.args.count = omega arith in
+    low_bytes c.args.bytes.now _ c.put_low.new.eight c.args.at c.args.count c.from_le_bytes.result c.requires.count (omega arith) (rw count refl) c.put_low.ensures c.from_le_bytes.ensures

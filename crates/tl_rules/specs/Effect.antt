@@ -1,0 +1,126 @@
+use Rattle.std.specs.Prelude.{ℕ, zero, suc, ◌+◌, ◌-◌, ◌*◌, ◌/◌, ◌%◌, ◌^◌, ◌<◌, ◌≡◌, nat_lt, min, max, ℤ, pos, ◌-ℤ◌, int_lt, bit_xor, bit_or, bit_and, if◌then◌else◌, List, [], ◌∷◌, ◌++◌, length, replicate, slice_index, Option, Some, None, unwrap_or}
+use Rattle.tl_beat.specs.declared.opcode.OpA.{OpA}
+use Rattle.tl_beat.specs.declared.opcode.OpA.TheVariants as a
+use Rattle.tl_burst.specs.declared.message.MessageA.{MessageA}
+use Rattle.tl_burst.specs.declared.message.Message.{Message}
+use Rattle.tl_burst.specs.declared.message.Message.TheVariants.{A, B, C, D, E}
+use Rattle.tl_burst.specs.Burst.{byte_at, reaches}
+use Rattle.tl_rules.specs.declared.answer.Answer.{Answer}
+use Rattle.tl_rules.specs.declared.answer.Answer.TheVariants as answer
+use Rattle.tl_rules.specs.declared.param.Arithmetic.{Arithmetic}
+use Rattle.tl_rules.specs.declared.param.Arithmetic.TheVariants as arithmetic
+use Rattle.tl_rules.specs.declared.param.Logical.{Logical}
+use Rattle.tl_rules.specs.declared.param.Logical.TheVariants as logical
+use Rattle.tl_rules.specs.Param.{arithmetic_of, logical_of}
+
+-- a memory gives the byte at each address
+abbrev pub Memory : Type 0
+Memory = ℕ → ℕ
+
+-- n bytes of a memory from an address on
+unfoldable pub bytes_from : Memory → ℕ → ℕ → List ℕ
+bytes_from memory from zero = []
+bytes_from memory from (suc n) = memory from ∷ bytes_from memory (from + 1) n
+
+-- the number that they spell, the lowest byte first
+unfoldable pub number_from : Memory → ℕ → ℕ → ℕ
+number_from memory from zero = 0
+number_from memory from (suc n) = memory from + 256 * number_from memory (from + 1) n
+
+-- byte i of a number
+abbrev pub byte_of : ℕ → ℕ → ℕ
+byte_of n i = n / 256 ^ i % 256
+
+-- ---- atomic operations on numbers below 2 ^ k
+
+-- the number with its sign
+abbrev pub signed : ℕ → ℕ → ℤ
+signed k n = if nat_lt n (2 ^ (k - 1)) then pos n else pos n -ℤ pos (2 ^ k)
+
+abbrev pub arithmetic_result : Arithmetic → ℕ → ℕ → ℕ → ℕ
+arithmetic_result arithmetic.Min k old operand = if int_lt (signed k operand) (signed k old) then operand else old
+arithmetic_result arithmetic.Max k old operand = if int_lt (signed k old) (signed k operand) then operand else old
+arithmetic_result arithmetic.MinU k old operand = min old operand
+arithmetic_result arithmetic.MaxU k old operand = max old operand
+arithmetic_result arithmetic.Add k old operand = (old + operand) % 2 ^ k
+
+abbrev pub logical_result : Logical → ℕ → ℕ → ℕ
+logical_result logical.Xor old operand = bit_xor old operand
+logical_result logical.Or old operand = bit_or old operand
+logical_result logical.And old operand = bit_and old operand
+logical_result logical.Swap old operand = operand
+
+-- a param that names no operation leaves the old number
+abbrev pub by_param : {O : Type 0} → (O → ℕ → ℕ → ℕ) → Option O → ℕ → ℕ → ℕ
+by_param result None old operand = old
+by_param result (Some operation) old operand = result operation old operand
+
+-- ---- requests
+
+-- how many bytes a request reaches
+abbrev pub bytes_of : {w : ℕ} → MessageA w → ℕ
+bytes_of m = 2 ^ m.size
+
+-- the bytes of the payload at their addresses
+abbrev pub operand_of : {w : ℕ} → MessageA w → Memory
+operand_of {w} m address = slice_index m.payload (address - w * (m.address / w))
+
+-- the number that an atomic stores, given what it makes of the old value and the operand
+abbrev pub stored : {w : ℕ} → MessageA w → (ℕ → ℕ → ℕ) → Memory → ℕ
+stored m result memory = result (number_from memory m.address (bytes_of m)) (number_from (operand_of m) m.address (bytes_of m))
+
+-- the memory with this number in place of the bytes that the request reaches
+abbrev pub with_number : {w : ℕ} → MessageA w → ℕ → Memory → Memory
+with_number m n memory address = if reaches m.address m.size address then byte_of n (address - m.address) else memory address
+
+-- the memory after a request
+abbrev pub after : {w : ℕ} → OpA → MessageA w → Memory → Memory
+after a.PutFullData m memory = λ address. unwrap_or (byte_at 0 (A m) address) (memory address)
+after a.PutPartialData m memory = λ address. unwrap_or (byte_at 0 (A m) address) (memory address)
+after a.ArithmeticData m memory = with_number m (stored m (by_param (λ o. arithmetic_result o (8 * bytes_of m)) (arithmetic_of m.param)) memory) memory
+after a.LogicalData m memory = with_number m (stored m (by_param logical_result (logical_of m.param)) memory) memory
+after _ m memory = memory
+
+-- what a request is answered
+pub data Reply : Type 0 where
+  Done : Reply
+  Hinted : Reply
+  Bytes : List ℕ → Reply
+
+abbrev pub reply : {w : ℕ} → OpA → MessageA w → Memory → Reply
+reply a.PutFullData m memory = Done
+reply a.PutPartialData m memory = Done
+reply a.ArithmeticData m memory = Bytes (bytes_from memory m.address (bytes_of m))
+reply a.LogicalData m memory = Bytes (bytes_from memory m.address (bytes_of m))
+reply a.Get m memory = Bytes (bytes_from memory m.address (bytes_of m))
+reply _ m memory = Hinted
+
+-- the memory after a message, and what it is answered
+unfoldable pub effect : {w : ℕ} → Message w → Memory → Memory × Reply
+effect (A m) memory = (after m.opcode m memory, reply m.opcode m memory)
+effect _ memory = (memory, Hinted)
+
+-- ---- blocks
+
+-- these are the 64 bytes of a block
+abbrev pub IsBlock : Memory → ℕ → List ℕ → Type 0
+IsBlock memory block bytes = (i : ℕ) → i < 64 → memory (64 * block + i) ≡ slice_index bytes i
+
+-- the block of a request
+abbrev pub block_of : {w : ℕ} → Message w → ℕ
+block_of (A m) = m.address / 64
+block_of _ = 0
+
+-- the bytes from an address on as a payload, with zeros round them
+abbrev pub as_payload : ℕ → ℕ → List ℕ → List ℕ
+as_payload w address bytes = replicate (address % w) 0 ++ bytes ++ replicate (64 - address % w - length bytes) 0
+
+abbrev pub answer_at : ℕ → ℕ → Reply → Answer
+answer_at w address Done = answer.Ack
+answer_at w address Hinted = answer.Hint
+answer_at w address (Bytes bytes) = answer.Data (as_payload w address bytes)
+
+-- a reply to the message as it is handed out
+abbrev pub answer_of : {w : ℕ} → Message w → Reply → Answer
+answer_of {w} (A m) r = answer_at w m.address r
+answer_of {w} _ r = answer_at w 0 r

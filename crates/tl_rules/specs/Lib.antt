@@ -1,0 +1,6 @@
+pub mod Control
+pub mod Effect
+pub mod Legality
+pub mod Merge
+pub mod Param
+pub mod Place

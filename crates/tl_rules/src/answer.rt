@@ -1,0 +1,10 @@
+//! Answers to accesses.
+
+/// What an access is answered: AccessAck, HintAck, or AccessAckData with the data laid out as a
+/// payload.
+#[derive(Clone, Copy, Debug, PartialEq, Eq)]
+pub enum Answer {
+    Ack,
+    Hint,
+    Data([u8; 64]),
+}

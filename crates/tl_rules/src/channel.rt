@@ -1,0 +1,189 @@
+//! The L rules of each channel over single fields: first the rules of the control fields, which the
+//! beats of a burst share, then those of what each beat has of its own.
+
+ghost use Rattle.std.specs.Prelude.{◌≡◌, ◌≤◌, OnOk};
+ghost use Rattle.tl_beat.specs.Width.{IsWidth};
+ghost use Rattle.tl_rules.specs.Legality.{verdict};
+ghost use Rattle.tl_rules.specs.Control.{a_control, b_control, c_control, d_control};
+ghost use Rattle.tl_rules.specs.Control.{a_own, b_own, c_own, d_own};
+
+use crate::level::Level;
+use crate::param::Cap;
+use crate::rule::Rule;
+use crate::{field, mask};
+use tl_beat::opcode::{OpA, OpB, OpC, OpD};
+
+/// L1 to L4 of channel A.
+pub fn control_of_a<const W: usize>(
+    level: Level,
+    opcode: OpA,
+    param: u8,
+    size: u8,
+    address: u32,
+) -> Result<(), Rule>
+    requires { IsWidth W }
+    ensures value { result ≡ verdict (a_control W level opcode param size address) }
+    ensures small { OnOk result (size ≤ 6) }
+{
+    if !field::a_opcode_fits(level, opcode) {
+        return Err(Rule::L1);
+    }
+    if !field::a_param_fits(opcode, param) {
+        return Err(Rule::L2);
+    }
+    if !field::a_size_fits::<W>(level, opcode, size) {
+        return Err(Rule::L3);
+    }
+    if !field::address_fits(address, size) {
+        return Err(Rule::L4);
+    }
+    Ok(())
+}
+
+/// L5 and L6 of channel A.
+pub fn own_of_a<const W: usize>(
+    opcode: OpA,
+    size: u8,
+    address: u32,
+    mask: u16,
+    corrupt: bool,
+) -> Result<(), Rule>
+    requires width { IsWidth W }
+    requires small { size ≤ 6 }
+    ensures { result ≡ verdict (a_own W opcode size address mask corrupt) }
+{
+    let fits = match opcode {
+        OpA::PutPartialData => mask::is_part::<W>(size, address, mask),
+        _ => mask::is_full::<W>(size, address, mask),
+    };
+    if !fits {
+        return Err(Rule::L5);
+    }
+    if corrupt && !field::a_carries(opcode) {
+        return Err(Rule::L6);
+    }
+    Ok(())
+}
+
+/// L1, L7, L2, L3 and L4 of channel B.
+pub fn control_of_b(
+    level: Level,
+    opcode: OpB,
+    param: u8,
+    size: u8,
+    source: u8,
+    address: u32,
+) -> Result<(), Rule>
+    ensures value { result ≡ verdict (b_control level opcode param size source address) }
+    ensures small { OnOk result (size ≤ 6) }
+{
+    if !field::transfers(level) {
+        return Err(Rule::L1);
+    }
+    if !matches!(opcode, OpB::ProbeBlock | OpB::ProbePerm) {
+        return Err(Rule::L7);
+    }
+    if Cap::from_param(param).is_none() || source != 0 {
+        return Err(Rule::L2);
+    }
+    if size != 6 {
+        return Err(Rule::L3);
+    }
+    if !field::address_fits(address, size) {
+        return Err(Rule::L4);
+    }
+    Ok(())
+}
+
+/// L5 and L6 of channel B.
+pub fn own_of_b<const W: usize>(
+    opcode: OpB,
+    size: u8,
+    address: u32,
+    mask: u16,
+    corrupt: bool,
+) -> Result<(), Rule>
+    requires width { IsWidth W }
+    requires small { size ≤ 6 }
+    ensures { result ≡ verdict (b_own W opcode size address mask corrupt) }
+{
+    if !mask::is_full::<W>(size, address, mask) {
+        return Err(Rule::L5);
+    }
+    if corrupt && !field::b_carries(opcode) {
+        return Err(Rule::L6);
+    }
+    Ok(())
+}
+
+/// L1, L7, L2, L3 and L4 of channel C.
+pub fn control_of_c(
+    level: Level,
+    opcode: OpC,
+    param: u8,
+    size: u8,
+    source: u8,
+    address: u32,
+) -> Result<(), Rule>
+    ensures { result ≡ verdict (c_control level opcode param size source address) }
+{
+    if !field::transfers(level) {
+        return Err(Rule::L1);
+    }
+    if matches!(opcode, OpC::AccessAck | OpC::AccessAckData | OpC::HintAck) {
+        return Err(Rule::L7);
+    }
+    if !field::c_param_fits(opcode, param) || !field::c_source_fits(opcode, source) {
+        return Err(Rule::L2);
+    }
+    if size != 6 {
+        return Err(Rule::L3);
+    }
+    if !field::address_fits(address, size) {
+        return Err(Rule::L4);
+    }
+    Ok(())
+}
+
+/// L6 of channel C.
+pub fn own_of_c(opcode: OpC, corrupt: bool) -> Result<(), Rule>
+    ensures { result ≡ verdict (c_own opcode corrupt) }
+{
+    if corrupt && !field::c_carries(opcode) {
+        return Err(Rule::L6);
+    }
+    Ok(())
+}
+
+/// L1 to L3 of channel D.
+pub fn control_of_d<const W: usize>(
+    level: Level,
+    opcode: OpD,
+    param: u8,
+    size: u8,
+    sink: u8,
+) -> Result<(), Rule>
+    requires { IsWidth W }
+    ensures { result ≡ verdict (d_control W level opcode param size sink) }
+{
+    if !field::d_opcode_fits(level, opcode) {
+        return Err(Rule::L1);
+    }
+    if !field::d_param_fits(opcode, param) || !field::d_sink_fits(opcode, sink) {
+        return Err(Rule::L2);
+    }
+    if !field::d_size_fits::<W>(level, opcode, size) {
+        return Err(Rule::L3);
+    }
+    Ok(())
+}
+
+/// L6 of channel D.
+pub fn own_of_d(opcode: OpD, denied: bool, corrupt: bool) -> Result<(), Rule>
+    ensures { result ≡ verdict (d_own opcode denied corrupt) }
+{
+    if corrupt && !field::d_carries(opcode) || denied && !field::may_be_denied(opcode, corrupt) {
+        return Err(Rule::L6);
+    }
+    Ok(())
+}

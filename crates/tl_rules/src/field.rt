@@ -1,0 +1,175 @@
+//! What each field of a beat may hold by its opcode and by the level of its link.
+
+ghost use Rattle.std.specs.Prelude.{◌≡◌, ◌≤◌, IsTrue};
+ghost use Rattle.tl_beat.specs.Opcode.{a_carries_data, b_carries_data, c_carries_data, d_carries_data};
+ghost use Rattle.tl_beat.specs.Width.{IsWidth};
+ghost use Rattle.tl_rules.specs.Legality.{a_of_level, d_of_level, has_transfers};
+ghost use Rattle.tl_rules.specs.Legality.{a_has_param, c_has_param, d_has_param, c_has_source, d_has_sink};
+ghost use Rattle.tl_rules.specs.Legality.{access_has_size, a_has_size, d_has_size, is_aligned, may_be_denied};
+
+use crate::level::Level;
+use crate::param::{Arithmetic, Cap, Grow, Intent, Logical, Prune, Report};
+use tl_beat::opcode::{OpA, OpB, OpC, OpD};
+
+pub fn a_opcode_fits(level: Level, opcode: OpA) -> bool
+    ensures { result ≡ a_of_level level opcode }
+{
+    match level {
+        Level::UL => matches!(opcode, OpA::PutFullData | OpA::PutPartialData | OpA::Get),
+        Level::UH => !matches!(opcode, OpA::AcquireBlock | OpA::AcquirePerm),
+        Level::C => true,
+    }
+}
+
+pub fn d_opcode_fits(level: Level, opcode: OpD) -> bool
+    ensures { result ≡ d_of_level level opcode }
+{
+    match opcode {
+        OpD::AccessAck | OpD::AccessAckData => true,
+        OpD::HintAck => level != Level::UL,
+        OpD::Grant | OpD::GrantData | OpD::ReleaseAck => level == Level::C,
+    }
+}
+
+/// The channels B, C and E are those of level C.
+pub fn transfers(level: Level) -> bool
+    ensures { result ≡ has_transfers level }
+{
+    level == Level::C
+}
+
+pub fn a_param_fits(opcode: OpA, param: u8) -> bool
+    ensures { result ≡ a_has_param opcode param }
+{
+    match opcode {
+        OpA::PutFullData | OpA::PutPartialData | OpA::Get => param == 0,
+        OpA::ArithmeticData => Arithmetic::from_param(param).is_some(),
+        OpA::LogicalData => Logical::from_param(param).is_some(),
+        OpA::Intent => Intent::from_param(param).is_some(),
+        OpA::AcquireBlock | OpA::AcquirePerm => Grow::from_param(param).is_some(),
+    }
+}
+
+pub fn c_param_fits(opcode: OpC, param: u8) -> bool
+    ensures { result ≡ c_has_param opcode param }
+{
+    match opcode {
+        OpC::AccessAck | OpC::AccessAckData | OpC::HintAck => param == 0,
+        OpC::ProbeAck => Report::from_param(param).is_some(),
+        OpC::ProbeAckData => matches!(
+            Report::from_param(param),
+            Some(Report::TtoB | Report::TtoN | Report::TtoT)
+        ),
+        OpC::Release => Prune::from_param(param).is_some(),
+        OpC::ReleaseData => { matches!(Prune::from_param(param), Some(Prune::TtoB | Prune::TtoN)) }
+    }
+}
+
+pub fn d_param_fits(opcode: OpD, param: u8) -> bool
+    ensures { result ≡ d_has_param opcode param }
+{
+    match opcode {
+        OpD::Grant | OpD::GrantData => Cap::from_param(param).is_some(),
+        OpD::AccessAck | OpD::AccessAckData | OpD::HintAck | OpD::ReleaseAck => param == 0,
+    }
+}
+
+/// A ProbeAck has source 0.
+pub fn c_source_fits(opcode: OpC, source: u8) -> bool
+    ensures { result ≡ c_has_source opcode source }
+{
+    !matches!(opcode, OpC::ProbeAck | OpC::ProbeAckData) || source == 0
+}
+
+/// Only a Grant has a sink.
+pub fn d_sink_fits(opcode: OpD, sink: u8) -> bool
+    ensures { result ≡ d_has_sink opcode sink }
+{
+    matches!(opcode, OpD::Grant | OpD::GrantData) || sink == 0
+}
+
+fn access_size_fits<const W: usize>(level: Level, size: u8) -> bool
+    requires { IsWidth W }
+    ensures value { result ≡ access_has_size W level size }
+    ensures small { IsTrue result → size ≤ 6 }
+{
+    match level {
+        Level::UL => size <= 4 && 1usize << size <= W,
+        Level::UH | Level::C => size <= 6,
+    }
+}
+
+pub fn a_size_fits<const W: usize>(level: Level, opcode: OpA, size: u8) -> bool
+    requires { IsWidth W }
+    ensures value { result ≡ a_has_size W level opcode size }
+    ensures small { IsTrue result → size ≤ 6 }
+{
+    match opcode {
+        OpA::ArithmeticData | OpA::LogicalData => size == 2 || size == 3,
+        OpA::AcquireBlock | OpA::AcquirePerm => size == 6,
+        OpA::PutFullData | OpA::PutPartialData | OpA::Get | OpA::Intent => {
+            access_size_fits::<W>(level, size)
+        }
+    }
+}
+
+pub fn d_size_fits<const W: usize>(level: Level, opcode: OpD, size: u8) -> bool
+    requires { IsWidth W }
+    ensures { result ≡ d_has_size W level opcode size }
+{
+    match opcode {
+        OpD::Grant | OpD::GrantData | OpD::ReleaseAck => size == 6,
+        OpD::AccessAck | OpD::AccessAckData | OpD::HintAck => access_size_fits::<W>(level, size),
+    }
+}
+
+pub fn address_fits(address: u32, size: u8) -> bool
+    requires { size ≤ 6 }
+    ensures { result ≡ is_aligned address size }
+{
+    address % (1 << size) == 0
+}
+
+pub fn a_carries(opcode: OpA) -> bool
+    ensures { result ≡ a_carries_data opcode }
+{
+    matches!(
+        opcode,
+        OpA::PutFullData | OpA::PutPartialData | OpA::ArithmeticData | OpA::LogicalData
+    )
+}
+
+pub fn b_carries(opcode: OpB) -> bool
+    ensures { result ≡ b_carries_data opcode }
+{
+    matches!(
+        opcode,
+        OpB::PutFullData | OpB::PutPartialData | OpB::ArithmeticData | OpB::LogicalData
+    )
+}
+
+pub fn c_carries(opcode: OpC) -> bool
+    ensures { result ≡ c_carries_data opcode }
+{
+    matches!(
+        opcode,
+        OpC::AccessAckData | OpC::ProbeAckData | OpC::ReleaseData
+    )
+}
+
+pub fn d_carries(opcode: OpD) -> bool
+    ensures { result ≡ d_carries_data opcode }
+{
+    matches!(opcode, OpD::AccessAckData | OpD::GrantData)
+}
+
+/// An answer to an access may be denied, and is corrupt then where it carries data.
+pub fn may_be_denied(opcode: OpD, corrupt: bool) -> bool
+    ensures { result ≡ may_be_denied opcode corrupt }
+{
+    match opcode {
+        OpD::AccessAck | OpD::HintAck => true,
+        OpD::AccessAckData => corrupt,
+        OpD::Grant | OpD::GrantData | OpD::ReleaseAck => false,
+    }
+}

@@ -1,0 +1,10 @@
+//! Levels of conformance (SiFive TileLink Specification 1.8, "TileLink conformance levels").
+
+/// The level of a link: TL-UL (single reads and writes), TL-UH (bursts, atomics and hints as well),
+/// TL-C (transfers of permissions as well).
+#[derive(Clone, Copy, Debug, PartialEq, Eq)]
+pub enum Level {
+    UL,
+    UH,
+    C,
+}

@@ -1,0 +1,18 @@
+//! What TileLink's messages may say and what they do: levels, permissions, rules, and memory
+//! operations.
+#![tactic(auto)]
+
+pub mod answer;
+mod atomic;
+mod channel;
+mod field;
+pub mod legality;
+pub mod level;
+mod mask;
+pub mod merge;
+pub mod param;
+pub mod perm;
+mod place;
+pub mod profile;
+pub mod report;
+pub mod rule;

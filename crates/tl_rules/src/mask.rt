@@ -1,0 +1,39 @@
+//! Masks: which lanes of a beat carry a byte of its message.
+
+ghost use Rattle.std.specs.Prelude.{◌≡◌, ◌<◌, ◌≤◌, ℕ};
+ghost use Rattle.tl_beat.specs.Width.{IsWidth};
+ghost use Rattle.tl_burst.specs.Burst.{bit};
+ghost use Rattle.tl_rules.specs.Legality.{is_lane, is_full_mask, is_part_mask};
+
+/// The lanes that carry a byte of a message of this size and address.
+fn lanes<const W: usize>(size: u8, address: u32) -> u16
+    requires width { IsWidth W }
+    requires small { size ≤ 6 }
+    ensures { (lane : ℕ) → lane < 16 → bit result lane ≡ is_lane W size address lane }
+{
+    let bytes = 1usize << size;
+    let (first, count) = if bytes >= W {
+        (0, W)
+    } else {
+        (address as usize % W, bytes)
+    };
+    (u16::MAX >> (16 - count)) << first
+}
+
+/// Of these lanes the mask has each, and no other.
+pub fn is_full<const W: usize>(size: u8, address: u32, mask: u16) -> bool
+    requires width { IsWidth W }
+    requires small { size ≤ 6 }
+    ensures { result ≡ is_full_mask W size address mask }
+{
+    mask == lanes::<W>(size, address)
+}
+
+/// The mask has no other lane than these.
+pub fn is_part<const W: usize>(size: u8, address: u32, mask: u16) -> bool
+    requires width { IsWidth W }
+    requires small { size ≤ 6 }
+    ensures { result ≡ is_part_mask W size address mask }
+{
+    mask & !lanes::<W>(size, address) == 0
+}

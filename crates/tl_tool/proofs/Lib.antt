@@ -1,0 +1,4 @@
+pub mod LineLemmas
+pub mod PartLemmas
+pub mod ProgressLemmas
+pub mod RunLemmas

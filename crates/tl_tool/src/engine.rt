@@ -1,0 +1,106 @@
+//! Reads an input to its end, and writes what a judge says of its lines.
+
+ghost use Rattle.std.specs.Prelude.{◌≡◌, ◌+◌, ◌++◌, [], ◌≤◌, ◌<◌, ℕ, List, IfOk, OnOk, OnErr, IfErr, length, take, vec_len};
+ghost use Rattle.std.specs.Io.KnownBytes.{Appends, Consumes, IsAtEnd, Keeps};
+ghost use Rattle.tl_tool.specs.Lines.{lines_of};
+ghost use Rattle.tl_tool.specs.Parts.{AppendsPart};
+ghost use Rattle.tl_tool.specs.Progress.{FinishesInput, Progress};
+ghost use Rattle.tl_tool.specs.Run.{EndsAs, FailsAfter, FailsAt, Passes};
+ghost use Rattle.tl_tool.specs.declared.status.Status.{Status};
+
+use crate::judge::Judge;
+use crate::lines::Lines;
+use crate::put::put;
+use crate::status::{Status, ToolFault};
+use std::alloc::{AllocError, Global};
+use std::io::{Read, Write};
+
+/// How many bytes are asked of the reader at once.
+const CHUNK: usize = 65536;
+
+fn new_chunk(alloc: Global) -> Result<Vec<u8>, AllocError>
+    ensures { IfOk result (λ chunk. 0 < vec_len chunk) }
+{
+    let mut chunk = Vec::new(alloc);
+    chunk.resize(CHUNK, 0)?;
+    Ok(chunk)
+}
+
+/// The next piece of the input; it is empty at the end alone.
+fn next_piece<R: Read>(reader: &mut R, chunk: &mut Vec<u8>) -> Result<usize, ToolFault>
+    requires { 0 < vec_len chunk.old }
+    ensures some { IfOk result (λ count. count ≤ vec_len chunk.new) }
+    ensures room { vec_len chunk.new ≡ vec_len chunk.old }
+    ensures ok { IfOk result (λ count. Consumes (R.remaining reader.old) (R.remaining reader.new) (take count chunk.new.items)) }
+    ensures end { result ≡ Ok 0 → IsAtEnd (R.remaining reader.new) }
+    ensures err { OnErr result (Keeps (R.remaining reader.old) (R.remaining reader.new)) }
+{
+    reader
+        .read(chunk.as_mut_slice())
+        .map_err(|_| ToolFault::Read)
+}
+
+/// Judges a piece of the input, and writes what is said of it.
+fn pass<J: Judge, W: Write>(
+    lines: &mut Lines<J>,
+    piece: &[u8],
+    out: &mut Vec<u8>,
+    writer: &mut W,
+) -> Result<Status, ToolFault>
+    requires { out.old.items ≡ [] }
+    ensures empty { OnOk result (out.new.items ≡ []) }
+    ensures ok { IfOk result (λ status. (said : List ℕ) × Appends (W.contents writer.old) (W.contents writer.new) said
+        × Passes J.knows J.tells lines.old lines.new piece.now said status) }
+    ensures err { OnErr result (FailsAfter J.knows J.tells lines.old piece.now (W.contents writer.old) (W.contents writer.new)) }
+{
+    let status = lines.feed(piece, out)?;
+    put(writer, out)?;
+    out.clear();
+    Ok(status)
+}
+
+/// Judges the end of the input, and writes what is said of it.
+fn close<J: Judge, W: Write>(
+    lines: &mut Lines<J>,
+    out: &mut Vec<u8>,
+    writer: &mut W,
+) -> Result<Status, ToolFault>
+    requires { out.old.items ≡ [] }
+    ensures ok { IfOk result (λ status. (said : List ℕ) × Appends (W.contents writer.old) (W.contents writer.new) said
+        × FinishesInput J.knows J.tells lines.old [] said status) }
+    ensures err { OnErr result (FailsAfter J.knows J.tells lines.old [] (W.contents writer.old) (W.contents writer.new)) }
+{
+    let status = lines.finish(out)?;
+    put(writer, out)?;
+    Ok(status)
+}
+
+/// Judges the lines of an input in turn, up to the first at fault, and writes what is said of each
+/// before more of the input is read. The memory that it takes doesn't grow with the input.
+pub fn judge_input<J: Judge, R: Read, W: Write>(
+    alloc: Global,
+    judge: J,
+    reader: &mut R,
+    writer: &mut W,
+) -> Result<Status, ToolFault>
+    requires { J.knows judge [] [] }
+    ensures ok { IfOk result (λ status. (read text : List ℕ) × Consumes (R.remaining reader.old) (R.remaining reader.new) read
+        × Appends (W.contents writer.old) (W.contents writer.new) text
+        × J.tells (lines_of read) text status × EndsAs J.tells (R.remaining reader.new) read text status) }
+    ensures err { OnErr result (FailsAt J.tells (R.remaining reader.old) (R.remaining reader.new) (W.contents writer.old) (W.contents writer.new)) }
+{
+    let mut chunk = new_chunk(alloc)?;
+    let mut out = Vec::new(alloc);
+    let mut lines = Lines::new(judge);
+    for _ in 0..u64::MAX {
+        let count = next_piece(reader, &mut chunk)?;
+        if count == 0 {
+            return close(&mut lines, &mut out, writer);
+        }
+        match pass(&mut lines, &chunk[..count], &mut out, writer)? {
+            Status::Clean => {}
+            Status::Broken => return Ok(Status::Broken),
+        }
+    }
+    Err(ToolFault::Read)
+}

@@ -1,0 +1,9 @@
+//! The command's engine: reads lines of text and writes a text for each, in constant memory.
+#![tactic(auto)]
+
+pub mod engine;
+pub mod fault;
+pub mod judge;
+pub mod lines;
+pub mod put;
+pub mod status;

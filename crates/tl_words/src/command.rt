@@ -1,0 +1,16 @@
+//! What the program can be asked to do.
+
+/// How many bytes of data a beat carries.
+#[derive(Clone, Copy, Debug, PartialEq, Eq)]
+pub enum Width {
+    Four,
+    Eight,
+    Sixteen,
+}
+
+/// What the program does with its input.
+#[derive(Clone, Copy, Debug, PartialEq, Eq)]
+pub enum Command {
+    /// Writes a readable line for each beat line of this width.
+    Decode { width: Width },
+}

@@ -9,3 +9,4 @@ pub mod Faults
 pub mod DigitLaws
 pub mod SpelledLaws
 pub mod ReadLaws
+pub mod Written

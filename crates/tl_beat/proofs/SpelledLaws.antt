@@ -2,7 +2,7 @@
 use Rattle.std.proofs.Common.{◌≡◌, ℕ, zero, suc, ◌+◌, ◌-◌, ◌*◌, ◌/◌, ◌%◌, ◌^◌, ◌<◌, ◌≤◌, Bool, true, false, cond, List, [], ◌∷◌, ◌++◌, length, get_or, take, refl, sym, ap, ap₂, ◌∙◌, arith, length-append, inl, inr}
 use Rattle.std.proofs.Math.Seq.{get_or-append_seam, take-append_seam}
 use Rattle.std.proofs.lemmas.Bool.{eqb-true, lt-ltb, le-ltb}
-use Rattle.std.specs.Prelude.{Ok, Option, Some, None, ◌==◌, ◌&&◌, nat_lt}
+use Rattle.std.specs.Prelude.{Result, Ok, Option, Some, None, ◌==◌, ◌&&◌, nat_lt}
 use Rattle.std.specs.List.{find}
 use Rattle.std.specs.Io.BufRead.{ends_with_byte}
 use Rattle.tl_beat.specs.declared.beat.Link.{Link}
@@ -16,6 +16,7 @@ use Rattle.tl_beat.specs.declared.opcode.OpC.{OpC}
 use Rattle.tl_beat.specs.declared.opcode.OpC.TheVariants as c
 use Rattle.tl_beat.specs.declared.opcode.OpD.{OpD}
 use Rattle.tl_beat.specs.declared.opcode.OpD.TheVariants as d
+use Rattle.tl_beat.specs.declared.fault.LineFault.{LineFault}
 use Rattle.tl_beat.specs.Opcode.{a_code, b_code, c_code, d_code, a_opcodes, b_opcodes, c_opcodes, d_opcodes, a_with, b_with, c_with, d_with}
 use Rattle.tl_beat.specs.Digits.{digits, lane_digits, lanes_text, bit_text}
 use Rattle.tl_beat.specs.Line.{fields_of, spaced, IsWritable, AreLanes, IsInRange, Spells, pieces, without_last}
@@ -244,3 +245,15 @@ reading-spelled {w} line link x width s =
     ap (reading w) s.is_line ∙ reading-line w body short
     ∙ ap (reading_fields {w = w}) (pieces-spaced (fields_of link x) (fields-some link x) (fields-no_space link x))
     ∙ fields-read link x width s.link_in_range s.writable s.in_range
+
+abbrev ok_pair : {w : ℕ} → Link × Beat w → Result (Link × Beat w) LineFault
+ok_pair x = Ok x
+
+-- no two beats have one line
+pub one-beat : {w : ℕ} (line : List ℕ) (k l : Link) (x y : Beat w) → IsWidth w → Spells line k x → Spells line l y → (k ≡ l) × (x ≡ y)
+one-beat {w} line k l x y width s t =
+    let same : (k, x) ≡ (l, y) = ok_same (sym (reading-spelled line k x width s) ∙ reading-spelled line l y width t) in
+    (ap (λ (z : Link × Beat w). z.0) same, ap (λ (z : Link × Beat w). z.1) same)
+  where
+    ok_same : {a b : Link × Beat w} → ok_pair a ≡ ok_pair b → a ≡ b
+    ok_same e = cc

@@ -5,3 +5,4 @@ pub mod Names
 pub mod Opcode
 pub mod Reading
 pub mod Width
+pub mod Writing

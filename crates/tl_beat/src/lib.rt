@@ -7,3 +7,5 @@ pub mod fault;
 mod field;
 pub mod opcode;
 pub mod read;
+pub mod text;
+pub mod write;

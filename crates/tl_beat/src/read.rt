@@ -99,10 +99,11 @@ fn whole_line<const W: usize>(line: &[u8]) -> Result<(Link, Beat<W>), LineFault>
 pub fn read_line<const W: usize>(line: &[u8]) -> Result<(Link, Beat<W>), LineFault>
     requires { IsWidth W }
 
-    // What is read is spelled by the line, whatever the line spells is read, and the fault of
-    // another line is the first of the table.
+    // What is read is spelled by the line, whatever the line spells is read, no two beats have one
+    // line, and the fault of a line that spells none is the first of the table.
     ensures spelled { IfOk result (λ read. Spells line.now read.0 read.1) }
     ensures every_spelling { (link : Link) (beat : Beat W) → Spells line.now link beat → result ≡ Ok (link, beat) }
+    ensures one_beat { (k l : Link) (b c : Beat W) → Spells line.now k b → Spells line.now l c → (k ≡ l) × (b ≡ c) }
     ensures fault { result_err result ≡ line_fault W line.now }
     ensures reads { result ≡ reading W line.now }
 {

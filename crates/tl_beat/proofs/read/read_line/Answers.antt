@@ -2,7 +2,7 @@ use Rattle.std.proofs.Common.{ap, ◌∙◌}
 use Rattle.std.specs.Result.{result_err}
 use Rattle.tl_beat.proofs.LineAt.{line_at-is}
 use Rattle.tl_beat.proofs.Faults.{reading-fault}
-use Rattle.tl_beat.proofs.SpelledLaws.{reading-spelled}
+use Rattle.tl_beat.proofs.SpelledLaws.{reading-spelled, one-beat}
 use Rattle.tl_beat.proofs.ReadLaws.{ok-spells}
 use Rattle.tl_beat.proofs.read.read_line.Goals as goal
 
@@ -17,3 +17,6 @@ returns-clause-fault g c = ap result_err (c.whole_line.ensures ∙ line_at-is g.
 
 pub returns-clause-reads : goal.returns-clause-reads
 returns-clause-reads g c = c.whole_line.ensures ∙ line_at-is g.row.W c.args.line.now
+
+pub returns-clause-one_beat : goal.returns-clause-one_beat
+returns-clause-one_beat g c = λ k l b d s t. one-beat c.args.line.now k l b d c.requires s t

@@ -1,0 +1,65 @@
+//! Text of up to 256 bytes, put together from digits, lanes and bits.
+
+ghost use Rattle.std.specs.Prelude.{◌≡◌, ◌<◌, ◌≤◌, ◌+◌, ◌*◌, ◌++◌, ◌∷◌, [], length};
+ghost use Rattle.tl_beat.specs.Digits.{digit_char, digits, lane_digits, lanes_text, bit_text};
+ghost use Rattle.tl_beat.specs.Width.{IsWidth};
+
+use arrayvec::ArrayVec;
+
+fn digit_byte(digit: u8) -> u8
+    requires { digit < 16 }
+    ensures { result ≡ digit_char digit }
+{
+    if digit < 10 {
+        b'0' + digit
+    } else {
+        b'a' - 10 + digit
+    }
+}
+
+/// Appends the lowest `count` hexadecimal digits of a number, the highest of them first.
+pub fn put_digits(text: &mut ArrayVec<u8, 256>, number: u32, count: u8)
+    requires count { count ≤ 8 }
+    requires room { length text.old.items + count ≤ 256 }
+    ensures text { text.new.items ≡ text.old.items ++ digits count number }
+    ensures len { length text.new.items ≡ length text.old.items + count }
+{
+    for i in 0..count {
+        let shift = 4 * (count - 1 - i);
+        let digit = (number >> shift) % 16;
+        text.push(digit_byte(digit as u8));
+    }
+}
+
+fn put_lanes<const W: usize>(text: &mut ArrayVec<u8, 256>, lanes: &[u8; W])
+    requires width { IsWidth W }
+    requires room { length text.old.items ≤ 224 }
+    ensures text { text.new.items ≡ text.old.items ++ lane_digits lanes.now }
+    ensures len { length text.new.items ≡ length text.old.items + 2 * W }
+{
+    for i in 0..W {
+        put_digits(text, u32::from(lanes[W - 1 - i]), 2);
+    }
+}
+
+/// Appends the data of a beat: the digits of its lanes, the last lane first, or a dash.
+pub fn put_data<const W: usize>(text: &mut ArrayVec<u8, 256>, lanes: &Option<[u8; W]>)
+    requires width { IsWidth W }
+    requires room { length text.old.items ≤ 224 }
+    ensures text { text.new.items ≡ text.old.items ++ lanes_text lanes.now }
+    ensures len { length text.new.items ≤ length text.old.items + 32 }
+{
+    match lanes {
+        None => text.push(b'-'),
+        Some(lanes) => put_lanes(text, lanes),
+    }
+}
+
+/// Appends 0 or 1.
+pub fn put_bit(text: &mut ArrayVec<u8, 256>, bit: bool)
+    requires { length text.old.items < 256 }
+    ensures text { text.new.items ≡ text.old.items ++ bit_text bit }
+    ensures len { length text.new.items ≡ length text.old.items + 1 }
+{
+    text.push(if bit { b'1' } else { b'0' });
+}

@@ -1,0 +1,188 @@
+//! Writing a beat as a line of text.
+
+ghost use Rattle.std.specs.Prelude.{◌≡◌, ◌<◌, ◌≤◌, ◌+◌, ◌/◌, ◌^◌, ◌++◌, ◌∷◌, [], length, OnOk, OnErr};
+ghost use Rattle.tl_beat.specs.declared.beat.Beat.{Beat};
+ghost use Rattle.tl_beat.specs.declared.beat.Beat.TheVariants as beat_of;
+ghost use Rattle.tl_beat.specs.declared.beat.Link.{Link};
+ghost use Rattle.tl_beat.specs.Digits.{digits};
+ghost use Rattle.tl_beat.specs.Line.{line_of, fields_of, spaced, IsWritable};
+ghost use Rattle.tl_beat.specs.Opcode.{a_code, b_code, c_code, d_code};
+ghost use Rattle.tl_beat.specs.Width.{IsWidth};
+ghost use Rattle.tl_beat.specs.Writing.{next_number, next_bit, head_text, tail_text};
+
+use crate::beat::{Beat, BeatA, BeatB, BeatC, BeatD, BeatE, Link};
+use crate::text::{put_bit, put_data, put_digits};
+use arrayvec::ArrayVec;
+use std::alloc::AllocError;
+
+/// Appends a space and a number.
+fn put_number(text: &mut ArrayVec<u8, 256>, number: u32, count: u8)
+    requires count { count ≤ 8 }
+    requires room { length text.old.items + count < 256 }
+    ensures text { text.new.items ≡ text.old.items ++ next_number count number }
+    ensures len { length text.new.items ≡ length text.old.items + count + 1 }
+{
+    text.push(b' ');
+    put_digits(text, number, count);
+}
+
+/// Appends a space and a bit.
+fn put_next_bit(text: &mut ArrayVec<u8, 256>, bit: bool)
+    requires { length text.old.items ≤ 254 }
+    ensures text { text.new.items ≡ text.old.items ++ next_bit bit }
+    ensures len { length text.new.items ≡ length text.old.items + 2 }
+{
+    text.push(b' ');
+    put_bit(text, bit);
+}
+
+/// The fields that lines of channels A to D begin with.
+#[derive(Clone, Copy)]
+struct Head {
+    link: Link,
+    letter: u8,
+    opcode: u8,
+    param: u8,
+    size: u8,
+    source: u8,
+}
+
+fn put_head(text: &mut ArrayVec<u8, 256>, head: Head)
+    requires { text.old.items ≡ [] }
+    ensures text { text.new.items ≡ head_text head.link.0 head.letter head.opcode head.param head.size head.source }
+    ensures len { length text.new.items ≡ 13 }
+{
+    put_digits(text, u32::from(head.link.0), 2);
+    text.push(b' ');
+    text.push(head.letter);
+    put_number(text, u32::from(head.opcode), 1);
+    put_number(text, u32::from(head.param), 1);
+    put_number(text, u32::from(head.size), 1);
+    put_number(text, u32::from(head.source), 2);
+}
+
+fn put_tail<const W: usize>(text: &mut ArrayVec<u8, 256>, lanes: &Option<[u8; W]>, corrupt: bool)
+    requires width { IsWidth W }
+    requires room { length text.old.items ≤ 200 }
+    ensures text { text.new.items ≡ text.old.items ++ tail_text lanes.now corrupt }
+    ensures len { length text.new.items ≤ length text.old.items + 35 }
+{
+    text.push(b' ');
+    put_data(text, lanes);
+    put_next_bit(text, corrupt);
+}
+
+fn put_a<const W: usize>(text: &mut ArrayVec<u8, 256>, link: Link, beat: &BeatA<W>)
+    requires width { IsWidth W }
+    requires empty { text.old.items ≡ [] }
+    ensures text { text.new.items ≡ spaced (fields_of link (beat_of.A beat.now)) }
+    ensures len { length text.new.items < 256 }
+{
+    let head = Head {
+        link,
+        letter: b'A',
+        opcode: beat.opcode.code(),
+        param: beat.param,
+        size: beat.size,
+        source: beat.source,
+    };
+    put_head(text, head);
+    put_number(text, beat.address, 8);
+    put_number(text, u32::from(beat.mask), (W / 4) as u8);
+    put_tail(text, &beat.lanes, beat.corrupt);
+}
+
+fn put_b<const W: usize>(text: &mut ArrayVec<u8, 256>, link: Link, beat: &BeatB<W>)
+    requires width { IsWidth W }
+    requires empty { text.old.items ≡ [] }
+    ensures text { text.new.items ≡ spaced (fields_of link (beat_of.B beat.now)) }
+    ensures len { length text.new.items < 256 }
+{
+    let head = Head {
+        link,
+        letter: b'B',
+        opcode: beat.opcode.code(),
+        param: beat.param,
+        size: beat.size,
+        source: beat.source,
+    };
+    put_head(text, head);
+    put_number(text, beat.address, 8);
+    put_number(text, u32::from(beat.mask), (W / 4) as u8);
+    put_tail(text, &beat.lanes, beat.corrupt);
+}
+
+fn put_c<const W: usize>(text: &mut ArrayVec<u8, 256>, link: Link, beat: &BeatC<W>)
+    requires width { IsWidth W }
+    requires empty { text.old.items ≡ [] }
+    ensures text { text.new.items ≡ spaced (fields_of link (beat_of.C beat.now)) }
+    ensures len { length text.new.items < 256 }
+{
+    let head = Head {
+        link,
+        letter: b'C',
+        opcode: beat.opcode.code(),
+        param: beat.param,
+        size: beat.size,
+        source: beat.source,
+    };
+    put_head(text, head);
+    put_number(text, beat.address, 8);
+    put_tail(text, &beat.lanes, beat.corrupt);
+}
+
+fn put_d<const W: usize>(text: &mut ArrayVec<u8, 256>, link: Link, beat: &BeatD<W>)
+    requires width { IsWidth W }
+    requires empty { text.old.items ≡ [] }
+    ensures text { text.new.items ≡ spaced (fields_of link (beat_of.D beat.now)) }
+    ensures len { length text.new.items < 256 }
+{
+    let head = Head {
+        link,
+        letter: b'D',
+        opcode: beat.opcode.code(),
+        param: beat.param,
+        size: beat.size,
+        source: beat.source,
+    };
+    put_head(text, head);
+    put_number(text, u32::from(beat.sink), 2);
+    put_next_bit(text, beat.denied);
+    put_tail(text, &beat.lanes, beat.corrupt);
+}
+
+fn put_e<const W: usize>(text: &mut ArrayVec<u8, 256>, link: Link, beat: BeatE)
+    requires { text.old.items ≡ [] }
+    ensures text { text.new.items ≡ spaced (fields_of {w = W} link (beat_of.E beat)) }
+    ensures len { length text.new.items < 256 }
+{
+    put_digits(text, u32::from(link.0), 2);
+    text.push(b' ');
+    text.push(b'E');
+    put_number(text, u32::from(beat.sink), 2);
+}
+
+/// Appends the line of a beat on a link, its line feed included. Its param must have room in the
+/// channel's field (3 bits on channels A to C, 2 on D), its size in 4 bits and its mask in `W` bits.
+/// Where there is no memory the vector stays as it was.
+pub fn write_line<const W: usize>(
+    link: Link,
+    beat: &Beat<W>,
+    out: &mut Vec<u8>,
+) -> Result<(), AllocError>
+    requires width { IsWidth W }
+    requires writable { IsWritable beat.now }
+    ensures ok { OnOk result (out.new.items ≡ out.old.items ++ line_of link beat.now) }
+    ensures err { OnErr result (out.new.items ≡ out.old.items) }
+{
+    let mut text = ArrayVec::new();
+    match beat {
+        Beat::A(beat) => put_a(&mut text, link, beat),
+        Beat::B(beat) => put_b(&mut text, link, beat),
+        Beat::C(beat) => put_c(&mut text, link, beat),
+        Beat::D(beat) => put_d(&mut text, link, beat),
+        Beat::E(beat) => put_e::<W>(&mut text, link, *beat),
+    }
+    text.push(b'\n');
+    out.extend_from_slice(text.as_slice())
+}

@@ -7,5 +7,7 @@ pub mod fault;
 mod field;
 pub mod opcode;
 pub mod read;
+#[cfg(test)]
+mod tests;
 pub mod text;
 pub mod write;

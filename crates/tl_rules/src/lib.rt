@@ -11,6 +11,7 @@ pub mod level;
 mod mask;
 pub mod merge;
 pub mod param;
+pub mod perform;
 pub mod perm;
 mod place;
 pub mod profile;

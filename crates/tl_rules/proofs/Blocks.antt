@@ -1,11 +1,12 @@
 -- What was written to a block, as a memory that has the block sees it.
-use Rattle.std.proofs.Common.{◌≡◌, ℕ, zero, suc, ◌+◌, ◌-◌, ◌*◌, ◌/◌, ◌%◌, ◌^◌, ◌<◌, ◌≤◌, ◌⊎◌, ◌&&◌, leb, ltb, cond, true, false, Bool, List, [], ◌∷◌, ◌++◌, length, take, drop, get_or, replicate, Option, Some, None, unwrap_or, refl, sym, ap, ◌∙◌, arith, inl, inr, zero-add}
+use Rattle.std.proofs.Common.{◌≡◌, ℕ, zero, suc, ◌+◌, ◌-◌, ◌*◌, ◌/◌, ◌%◌, ◌^◌, ◌<◌, ◌≤◌, ◌⊎◌, ◌&&◌, leb, ltb, cond, true, false, Bool, List, [], ◌∷◌, ◌++◌, length, take, drop, get_or, replicate, Option, Some, None, unwrap_or, refl, sym, ap, ◌∙◌, arith, inl, inr, zero-add, add-zero}
 use Rattle.std.specs.Int.{to_le_bytes, w64}
 use Rattle.std.proofs.lemmas.Bool.{cases_lt, lt-ltb, le-ltb, le-leb, lt-leb, and_right}
-use Rattle.std.proofs.lemmas.List.{length-append, length-take-le, length-drop, length-replicate, get_or_append_left, get_or-append_right, get_or-take, get_or-drop, get_or-replicate}
+use Rattle.std.proofs.lemmas.List.{length-append, length-take-le, length-drop, length-replicate, get_or_append_left, get_or-append_right, get_or-take, get_or-drop, drop_more}
 use Rattle.std.proofs.lemmas.Option.{slice_get-get_or}
 use Rattle.std.proofs.lemmas.Simd.{get_or-zip2}
 use Rattle.std.specs.Prelude.{slice_get, slice_index, bit_xor, bit_or, bit_and}
+use Rattle.tl_beat.specs.declared.opcode.OpA.TheVariants as a
 use Rattle.tl_beat.specs.Opcode.{a_carries_data}
 use Rattle.tl_beat.specs.Width.{IsWidth}
 use Rattle.tl_burst.specs.declared.message.MessageA.{MessageA}
@@ -17,7 +18,8 @@ use Rattle.tl_rules.specs.declared.param.Logical.TheVariants as logical
 use Rattle.tl_rules.specs.Param.{arithmetic_of, logical_of}
 use Rattle.tl_rules.specs.Merge.{merged}
 use Rattle.tl_rules.specs.Place.{base_of, moved_up, logical_bytes}
-use Rattle.tl_rules.specs.Effect.{Memory, number_from, byte_of, arithmetic_result, logical_result, by_param, bytes_of, operand_of, stored, with_number, IsBlock}
+use Rattle.tl_rules.specs.Effect.{Memory, number_from, byte_of, arithmetic_result, logical_result, by_param, bytes_of, operand_of, stored, with_number, after, as_payload, bytes_from, IsBlock}
+use Rattle.tl_rules.proofs.Masks.{shifted_bit_below, shifted_bit_from}
 use Rattle.tl_rules.proofs.Numbers.{byte_of_number, byte_of_rest, byte_of_xor, byte_of_or, byte_of_and, written_byte}
 use Rattle.tl_rules.proofs.Places.{number_same}
 use Rattle.tl_rules.proofs.Rooms.{base_in_memory}
@@ -176,3 +178,45 @@ logical_done {w} m operation memory old operand lanes new at count mask is_width
       | inl below ↦ rw (lt-leb at i below) refl
       | inr above ↦ rw (le-ltb i (at + count) above, and_right (leb at i) false refl) refl
     ])
+
+-- ---- Puts
+
+choose : (t : Bool) (y z : ℕ) → unwrap_or (cond t (Some y) None) z ≡ cond t y z
+choose true y z = refl
+choose false y z = refl
+
+pub put_done : {w : ℕ} (m : MessageA w) (memory : Memory) (old new moved : List ℕ) (base : ℕ) → IsWidth w → a_carries_data m.opcode ≡ true → length old ≡ 64 → length m.payload ≡ 64 → length moved ≡ 64
+    → base ≡ base_of w m.address → moved ≡ moved_up base m.payload → new ≡ merged (m.mask * 2 ^ base % 2 ^ 64) 0 old moved
+    → IsBlock memory (m.address / 64) old
+    → IsBlock (after a.PutFullData m memory) (m.address / 64) new
+put_done {w} m memory old new moved base is_width carries long long_payload long_moved base_is moved_is new_is is = λ i lt.
+    let x = 64 * (m.address / 64) + i in
+    let start : w * (m.address / w) ≡ 64 * (m.address / 64) + base = base_in_memory w m.address is_width ∙ ap (λ n. 64 * (m.address / 64) + n) (sym base_is) in
+    let new_byte : get_or new i 0 ≡ cond (bit (m.mask * 2 ^ base % 2 ^ 64) i) (get_or moved i 0) (get_or old i 0) =
+    ap (λ xs. get_or xs i 0) new_is ∙ merged_byte (m.mask * 2 ^ base % 2 ^ 64) 0 old moved i (omega arith) (omega arith) ∙ rw zero-add refl in
+    elim (cases_lt i base) [
+      | inl below ↦ rw (new_byte, shifted_bit_below m.mask base i lt below, carries, lt-leb (w * (m.address / w)) x (omega arith)) (is i lt)
+      | inr from ↦
+          let place : x - w * (m.address / w) ≡ i - base = omega arith in
+          let byte : slice_get m.payload (i - base) ≡ Some (get_or m.payload (i - base) 0) = slice_get-get_or m.payload (i - base) 0 (omega arith) in
+          let moved_one : get_or moved i 0 ≡ get_or m.payload (i - base) 0 = ap (λ xs. get_or xs i 0) moved_is ∙ moved_byte base m.payload i from lt in
+          rw (new_byte, shifted_bit_from m.mask base i lt from, moved_one, carries, le-leb (w * (m.address / w)) x (omega arith), place, byte)
+          (choose (bit m.mask (i - base)) (get_or m.payload (i - base) 0) (memory x) ∙ ap (λ n. cond (bit m.mask (i - base)) (get_or m.payload (i - base) 0) n) (is i lt))
+    ]
+
+-- ---- reads
+
+bytes_in_block : (memory : Memory) (old : List ℕ) (x at n : ℕ) → at + n ≤ length old → ((i : ℕ) → i < n → memory (x + i) ≡ get_or old (at + i) 0) → bytes_from memory x n ≡ take n (drop at old)
+unfolding bytes_from
+bytes_in_block memory old x at zero le same = refl
+bytes_in_block memory old x at (suc n) le same =
+    let first : memory x ≡ get_or old at 0 = rw (add-zero, add-zero) at (same 0 (omega arith)) in
+    let more : (i : ℕ) → i < n → memory (x + 1 + i) ≡ get_or old (at + 1 + i) 0 = λ i lt. ap memory (omega arith) ∙ same (i + 1) (omega arith) ∙ ap (λ k. get_or old k 0) (omega arith) in
+    rw (drop_more old at 0 (omega arith), first, bytes_in_block memory old (x + 1) (at + 1) n (omega arith) more) refl
+
+pub read_done : {w : ℕ} (m : MessageA w) (memory : Memory) (old out : List ℕ) (at first count : ℕ) → at ≡ m.address % 64 → first ≡ m.address % w → count ≡ 2 ^ m.size → at + count ≤ 64 → length old ≡ 64
+    → out ≡ as_payload first (take count (drop at old)) → IsBlock memory (m.address / 64) old → out ≡ as_payload (m.address % w) (bytes_from memory m.address (bytes_of m))
+read_done m memory old out at first count at_is first_is count_is room long out_is is =
+    let bytes : bytes_from memory m.address count ≡ take count (drop at old) =
+    bytes_in_block memory old m.address at count (omega arith) (λ i lt. let place : 64 * (m.address / 64) + (at + i) ≡ m.address + i = omega arith in ap memory (sym place) ∙ is (at + i) (omega arith)) in
+    out_is ∙ rw (← bytes, first_is, count_is) refl

@@ -5,12 +5,12 @@ ghost use Rattle.std.specs.Prelude.{◌≡◌, ◌≤◌, ◌%◌, ◌*◌, ◌/
 ghost use Rattle.tl_beat.specs.Width.{IsWidth};
 ghost use Rattle.tl_rules.specs.Legality.{illegal_message, is_aligned};
 ghost use Rattle.tl_rules.specs.Control.{a_control};
-ghost use Rattle.tl_rules.specs.Effect.{Memory, IsBlock, effect, block_of, answer_of, after, reply, answer_at};
-ghost use Rattle.tl_rules.specs.Merge.{merged};
+ghost use Rattle.tl_beat.specs.Opcode.{a_carries_data};
+ghost use Rattle.tl_rules.specs.Effect.{IsBlock, effect, block_of, answer_of, after, reply, answer_at, as_payload, bytes_from, bytes_of};
 ghost use Rattle.tl_rules.specs.Param.{arithmetic_of, logical_of};
-ghost use Rattle.tl_rules.specs.Place.{base_of, moved_up};
 
 use crate::answer::Answer;
+use crate::level::Level;
 use crate::merge::merge_masked;
 use crate::param::{Arithmetic, Logical};
 use crate::place::Span;
@@ -18,14 +18,26 @@ use crate::{atomic, place};
 use tl_beat::opcode::OpA;
 use tl_burst::message::MessageA;
 
-/// Writes the bytes of a Put that its mask has.
-fn put<const W: usize>(block: &mut [u8; 64], put: &MessageA<W>)
-    requires { IsWidth W }
-    ensures { block.new
-        ≡ merged (put.now.mask * 2 ^ base_of W put.now.address % 2 ^ 64) 0 block.old (moved_up (base_of W put.now.address) put.now.payload) }
+/// The old bytes that a request reaches, as a payload.
+fn read<const W: usize>(block: &[u8; 64], request: &MessageA<W>) -> [u8; 64]
+    requires width { IsWidth W }
+    requires aligned { IsTrue (is_aligned request.now.address request.now.size) }
+    ensures { (memory : ℕ → ℕ) → IsBlock memory (request.now.address / 64) block.now
+        → result ≡ as_payload (request.now.address % W) (bytes_from memory request.now.address (bytes_of request.now)) }
 {
-    let base = place::base::<W>(put.address);
-    merge_masked(block, &place::move_up(&put.payload, base), put.mask << base);
+    place::payload_at(block, Span::new::<W>(request.address, request.size))
+}
+
+/// Writes the bytes of a Put that its mask has.
+fn put<const W: usize>(block: &mut [u8; 64], request: &MessageA<W>)
+    requires width { IsWidth W }
+    requires carries { IsTrue (a_carries_data request.now.opcode) }
+    ensures { (memory : ℕ → ℕ) → IsBlock memory (request.now.address / 64) block.old
+        → IsBlock (after OpA.PutFullData request.now memory) (request.now.address / 64) block.new }
+{
+    let base = place::base::<W>(request.address);
+    let payload = place::move_up(&request.payload, base);
+    merge_masked(block, &payload, request.mask << base);
 }
 
 /// Performs ArithmeticData.
@@ -64,4 +76,34 @@ fn logical<const W: usize>(block: &mut [u8; 64], request: &MessageA<W>)
     let span = Span::new::<W>(request.address, request.size);
     let mask = place::run(span.in_block, span.count);
     merge_masked(block, &lanes, mask);
+}
+
+/// Performs an access on its block.
+fn access<const W: usize>(block: &mut [u8; 64], request: &MessageA<W>) -> Answer
+    requires width { IsWidth W }
+    requires legal { a_control W Level.UH request.now.opcode request.now.param request.now.size request.now.address ≡ None }
+    ensures memory { (memory : ℕ → ℕ) → IsBlock memory (request.now.address / 64) block.old
+        → IsBlock (after request.now.opcode request.now memory) (request.now.address / 64) block.new }
+    ensures answer { (memory : ℕ → ℕ) → IsBlock memory (request.now.address / 64) block.old
+        → result ≡ answer_at W request.now.address (reply request.now.opcode request.now memory) }
+{
+    match request.opcode {
+        OpA::PutFullData | OpA::PutPartialData => {
+            put(block, request);
+            Answer::Ack
+        }
+        OpA::ArithmeticData => {
+            let old = read(block, request);
+            arithmetic(block, request);
+            Answer::Data(old)
+        }
+        OpA::LogicalData => {
+            let old = read(block, request);
+            logical(block, request);
+            Answer::Data(old)
+        }
+        OpA::Get => Answer::Data(read(block, request)),
+        OpA::Intent => Answer::Hint,
+        OpA::AcquireBlock | OpA::AcquirePerm => unreachable!(),
+    }
 }

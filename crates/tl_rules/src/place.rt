@@ -62,6 +62,7 @@ pub fn move_up(bytes: &[u8; 64], by: usize) -> [u8; 64]
     ensures value { result ≡ moved_up by bytes.now }
     ensures len { length result ≡ 64 }
     ensures fits { (i : ℕ) → slice_index result i < 256 }
+    ensures long { length bytes.now ≡ 64 }
 {
     let mut moved = [0; 64];
     put(&mut moved, by, &bytes[..64 - by]);

@@ -1,28 +1,37 @@
 -- What was written to a block, as a memory that has the block sees it.
-use Rattle.std.proofs.Common.{◌≡◌, ℕ, zero, suc, ◌+◌, ◌-◌, ◌*◌, ◌/◌, ◌%◌, ◌^◌, ◌<◌, ◌≤◌, ◌⊎◌, ◌&&◌, leb, ltb, cond, true, false, Bool, List, [], ◌∷◌, ◌++◌, length, take, drop, get_or, replicate, Option, Some, None, unwrap_or, refl, sym, ap, ◌∙◌, arith, inl, inr, zero-add, add-zero}
+use Rattle.std.proofs.Common.{◌≡◌, ℕ, zero, suc, ◌+◌, ◌-◌, ◌*◌, ◌/◌, ◌%◌, ◌^◌, ◌<◌, ◌≤◌, ◌⊎◌, ◌≢◌, ◌&&◌, eqb, leb, ltb, cond, true, false, Bool, List, [], ◌∷◌, ◌++◌, length, take, drop, get_or, replicate, Option, Some, None, unwrap_or, refl, sym, ap, ◌∙◌, arith, inl, inr, zero-add, add-zero}
 use Rattle.std.specs.Int.{to_le_bytes, w64}
-use Rattle.std.proofs.lemmas.Bool.{cases_lt, lt-ltb, le-ltb, le-leb, lt-leb, and_right}
+use Rattle.std.proofs.lemmas.Bool.{cases_lt, lt-ltb, le-ltb, le-leb, lt-leb, and_right, cases_Bool, eqb-true}
 use Rattle.std.proofs.lemmas.List.{length-append, length-take-le, length-drop, length-replicate, get_or_append_left, get_or-append_right, get_or-take, get_or-drop, drop_more}
 use Rattle.std.proofs.lemmas.Option.{slice_get-get_or}
 use Rattle.std.proofs.lemmas.Simd.{get_or-zip2}
 use Rattle.std.specs.Prelude.{slice_get, slice_index, bit_xor, bit_or, bit_and}
+use Rattle.tl_beat.specs.declared.opcode.Channel.TheVariants as channel
+use Rattle.tl_beat.specs.declared.opcode.OpA.{OpA}
 use Rattle.tl_beat.specs.declared.opcode.OpA.TheVariants as a
 use Rattle.tl_beat.specs.Opcode.{a_carries_data}
 use Rattle.tl_beat.specs.Width.{IsWidth}
 use Rattle.tl_burst.specs.declared.message.MessageA.{MessageA}
-use Rattle.tl_burst.specs.declared.message.Message.TheVariants.{A}
-use Rattle.tl_burst.specs.Burst.{bit, byte_at}
+use Rattle.tl_burst.specs.declared.message.Message.{Message}
+use Rattle.tl_burst.specs.declared.message.Message.TheVariants.{A, B, C, D, E}
+use Rattle.tl_burst.specs.Burst.{bit, byte_at, data_beats, beats_of, IsBlankAfter}
 use Rattle.tl_rules.specs.declared.param.Arithmetic.{Arithmetic}
 use Rattle.tl_rules.specs.declared.param.Logical.{Logical}
 use Rattle.tl_rules.specs.declared.param.Logical.TheVariants as logical
 use Rattle.tl_rules.specs.Param.{arithmetic_of, logical_of}
+use Rattle.tl_rules.specs.declared.answer.Answer.{Answer}
+use Rattle.tl_rules.specs.declared.level.Level.TheVariants as level
+use Rattle.tl_rules.specs.Legality.{illegal_message}
 use Rattle.tl_rules.specs.Merge.{merged}
 use Rattle.tl_rules.specs.Place.{base_of, moved_up, logical_bytes}
-use Rattle.tl_rules.specs.Effect.{Memory, number_from, byte_of, arithmetic_result, logical_result, by_param, bytes_of, operand_of, stored, with_number, after, as_payload, bytes_from, IsBlock}
+use Rattle.tl_rules.specs.Effect.{Memory, number_from, byte_of, arithmetic_result, logical_result, by_param, bytes_of, operand_of, stored, with_number, after, as_payload, bytes_from, IsBlock, block_of, effect, reply, answer_at, answer_of}
+use Rattle.std.proofs.lemmas.Nat.{div-add-mod'}
+use Rattle.std.proofs.lemmas.Nat.Bits.{bit_at_above}
+use Rattle.tl_rules.proofs.Bursts.{control_of_legal, control_aligned}
 use Rattle.tl_rules.proofs.Masks.{shifted_bit_below, shifted_bit_from}
 use Rattle.tl_rules.proofs.Numbers.{byte_of_number, byte_of_rest, byte_of_xor, byte_of_or, byte_of_and, written_byte}
 use Rattle.tl_rules.proofs.Places.{number_same}
-use Rattle.tl_rules.proofs.Rooms.{base_in_memory}
+use Rattle.tl_rules.proofs.Rooms.{base_in_memory, room_of_base, room_in_block}
 use Rattle.tl_rules.proofs.Widths.{width-bounds}
 
 -- ---- a part of a list that is replaced
@@ -220,3 +229,73 @@ read_done m memory old out at first count at_is first_is count_is room long out_
     let bytes : bytes_from memory m.address count ≡ take count (drop at old) =
     bytes_in_block memory old m.address at count (omega arith) (λ i lt. let place : 64 * (m.address / 64) + (at + i) ≡ m.address + i = omega arith in ap memory (sym place) ∙ is (at + i) (omega arith)) in
     out_is ∙ rw (← bytes, first_is, count_is) refl
+
+-- ---- what lies elsewhere
+
+reaches_block : {w : ℕ} (m : MessageA w) (n : ℕ) (memory : Memory) (x : ℕ) → m.address % 64 + 2 ^ m.size ≤ 64 → x / 64 ≢ m.address / 64 → with_number m n memory x ≡ memory x
+reaches_block m n memory x room ne = not_reached m n memory x (elim (cases_lt x m.address) [
+  | inl below ↦ inl below
+  | inr from ↦ elim (cases_lt x (m.address + 2 ^ m.size)) [ inl to ↦ absurd (ne (omega arith)) | inr above ↦ inr above ]
+])
+
+carried_room : (w size address : ℕ) → IsWidth w → address % 64 + 2 ^ size ≤ 64 → base_of w address + w * data_beats w size ≤ 64
+carried_room w size address is room = go (cases_Bool (ltb w (2 ^ size)))
+  where
+    go : (ltb w (2 ^ size) ≡ true) ⊎ (ltb w (2 ^ size) ≡ false) → base_of w address + w * data_beats w size ≤ 64
+    go (inl more) =
+        let pos : 0 < w = omega (arith, (width-bounds w is).0) in
+        let base : base_of w address ≤ address % 64 = omega (arith, div-add-mod' (address % 64) w) in
+        rw more (omega arith)
+    go (inr few) = rw few (omega (arith, room_of_base w address is))
+
+put_elsewhere : {w : ℕ} (m : MessageA w) (memory : Memory) (x : ℕ) → IsWidth w → a_carries_data m.opcode ≡ true → m.address % 64 + 2 ^ m.size ≤ 64 → m.mask < 2 ^ (w * data_beats w m.size) → x / 64 ≢ m.address / 64
+    → after a.PutFullData m memory x ≡ memory x
+put_elsewhere {w} m memory x is carries room blank ne =
+    let start = base_in_memory w m.address is in
+    let inside = carried_room w m.size m.address is room in
+    elim (cases_lt x (w * (m.address / w))) [
+      | inl below ↦ rw (carries, lt-leb (w * (m.address / w)) x below) refl
+      | inr from ↦
+          let past : w * data_beats w m.size ≤ x - w * (m.address / w) = elim (cases_lt (x - w * (m.address / w)) (w * data_beats w m.size)) [ inl lt ↦ absurd (ne (omega arith)) | inr le ↦ le ] in
+          let none : bit m.mask (x - w * (m.address / w)) ≡ false = ap (λ k. eqb k 1) (bit_at_above m.mask (w * data_beats w m.size) (x - w * (m.address / w)) blank past) in
+          rw (carries, le-leb (w * (m.address / w)) x from, none) refl
+    ]
+
+-- a request changes no other block than its own
+pub effect_elsewhere : {w : ℕ} (m : Message w) → IsWidth w → illegal_message level.UH channel.A m ≡ None → IsBlankAfter (beats_of m) m → (memory : Memory) (x : ℕ) → x / 64 ≢ block_of m → (effect m memory).0 x ≡ memory x
+unfolding effect
+effect_elsewhere {w} (A m) is legal blank memory x ne = go m.opcode refl
+  where
+    room : m.address % 64 + 2 ^ m.size ≤ 64
+    room = room_in_block m.size m.address m.small (eqb-true (m.address % 2 ^ m.size) 0 (control_aligned w level.UH m.opcode m.param m.size m.address (control_of_legal level.UH m is legal)))
+
+    put_is : a_carries_data m.opcode ≡ true → after a.PutFullData m memory x ≡ memory x
+    put_is carries = put_elsewhere m memory x is carries room (rw carries at blank.1) ne
+
+    go : (opcode : OpA) → m.opcode ≡ opcode → after opcode m memory x ≡ memory x
+    go a.PutFullData e = put_is (ap a_carries_data e)
+    go a.PutPartialData e = put_is (ap a_carries_data e)
+    go a.ArithmeticData e = reaches_block m _ memory x room ne
+    go a.LogicalData e = reaches_block m _ memory x room ne
+    go a.Get e = refl
+    go a.Intent e = refl
+    go a.AcquireBlock e = refl
+    go a.AcquirePerm e = refl
+effect_elsewhere (B m) is legal blank memory x ne = refl
+effect_elsewhere (C m) is legal blank memory x ne = refl
+effect_elsewhere (D m) is legal blank memory x ne = refl
+effect_elsewhere (E m) is legal blank memory x ne = refl
+
+-- ---- messages
+
+pub message_memory : {w : ℕ} (m : Message w) (r : MessageA w) (old new : List ℕ) → m ≡ A r
+    → ((memory : Memory) → IsBlock memory (r.address / 64) old → IsBlock (after r.opcode r memory) (r.address / 64) new)
+    → (memory : Memory) → IsBlock memory (block_of m) old → IsBlock (effect m memory).0 (block_of m) new
+unfolding effect
+message_memory m r old new e h = rw e h
+
+pub message_answer : {w : ℕ} (m : Message w) (r : MessageA w) (old : List ℕ) (out : Answer) → m ≡ A r
+    → ((memory : Memory) → IsBlock memory (r.address / 64) old → out ≡ answer_at w r.address (reply r.opcode r memory))
+    → (memory : Memory) → IsBlock memory (block_of m) old → out ≡ answer_of m (effect m memory).1
+unfolding effect
+message_answer m r old out e h = rw e h

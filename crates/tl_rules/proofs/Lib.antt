@@ -1,4 +1,6 @@
 pub mod Blocks
+pub mod Bursts
+pub mod Checks
 pub mod Lanes
 pub mod Masks
 pub mod Merges

@@ -5,6 +5,7 @@
 pub mod answer;
 mod atomic;
 mod channel;
+pub mod check;
 mod field;
 pub mod legality;
 pub mod level;

@@ -1,8 +1,9 @@
 //! What an access does to the block that it reaches (SiFive TileLink Specification 1.8, chapters on
 //! TL-UL and TL-UH).
 
-ghost use Rattle.std.specs.Prelude.{◌≡◌, ◌≤◌, ◌%◌, ◌*◌, ◌/◌, ◌^◌, ℕ, IsTrue, is_some};
+ghost use Rattle.std.specs.Prelude.{◌≡◌, ◌≤◌, ◌%◌, ◌*◌, ◌/◌, ◌^◌, ℕ, IsTrue, is_some, ◌≢◌};
 ghost use Rattle.tl_beat.specs.Width.{IsWidth};
+ghost use Rattle.tl_burst.specs.Burst.{beats_of, IsBlankAfter};
 ghost use Rattle.tl_rules.specs.Legality.{illegal_message, is_aligned};
 ghost use Rattle.tl_rules.specs.Control.{a_control};
 ghost use Rattle.tl_beat.specs.Opcode.{a_carries_data};
@@ -15,8 +16,8 @@ use crate::merge::merge_masked;
 use crate::param::{Arithmetic, Logical};
 use crate::place::Span;
 use crate::{atomic, place};
-use tl_beat::opcode::OpA;
-use tl_burst::message::MessageA;
+use tl_beat::opcode::{Channel, OpA};
+use tl_burst::message::{Message, MessageA};
 
 /// The old bytes that a request reaches, as a payload.
 fn read<const W: usize>(block: &[u8; 64], request: &MessageA<W>) -> [u8; 64]
@@ -106,4 +107,22 @@ fn access<const W: usize>(block: &mut [u8; 64], request: &MessageA<W>) -> Answer
         OpA::Intent => Answer::Hint,
         OpA::AcquireBlock | OpA::AcquirePerm => unreachable!(),
     }
+}
+
+/// Performs an access, which `check` passes at TL-UH, on its block, and answers it: the Puts with
+/// `Ack`, an Intent with `Hint`, the others with the old bytes.
+pub fn perform<const W: usize>(block: &mut [u8; 64], message: &Message<W>) -> Answer
+    requires width { IsWidth W }
+    requires legal { illegal_message Level.UH Channel.A message.now ≡ None }
+    ensures memory { (memory : ℕ → ℕ) → IsBlock memory (block_of message.now) block.old
+        → IsBlock (effect message.now memory).0 (block_of message.now) block.new }
+    ensures answer { (memory : ℕ → ℕ) → IsBlock memory (block_of message.now) block.old
+        → result ≡ answer_of message.now (effect message.now memory).1 }
+    ensures elsewhere { IsBlankAfter (beats_of message.now) message.now
+        → (memory : ℕ → ℕ) (address : ℕ) → address / 64 ≢ block_of message.now → (effect message.now memory).0 address ≡ memory address }
+{
+    let Message::A(request) = message else {
+        unreachable!()
+    };
+    access(block, request)
 }

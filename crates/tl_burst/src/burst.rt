@@ -106,7 +106,8 @@ fn lanes_of<const W: usize>(carries_data: bool, payload: &[u8; 64], i: u8) -> Op
     Some(lanes)
 }
 
-fn mask_of<const W: usize>(mask: u64, i: u8) -> u16
+/// The mask of beat `i`, in a message's mask.
+pub fn mask_of<const W: usize>(mask: u64, i: u8) -> u16
     requires width { IsWidth W }
     requires inside { W * i + W ≤ 64 }
     ensures { result ≡ mask_at W mask i }
@@ -115,7 +116,8 @@ fn mask_of<const W: usize>(mask: u64, i: u8) -> u16
     lanes as u16
 }
 
-fn bit_of(bits: u16, i: u8) -> bool
+/// The corrupt bit of beat `i`, in those of a message.
+pub fn bit_of(bits: u16, i: u8) -> bool
     requires { i < 16 }
     ensures { result ≡ bit bits i }
 {

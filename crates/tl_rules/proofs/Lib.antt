@@ -1,6 +1,11 @@
+pub mod Blocks
+pub mod Bursts
+pub mod Checks
 pub mod Lanes
 pub mod Masks
 pub mod Merges
+pub mod Numbers
 pub mod Places
+pub mod Rooms
 pub mod Verdicts
 pub mod Widths

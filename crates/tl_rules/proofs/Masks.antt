@@ -42,6 +42,13 @@ run_of_ones w first count i le lt =
     let ones : (2 ^ w - 1) / 2 ^ (w - count) ≡ 2 ^ count - 1 = ones_shr w (w - count) (omega arith) ∙ ap (λ k. 2 ^ k - 1) back in
     ap (λ n. eqb (bit_at (n * 2 ^ first % 2 ^ w) i) 1) ones ∙ ap (λ n. eqb n 1) (bit_at_mod ((2 ^ count - 1) * 2 ^ first) w i lt) ∙ in_run first count i
 
+-- a mask of 64 bits moved up
+pub shifted_bit_below : (n k i : ℕ) → i < 64 → i < k → bit (n * 2 ^ k % 2 ^ 64) i ≡ false
+shifted_bit_below n k i lt below = ap (λ m. eqb m 1) (bit_at_mod (n * 2 ^ k) 64 i lt ∙ bit_at_shifted_low n k i below)
+
+pub shifted_bit_from : (n k i : ℕ) → i < 64 → k ≤ i → bit (n * 2 ^ k % 2 ^ 64) i ≡ bit n (i - k)
+shifted_bit_from n k i lt from = ap (λ m. eqb m 1) (bit_at_mod (n * 2 ^ k) 64 i lt ∙ bit_at_shifted_high n k i from)
+
 -- ---- masks compared
 
 same_from_bit : (m n i : ℕ) → bit m i ≡ bit n i → bit_at m i ≡ bit_at n i

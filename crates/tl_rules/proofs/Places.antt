@@ -1,9 +1,10 @@
 -- Bytes written over zeros, and numbers of several bytes.
-use Rattle.std.proofs.Common.{◌≡◌, ℕ, zero, suc, ◌+◌, ◌-◌, ◌*◌, ◌/◌, ◌%◌, ◌^◌, ◌<◌, ◌≤◌, List, [], ◌∷◌, ◌++◌, length, take, drop, get_or, replicate, refl, sym, ap, ◌∙◌, arith, add-zero, zero-add, inl, inr}
+use Rattle.std.proofs.Common.{◌≡◌, ℕ, zero, suc, ◌+◌, ◌-◌, ◌*◌, ◌/◌, ◌%◌, ◌^◌, ◌<◌, ◌≤◌, List, [], ◌∷◌, ◌++◌, length, take, drop, get_or, replicate, refl, sym, ap, ◌∙◌, arith, add-zero, zero-add, inl, inr, lit<}
 use Rattle.std.specs.Int.{from_le_bytes, w64}
 use Rattle.std.proofs.lemmas.Bool.{cases_lt}
-use Rattle.std.proofs.lemmas.List.{append-nil, length-drop, length-replicate, get_or-replicate, length-take-le, take-replicate, drop-replicate, get_or-drop, get_or-take, get_or_past, get_or-append-add, get_or_append_left, get_or-append_right}
+use Rattle.std.proofs.lemmas.List.{append-nil, length-drop, length-take, length-replicate, get_or-replicate, length-take-le, take-replicate, drop-replicate, get_or-drop, get_or-take, get_or_past, get_or-append-add, get_or_append_left, get_or-append_right}
 use Rattle.tl_rules.specs.Effect.{number_from}
+use Rattle.tl_rules.specs.Place.{moved_up}
 
 -- 64 zeros with bytes written from a place on
 pub over_zeros : (at : ℕ) (new out : List ℕ) → at + length new ≤ 64 → out ≡ take at (replicate 64 0) ++ new ++ drop (at + length new) (replicate 64 0)
@@ -27,6 +28,18 @@ pub over_zeros_part : (at from count : ℕ) (bytes new out : List ℕ) → at + 
 over_zeros_part at from count bytes new out le le' long new_is is =
     let n : length new ≡ count = ap length new_is ∙ length-take-le count (drop from bytes) (omega (arith, length-drop from bytes)) in
     over_zeros at new out (omega arith) is ∙ ap (λ xs. replicate at 0 ++ xs ++ replicate (64 - at - length xs) 0) new_is
+
+-- bytes stay bytes
+pub moved_fits : (n : ℕ) (bytes out : List ℕ) → ((i : ℕ) → get_or bytes i 0 < 256) → out ≡ moved_up n bytes → (i : ℕ) → get_or out i 0 < 256
+moved_fits n bytes out fits is i =
+    let front : length (replicate {A = ℕ} n 0) ≡ n = length-replicate {A = ℕ} n 0 in
+    rw is (elim (cases_lt i n) [
+      | inl below ↦ rw (get_or_append_left {A = ℕ} (replicate n 0) (take (64 - n) bytes) 0 i (omega arith), get_or-replicate {A = ℕ} n i 0 0 below) (lit< tt)
+      | inr from ↦ rw (get_or-append_right {X = ℕ} (replicate n 0) (take (64 - n) bytes) n i 0 front from) (elim (cases_lt (i - n) (64 - n)) [
+        | inl inside ↦ rw (get_or-take (64 - n) bytes (i - n) 0 inside) (fits (i - n))
+        | inr past ↦ rw (get_or_past (take (64 - n) bytes) (i - n) 0 (omega (arith, length-take (64 - n) bytes))) (lit< tt)
+      ])
+    ])
 
 -- ---- numbers
 

@@ -111,16 +111,16 @@ abbrev pub block_of : {w : ℕ} → Message w → ℕ
 block_of (A m) = m.address / 64
 block_of _ = 0
 
--- the bytes from an address on as a payload, with zeros round them
-abbrev pub as_payload : ℕ → ℕ → List ℕ → List ℕ
-as_payload w address bytes = replicate (address % w) 0 ++ bytes ++ replicate (64 - address % w - length bytes) 0
+-- these bytes as a payload from this place on, with zeros round them
+abbrev pub as_payload : ℕ → List ℕ → List ℕ
+as_payload first bytes = replicate first 0 ++ bytes ++ replicate (64 - first - length bytes) 0
 
+-- a reply to a request at this address, as it is handed out
 abbrev pub answer_at : ℕ → ℕ → Reply → Answer
 answer_at w address Done = answer.Ack
 answer_at w address Hinted = answer.Hint
-answer_at w address (Bytes bytes) = answer.Data (as_payload w address bytes)
+answer_at w address (Bytes bytes) = answer.Data (as_payload (address % w) bytes)
 
--- a reply to the message as it is handed out
 abbrev pub answer_of : {w : ℕ} → Message w → Reply → Answer
 answer_of {w} (A m) r = answer_at w m.address r
 answer_of {w} _ r = answer_at w 0 r

@@ -1,6 +1,6 @@
 //! Atomic operations on the numbers and on the bytes of a block.
 
-ghost use Rattle.std.specs.Prelude.{◌≡◌, ◌<◌, ◌≤◌, ◌*◌, ◌%◌, ◌^◌, int_lt};
+ghost use Rattle.std.specs.Prelude.{◌≡◌, ◌<◌, ◌≤◌, ◌*◌, ◌%◌, ◌^◌, int_lt, length};
 ghost use Rattle.tl_rules.specs.Effect.{arithmetic_result, signed};
 ghost use Rattle.tl_rules.specs.Place.{logical_bytes};
 
@@ -55,7 +55,8 @@ pub fn arithmetic(operation: Arithmetic, count: usize, old: u64, operand: u64) -
 
 /// What an operation of LogicalData makes of 64 bytes.
 pub fn logical(operation: Logical, old: &[u8; 64], operand: &[u8; 64]) -> [u8; 64]
-    ensures { result ≡ logical_bytes operation old.now operand.now }
+    ensures value { result ≡ logical_bytes operation old.now operand.now }
+    ensures len { length result ≡ 64 }
 {
     let old = u8x64::from_array(*old);
     let operand = u8x64::from_array(*operand);

@@ -59,7 +59,7 @@ pub fn own_of_a<const W: usize>(
     if !fits {
         return Err(Rule::L5);
     }
-    if corrupt && !field::a_carries(opcode) {
+    if corrupt && !opcode.carries_data() {
         return Err(Rule::L6);
     }
     Ok(())
@@ -110,7 +110,7 @@ pub fn own_of_b<const W: usize>(
     if !mask::is_full::<W>(size, address, mask) {
         return Err(Rule::L5);
     }
-    if corrupt && !field::b_carries(opcode) {
+    if corrupt && !opcode.carries_data() {
         return Err(Rule::L6);
     }
     Ok(())
@@ -149,7 +149,7 @@ pub fn control_of_c(
 pub fn own_of_c(opcode: OpC, corrupt: bool) -> Result<(), Rule>
     ensures { result ≡ verdict (c_own opcode corrupt) }
 {
-    if corrupt && !field::c_carries(opcode) {
+    if corrupt && !opcode.carries_data() {
         return Err(Rule::L6);
     }
     Ok(())
@@ -182,7 +182,7 @@ pub fn control_of_d<const W: usize>(
 pub fn own_of_d(opcode: OpD, denied: bool, corrupt: bool) -> Result<(), Rule>
     ensures { result ≡ verdict (d_own opcode denied corrupt) }
 {
-    if corrupt && !field::d_carries(opcode) || denied && !field::may_be_denied(opcode, corrupt) {
+    if corrupt && !opcode.carries_data() || denied && !field::may_be_denied(opcode, corrupt) {
         return Err(Rule::L6);
     }
     Ok(())

@@ -1,7 +1,6 @@
 //! What each field of a beat may hold by its opcode and by the level of its link.
 
 ghost use Rattle.std.specs.Prelude.{◌≡◌, ◌≤◌, IsTrue};
-ghost use Rattle.tl_beat.specs.Opcode.{a_carries_data, b_carries_data, c_carries_data, d_carries_data};
 ghost use Rattle.tl_beat.specs.Width.{IsWidth};
 ghost use Rattle.tl_rules.specs.Legality.{a_of_level, d_of_level, has_transfers};
 ghost use Rattle.tl_rules.specs.Legality.{a_has_param, c_has_param, d_has_param, c_has_source, d_has_sink};
@@ -9,7 +8,7 @@ ghost use Rattle.tl_rules.specs.Legality.{access_has_size, a_has_size, d_has_siz
 
 use crate::level::Level;
 use crate::param::{Arithmetic, Cap, Grow, Intent, Logical, Prune, Report};
-use tl_beat::opcode::{OpA, OpB, OpC, OpD};
+use tl_beat::opcode::{OpA, OpC, OpD};
 
 pub fn a_opcode_fits(level: Level, opcode: OpA) -> bool
     ensures { result ≡ a_of_level level opcode }
@@ -128,39 +127,6 @@ pub fn address_fits(address: u32, size: u8) -> bool
     ensures { result ≡ is_aligned address size }
 {
     address % (1 << size) == 0
-}
-
-pub fn a_carries(opcode: OpA) -> bool
-    ensures { result ≡ a_carries_data opcode }
-{
-    matches!(
-        opcode,
-        OpA::PutFullData | OpA::PutPartialData | OpA::ArithmeticData | OpA::LogicalData
-    )
-}
-
-pub fn b_carries(opcode: OpB) -> bool
-    ensures { result ≡ b_carries_data opcode }
-{
-    matches!(
-        opcode,
-        OpB::PutFullData | OpB::PutPartialData | OpB::ArithmeticData | OpB::LogicalData
-    )
-}
-
-pub fn c_carries(opcode: OpC) -> bool
-    ensures { result ≡ c_carries_data opcode }
-{
-    matches!(
-        opcode,
-        OpC::AccessAckData | OpC::ProbeAckData | OpC::ReleaseData
-    )
-}
-
-pub fn d_carries(opcode: OpD) -> bool
-    ensures { result ≡ d_carries_data opcode }
-{
-    matches!(opcode, OpD::AccessAckData | OpD::GrantData)
 }
 
 /// An answer to an access may be denied, and is corrupt then where it carries data.

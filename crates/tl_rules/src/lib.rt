@@ -5,12 +5,14 @@
 pub mod answer;
 mod atomic;
 mod channel;
+pub mod check;
 mod field;
 pub mod legality;
 pub mod level;
 mod mask;
 pub mod merge;
 pub mod param;
+pub mod perform;
 pub mod perm;
 mod place;
 pub mod profile;

@@ -1,11 +1,43 @@
 //! The bytes of a message and of a number at their places in a block.
 
-ghost use Rattle.std.specs.Prelude.{◌≡◌, ◌<◌, ◌≤◌, ◌+◌, ◌*◌, ◌%◌, ◌++◌, ℕ, length, take, drop, slice_index, ◌&&◌, nat_le, nat_lt};
+ghost use Rattle.std.specs.Prelude.{◌≡◌, ◌<◌, ◌≤◌, ◌+◌, ◌*◌, ◌%◌, ◌^◌, ◌++◌, ℕ, IsTrue, length, take, drop, slice_index, ◌&&◌, nat_le, nat_lt};
 ghost use Rattle.std.specs.Int.{to_le_bytes, w64};
 ghost use Rattle.tl_beat.specs.Width.{IsWidth};
 ghost use Rattle.tl_burst.specs.Burst.{bit};
 ghost use Rattle.tl_rules.specs.Effect.{as_payload, number_from};
 ghost use Rattle.tl_rules.specs.Place.{base_of, moved_up};
+
+/// Where the bytes of a request lie in its block and in its payload, and how many they are.
+#[derive(Clone, Copy)]
+pub struct Span {
+    pub in_block: usize,
+    pub in_payload: usize,
+    pub count: usize,
+    pub ghost some: { 0 < count },
+    pub ghost within_block: { in_block + count ≤ 64 },
+    pub ghost within_payload: { in_payload + count ≤ 64 },
+}
+
+impl Span {
+    ghost use Rattle.tl_rules.specs.Legality.{is_aligned};
+
+    /// Where the `2^size` bytes from an address on lie.
+    pub fn new<const W: usize>(address: u32, size: u8) -> Self
+        requires width { IsWidth W }
+        requires small { size ≤ 6 }
+        requires aligned { IsTrue (is_aligned address size) }
+        ensures block { result.in_block ≡ address % 64 }
+        ensures payload { result.in_payload ≡ address % W }
+        ensures count { result.count ≡ 2 ^ size }
+        ensures few { size ≤ 3 → result.count ≤ 8 }
+    {
+        Self {
+            in_block: (address % 64) as usize,
+            in_payload: address as usize % W,
+            count: 1 << size,
+        }
+    }
+}
 
 /// The place in its block of payload byte 0 of a message at this address.
 pub fn base<const W: usize>(address: u32) -> usize
@@ -27,7 +59,10 @@ fn put(bytes: &mut [u8; 64], at: usize, new: &[u8])
 /// The bytes moved up, with zeros below them.
 pub fn move_up(bytes: &[u8; 64], by: usize) -> [u8; 64]
     requires { by ≤ 64 }
-    ensures { result ≡ moved_up by bytes.now }
+    ensures value { result ≡ moved_up by bytes.now }
+    ensures len { length result ≡ 64 }
+    ensures fits { (i : ℕ) → slice_index result i < 256 }
+    ensures long { length bytes.now ≡ 64 }
 {
     let mut moved = [0; 64];
     put(&mut moved, by, &bytes[..64 - by]);
@@ -43,20 +78,13 @@ pub fn run(first: usize, count: usize) -> u64
     (u64::MAX >> (64 - count)) << first
 }
 
-/// `count` bytes of a block from an address on, as a payload.
-pub fn payload_at<const W: usize>(block: &[u8; 64], address: u32, count: usize) -> [u8; 64]
-    requires width { IsWidth W }
-    requires within_block { address % 64 + count ≤ 64 }
-    requires within_payload { address % W + count ≤ 64 }
-    ensures { result ≡ as_payload W address (take count (drop (address % 64) block.now)) }
+/// The bytes of a request in its block, as a payload.
+pub fn payload_at(block: &[u8; 64], span: Span) -> [u8; 64]
+    ensures { result ≡ as_payload span.in_payload (take span.count (drop span.in_block block.now)) }
 {
-    let from = (address % 64) as usize;
     let mut payload = [0; 64];
-    put(
-        &mut payload,
-        address as usize % W,
-        &block[from..from + count],
-    );
+    let bytes = &block[span.in_block..span.in_block + span.count];
+    put(&mut payload, span.in_payload, bytes);
     payload
 }
 
@@ -72,7 +100,8 @@ fn put_low(eight: &mut [u8; 8], low: &[u8])
 pub fn number_at(bytes: &[u8; 64], at: usize, count: usize) -> u64
     requires count { count ≤ 8 }
     requires inside { at + count ≤ 64 }
-    ensures { result ≡ number_from (λ i. slice_index bytes.now i) at count }
+    ensures value { result ≡ number_from (λ i. slice_index bytes.now i) at count }
+    ensures below { result < 2 ^ (8 * count) }
 {
     let mut eight = [0; 8];
     put_low(&mut eight, &bytes[at..at + count]);

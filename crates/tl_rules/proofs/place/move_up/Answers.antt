@@ -1,6 +1,8 @@
 use Rattle.std.proofs.Common.{rules, arith}
-use Rattle.tl_rules.proofs.Places.{over_zeros_to_end}
+use Rattle.tl_rules.proofs.Places.{over_zeros_to_end, moved_fits}
 use Rattle.tl_rules.proofs.place.move_up.Goals as goal
 
 pub returns : goal.returns
-returns c = over_zeros_to_end c.args.by c.args.bytes.now _ c.put.new.bytes c.requires c.told-bytes (search rules) c.put.ensures
+returns c =
+    let value = over_zeros_to_end c.args.by c.args.bytes.now _ c.put.new.bytes c.requires c.told-bytes (search rules) c.put.ensures in
+    record { value = value; len = c.put.array_long; fits = moved_fits c.args.by c.args.bytes.now c.put.new.bytes c.fits-bytes value; long = c.told-bytes }

@@ -1,0 +1,128 @@
+//! What an access does to the block that it reaches (SiFive TileLink Specification 1.8, chapters on
+//! TL-UL and TL-UH).
+
+ghost use Rattle.std.specs.Prelude.{◌≡◌, ◌≤◌, ◌%◌, ◌*◌, ◌/◌, ◌^◌, ℕ, IsTrue, is_some, ◌≢◌};
+ghost use Rattle.tl_beat.specs.Width.{IsWidth};
+ghost use Rattle.tl_burst.specs.Burst.{beats_of, IsBlankAfter};
+ghost use Rattle.tl_rules.specs.Legality.{illegal_message, is_aligned};
+ghost use Rattle.tl_rules.specs.Control.{a_control};
+ghost use Rattle.tl_beat.specs.Opcode.{a_carries_data};
+ghost use Rattle.tl_rules.specs.Effect.{IsBlock, effect, block_of, answer_of, after, reply, answer_at, as_payload, bytes_from, bytes_of};
+ghost use Rattle.tl_rules.specs.Param.{arithmetic_of, logical_of};
+
+use crate::answer::Answer;
+use crate::level::Level;
+use crate::merge::merge_masked;
+use crate::param::{Arithmetic, Logical};
+use crate::place::Span;
+use crate::{atomic, place};
+use tl_beat::opcode::{Channel, OpA};
+use tl_burst::message::{Message, MessageA};
+
+/// The old bytes that a request reaches, as a payload.
+fn read<const W: usize>(block: &[u8; 64], request: &MessageA<W>) -> [u8; 64]
+    requires width { IsWidth W }
+    requires aligned { IsTrue (is_aligned request.now.address request.now.size) }
+    ensures { (memory : ℕ → ℕ) → IsBlock memory (request.now.address / 64) block.now
+        → result ≡ as_payload (request.now.address % W) (bytes_from memory request.now.address (bytes_of request.now)) }
+{
+    place::payload_at(block, Span::new::<W>(request.address, request.size))
+}
+
+/// Writes the bytes of a Put that its mask has.
+fn put<const W: usize>(block: &mut [u8; 64], request: &MessageA<W>)
+    requires width { IsWidth W }
+    requires carries { IsTrue (a_carries_data request.now.opcode) }
+    ensures { (memory : ℕ → ℕ) → IsBlock memory (request.now.address / 64) block.old
+        → IsBlock (after OpA.PutFullData request.now memory) (request.now.address / 64) block.new }
+{
+    let base = place::base::<W>(request.address);
+    let payload = place::move_up(&request.payload, base);
+    merge_masked(block, &payload, request.mask << base);
+}
+
+/// Performs ArithmeticData.
+fn arithmetic<const W: usize>(block: &mut [u8; 64], request: &MessageA<W>)
+    requires width { IsWidth W }
+    requires small { request.now.size ≤ 3 }
+    requires aligned { IsTrue (is_aligned request.now.address request.now.size) }
+    requires known { IsTrue (is_some (arithmetic_of request.now.param)) }
+    ensures { (memory : ℕ → ℕ) → IsBlock memory (request.now.address / 64) block.old
+        → IsBlock (after OpA.ArithmeticData request.now memory) (request.now.address / 64) block.new }
+{
+    let Some(operation) = Arithmetic::from_param(request.param) else {
+        unreachable!()
+    };
+    let span = Span::new::<W>(request.address, request.size);
+    let old = place::number_at(block, span.in_block, span.count);
+    let operand = place::number_at(&request.payload, span.in_payload, span.count);
+    let new = atomic::arithmetic(operation, span.count, old, operand);
+    place::put_number(block, span.in_block, span.count, new);
+}
+
+/// Performs LogicalData.
+fn logical<const W: usize>(block: &mut [u8; 64], request: &MessageA<W>)
+    requires width { IsWidth W }
+    requires small { request.now.size ≤ 3 }
+    requires aligned { IsTrue (is_aligned request.now.address request.now.size) }
+    requires known { IsTrue (is_some (logical_of request.now.param)) }
+    ensures { (memory : ℕ → ℕ) → IsBlock memory (request.now.address / 64) block.old
+        → IsBlock (after OpA.LogicalData request.now memory) (request.now.address / 64) block.new }
+{
+    let Some(operation) = Logical::from_param(request.param) else {
+        unreachable!()
+    };
+    let operand = place::move_up(&request.payload, place::base::<W>(request.address));
+    let lanes = atomic::logical(operation, block, &operand);
+    let span = Span::new::<W>(request.address, request.size);
+    let mask = place::run(span.in_block, span.count);
+    merge_masked(block, &lanes, mask);
+}
+
+/// Performs an access on its block.
+fn access<const W: usize>(block: &mut [u8; 64], request: &MessageA<W>) -> Answer
+    requires width { IsWidth W }
+    requires legal { a_control W Level.UH request.now.opcode request.now.param request.now.size request.now.address ≡ None }
+    ensures memory { (memory : ℕ → ℕ) → IsBlock memory (request.now.address / 64) block.old
+        → IsBlock (after request.now.opcode request.now memory) (request.now.address / 64) block.new }
+    ensures answer { (memory : ℕ → ℕ) → IsBlock memory (request.now.address / 64) block.old
+        → result ≡ answer_at W request.now.address (reply request.now.opcode request.now memory) }
+{
+    match request.opcode {
+        OpA::PutFullData | OpA::PutPartialData => {
+            put(block, request);
+            Answer::Ack
+        }
+        OpA::ArithmeticData => {
+            let old = read(block, request);
+            arithmetic(block, request);
+            Answer::Data(old)
+        }
+        OpA::LogicalData => {
+            let old = read(block, request);
+            logical(block, request);
+            Answer::Data(old)
+        }
+        OpA::Get => Answer::Data(read(block, request)),
+        OpA::Intent => Answer::Hint,
+        OpA::AcquireBlock | OpA::AcquirePerm => unreachable!(),
+    }
+}
+
+/// Performs an access, which `check` passes at TL-UH, on its block, and answers it: the Puts with
+/// `Ack`, an Intent with `Hint`, the others with the old bytes.
+pub fn perform<const W: usize>(block: &mut [u8; 64], message: &Message<W>) -> Answer
+    requires width { IsWidth W }
+    requires legal { illegal_message Level.UH Channel.A message.now ≡ None }
+    ensures memory { (memory : ℕ → ℕ) → IsBlock memory (block_of message.now) block.old
+        → IsBlock (effect message.now memory).0 (block_of message.now) block.new }
+    ensures answer { (memory : ℕ → ℕ) → IsBlock memory (block_of message.now) block.old
+        → result ≡ answer_of message.now (effect message.now memory).1 }
+    ensures elsewhere { IsBlankAfter (beats_of message.now) message.now
+        → (memory : ℕ → ℕ) (address : ℕ) → address / 64 ≢ block_of message.now → (effect message.now memory).0 address ≡ memory address }
+{
+    let Message::A(request) = message else {
+        unreachable!()
+    };
+    access(block, request)
+}

@@ -7,5 +7,6 @@ pub mod Merges
 pub mod Numbers
 pub mod Places
 pub mod Rooms
+pub mod Rows
 pub mod Verdicts
 pub mod Widths

@@ -4,3 +4,5 @@ pub mod Legality
 pub mod Merge
 pub mod Param
 pub mod Place
+pub mod History
+pub mod Conformance

@@ -48,7 +48,7 @@ request_then m line name param =
     ∙ head_then line name param _ ∙ rw (to_end (24 + m) line) refl
 
 -- the beat line and the readable line of channel A or B, by their fields
-abbrev request_line : ℕ → ℕ → ℕ → ℕ → ℕ → ℕ → ℕ → ℕ → ℕ → List ℕ → Bool → List ℕ
+abbrev pub request_line : ℕ → ℕ → ℕ → ℕ → ℕ → ℕ → ℕ → ℕ → ℕ → List ℕ → Bool → List ℕ
 request_line m letter link opcode param size source address mask d corrupt =
     spaced (digits 2 link ∷ (letter ∷ []) ∷ digits 1 opcode ∷ digits 1 param ∷ digits 1 size ∷ digits 2 source ∷ digits 8 address ∷ digits m mask ∷ d ∷ bit_text corrupt ∷ []) ++ 10 ∷ []
 

@@ -4,3 +4,4 @@ pub mod ProgressLemmas
 pub mod RunLemmas
 pub mod DecodedLemmas
 pub mod CutLemmas
+pub mod SpelledLemmas

@@ -1,9 +1,15 @@
 //! Writes a beat line as a readable line. The digits are those of the beat line.
 
 ghost use Rattle.std.specs.Prelude.{◌≡◌, ◌+◌, ◌≤◌, ◌/◌, ◌++◌, length, OnOk, option_map, unwrap_or, slice_range};
+ghost use Rattle.tl_beat.specs.declared.beat.Link.{Link};
+ghost use Rattle.tl_beat.specs.Line.{Spells};
+ghost use Rattle.tl_beat.specs.Width.{IsWidth};
+ghost use Rattle.tl_tool.specs.Text.{text_of};
 ghost use Rattle.tl_tool.specs.Cuts.{acknowledgement_text, head_text, release_text, request_text, response_text, tail_text};
 
+use crate::params::{name_on_a, name_on_b, name_on_c, name_on_d};
 use std::alloc::AllocError;
+use tl_beat::beat::Beat;
 
 /// A param by its name, or by its digit in the line where it has none.
 fn param_text<'a>(line: &'a [u8], param: Option<&'a str>) -> &'a [u8]
@@ -118,4 +124,31 @@ fn put_acknowledgement(line: &[u8], out: &mut Vec<u8>) -> Result<(), AllocError>
     out.extend_from_slice(b"GrantAck sink=")?;
     out.extend_from_slice(&line[5..])?;
     Ok(())
+}
+
+/// Appends the readable line of the beat that a line spells.
+pub fn put_text<const W: usize>(line: &[u8], beat: &Beat<W>, out: &mut Vec<u8>) -> Result<(), AllocError>
+    requires width { IsWidth W }
+    requires spelled { (link : Link) × Spells line.now link beat.now }
+    ensures { OnOk result ((link : Link) → Spells line.now link beat.now → out.new.items ≡ out.old.items ++ text_of link beat.now) }
+{
+    match beat {
+        Beat::A(beat) => {
+            let param = name_on_a(beat.opcode, beat.param);
+            put_request::<W>(line, beat.opcode.name(), param, out)
+        }
+        Beat::B(beat) => {
+            let param = name_on_b(beat.opcode, beat.param);
+            put_request::<W>(line, beat.opcode.name(), param, out)
+        }
+        Beat::C(beat) => {
+            let param = name_on_c(beat.opcode, beat.param);
+            put_release(line, beat.opcode.name(), param, out)
+        }
+        Beat::D(beat) => {
+            let param = name_on_d(beat.opcode, beat.param);
+            put_response(line, beat.opcode.name(), param, out)
+        }
+        Beat::E(_) => put_acknowledgement(line, out),
+    }
 }

@@ -5,3 +5,6 @@ pub mod Lines
 pub mod Judging
 pub mod Progress
 pub mod Run
+pub mod Cuts
+pub mod Text
+pub mod Decoded

@@ -5,17 +5,7 @@ ghost use Rattle.tl_tool.specs.Fault.{fault_name, fault_text};
 
 use itoa::Buffer;
 use std::alloc::AllocError;
-
-/// The faults of a beat line.
-#[derive(Clone, Copy, Debug, PartialEq, Eq)]
-pub enum LineFault {
-    F1,
-    F2,
-    F3,
-    F4,
-    F5,
-    F6,
-}
+use tl_beat::fault::LineFault;
 
 /// What a line is at fault for.
 #[derive(Clone, Copy, Debug, PartialEq, Eq)]

@@ -5,5 +5,7 @@ pub mod engine;
 pub mod fault;
 pub mod judge;
 pub mod lines;
+pub mod params;
 pub mod put;
 pub mod status;
+pub mod text;

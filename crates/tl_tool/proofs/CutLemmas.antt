@@ -1,0 +1,120 @@
+-- The fields of a beat line stand at their places.
+use Rattle.std.proofs.Common.{◌≡◌, ℕ, ◌+◌, ◌-◌, ◌/◌, List, [], ◌∷◌, ◌++◌, length, take, drop, refl, ap, ◌∙◌, arith, append_assoc, length-append, codes, inl, inr}
+use Rattle.std.specs.Prelude.{slice_range, slice_get, unwrap_or, Option, Bool, true, false}
+use Rattle.std.proofs.lemmas.List.{length-drop, take_all}
+use Rattle.std.proofs.Math.Seq.{take-append_seam, drop-append-add}
+use Rattle.tl_beat.specs.Digits.{digits, bit_text}
+use Rattle.tl_beat.specs.Line.{spaced}
+use Rattle.tl_beat.specs.Width.{IsWidth}
+use Rattle.tl_tool.specs.Cuts.{head_text, tail_text, request_text, release_text, response_text, acknowledgement_text}
+use Rattle.tl_tool.specs.Text.{param_text}
+
+to_end : (k : ℕ) (line : List ℕ) → slice_range line k (length line) ≡ drop k line
+to_end k line = take_all (length line - k) (drop k line) (omega (arith, length-drop k line))
+
+-- data, corrupt and the line feed
+tail_of_three : (d : List ℕ) (a b c : ℕ) → tail_text (d ++ a ∷ b ∷ c ∷ []) ≡ codes " data=" ++ (d ++ (codes " corrupt=" ++ b ∷ c ∷ []))
+unfolding tail_text
+tail_of_three d a b c =
+    let front : length (d ++ a ∷ b ∷ c ∷ []) - 3 ≡ length d = omega (arith, length-append d (a ∷ b ∷ c ∷ [])) in
+    let back : length (d ++ a ∷ b ∷ c ∷ []) - 2 ≡ length d + 1 = omega (arith, length-append d (a ∷ b ∷ c ∷ [])) in
+    rw (front, back, take-append_seam d (a ∷ b ∷ c ∷ []), drop-append-add d (a ∷ b ∷ c ∷ []) 1) (ap (λ (rest : List ℕ). codes " data=" ++ rest) (append_assoc d (codes " corrupt=") (b ∷ c ∷ [])))
+
+tail_is : (d : List ℕ) (bit : Bool) → tail_text ((d ++ 32 ∷ bit_text bit) ++ 10 ∷ []) ≡ codes " data=" ++ (d ++ (codes " corrupt=" ++ (bit_text bit ++ 10 ∷ [])))
+tail_is d false = ap tail_text (append_assoc d (32 ∷ 48 ∷ []) (10 ∷ [])) ∙ tail_of_three d 32 48 10
+tail_is d true = ap tail_text (append_assoc d (32 ∷ 49 ∷ []) (10 ∷ [])) ∙ tail_of_three d 32 49 10
+
+-- parts in a row, from the left and from the right
+eight : (a b c d e f g h rest : List ℕ) → (((((((a ++ b) ++ c) ++ d) ++ e) ++ f) ++ g) ++ h) ++ rest ≡ a ++ (b ++ (c ++ (d ++ (e ++ (f ++ (g ++ (h ++ rest)))))))
+eight a b c d e f g h rest = simp append_assoc
+
+four_more : (head a b c d rest : List ℕ) → ((((head ++ a) ++ b) ++ c) ++ d) ++ rest ≡ head ++ (a ++ (b ++ (c ++ (d ++ rest))))
+four_more head a b c d rest = simp append_assoc
+
+two_more : (head a b rest : List ℕ) → ((head ++ a) ++ b) ++ rest ≡ head ++ (a ++ (b ++ rest))
+two_more head a b rest = simp append_assoc
+
+head_then : (line name : List ℕ) (param : Option (List ℕ)) (rest : List ℕ)
+    → head_text line name param ++ rest ≡ take 5 line ++ (name ++ (32 ∷ (unwrap_or param (slice_range line 7 8) ++ (codes " size=" ++ (slice_range line 9 10 ++ (codes " source=" ++ (slice_range line 11 13 ++ rest)))))))
+unfolding head_text
+head_then line name param rest = eight (take 5 line) name (32 ∷ []) (unwrap_or param (slice_range line 7 8)) (codes " size=") (slice_range line 9 10) (codes " source=") (slice_range line 11 13) rest
+
+request_then : (m : ℕ) (line name : List ℕ) (param : Option (List ℕ))
+    → request_text m line name param ≡ take 5 line ++ (name ++ (32 ∷ (unwrap_or param (slice_range line 7 8) ++ (codes " size=" ++ (slice_range line 9 10 ++ (codes " source=" ++ (slice_range line 11 13
+    ++ (codes " address=" ++ (slice_range line 14 22 ++ (codes " mask=" ++ (slice_range line 23 (23 + m) ++ tail_text (drop (24 + m) line))))))))))))
+unfolding request_text
+request_then m line name param =
+    four_more (head_text line name param) (codes " address=") (slice_range line 14 22) (codes " mask=") (slice_range line 23 (23 + m)) (tail_text (slice_range line (24 + m) (length line)))
+    ∙ head_then line name param _ ∙ rw (to_end (24 + m) line) refl
+
+-- the beat line and the readable line of channel A or B, by their fields
+abbrev pub request_line : ℕ → ℕ → ℕ → ℕ → ℕ → ℕ → ℕ → ℕ → ℕ → List ℕ → Bool → List ℕ
+request_line m letter link opcode param size source address mask d corrupt =
+    spaced (digits 2 link ∷ (letter ∷ []) ∷ digits 1 opcode ∷ digits 1 param ∷ digits 1 size ∷ digits 2 source ∷ digits 8 address ∷ digits m mask ∷ d ∷ bit_text corrupt ∷ []) ++ 10 ∷ []
+
+abbrev request_words : ℕ → ℕ → ℕ → List ℕ → List (List ℕ) → ℕ → ℕ → ℕ → ℕ → ℕ → List ℕ → Bool → List ℕ
+request_words m letter link name names param size source address mask d corrupt =
+    spaced (digits 2 link ∷ (letter ∷ []) ∷ name ∷ param_text names param ∷ (codes "size=" ++ digits 1 size) ∷ (codes "source=" ++ digits 2 source) ∷ (codes "address=" ++ digits 8 address)
+    ∷ (codes "mask=" ++ digits m mask) ∷ (codes "data=" ++ d) ∷ (codes "corrupt=" ++ bit_text corrupt) ∷ []) ++ 10 ∷ []
+
+abbrev RequestIs : ℕ → Type 0
+RequestIs m = (letter link opcode : ℕ) (name : List ℕ) (names : List (List ℕ)) (param size source address mask : ℕ) (d : List ℕ) (corrupt : Bool)
+    → request_text m (request_line m letter link opcode param size source address mask d corrupt) name (slice_get names param) ≡ request_words m letter link name names param size source address mask d corrupt
+
+request_one : RequestIs 1
+unfolding digits spaced
+request_one letter link opcode name names param size source address mask d corrupt =
+    request_then 1 (request_line 1 letter link opcode param size source address mask d corrupt) name (slice_get names param) ∙ rw (tail_is d corrupt, append_assoc name, append_assoc (param_text names param), append_assoc d) refl
+
+request_two : RequestIs 2
+unfolding digits spaced
+request_two letter link opcode name names param size source address mask d corrupt =
+    request_then 2 (request_line 2 letter link opcode param size source address mask d corrupt) name (slice_get names param) ∙ rw (tail_is d corrupt, append_assoc name, append_assoc (param_text names param), append_assoc d) refl
+
+request_four : RequestIs 4
+unfolding digits spaced
+request_four letter link opcode name names param size source address mask d corrupt =
+    request_then 4 (request_line 4 letter link opcode param size source address mask d corrupt) name (slice_get names param) ∙ rw (tail_is d corrupt, append_assoc name, append_assoc (param_text names param), append_assoc d) refl
+
+pub request_is : (w : ℕ) → IsWidth w → RequestIs (w / 4)
+request_is w (inl four) = rw four request_one
+request_is w (inr (inl eight)) = rw eight request_two
+request_is w (inr (inr sixteen)) = rw sixteen request_four
+
+-- the same of channel C
+pub release_is : (link opcode : ℕ) (name : List ℕ) (names : List (List ℕ)) (param size source address : ℕ) (d : List ℕ) (corrupt : Bool)
+    → release_text (spaced (digits 2 link ∷ (67 ∷ []) ∷ digits 1 opcode ∷ digits 1 param ∷ digits 1 size ∷ digits 2 source ∷ digits 8 address ∷ d ∷ bit_text corrupt ∷ []) ++ 10 ∷ []) name (slice_get names param)
+    ≡ spaced (digits 2 link ∷ (67 ∷ []) ∷ name ∷ param_text names param ∷ (codes "size=" ++ digits 1 size) ∷ (codes "source=" ++ digits 2 source) ∷ (codes "address=" ++ digits 8 address)
+    ∷ (codes "data=" ++ d) ∷ (codes "corrupt=" ++ bit_text corrupt) ∷ []) ++ 10 ∷ []
+unfolding release_text digits spaced
+release_is link opcode name names param size source address d corrupt =
+    let line : List ℕ = spaced (digits 2 link ∷ (67 ∷ []) ∷ digits 1 opcode ∷ digits 1 param ∷ digits 1 size ∷ digits 2 source ∷ digits 8 address ∷ d ∷ bit_text corrupt ∷ []) ++ 10 ∷ [] in
+    two_more (head_text line name (slice_get names param)) (codes " address=") (slice_range line 14 22) (tail_text (slice_range line 23 (length line)))
+    ∙ head_then line name (slice_get names param) _ ∙ rw (to_end 23 line, tail_is d corrupt, append_assoc name, append_assoc (param_text names param), append_assoc d) refl
+
+-- of channel D
+response_then : (line name : List ℕ) (param : Option (List ℕ))
+    → response_text line name param ≡ take 5 line ++ (name ++ (32 ∷ (unwrap_or param (slice_range line 7 8) ++ (codes " size=" ++ (slice_range line 9 10 ++ (codes " source=" ++ (slice_range line 11 13
+    ++ (codes " sink=" ++ (slice_range line 14 16 ++ (codes " denied=" ++ (slice_range line 17 18 ++ tail_text (drop 19 line))))))))))))
+unfolding response_text
+response_then line name param =
+    four_more (head_text line name param) (codes " sink=") (slice_range line 14 16) (codes " denied=") (slice_range line 17 18) (tail_text (slice_range line 19 (length line)))
+    ∙ head_then line name param _ ∙ rw (to_end 19 line) refl
+
+pub response_is : (link opcode : ℕ) (name : List ℕ) (names : List (List ℕ)) (param size source sink : ℕ) (denied : Bool) (d : List ℕ) (corrupt : Bool)
+    → response_text (spaced (digits 2 link ∷ (68 ∷ []) ∷ digits 1 opcode ∷ digits 1 param ∷ digits 1 size ∷ digits 2 source ∷ digits 2 sink ∷ bit_text denied ∷ d ∷ bit_text corrupt ∷ []) ++ 10 ∷ []) name (slice_get names param)
+    ≡ spaced (digits 2 link ∷ (68 ∷ []) ∷ name ∷ param_text names param ∷ (codes "size=" ++ digits 1 size) ∷ (codes "source=" ++ digits 2 source) ∷ (codes "sink=" ++ digits 2 sink)
+    ∷ (codes "denied=" ++ bit_text denied) ∷ (codes "data=" ++ d) ∷ (codes "corrupt=" ++ bit_text corrupt) ∷ []) ++ 10 ∷ []
+unfolding digits spaced
+response_is link opcode name names param size source sink false d corrupt =
+    response_then (spaced (digits 2 link ∷ (68 ∷ []) ∷ digits 1 opcode ∷ digits 1 param ∷ digits 1 size ∷ digits 2 source ∷ digits 2 sink ∷ (48 ∷ []) ∷ d ∷ bit_text corrupt ∷ []) ++ 10 ∷ []) name (slice_get names param)
+    ∙ rw (tail_is d corrupt, append_assoc name, append_assoc (param_text names param), append_assoc d) refl
+response_is link opcode name names param size source sink true d corrupt =
+    response_then (spaced (digits 2 link ∷ (68 ∷ []) ∷ digits 1 opcode ∷ digits 1 param ∷ digits 1 size ∷ digits 2 source ∷ digits 2 sink ∷ (49 ∷ []) ∷ d ∷ bit_text corrupt ∷ []) ++ 10 ∷ []) name (slice_get names param)
+    ∙ rw (tail_is d corrupt, append_assoc name, append_assoc (param_text names param), append_assoc d) refl
+
+-- and of channel E
+pub acknowledgement_is : (link sink : ℕ) → acknowledgement_text (spaced (digits 2 link ∷ (69 ∷ []) ∷ digits 2 sink ∷ []) ++ 10 ∷ [])
+    ≡ spaced (digits 2 link ∷ (69 ∷ []) ∷ codes "GrantAck" ∷ (codes "sink=" ++ digits 2 sink) ∷ []) ++ 10 ∷ []
+unfolding acknowledgement_text digits spaced
+acknowledgement_is link sink = refl

@@ -1,0 +1,86 @@
+-- The text of a beat, from the line that spells it.
+use Rattle.std.proofs.Common.{◌≡◌, ℕ, ◌+◌, ◌≤◌, ◌/◌, List, [], ◌∷◌, ◌++◌, length, refl, sym, ap, ◌∙◌, arith, length-append, inl, inr}
+use Rattle.std.specs.Prelude.{slice_get, Option, Bool, true, false, Result, Ok, Err, OnOk}
+use Rattle.tl_beat.specs.declared.beat.Link.{Link}
+use Rattle.tl_beat.specs.declared.beat.Beat.{Beat}
+use Rattle.tl_beat.specs.declared.beat.BeatA.{BeatA}
+use Rattle.tl_beat.specs.declared.beat.BeatB.{BeatB}
+use Rattle.tl_beat.specs.declared.beat.BeatC.{BeatC}
+use Rattle.tl_beat.specs.declared.beat.BeatD.{BeatD}
+use Rattle.tl_beat.specs.declared.beat.BeatE.{BeatE}
+use Rattle.tl_beat.specs.declared.beat.Beat.TheVariants.{A, B, C, D, E}
+use Rattle.tl_beat.specs.Digits.{digits, lanes_text, bit_text}
+use Rattle.tl_beat.specs.Line.{Spells, spaced}
+use Rattle.tl_beat.specs.Names.{a_name, b_name, c_name, d_name, a_param_names, b_param_names, c_param_names, d_param_names}
+use Rattle.tl_beat.specs.Opcode.{a_code, b_code, c_code, d_code}
+use Rattle.tl_beat.specs.Width.{IsWidth}
+use Rattle.tl_tool.specs.Cuts.{request_text, release_text, response_text, acknowledgement_text}
+use Rattle.tl_tool.specs.Text.{text_of}
+use Rattle.tl_tool.proofs.CutLemmas.{request_line, request_is, release_is, response_is, acknowledgement_is}
+
+pub text_a : {w : ℕ} (line : List ℕ) (link : Link) (x : BeatA w) → IsWidth w → Spells line link (A x)
+  → request_text (w / 4) line (a_name x.opcode) (slice_get (a_param_names x.opcode) x.param) ≡ text_of link (A x)
+text_a {w} line link x width s =
+    rw s.is_line (request_is w width 65 link.0 (a_code x.opcode) (a_name x.opcode) (a_param_names x.opcode) x.param x.size x.source x.address x.mask (lanes_text x.lanes) x.corrupt)
+
+pub text_b : {w : ℕ} (line : List ℕ) (link : Link) (x : BeatB w) → IsWidth w → Spells line link (B x)
+  → request_text (w / 4) line (b_name x.opcode) (slice_get (b_param_names x.opcode) x.param) ≡ text_of link (B x)
+text_b {w} line link x width s =
+    rw s.is_line (request_is w width 66 link.0 (b_code x.opcode) (b_name x.opcode) (b_param_names x.opcode) x.param x.size x.source x.address x.mask (lanes_text x.lanes) x.corrupt)
+
+pub text_c : {w : ℕ} (line : List ℕ) (link : Link) (x : BeatC w) → Spells line link (C x)
+  → release_text line (c_name x.opcode) (slice_get (c_param_names x.opcode) x.param) ≡ text_of link (C x)
+text_c {w} line link x s =
+    rw s.is_line (release_is link.0 (c_code x.opcode) (c_name x.opcode) (c_param_names x.opcode) x.param x.size x.source x.address (lanes_text x.lanes) x.corrupt)
+
+pub text_d : {w : ℕ} (line : List ℕ) (link : Link) (x : BeatD w) → Spells line link (D x)
+  → response_text line (d_name x.opcode) (slice_get (d_param_names x.opcode) x.param) ≡ text_of link (D x)
+text_d {w} line link x s =
+    rw s.is_line (response_is link.0 (d_code x.opcode) (d_name x.opcode) (d_param_names x.opcode) x.param x.size x.source x.sink x.denied (lanes_text x.lanes) x.corrupt)
+
+pub text_e : {w : ℕ} (line : List ℕ) (link : Link) (x : BeatE) → Spells {w = w} line link (E x) → acknowledgement_text line ≡ text_of {w = w} link (E x)
+text_e {w} line link x s = rw s.is_line (acknowledgement_is link.0 x.sink)
+
+-- ---- the lines are long enough
+
+one_bit : (b : Bool) → length (bit_text b) ≡ 1
+one_bit false = refl
+one_bit true = refl
+
+end_long : (d : List ℕ) (corrupt : Bool) → 3 ≤ length ((d ++ 32 ∷ bit_text corrupt) ++ 10 ∷ [])
+end_long d corrupt = omega (arith, length-append (d ++ 32 ∷ bit_text corrupt) (10 ∷ []), length-append d (32 ∷ bit_text corrupt), one_bit corrupt)
+
+request_long : (w : ℕ) → IsWidth w → (letter link opcode param size source address mask : ℕ) (d : List ℕ) (corrupt : Bool)
+  → 27 + w / 4 ≤ length (request_line (w / 4) letter link opcode param size source address mask d corrupt)
+unfolding digits spaced
+request_long w (inl four) letter link opcode param size source address mask d corrupt = rw four (omega (arith, end_long d corrupt))
+request_long w (inr (inl eight)) letter link opcode param size source address mask d corrupt = rw eight (omega (arith, end_long d corrupt))
+request_long w (inr (inr sixteen)) letter link opcode param size source address mask d corrupt = rw sixteen (omega (arith, end_long d corrupt))
+
+pub long_a : {w : ℕ} (line : List ℕ) (link : Link) (x : BeatA w) → IsWidth w → Spells line link (A x) → 27 + w / 4 ≤ length line
+long_a {w} line link x width s = rw s.is_line (request_long w width 65 link.0 (a_code x.opcode) x.param x.size x.source x.address x.mask (lanes_text x.lanes) x.corrupt)
+
+pub long_b : {w : ℕ} (line : List ℕ) (link : Link) (x : BeatB w) → IsWidth w → Spells line link (B x) → 27 + w / 4 ≤ length line
+long_b {w} line link x width s = rw s.is_line (request_long w width 66 link.0 (b_code x.opcode) x.param x.size x.source x.address x.mask (lanes_text x.lanes) x.corrupt)
+
+pub long_c : {w : ℕ} (line : List ℕ) (link : Link) (x : BeatC w) → Spells line link (C x) → 26 ≤ length line
+unfolding digits spaced
+long_c {w} line link x s = rw s.is_line (omega (arith, end_long (lanes_text x.lanes) x.corrupt))
+
+pub long_d : {w : ℕ} (line : List ℕ) (link : Link) (x : BeatD w) → Spells line link (D x) → 22 ≤ length line
+unfolding digits spaced
+long_d {w} line link x s = rw s.is_line (go x.denied)
+  where
+    go : (denied : Bool) → 22 ≤ length (spaced (digits 2 link.0 ∷ (68 ∷ []) ∷ digits 1 (d_code x.opcode) ∷ digits 1 x.param ∷ digits 1 x.size ∷ digits 2 x.source ∷ digits 2 x.sink ∷ bit_text denied ∷ lanes_text x.lanes ∷ bit_text x.corrupt ∷ []) ++ 10 ∷ [])
+    go false = omega (arith, end_long (lanes_text x.lanes) x.corrupt)
+    go true = omega (arith, end_long (lanes_text x.lanes) x.corrupt)
+
+pub long_e : {w : ℕ} (line : List ℕ) (link : Link) (x : BeatE) → Spells {w = w} line link (E x) → 5 ≤ length line
+unfolding digits spaced
+long_e {w} line link x s = rw s.is_line (omega arith)
+
+-- what was appended is the text of the beat
+pub told : {w : ℕ} {X Y : Type 0} (r : Result X Y) (line old new text : List ℕ) (beat : Beat w) → ((link : Link) → Spells line link beat → text ≡ text_of link beat) → OnOk r (new ≡ old ++ text)
+  → OnOk r ((link : Link) → Spells line link beat → new ≡ old ++ text_of link beat)
+told (Ok x) line old new text beat is appended = λ link s. appended ∙ ap (λ (rest : List ℕ). old ++ rest) (is link s)
+told (Err e) line old new text beat is appended = tt

@@ -1,15 +1,23 @@
 -- The text of lines, line by line.
-use Rattle.std.proofs.Common.{◌≡◌, ℕ, ◌+◌, List, [], ◌∷◌, ◌++◌, length, refl, arith, append_assoc, length-append, inl, inr}
-use Rattle.std.specs.Prelude.{◌⊎◌, Some}
+use Rattle.std.proofs.Common.{◌≡◌, ℕ, ◌+◌, List, [], ◌∷◌, ◌++◌, length, refl, arith, append_assoc, length-append, inl, inr, eqb-true, eqb, lt-ltb, sym, ap, ◌∙◌}
+use Rattle.std.specs.Prelude.{◌⊎◌, ◌||◌, Some, Bool, true, false, not, nat_lt, IsTrue, Result, Ok, Err}
 use Rattle.std.proofs.lemmas.List.{append-nil}
 use Rattle.tl_beat.specs.declared.beat.Link.{Link}
 use Rattle.tl_beat.specs.declared.beat.Beat.{Beat}
 use Rattle.tl_beat.specs.declared.fault.LineFault.{LineFault}
-use Rattle.tl_beat.specs.Line.{Spells, line_fault}
+use Rattle.std.specs.Io.BufRead.{ends_with_byte}
+use Rattle.tl_beat.specs.Line.{Spells, line_fault, fault_if, fields_fault, pieces, without_last}
 use Rattle.tl_tool.specs.declared.fault.Fault.TheVariants.{Line}
 use Rattle.tl_tool.specs.declared.status.Status.{Status}
 use Rattle.tl_tool.specs.declared.status.Status.TheVariants.{Clean, Broken}
-use Rattle.tl_tool.specs.Decoded.{Decodes, DecodesBefore}
+use Rattle.tl_tool.specs.Decoded.{Decodes, DecodesBefore, is_width}
+use Rattle.tl_beat.specs.declared.fault.LineFault.TheVariants.{F1}
+use Rattle.tl_beat.specs.Reading.{reading}
+use Rattle.tl_beat.specs.Width.{IsWidth}
+use Rattle.tl_beat.proofs.Faults.{reading-fault}
+use Rattle.tl_beat.proofs.ReadLaws.{reading-spells}
+use Rattle.std.specs.Result.{result_err}
+use Rattle.tl_tool.specs.Lines.{IsOpen}
 use Rattle.tl_tool.specs.Fault.{fault_text}
 use Rattle.tl_tool.specs.Text.{text_of}
 
@@ -55,3 +63,40 @@ pub decodes_more : (w : ℕ) → ((line : List ℕ) → Judged w line) → (line
 decodes_more w judged lines text before more =
     let (rest, status, d) = decodes w (length lines + 1) judged more in
     (rest, status, before more rest status d)
+
+pub width_is : (w : ℕ) → IsTrue (is_width w) → IsWidth w
+width_is w h = go (eqb w 4) refl (eqb w 8) refl (eqb w 16) refl h
+  where
+    go : (a : Bool) → eqb w 4 ≡ a → (b : Bool) → eqb w 8 ≡ b → (c : Bool) → eqb w 16 ≡ c → IsTrue (a || (b || c)) → IsWidth w
+    go true p b q c r h = inl (eqb-true w 4 p)
+    go false p true q c r h = inr (inl (eqb-true w 8 q))
+    go false p false q true r h = inr (inr (eqb-true w 16 r))
+    go false p false q false r h = absurd cc
+
+pub judged_line : (w : ℕ) → IsTrue (is_width w) → (line : List ℕ) → Judged w line
+judged_line w width line = go (reading w line) refl (reading-fault w line)
+  where
+    go : (r : Result (Link × Beat w) LineFault) → reading w line ≡ r → result_err (reading w line) ≡ line_fault w line → Judged w line
+    go (Ok read) is fault = inl (read.0, read.1, reading-spells line read.0 read.1 (width_is w width) is)
+    go (Err f) is fault = inr (f, sym fault ∙ ap result_err is)
+
+-- a line with no LF at its end, or of more than 256 bytes
+pub open_fault : (w : ℕ) (line : List ℕ) → IsOpen line → line_fault w line ≡ Some F1
+open_fault w line (inl ends) = go (nat_lt 256 (length line))
+  where
+    go : (b : Bool) → fault_if (b || not (ends_with_byte 10 line)) F1 (fields_fault w (pieces (without_last line))) ≡ Some F1
+    go true = refl
+    go false = rw ends refl
+open_fault w line (inr long) = rw (lt-ltb 256 (length line) long) refl
+
+-- what a judge of lines answers, behind a text that has been written
+pub good_line : (w : ℕ) (line old new : List ℕ) (link : Link) (beat : Beat w) → Spells line link beat → new ≡ old ++ text_of link beat
+    → (lines : List (List ℕ)) (before : List ℕ) → DecodesBefore w lines (before ++ old) → DecodesBefore w (lines ++ line ∷ []) (before ++ new)
+good_line w line old new link beat spells is lines before known =
+    rw (is, ← append_assoc before old (text_of link beat)) (before-line w lines (before ++ old) line link beat known spells)
+
+pub bad_line : (w : ℕ) (line was : List ℕ) (fault : LineFault) → line_fault w line ≡ Some fault
+    → (lines : List (List ℕ)) (before : List ℕ) → DecodesBefore w lines (before ++ was)
+    → (more : List (List ℕ)) → Decodes w 1 (lines ++ line ∷ more) (before ++ (was ++ fault_text (length lines + 1) (Line fault))) Broken
+bad_line w line was fault is lines before known more =
+    rw (← append_assoc before was (fault_text (length lines + 1) (Line fault))) (before-fault w lines (before ++ was) line fault known is more)

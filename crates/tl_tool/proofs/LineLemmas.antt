@@ -1,10 +1,11 @@
 -- The lines of an input, from its front.
-use Rattle.std.proofs.Common.{◌≡◌, ◌<◌, ◌≤◌, ℕ, ◌+◌, List, [], ◌∷◌, ◌++◌, length, false, refl, ap, arith, inl, inr, length-append}
+use Rattle.std.proofs.Common.{◌≡◌, ◌<◌, ◌≤◌, ℕ, ◌+◌, List, [], ◌∷◌, ◌++◌, length, false, refl, ap, arith, inl, inr, length-append, ◌-◌, lt-ltb}
 use Rattle.std.specs.Prelude.{◌==◌}
 use Rattle.std.proofs.lemmas.List.{append-nil}
 use Rattle.std.proofs.lemmas.List.Elements.{All-head, All-tail}
 use Rattle.std.proofs.lemmas.List.Sums.{sum_by-append}
-use Rattle.tl_tool.specs.Lines.{lines_of, before_first, LacksLf, IsLine, IsOpen, ends_in_lf}
+use Rattle.std.specs.Io.BufRead.{ends_with_byte}
+use Rattle.tl_tool.specs.Lines.{lines_of, before_first, LacksLf, IsLine, IsOpen}
 use Rattle.tl_tool.specs.Progress.{ended_lines}
 
 head_is : (b : ℕ) (bs : List ℕ) → LacksLf (b ∷ bs) → (b == 10) ≡ false
@@ -39,14 +40,13 @@ lines_of-rest b [] lacks = rw (head_is b [] lacks) refl
 lines_of-rest b (c ∷ rest) lacks = rw (head_is b (c ∷ rest) lacks) (ap (before_first b) (lines_of-rest c rest (tail_is b (c ∷ rest) lacks)))
 
 -- it has no LF at its end
-pub ends_in_lf-lacks : (bytes : List ℕ) → LacksLf bytes → ends_in_lf bytes ≡ false
-ends_in_lf-lacks [] lacks = refl
-ends_in_lf-lacks (b ∷ []) lacks = head_is b [] lacks
-ends_in_lf-lacks (b ∷ c ∷ bytes) lacks = ends_in_lf-lacks (c ∷ bytes) (tail_is b (c ∷ bytes) lacks)
+pub ends-lacks : (bytes : List ℕ) → LacksLf bytes → ends_with_byte 10 bytes ≡ false
+ends-lacks [] lacks = refl
+ends-lacks (b ∷ bytes) lacks = rw (lt-ltb 0 (length (b ∷ bytes)) (omega arith)) (lacks (length (b ∷ bytes) - 1) 0 (omega arith))
 
 -- 256 bytes without LF begin a line that is open
 pub open_from : (front tail : List ℕ) → LacksLf front → 256 ≤ length front → IsOpen (front ++ tail)
-open_from front [] lacks long = inl (rw append-nil (ends_in_lf-lacks front lacks))
+open_from front [] lacks long = inl (rw append-nil (ends-lacks front lacks))
 open_from front (b ∷ tail) lacks long = inr (omega (arith, length-append front (b ∷ tail)))
 
 pub ended_lines-append : (xs ys : List ℕ) → ended_lines (xs ++ ys) ≡ ended_lines xs + ended_lines ys

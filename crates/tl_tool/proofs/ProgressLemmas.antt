@@ -13,7 +13,7 @@ use Rattle.tl_tool.specs.Fault.{fault_text}
 use Rattle.tl_tool.specs.Judging.{Finishes}
 use Rattle.tl_tool.specs.Lines.{lines_of, LacksLf, IsLine, IsOpen}
 use Rattle.tl_tool.specs.Progress.{Progress, StopsAt, CountsLine, Feeds, FinishesInput}
-use Rattle.tl_tool.proofs.LineLemmas.{lines_of-line, lines_of-begun, lines_of-rest, ends_in_lf-lacks, open_from, ended_lines-append, ended_lines-lacks, ended_lines-line}
+use Rattle.tl_tool.proofs.LineLemmas.{lines_of-line, lines_of-begun, lines_of-rest, ends-lacks, open_from, ended_lines-append, ended_lines-lacks, ended_lines-line}
 
 lacks-append : (xs ys : List ℕ) → LacksLf xs → LacksLf ys → LacksLf (xs ++ ys)
 lacks-append xs ys p q = All-append (λ b. (b == 10) ≡ false) xs ys p q
@@ -148,7 +148,7 @@ module _ {J : Type 0} (knows : J → List (List ℕ) → List ℕ → Type 0) (t
       → FinishesInput knows tells state was is Broken
   finishes_open state was is fault some stops says = λ read before p. (
     rw (all_lines state read (before ++ was) p, one_rest state.begun.items p.unended some)
-        (stops state.begun.items (inl (ends_in_lf-lacks state.begun.items p.unended)) p.lines before p.known p.counted []),
+        (stops state.begun.items (inl (ends-lacks state.begun.items p.unended)) p.lines before p.known p.counted []),
     record {
       front = p.rest.0;
       rest = state.begun.items;

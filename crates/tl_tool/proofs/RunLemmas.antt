@@ -1,5 +1,5 @@
 -- A run, piece by piece.
-use Rattle.std.proofs.Common.{◌≡◌, ℕ, List, [], ◌++◌, refl, sym, ap, append_assoc, inl, inr, take}
+use Rattle.std.proofs.Common.{◌≡◌, ℕ, List, [], ◌++◌, refl, ap, append_assoc, inl, inr, take}
 use Rattle.std.specs.Prelude.{Result, Ok, Err, IfOk, OnErr, Option}
 use Rattle.std.specs.Io.KnownBytes.{Appends, Consumes, IsAtEnd, Keeps}
 use Rattle.std.proofs.KnownBytes.{Appends-trans, Appends-nil, Consumes-trans, Consumes-nil, Consumes-kept}
@@ -8,31 +8,26 @@ use Rattle.tl_tool.specs.declared.lines.Lines.{Lines}
 use Rattle.tl_tool.specs.declared.status.Status.{Status}
 use Rattle.tl_tool.specs.declared.status.Status.TheVariants.{Clean, Broken}
 use Rattle.tl_tool.specs.declared.status.ToolFault.{ToolFault}
+use Rattle.tl_tool.specs.Judging.{IsTotal}
 use Rattle.tl_tool.specs.Lines.{lines_of}
 use Rattle.tl_tool.specs.Parts.{AppendsPart}
 use Rattle.tl_tool.specs.Progress.{Progress, Feeds, FinishesInput}
 use Rattle.tl_tool.specs.Run.{Passes, FailsAfter, FailsAt, EndsAs}
-use Rattle.tl_tool.proofs.PartLemmas.{part_more}
+use Rattle.tl_tool.proofs.PartLemmas.{longer, part_more}
 use Rattle.tl_tool.proofs.ProgressLemmas.{all_lines}
 
-longer : (a b : Option (List ℕ)) (out rest : List ℕ) → AppendsPart a b out → AppendsPart a b (out ++ rest)
-longer a b out rest (front, left, cut, p) = (front, left ++ rest, rw (← cut) (sym (append_assoc front left rest)), p)
-
 module _ {J : Type 0} (knows : J → List (List ℕ) → List ℕ → Type 0) (tells : List (List ℕ) → List ℕ → Status → Type 0) where
-  abbrev pub Total : Type 0
-  Total = (judge : J) (lines : List (List ℕ)) (text : List ℕ) → knows judge lines text → (more : List (List ℕ)) → (rest : List ℕ) × (status : Status) × tells (lines ++ more) (text ++ rest) status
-
   same_text : (state : Lines J) (read before : List ℕ) → Progress knows state read before → Progress knows state read (before ++ [])
   same_text state read before p = rw append-nil p
 
   -- nothing was written for the piece
-  pub fails_unjudged : Total → (state : Lines J) (piece : List ℕ) (held : Option (List ℕ)) → FailsAfter knows tells state piece held held
+  pub fails_unjudged : IsTotal knows tells → (state : Lines J) (piece : List ℕ) (held : Option (List ℕ)) → FailsAfter knows tells state piece held held
   fails_unjudged total state piece held = λ read before p.
       let rest = total state.judge p.lines before p.known (lines_of (state.begun.items ++ piece)) in
       (rest.0, rest.1, rw (p.cut piece) rest.2, ([], rest.0, refl, Appends-nil held))
 
   -- what was judged of the piece was written in part
-  pub fails_written : Total → (status : Status) (old new : Lines J) (piece out : List ℕ) (held holds : Option (List ℕ)) → Feeds knows tells old new piece [] out status
+  pub fails_written : IsTotal knows tells → (status : Status) (old new : Lines J) (piece out : List ℕ) (held holds : Option (List ℕ)) → Feeds knows tells old new piece [] out status
       → AppendsPart held holds out → FailsAfter knows tells old piece held holds
   fails_written total Clean old new piece out held holds feeds part = λ read before p.
       let q = feeds read before (same_text old read before p) in
@@ -54,7 +49,7 @@ module _ {J : Type 0} (knows : J → List (List ℕ) → List ℕ → Type 0) (t
   passes Broken old new piece out feeds = λ read before p. feeds read before (same_text old read before p)
 
   -- nothing was read
-  pub fails_at_start : Total → (judge : J) (had held : Option (List ℕ)) → knows judge [] [] → FailsAt tells had had held held
+  pub fails_at_start : IsTotal knows tells → (judge : J) (had held : Option (List ℕ)) → knows judge [] [] → FailsAt tells had had held held
   unfolding lines_of
   fails_at_start total judge had held known =
       let rest = total judge [] [] known [] in
@@ -63,7 +58,7 @@ module _ {J : Type 0} (knows : J → List (List ℕ) → List ℕ → Type 0) (t
   module _ (had left held holds : Option (List ℕ)) (state : Lines J)
       (so_far : (read text : List ℕ) × Consumes had left read × Appends held holds text × Progress knows state read text) where
     -- no more could be read
-    pub fails_reading : Total → (now : Option (List ℕ)) → Keeps left now → FailsAt tells had now held holds
+    pub fails_reading : IsTotal knows tells → (now : Option (List ℕ)) → Keeps left now → FailsAt tells had now held holds
     fails_reading total now keeps =
         let (read, text, consumed, appended, p) = so_far in
         let rest = total state.judge p.lines text p.known (lines_of state.begun.items) in

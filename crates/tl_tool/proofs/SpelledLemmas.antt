@@ -1,6 +1,6 @@
 -- The text of a beat, from the line that spells it.
-use Rattle.std.proofs.Common.{◌≡◌, ℕ, ◌+◌, ◌≤◌, ◌/◌, List, [], ◌∷◌, ◌++◌, length, refl, sym, ap, ◌∙◌, arith, length-append, inl, inr}
-use Rattle.std.specs.Prelude.{slice_get, Option, Bool, true, false, Result, Ok, Err, OnOk}
+use Rattle.std.proofs.Common.{◌≡◌, ℕ, ◌+◌, ◌≤◌, ◌/◌, List, [], ◌∷◌, ◌++◌, length, refl, ap, ◌∙◌, arith, length-append, inl, inr}
+use Rattle.std.specs.Prelude.{slice_get, Bool, true, false, Result, Ok, Err, OnOk}
 use Rattle.tl_beat.specs.declared.beat.Link.{Link}
 use Rattle.tl_beat.specs.declared.beat.Beat.{Beat}
 use Rattle.tl_beat.specs.declared.beat.BeatA.{BeatA}
@@ -19,22 +19,22 @@ use Rattle.tl_tool.specs.Text.{text_of}
 use Rattle.tl_tool.proofs.CutLemmas.{request_line, request_is, release_is, response_is, acknowledgement_is}
 
 pub text_a : {w : ℕ} (line : List ℕ) (link : Link) (x : BeatA w) → IsWidth w → Spells line link (A x)
-  → request_text (w / 4) line (a_name x.opcode) (slice_get (a_param_names x.opcode) x.param) ≡ text_of link (A x)
+    → request_text (w / 4) line (a_name x.opcode) (slice_get (a_param_names x.opcode) x.param) ≡ text_of link (A x)
 text_a {w} line link x width s =
     rw s.is_line (request_is w width 65 link.0 (a_code x.opcode) (a_name x.opcode) (a_param_names x.opcode) x.param x.size x.source x.address x.mask (lanes_text x.lanes) x.corrupt)
 
 pub text_b : {w : ℕ} (line : List ℕ) (link : Link) (x : BeatB w) → IsWidth w → Spells line link (B x)
-  → request_text (w / 4) line (b_name x.opcode) (slice_get (b_param_names x.opcode) x.param) ≡ text_of link (B x)
+    → request_text (w / 4) line (b_name x.opcode) (slice_get (b_param_names x.opcode) x.param) ≡ text_of link (B x)
 text_b {w} line link x width s =
     rw s.is_line (request_is w width 66 link.0 (b_code x.opcode) (b_name x.opcode) (b_param_names x.opcode) x.param x.size x.source x.address x.mask (lanes_text x.lanes) x.corrupt)
 
 pub text_c : {w : ℕ} (line : List ℕ) (link : Link) (x : BeatC w) → Spells line link (C x)
-  → release_text line (c_name x.opcode) (slice_get (c_param_names x.opcode) x.param) ≡ text_of link (C x)
+    → release_text line (c_name x.opcode) (slice_get (c_param_names x.opcode) x.param) ≡ text_of link (C x)
 text_c {w} line link x s =
     rw s.is_line (release_is link.0 (c_code x.opcode) (c_name x.opcode) (c_param_names x.opcode) x.param x.size x.source x.address (lanes_text x.lanes) x.corrupt)
 
 pub text_d : {w : ℕ} (line : List ℕ) (link : Link) (x : BeatD w) → Spells line link (D x)
-  → response_text line (d_name x.opcode) (slice_get (d_param_names x.opcode) x.param) ≡ text_of link (D x)
+    → response_text line (d_name x.opcode) (slice_get (d_param_names x.opcode) x.param) ≡ text_of link (D x)
 text_d {w} line link x s =
     rw s.is_line (response_is link.0 (d_code x.opcode) (d_name x.opcode) (d_param_names x.opcode) x.param x.size x.source x.sink x.denied (lanes_text x.lanes) x.corrupt)
 
@@ -51,7 +51,7 @@ end_long : (d : List ℕ) (corrupt : Bool) → 3 ≤ length ((d ++ 32 ∷ bit_te
 end_long d corrupt = omega (arith, length-append (d ++ 32 ∷ bit_text corrupt) (10 ∷ []), length-append d (32 ∷ bit_text corrupt), one_bit corrupt)
 
 request_long : (w : ℕ) → IsWidth w → (letter link opcode param size source address mask : ℕ) (d : List ℕ) (corrupt : Bool)
-  → 27 + w / 4 ≤ length (request_line (w / 4) letter link opcode param size source address mask d corrupt)
+    → 27 + w / 4 ≤ length (request_line (w / 4) letter link opcode param size source address mask d corrupt)
 unfolding digits spaced
 request_long w (inl four) letter link opcode param size source address mask d corrupt = rw four (omega (arith, end_long d corrupt))
 request_long w (inr (inl eight)) letter link opcode param size source address mask d corrupt = rw eight (omega (arith, end_long d corrupt))
@@ -81,6 +81,6 @@ long_e {w} line link x s = rw s.is_line (omega arith)
 
 -- what was appended is the text of the beat
 pub told : {w : ℕ} {X Y : Type 0} (r : Result X Y) (line old new text : List ℕ) (beat : Beat w) → ((link : Link) → Spells line link beat → text ≡ text_of link beat) → OnOk r (new ≡ old ++ text)
-  → OnOk r ((link : Link) → Spells line link beat → new ≡ old ++ text_of link beat)
+    → OnOk r ((link : Link) → Spells line link beat → new ≡ old ++ text_of link beat)
 told (Ok x) line old new text beat is appended = λ link s. appended ∙ ap (λ (rest : List ℕ). old ++ rest) (is link s)
 told (Err e) line old new text beat is appended = tt

@@ -1,5 +1,5 @@
 -- The text that lines decode to, where beats have w bytes.
-use Rattle.std.specs.Prelude.{◌≡◌, ◌⊎◌, ℕ, ◌+◌, List, [], ◌∷◌, ◌++◌, length, Some}
+use Rattle.std.specs.Prelude.{Bool, ◌==◌, ◌||◌, ◌≡◌, ◌⊎◌, ℕ, ◌+◌, List, [], ◌∷◌, ◌++◌, length, Some}
 use Rattle.tl_beat.specs.declared.beat.Link.{Link}
 use Rattle.tl_beat.specs.declared.beat.Beat.{Beat}
 use Rattle.tl_beat.specs.declared.fault.LineFault.{LineFault}
@@ -26,3 +26,7 @@ DecodesTo w lines text status = Decodes w 1 lines text status
 abbrev pub DecodesBefore : ℕ → List (List ℕ) → List ℕ → Type 0
 DecodesBefore w lines text =
     (more : List (List ℕ)) (rest : List ℕ) (status : Status) → Decodes w (length lines + 1) more rest status → Decodes w 1 (lines ++ more) (text ++ rest) status
+
+-- a beat holds 4, 8 or 16 bytes
+abbrev pub is_width : ℕ → Bool
+is_width w = (w == 4) || ((w == 8) || (w == 16))

@@ -16,3 +16,7 @@ fault_name (Line F6) = codes "F6"
 -- `line N X`: line N, from 1 on, is at fault for X
 unfoldable pub fault_text : ℕ → Fault → List ℕ
 fault_text n fault = codes "line " ++ decimal n ++ codes " " ++ fault_name fault ++ codes "\n"
+
+-- the line for standard error where a file can't be opened
+abbrev pub open_fault_text : List ℕ → List ℕ
+open_fault_text name = codes "tltool: cannot open " ++ name ++ codes "\n"

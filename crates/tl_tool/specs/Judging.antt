@@ -28,3 +28,9 @@ Finishes knows tells judge was is None =
     (lines : List (List ℕ)) (before : List ℕ) → knows judge lines (before ++ was) → tells lines (before ++ is) Clean
 Finishes knows tells judge was is (Some fault) =
     (lines : List (List ℕ)) (before : List ℕ) → knows judge lines (before ++ was) → tells lines (before ++ (is ++ fault_text (length lines + 1) fault)) Broken
+
+-- whatever lines follow those that a judge knows, they have a text
+abbrev pub IsTotal : {J : Type 0} → (J → List (List ℕ) → List ℕ → Type 0) → (List (List ℕ) → List ℕ → Status → Type 0) → Type 0
+IsTotal {J} knows tells =
+    (judge : J) (lines : List (List ℕ)) (text : List ℕ) → knows judge lines text
+    → (more : List (List ℕ)) → (rest : List ℕ) × (status : Status) × tells (lines ++ more) (text ++ rest) status

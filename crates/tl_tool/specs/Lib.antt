@@ -8,3 +8,4 @@ pub mod Run
 pub mod Cuts
 pub mod Text
 pub mod Decoded
+pub mod Told

@@ -1,5 +1,6 @@
 -- The lines of an input.
-use Rattle.std.specs.Prelude.{◌≡◌, ℕ, ◌<◌, Bool, false, List, [], ◌∷◌, ◌++◌, length, ◌==◌, if◌then◌else◌, ◌⊎◌, All}
+use Rattle.std.specs.Prelude.{◌≡◌, ℕ, ◌<◌, false, List, [], ◌∷◌, ◌++◌, length, ◌==◌, if◌then◌else◌, ◌⊎◌, All}
+use Rattle.std.specs.Io.BufRead.{ends_with_byte}
 
 -- a byte before the first of these lines
 abbrev pub before_first : ℕ → List (List ℕ) → List (List ℕ)
@@ -19,11 +20,6 @@ LacksLf bytes = All (λ b. (b == 10) ≡ false) bytes
 abbrev pub IsLine : List ℕ → Type 0
 IsLine bytes = (front : List ℕ) × LacksLf front × (bytes ≡ front ++ 10 ∷ [])
 
-abbrev pub ends_in_lf : List ℕ → Bool
-ends_in_lf [] = false
-ends_in_lf (b ∷ []) = b == 10
-ends_in_lf (b ∷ c ∷ bytes) = ends_in_lf (c ∷ bytes)
-
 -- no LF at the end, or more than 256 bytes
 abbrev pub IsOpen : List ℕ → Type 0
-IsOpen line = (ends_in_lf line ≡ false) ⊎ (256 < length line)
+IsOpen line = (ends_with_byte 10 line ≡ false) ⊎ (256 < length line)

@@ -1,6 +1,6 @@
 -- A whole run: what was read, and what was written for it.
 use Rattle.std.specs.Prelude.{◌⊎◌, ℕ, List, ◌++◌, Option}
-use Rattle.std.specs.Io.KnownBytes.{IsAtEnd, Consumes}
+use Rattle.std.specs.Io.KnownBytes.{IsAtEnd, Consumes, Appends}
 use Rattle.tl_tool.specs.declared.lines.Lines.{Lines}
 use Rattle.tl_tool.specs.declared.status.Status.{Status}
 use Rattle.tl_tool.specs.declared.status.Status.TheVariants.{Clean, Broken}
@@ -26,6 +26,11 @@ abbrev pub EndsAs : (List (List ℕ) → List ℕ → Status → Type 0) → Opt
 EndsAs tells left read text Clean = IsAtEnd left
 EndsAs tells left read text Broken =
     ((more : List ℕ) → tells (lines_of (read ++ more)) text Broken) ⊎ (IsAtEnd left × StopsAtRest read text)
+
+-- a run wrote the text of what it had read
+abbrev pub RunsTo : (List (List ℕ) → List ℕ → Status → Type 0) → Option (List ℕ) → Option (List ℕ) → Option (List ℕ) → Option (List ℕ) → Status → Type 0
+RunsTo tells had left held holds status =
+    (read text : List ℕ) × Consumes had left read × Appends held holds text × tells (lines_of read) text status × EndsAs tells left read text status
 
 -- a run that was given up wrote a beginning of the text of what it had read
 abbrev pub FailsAt : (List (List ℕ) → List ℕ → Status → Type 0) → Option (List ℕ) → Option (List ℕ) → Option (List ℕ) → Option (List ℕ) → Type 0

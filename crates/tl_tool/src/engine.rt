@@ -2,10 +2,11 @@
 
 ghost use Rattle.std.specs.Prelude.{◌≡◌, ◌+◌, ◌++◌, [], ◌≤◌, ◌<◌, ℕ, List, IfOk, OnOk, OnErr, IfErr, length, take, vec_len};
 ghost use Rattle.std.specs.Io.KnownBytes.{Appends, Consumes, IsAtEnd, Keeps};
+ghost use Rattle.tl_tool.specs.Judging.{IsTotal};
 ghost use Rattle.tl_tool.specs.Lines.{lines_of};
 ghost use Rattle.tl_tool.specs.Parts.{AppendsPart};
 ghost use Rattle.tl_tool.specs.Progress.{FinishesInput, Progress};
-ghost use Rattle.tl_tool.specs.Run.{EndsAs, FailsAfter, FailsAt, Passes};
+ghost use Rattle.tl_tool.specs.Run.{FailsAfter, FailsAt, Passes, RunsTo};
 ghost use Rattle.tl_tool.specs.declared.status.Status.{Status};
 
 use crate::judge::Judge;
@@ -47,7 +48,8 @@ fn pass<J: Judge, W: Write>(
     out: &mut Vec<u8>,
     writer: &mut W,
 ) -> Result<Status, ToolFault>
-    requires { out.old.items ≡ [] }
+    requires empty { out.old.items ≡ [] }
+    requires total { IsTotal J.knows J.tells }
     ensures empty { OnOk result (out.new.items ≡ []) }
     ensures ok { IfOk result (λ status. (said : List ℕ) × Appends (W.contents writer.old) (W.contents writer.new) said
         × Passes J.knows J.tells lines.old lines.new piece.now said status) }
@@ -65,7 +67,8 @@ fn close<J: Judge, W: Write>(
     out: &mut Vec<u8>,
     writer: &mut W,
 ) -> Result<Status, ToolFault>
-    requires { out.old.items ≡ [] }
+    requires empty { out.old.items ≡ [] }
+    requires total { IsTotal J.knows J.tells }
     ensures ok { IfOk result (λ status. (said : List ℕ) × Appends (W.contents writer.old) (W.contents writer.new) said
         × FinishesInput J.knows J.tells lines.old [] said status) }
     ensures err { OnErr result (FailsAfter J.knows J.tells lines.old [] (W.contents writer.old) (W.contents writer.new)) }
@@ -83,10 +86,9 @@ pub fn judge_input<J: Judge, R: Read, W: Write>(
     reader: &mut R,
     writer: &mut W,
 ) -> Result<Status, ToolFault>
-    requires { J.knows judge [] [] }
-    ensures ok { IfOk result (λ status. (read text : List ℕ) × Consumes (R.remaining reader.old) (R.remaining reader.new) read
-        × Appends (W.contents writer.old) (W.contents writer.new) text
-        × J.tells (lines_of read) text status × EndsAs J.tells (R.remaining reader.new) read text status) }
+    requires begins { J.knows judge [] [] }
+    requires total { IsTotal J.knows J.tells }
+    ensures ok { IfOk result (RunsTo J.tells (R.remaining reader.old) (R.remaining reader.new) (W.contents writer.old) (W.contents writer.new)) }
     ensures err { OnErr result (FailsAt J.tells (R.remaining reader.old) (R.remaining reader.new) (W.contents writer.old) (W.contents writer.new)) }
 {
     let mut chunk = new_chunk(alloc)?;

@@ -27,7 +27,4 @@ pub trait Judge: Drop {
     /// Appends what is to be written at the end of the input, or answers that a line is missing there.
     fn finish(&mut self, out: &mut Vec<u8>) -> Result<Option<Fault>, AllocError>
         ensures { IfOk result (Finishes knows tells self.old out.old.items out.new.items) };
-
-    /// Whatever lines follow, they have a text.
-    ghost total: { (judge : Self) (lines : List (List ℕ)) (text : List ℕ) → knows judge lines text → (more : List (List ℕ)) → (rest : List ℕ) × (status : Status) × tells (lines ++ more) (text ++ rest) status };
 }

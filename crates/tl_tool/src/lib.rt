@@ -1,6 +1,7 @@
 //! The command's engine: reads lines of text and writes a text for each, in constant memory.
 #![tactic(auto)]
 
+pub mod decoder;
 pub mod engine;
 pub mod fault;
 pub mod judge;
@@ -9,3 +10,4 @@ pub mod params;
 pub mod put;
 pub mod status;
 pub mod text;
+pub mod tool;

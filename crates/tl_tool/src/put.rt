@@ -2,6 +2,7 @@
 
 ghost use Rattle.std.specs.Prelude.{◌≡◌, ◌++◌, ◌∷◌, [], ℕ, OnOk, OnErr, IfErr, codes};
 ghost use Rattle.std.specs.Io.KnownBytes.{Appends};
+ghost use Rattle.tl_tool.specs.Fault.{open_fault_text};
 ghost use Rattle.tl_tool.specs.Parts.{AppendsPart};
 
 use crate::status::ToolFault;
@@ -26,5 +27,18 @@ pub fn put<W: Write>(writer: &mut W, bytes: &[u8]) -> Result<(), ToolFault>
             }
         }
     }
+    Ok(())
+}
+
+/// Writes the line for standard error where a file of this name can't be opened. Its only fault is
+/// `Write`.
+pub fn write_open_fault<W: Write>(name: &str, writer: &mut W) -> Result<(), ToolFault>
+    ensures ok { OnOk result (Appends (W.contents writer.old) (W.contents writer.new) (open_fault_text name.now)) }
+    ensures err { OnErr result (AppendsPart (W.contents writer.old) (W.contents writer.new) (open_fault_text name.now)) }
+    ensures fault { IfErr result (λ fault. fault ≡ ToolFault.Write) }
+{
+    put(writer, b"tltool: cannot open ")?;
+    put(writer, name.as_bytes())?;
+    put(writer, b"\n")?;
     Ok(())
 }

@@ -127,7 +127,11 @@ fn put_acknowledgement(line: &[u8], out: &mut Vec<u8>) -> Result<(), AllocError>
 }
 
 /// Appends the readable line of the beat that a line spells.
-pub fn put_text<const W: usize>(line: &[u8], beat: &Beat<W>, out: &mut Vec<u8>) -> Result<(), AllocError>
+pub fn put_text<const W: usize>(
+    line: &[u8],
+    beat: &Beat<W>,
+    out: &mut Vec<u8>,
+) -> Result<(), AllocError>
     requires width { IsWidth W }
     requires spelled { (link : Link) × Spells line.now link beat.now }
     ensures { OnOk result ((link : Link) → Spells line.now link beat.now → out.new.items ≡ out.old.items ++ text_of link beat.now) }

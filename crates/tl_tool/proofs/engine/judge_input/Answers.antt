@@ -8,19 +8,19 @@ use Rattle.tl_tool.proofs.engine.judge_input.Goals as goal
 pub returns-in_err-chunk-clause-err : goal.returns-in_err-chunk-clause-err
 returns-in_err-chunk-clause-err g c =
     let p = err_from_is_err_and c.from_residual.result c.from_residual.ensures.1 in
-    rw p.1 (fails_at_start g.J.Judge.knows g.J.Judge.tells g.met.J.Judge.total _ _ _ c.requires)
+    rw p.1 (fails_at_start g.J.Judge.knows g.J.Judge.tells c.requires.total _ _ _ c.requires.begins)
 
 pub loop-init : goal.loop-init
 loop-init g c = record {
   empty = search rules;
   room = search rules;
-  so_far = ([], [], Consumes-nil _, Appends-nil _, c.new-lines.ensures c.requires);
+  so_far = ([], [], Consumes-nil _, Appends-nil _, c.new-lines.ensures c.requires.begins);
 }
 
 pub returns-in_err-count-clause-err : goal.returns-in_err-count-clause-err
 returns-in_err-count-clause-err g c =
     let p = err_from_is_err_and c.from_residual-in_err-count.result c.from_residual-in_err-count.ensures.1 in
-    rw p.1 (fails_reading g.J.Judge.knows g.J.Judge.tells _ _ _ _ _ c.loop.invariant.so_far g.met.J.Judge.total _ c.in_err-count.ensures.err)
+    rw p.1 (fails_reading g.J.Judge.knows g.J.Judge.tells _ _ _ _ _ c.loop.invariant.so_far c.requires.total _ c.in_err-count.ensures.err)
 
 pub returns-then-count-eq0-clause-ok : goal.returns-then-count-eq0-clause-ok
 returns-then-count-eq0-clause-ok g c =
@@ -50,4 +50,4 @@ loop-preserved g c = record {
 }
 
 pub returns-clause-err : goal.returns-clause-err
-returns-clause-err g c = fails_reading g.J.Judge.knows g.J.Judge.tells _ _ _ _ _ c.loop.invariant.so_far g.met.J.Judge.total _ (Keeps-refl _)
+returns-clause-err g c = fails_reading g.J.Judge.knows g.J.Judge.tells _ _ _ _ _ c.loop.invariant.so_far c.requires.total _ (Keeps-refl _)

@@ -1,4 +1,3 @@
-use Rattle.std.proofs.Common.{rules, ◌≡◌}
 use Rattle.tl_tool.proofs.SpelledLemmas.{text_a, text_b, text_c, text_d, text_e, long_a, long_b, long_c, long_d, long_e, told}
 use Rattle.tl_tool.proofs.text.put_text.Goals as goal
 

@@ -1,0 +1,12 @@
+use Rattle.std.proofs.Common.{refl}
+use Rattle.tl_tool.proofs.DecodedLemmas.{decodes_more, judged_line}
+use Rattle.tl_tool.proofs.tool.run_tool.Goals as goal
+
+pub judge_input-requires-clause-total : goal.judge_input-requires-clause-total
+judge_input-requires-clause-total g c = λ judge. decodes_more 4 (judged_line 4 refl)
+
+pub judge_input-requires-in-Eight-clause-total : goal.judge_input-requires-in-Eight-clause-total
+judge_input-requires-in-Eight-clause-total g c = λ judge. decodes_more 8 (judged_line 8 refl)
+
+pub judge_input-requires-in-Sixteen-clause-total : goal.judge_input-requires-in-Sixteen-clause-total
+judge_input-requires-in-Sixteen-clause-total g c = λ judge. decodes_more 16 (judged_line 16 refl)

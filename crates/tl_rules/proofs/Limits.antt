@@ -1,7 +1,6 @@
 -- All clients' sources, as a test and as a fact of each.
-use Rattle.std.proofs.Common.{◌≡◌, ◌↔◌, Bool, true, List, refl, ap, ◌∙◌}
+use Rattle.std.proofs.Common.{◌≡◌, ◌↔◌, Bool, true, List, refl}
 use Rattle.std.specs.Prelude.{All}
-use Rattle.std.specs.Bool.{Decides}
 use Rattle.std.proofs.lemmas.Bool.Decides.{same_from_decides, Decides-by_and}
 use Rattle.tl_rules.specs.declared.config.ClientConfig.{ClientConfig}
 use Rattle.tl_rules.specs.Config.{sources_fit, all_sources_fit}

@@ -1,5 +1,4 @@
-use Rattle.std.proofs.Common.{rules, arith}
-use Rattle.std.proofs.lemmas.Grind.{common_steps}
+use Rattle.std.proofs.Common.{rules}
 use Rattle.tl_rules.proofs.Limits.{fit_where_each}
 use Rattle.tl_rules.proofs.sources.sources_fit.Goals as goal
 

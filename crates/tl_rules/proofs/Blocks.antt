@@ -1,11 +1,11 @@
 -- What was written to a block, as a memory that has the block sees it.
-use Rattle.std.proofs.Common.{◌≡◌, ℕ, zero, suc, ◌+◌, ◌-◌, ◌*◌, ◌/◌, ◌%◌, ◌^◌, ◌<◌, ◌≤◌, ◌⊎◌, ◌≢◌, ◌&&◌, eqb, leb, ltb, cond, true, false, Bool, List, [], ◌∷◌, ◌++◌, length, take, drop, get_or, replicate, Option, Some, None, unwrap_or, refl, sym, ap, ◌∙◌, arith, inl, inr, zero-add, add-zero}
+use Rattle.std.proofs.Common.{◌≡◌, ℕ, zero, suc, ◌+◌, ◌-◌, ◌*◌, ◌/◌, ◌%◌, ◌^◌, ◌<◌, ◌≤◌, ◌⊎◌, ◌≢◌, ◌&&◌, eqb, leb, ltb, cond, true, false, Bool, List, [], ◌∷◌, ◌++◌, length, take, drop, get_or, replicate, Some, None, unwrap_or, refl, sym, ap, ◌∙◌, arith, inl, inr, zero-add, add-zero}
 use Rattle.std.specs.Int.{to_le_bytes, w64}
 use Rattle.std.proofs.lemmas.Bool.{cases_lt, lt-ltb, le-ltb, le-leb, lt-leb, and_right, cases_Bool, eqb-true}
-use Rattle.std.proofs.lemmas.List.{length-append, length-take-le, length-drop, length-replicate, get_or_append_left, get_or-append_right, get_or-take, get_or-drop, drop_more}
+use Rattle.std.proofs.lemmas.List.{length-append, length-take-le, length-replicate, get_or_append_left, get_or-append_right, get_or-take, get_or-drop, drop_more}
 use Rattle.std.proofs.lemmas.Option.{slice_get-get_or}
 use Rattle.std.proofs.lemmas.Simd.{get_or-zip2}
-use Rattle.std.specs.Prelude.{slice_get, slice_index, bit_xor, bit_or, bit_and}
+use Rattle.std.specs.Prelude.{slice_get, bit_xor, bit_or, bit_and}
 use Rattle.tl_beat.specs.declared.opcode.Channel.TheVariants as channel
 use Rattle.tl_beat.specs.declared.opcode.OpA.{OpA}
 use Rattle.tl_beat.specs.declared.opcode.OpA.TheVariants as a
@@ -14,7 +14,7 @@ use Rattle.tl_beat.specs.Width.{IsWidth}
 use Rattle.tl_burst.specs.declared.message.MessageA.{MessageA}
 use Rattle.tl_burst.specs.declared.message.Message.{Message}
 use Rattle.tl_burst.specs.declared.message.Message.TheVariants.{A, B, C, D, E}
-use Rattle.tl_burst.specs.Burst.{bit, byte_at, data_beats, beats_of, IsBlankAfter}
+use Rattle.tl_burst.specs.Burst.{bit, data_beats, beats_of, IsBlankAfter}
 use Rattle.tl_rules.specs.declared.param.Arithmetic.{Arithmetic}
 use Rattle.tl_rules.specs.declared.param.Logical.{Logical}
 use Rattle.tl_rules.specs.declared.param.Logical.TheVariants as logical

@@ -1,5 +1,5 @@
 -- What the first rule of a message's beats says of its fields.
-use Rattle.std.proofs.Common.{◌≡◌, ℕ, zero, suc, ◌+◌, ◌*◌, ◌/◌, ◌%◌, ◌^◌, ◌<◌, ◌≤◌, Bool, true, false, not, ltb, cond, ◌⊎◌, Option, Some, None, refl, sym, ap, ◌∙◌, arith, inl, inr, lit<}
+use Rattle.std.proofs.Common.{◌≡◌, ℕ, zero, suc, ◌+◌, ◌^◌, ◌<◌, Bool, true, false, not, ltb, cond, ◌⊎◌, Option, Some, None, refl, sym, ◌∙◌, arith, inl, inr, lit<}
 use Rattle.std.proofs.lemmas.Bool.{cases_Bool, ltb-true, not-false, both_ways}
 use Rattle.std.proofs.lemmas.Nat.{le-div}
 use Rattle.tl_beat.specs.declared.opcode.Channel.{Channel}

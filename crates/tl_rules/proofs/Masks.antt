@@ -1,6 +1,6 @@
 -- Runs of ones, and masks compared by each of their bits.
-use Rattle.std.proofs.Common.{◌≡◌, ℕ, zero, suc, ◌+◌, ◌-◌, ◌*◌, ◌/◌, ◌%◌, ◌^◌, ◌<◌, ◌≤◌, min, Bool, true, false, not, ◌&&◌, ◌||◌, leb, ltb, eqb, bit_and, refl, sym, ap, ◌∙◌, arith, inl, inr, add-zero, lit<}
-use Rattle.std.specs.Int.{bit_at, bit_not, w16}
+use Rattle.std.proofs.Common.{◌≡◌, ℕ, ◌+◌, ◌-◌, ◌*◌, ◌/◌, ◌%◌, ◌^◌, ◌<◌, ◌≤◌, min, Bool, true, false, not, ◌&&◌, ◌||◌, leb, ltb, eqb, bit_and, refl, sym, ap, ◌∙◌, arith, inl, inr, add-zero, lit<}
+use Rattle.std.specs.Int.{bit_at, w16}
 use Rattle.std.specs.Bool.{Decides}
 use Rattle.std.proofs.lemmas.Bool.{cases_lt, cases_eq, or_right, lt-ltb, le-ltb, le-leb, lt-leb}
 use Rattle.std.proofs.lemmas.Bool.Decides.{nat_tests, same_from_decides, Decides-eqb, Decides-like, Decides-below_and}

@@ -1,8 +1,8 @@
 -- The bytes of a number.
-use Rattle.std.proofs.Common.{◌≡◌, ℕ, zero, suc, ◌+◌, ◌-◌, ◌*◌, ◌/◌, ◌%◌, ◌^◌, ◌<◌, ◌≤◌, get_or, bit_xor, bit_or, bit_and, refl, sym, ap, ◌∙◌, arith, add-zero, lit<}
+use Rattle.std.proofs.Common.{◌≡◌, ℕ, zero, suc, ◌+◌, ◌-◌, ◌*◌, ◌/◌, ◌%◌, ◌^◌, ◌<◌, get_or, bit_xor, bit_or, bit_and, refl, ap, ◌∙◌, arith, add-zero, lit<}
 use Rattle.std.specs.Int.{to_le_bytes, w64}
 use Rattle.std.proofs.Math.Nat.{div-div-eq-div-mul, pow-suc}
-use Rattle.std.proofs.lemmas.Nat.{pow-add, pow_pos, xor_shr, or_shr, and_shr, xor_mod, or_mod, and_mod, mod-pow-add, mod_low, field_of, mod_below}
+use Rattle.std.proofs.lemmas.Nat.{pow-add, xor_shr, or_shr, and_shr, xor_mod, or_mod, and_mod, mod-pow-add, mod_low, field_of, mod_below}
 use Rattle.tl_rules.specs.Effect.{number_from, byte_of}
 
 bytes_pow : (j : ℕ) → 256 ^ j ≡ 2 ^ (8 * j)

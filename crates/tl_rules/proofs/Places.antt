@@ -1,8 +1,8 @@
 -- Bytes written over zeros, and numbers of several bytes.
-use Rattle.std.proofs.Common.{◌≡◌, ℕ, zero, suc, ◌+◌, ◌-◌, ◌*◌, ◌/◌, ◌%◌, ◌^◌, ◌<◌, ◌≤◌, List, [], ◌∷◌, ◌++◌, length, take, drop, get_or, replicate, refl, sym, ap, ◌∙◌, arith, add-zero, zero-add, inl, inr, lit<}
+use Rattle.std.proofs.Common.{◌≡◌, ℕ, zero, suc, ◌+◌, ◌-◌, ◌*◌, ◌<◌, ◌≤◌, List, ◌++◌, length, take, drop, get_or, replicate, refl, ap, ◌∙◌, arith, add-zero, zero-add, inl, inr, lit<}
 use Rattle.std.specs.Int.{from_le_bytes, w64}
 use Rattle.std.proofs.lemmas.Bool.{cases_lt}
-use Rattle.std.proofs.lemmas.List.{append-nil, length-drop, length-take, length-replicate, get_or-replicate, length-take-le, take-replicate, drop-replicate, get_or-drop, get_or-take, get_or_past, get_or-append-add, get_or_append_left, get_or-append_right}
+use Rattle.std.proofs.lemmas.List.{append-nil, length-drop, length-take, length-replicate, get_or-replicate, length-take-le, take-replicate, drop-replicate, get_or-drop, get_or-take, get_or_past, get_or_append_left, get_or-append_right}
 use Rattle.tl_rules.specs.Effect.{number_from}
 use Rattle.tl_rules.specs.Place.{moved_up}
 

@@ -1,6 +1,6 @@
 -- The L rules of one channel over single fields: first those that judge control fields, which the
 -- beats of a burst share, then those that judge what each beat has of its own.
-use Rattle.std.specs.Prelude.{ℕ, Bool, not, ◌==◌, ◌&&◌, ◌||◌, nat_le, Option, Some, None, is_some}
+use Rattle.std.specs.Prelude.{ℕ, Bool, not, ◌==◌, ◌&&◌, ◌||◌, nat_le, Option, None, is_some}
 use Rattle.tl_beat.specs.declared.opcode.OpA.{OpA}
 use Rattle.tl_beat.specs.declared.opcode.OpB.{OpB}
 use Rattle.tl_beat.specs.declared.opcode.OpC.{OpC}

@@ -1,8 +1,10 @@
+pub mod Config
+pub mod Conformance
 pub mod Control
 pub mod Effect
+pub mod History
 pub mod Legality
 pub mod Merge
 pub mod Param
 pub mod Place
-pub mod History
-pub mod Conformance
+pub mod Range

@@ -1,5 +1,5 @@
 -- What perform's parts do to the lists of bytes.
-use Rattle.std.specs.Prelude.{ℕ, ◌+◌, ◌-◌, ◌*◌, ◌/◌, ◌%◌, ◌^◌, List, ◌++◌, take, drop, replicate, slice_index, bit_xor, bit_or, bit_and}
+use Rattle.std.specs.Prelude.{ℕ, ◌-◌, ◌*◌, ◌/◌, ◌%◌, List, ◌++◌, take, replicate, bit_xor, bit_or, bit_and}
 use Rattle.std.specs.Simd.Lanes.{zip2}
 use Rattle.tl_rules.specs.declared.param.Logical.{Logical}
 use Rattle.tl_rules.specs.declared.param.Logical.TheVariants as logical

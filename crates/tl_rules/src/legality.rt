@@ -93,3 +93,6 @@ fn check_d<const W: usize>(level: Level, beat: &BeatD<W>) -> Result<(), Rule>
     channel::control_of_d::<W>(level, beat.opcode, beat.param, beat.size, beat.sink)?;
     channel::own_of_d(beat.opcode, beat.denied, beat.corrupt)
 }
+
+#[cfg(test)]
+mod tests;

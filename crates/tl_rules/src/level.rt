@@ -2,8 +2,9 @@
 
 /// The level of a link: TL-UL (single reads and writes), TL-UH (bursts, atomics and hints as well),
 /// TL-C (transfers of permissions as well).
-#[derive(Clone, Copy, Debug, PartialEq, Eq)]
+#[derive(Clone, Copy, Debug, Default, PartialEq, Eq)]
 pub enum Level {
+    #[default]
     UL,
     UH,
     C,

@@ -1,4 +1,4 @@
-use Rattle.std.proofs.Common.{Err, refl, ap, sym, ◌∙◌}
+use Rattle.std.proofs.Common.{Err, ap, sym, ◌∙◌}
 use Rattle.std.proofs.lemmas.Result.{err_from_is_err_and}
 use Rattle.tl_rules.specs.Legality.{verdict}
 use Rattle.tl_rules.proofs.Checks.{broken_control, b_owns, b_beats, b_single}

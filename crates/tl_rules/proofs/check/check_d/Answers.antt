@@ -1,9 +1,9 @@
 use Rattle.std.proofs.Common.{◌≡◌, Err, refl, ap, sym, ◌∙◌, arith}
 use Rattle.std.proofs.lemmas.Result.{err_from_is_err_and}
 use Rattle.tl_beat.specs.declared.opcode.Channel.TheVariants as channel
-use Rattle.tl_burst.specs.declared.message.Message.TheVariants.{A, D}
+use Rattle.tl_burst.specs.declared.message.Message.TheVariants.{D}
 use Rattle.tl_rules.specs.Legality.{verdict}
-use Rattle.tl_rules.proofs.Checks.{broken_control, passed_control, none_yet, none_more, first_own, found_first, beat_room, few_beats, d_owns, d_beats}
+use Rattle.tl_rules.proofs.Checks.{broken_control, passed_control, none_yet, none_more, first_own, found_first, few_beats, d_owns, d_beats}
 use Rattle.tl_rules.proofs.check.check_d.Goals as goal
 
 pub returns-in_err-control_of_d : goal.returns-in_err-control_of_d

@@ -1,4 +1,4 @@
-use Rattle.std.proofs.Common.{rules, sym, ◌∙◌}
+use Rattle.std.proofs.Common.{sym, ◌∙◌}
 use Rattle.std.proofs.lemmas.Bool.{lt-leb}
 use Rattle.tl_rules.proofs.Widths.{size_above_width}
 use Rattle.tl_rules.proofs.field.access_size_fits.Goals as goal

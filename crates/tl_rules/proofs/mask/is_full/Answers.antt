@@ -1,4 +1,4 @@
-use Rattle.std.proofs.Common.{rules, arith}
+use Rattle.std.proofs.Common.{arith}
 use Rattle.tl_rules.specs.Legality.{is_lane}
 use Rattle.tl_rules.proofs.Masks.{same_mask}
 use Rattle.tl_rules.proofs.mask.is_full.Goals as goal

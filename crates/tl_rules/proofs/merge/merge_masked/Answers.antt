@@ -1,4 +1,4 @@
-use Rattle.std.proofs.Common.{arith, rules, refl, sym, ◌≡◌, ◌∙◌, ◌*◌, ◌+◌, take, drop}
+use Rattle.std.proofs.Common.{arith, refl, sym, ◌≡◌, ◌∙◌, ◌*◌, ◌+◌}
 use Rattle.std.proofs.lemmas.List.{take_all, drop_all, append-nil}
 use Rattle.tl_rules.proofs.Merges.{eight_more}
 use Rattle.tl_rules.proofs.merge.merge_masked.Goals as goal

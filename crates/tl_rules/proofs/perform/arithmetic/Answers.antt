@@ -1,4 +1,3 @@
-use Rattle.std.proofs.Common.{rules, arith, sym}
 use Rattle.tl_rules.proofs.Blocks.{arithmetic_done}
 use Rattle.tl_rules.proofs.perform.arithmetic.Goals as goal
 

@@ -1,4 +1,4 @@
-use Rattle.std.proofs.Common.{rules, arith}
+use Rattle.std.proofs.Common.{rules}
 use Rattle.tl_rules.proofs.Places.{over_zeros_to_end, moved_fits}
 use Rattle.tl_rules.proofs.place.move_up.Goals as goal
 

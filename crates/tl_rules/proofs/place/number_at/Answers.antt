@@ -1,4 +1,4 @@
-use Rattle.std.proofs.Common.{◌≡◌, ◌+◌, ◌-◌, ◌^◌, ◌*◌, ◌<◌, get_or, refl, arith}
+use Rattle.std.proofs.Common.{◌≡◌, ◌+◌, ◌-◌, get_or, refl, arith}
 use Rattle.tl_rules.proofs.Numbers.{number_lt}
 use Rattle.tl_rules.proofs.Places.{low_bytes}
 use Rattle.tl_rules.proofs.place.number_at.Goals as goal

@@ -36,3 +36,6 @@ pub fn run_tool<R: Read, W: Write>(
         },
     }
 }
+
+#[cfg(test)]
+mod tests;

@@ -1,11 +1,11 @@
 //! The beats of a message (SiFive TileLink Specification 1.8, "Bursts and ordering of beats").
 
-ghost use Rattle.std.specs.Prelude.{◌≡◌, ◌<◌, ◌≤◌, ◌+◌, ◌*◌, ◌==◌, slice_range, if◌then◌else◌};
+ghost use Rattle.std.specs.Prelude.{IsTrue, ◌≡◌, ◌<◌, ◌≤◌, ◌+◌, ◌*◌, ◌==◌, slice_range, if◌then◌else◌};
 ghost use Rattle.tl_beat.specs.Opcode.{a_carries_data, b_carries_data, c_carries_data, d_carries_data};
 ghost use Rattle.tl_beat.specs.Width.{IsWidth};
 ghost use Rattle.tl_burst.specs.Burst;
 ghost use Rattle.tl_burst.specs.Messages;
-ghost use Rattle.tl_burst.specs.Part.{IsTakeable};
+ghost use Rattle.tl_burst.specs.Part.{IsTakeable, is_small};
 ghost use Rattle.tl_burst.specs.Burst.{data_beats, lanes_at, mask_at, bit, beat_of, a_beat_of, b_beat_of, c_beat_of, d_beat_of};
 
 use crate::message::{Message, MessageA, MessageB, MessageC, MessageD};
@@ -80,7 +80,7 @@ pub fn beats_of<const W: usize>(message: &Message<W>) -> u8
 /// How many beats the burst of this beat has.
 pub fn burst_length<const W: usize>(beat: &Beat<W>) -> u8
     requires width { IsWidth W }
-    requires takeable { IsTakeable beat.now }
+    requires small { IsTrue (is_small beat.now) }
     ensures { result ≡ Messages.burst_length beat.now }
 {
     match beat {

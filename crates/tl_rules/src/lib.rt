@@ -6,6 +6,7 @@ pub mod answer;
 mod atomic;
 mod channel;
 mod field;
+pub mod key;
 pub mod legality;
 pub mod level;
 mod mask;

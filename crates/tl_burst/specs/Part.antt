@@ -1,4 +1,4 @@
-use Rattle.std.specs.Prelude.{ℕ, Bool, true, false, List, [], ◌∷◌, ◌==◌, ◌+◌, ◌<◌, ◌≤◌, ◌^◌, if◌then◌else◌, length, Result, Ok, Err}
+use Rattle.std.specs.Prelude.{ℕ, Bool, true, false, List, [], ◌∷◌, ◌==◌, ◌+◌, ◌<◌, ◌≤◌, ◌^◌, if◌then◌else◌, length, nat_le, Result, Ok, Err}
 use Rattle.tl_beat.specs.declared.beat.Beat.{Beat}
 use Rattle.tl_beat.specs.declared.beat.Beat.TheVariants.{A, B, C, D, E}
 use Rattle.tl_burst.specs.declared.part.Part.{Part}
@@ -6,6 +6,14 @@ use Rattle.tl_burst.specs.declared.part.Part.TheVariants.{First, Middle, Last, O
 use Rattle.tl_burst.specs.declared.part.Broken.{Broken}
 use Rattle.tl_burst.specs.declared.part.Broken.TheVariants.{S1}
 use Rattle.tl_burst.specs.Messages.{burst_length, breaks_burst}
+
+-- the size is one that a message may have
+abbrev pub is_small : {w : ℕ} → Beat w → Bool
+is_small (A x) = nat_le x.size 6
+is_small (B x) = nat_le x.size 6
+is_small (C x) = nat_le x.size 6
+is_small (D x) = nat_le x.size 6
+is_small (E x) = true
 
 -- an assembler takes beats of a size that fits a message, and of a mask that fits the beat
 abbrev pub IsTakeable : {w : ℕ} → Beat w → Type 0

@@ -1,52 +1,14 @@
 //! The beats of a message (SiFive TileLink Specification 1.8, "Bursts and ordering of beats").
 
-ghost use Rattle.std.specs.Prelude.{◌≡◌, ◌<◌, ◌≤◌, ◌+◌, ◌*◌, ◌==◌, slice_range, if◌then◌else◌};
-ghost use Rattle.tl_beat.specs.Opcode.{a_carries_data, b_carries_data, c_carries_data, d_carries_data};
+ghost use Rattle.std.specs.Prelude.{IsTrue, ◌≡◌, ◌<◌, ◌≤◌, ◌+◌, ◌*◌, ◌==◌, slice_range, if◌then◌else◌};
 ghost use Rattle.tl_beat.specs.Width.{IsWidth};
 ghost use Rattle.tl_burst.specs.Burst;
 ghost use Rattle.tl_burst.specs.Messages;
-ghost use Rattle.tl_burst.specs.Part.{IsTakeable};
+ghost use Rattle.tl_burst.specs.Part.{IsTakeable, is_small};
 ghost use Rattle.tl_burst.specs.Burst.{data_beats, lanes_at, mask_at, bit, beat_of, a_beat_of, b_beat_of, c_beat_of, d_beat_of};
 
 use crate::message::{Message, MessageA, MessageB, MessageC, MessageD};
 use tl_beat::beat::{Beat, BeatA, BeatB, BeatC, BeatD, BeatE};
-use tl_beat::opcode::{OpA, OpB, OpC, OpD};
-
-fn a_carries(opcode: OpA) -> bool
-    ensures { result ≡ a_carries_data opcode }
-{
-    match opcode {
-        OpA::PutFullData | OpA::PutPartialData | OpA::ArithmeticData | OpA::LogicalData => true,
-        OpA::Get | OpA::Intent | OpA::AcquireBlock | OpA::AcquirePerm => false,
-    }
-}
-
-fn b_carries(opcode: OpB) -> bool
-    ensures { result ≡ b_carries_data opcode }
-{
-    match opcode {
-        OpB::PutFullData | OpB::PutPartialData | OpB::ArithmeticData | OpB::LogicalData => true,
-        OpB::Get | OpB::Intent | OpB::ProbeBlock | OpB::ProbePerm => false,
-    }
-}
-
-fn c_carries(opcode: OpC) -> bool
-    ensures { result ≡ c_carries_data opcode }
-{
-    match opcode {
-        OpC::AccessAckData | OpC::ProbeAckData | OpC::ReleaseData => true,
-        OpC::AccessAck | OpC::HintAck | OpC::ProbeAck | OpC::Release => false,
-    }
-}
-
-fn d_carries(opcode: OpD) -> bool
-    ensures { result ≡ d_carries_data opcode }
-{
-    match opcode {
-        OpD::AccessAckData | OpD::GrantData => true,
-        OpD::AccessAck | OpD::HintAck | OpD::Grant | OpD::ReleaseAck => false,
-    }
-}
 
 /// How many beats of `W` bytes a burst of this size has.
 fn beats_for<const W: usize>(carries_data: bool, size: u8) -> u8
@@ -69,10 +31,10 @@ pub fn beats_of<const W: usize>(message: &Message<W>) -> u8
     ensures { result ≡ Burst.beats_of message.now }
 {
     match message {
-        Message::A(m) => beats_for::<W>(a_carries(m.opcode), m.size),
-        Message::B(m) => beats_for::<W>(b_carries(m.opcode), m.size),
-        Message::C(m) => beats_for::<W>(c_carries(m.opcode), m.size),
-        Message::D(m) => beats_for::<W>(d_carries(m.opcode), m.size),
+        Message::A(m) => beats_for::<W>(m.opcode.carries_data(), m.size),
+        Message::B(m) => beats_for::<W>(m.opcode.carries_data(), m.size),
+        Message::C(m) => beats_for::<W>(m.opcode.carries_data(), m.size),
+        Message::D(m) => beats_for::<W>(m.opcode.carries_data(), m.size),
         Message::E(_) => 1,
     }
 }
@@ -80,7 +42,7 @@ pub fn beats_of<const W: usize>(message: &Message<W>) -> u8
 /// How many beats the burst of this beat has.
 pub fn burst_length<const W: usize>(beat: &Beat<W>) -> u8
     requires width { IsWidth W }
-    requires takeable { IsTakeable beat.now }
+    requires small { IsTrue (is_small beat.now) }
     ensures { result ≡ Messages.burst_length beat.now }
 {
     match beat {
@@ -136,7 +98,7 @@ fn beat_of_a<const W: usize>(m: &MessageA<W>, i: u8) -> BeatA<W>
         source: m.source,
         address: m.address,
         mask: mask_of::<W>(m.mask, i),
-        lanes: lanes_of(a_carries(m.opcode), &m.payload, i),
+        lanes: lanes_of(m.opcode.carries_data(), &m.payload, i),
         corrupt: bit_of(m.corrupt, i),
     }
 }
@@ -153,7 +115,7 @@ fn beat_of_b<const W: usize>(m: &MessageB<W>, i: u8) -> BeatB<W>
         source: m.source,
         address: m.address,
         mask: mask_of::<W>(m.mask, i),
-        lanes: lanes_of(b_carries(m.opcode), &m.payload, i),
+        lanes: lanes_of(m.opcode.carries_data(), &m.payload, i),
         corrupt: bit_of(m.corrupt, i),
     }
 }
@@ -169,7 +131,7 @@ fn beat_of_c<const W: usize>(m: &MessageC<W>, i: u8) -> BeatC<W>
         size: m.size,
         source: m.source,
         address: m.address,
-        lanes: lanes_of(c_carries(m.opcode), &m.payload, i),
+        lanes: lanes_of(m.opcode.carries_data(), &m.payload, i),
         corrupt: bit_of(m.corrupt, i),
     }
 }
@@ -186,7 +148,7 @@ fn beat_of_d<const W: usize>(m: &MessageD<W>, i: u8) -> BeatD<W>
         source: m.source,
         sink: m.sink,
         denied: m.denied,
-        lanes: lanes_of(d_carries(m.opcode), &m.payload, i),
+        lanes: lanes_of(m.opcode.carries_data(), &m.payload, i),
         corrupt: bit_of(m.corrupt, i),
     }
 }

@@ -23,7 +23,8 @@ use Rattle.tl_rules.specs.declared.profile.Profile.{Profile}
 use Rattle.tl_rules.specs.declared.profile.Profile.TheVariants as profile
 use Rattle.tl_rules.specs.declared.rule.Rule.{Rule}
 use Rattle.tl_rules.specs.declared.rule.Rule.TheVariants.{L1, S1, H1, H2, H3, H4, H5, H6, H7, H8, H9, H10, H11, H12, H13}
-use Rattle.tl_rules.specs.History.{begins, block_at, is_acquire, is_probe, is_probe_ack, is_release, is_grant, is_release_ack, request_of, release_of, probe_of, held, pending, RequestSource, ReleaseSource, AcquireOf, ReleaseOf, GrantSink, GrantAckOf, ProbeOf}
+use Rattle.tl_rules.specs.History.{begins, block_at, is_acquire, is_probe, is_probe_ack, is_release, is_grant, is_release_ack, request_of, release_of, probe_of, held, pending}
+use Rattle.tl_rules.specs.declared.key.Key.TheVariants.{RequestSource, ReleaseSource, AcquireOf, ReleaseOf, GrantSink, GrantAckOf, ProbeOf}
 use Rattle.tl_rules.specs.Legality.{illegal, rule_if}
 use Rattle.tl_rules.specs.declared.param.Cap.{Cap}
 use Rattle.tl_rules.specs.declared.param.Prune.{Prune}

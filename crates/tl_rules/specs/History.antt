@@ -15,6 +15,8 @@ use Rattle.tl_beat.specs.declared.opcode.OpD.{OpD}
 use Rattle.tl_beat.specs.declared.opcode.OpD.TheVariants as d
 use Rattle.tl_burst.specs.Messages.{History, channel_of, unfinished}
 use Rattle.tl_burst.specs.Part.{is_empty, completes}
+use Rattle.tl_rules.specs.declared.key.Key.{Key}
+use Rattle.tl_rules.specs.declared.key.Key.TheVariants.{RequestSource, ReleaseSource, AcquireOf, ReleaseOf, GrantSink, GrantAckOf, ProbeOf}
 use Rattle.tl_rules.specs.declared.perm.Perm.{Perm}
 use Rattle.tl_rules.specs.declared.perm.Perm.TheVariants as perm
 use Rattle.tl_rules.specs.Param.{cap_of, cap_right, report_named, report_right}
@@ -107,17 +109,6 @@ is_sink s None = false
 is_sink s (Some n) = n == s
 
 -- ---- what is pending
-
--- what can be pending: an A source, a Release source, an Acquire or a Release of a block, a sink, a
--- GrantAck or a Probe of a block
-pub data Key : Type 0 where
-  RequestSource : ℕ → Key
-  ReleaseSource : ℕ → Key
-  AcquireOf : ℕ → Key
-  ReleaseOf : ℕ → Key
-  GrantSink : ℕ → Key
-  GrantAckOf : ℕ → Key
-  ProbeOf : ℕ → Key
 
 -- a message that begins with this beat after t opens the key
 abbrev pub opens : {w : ℕ} → Key → Beat w → History w → Bool

@@ -8,6 +8,7 @@ mod channel;
 pub mod check;
 pub mod config;
 mod field;
+pub mod key;
 pub mod legality;
 pub mod level;
 mod mask;

@@ -1,0 +1,21 @@
+//! What can be pending on a link.
+
+/// A thing of which one at a time can be pending on a link. Blocks go by their number, which is the
+/// address over 64.
+#[derive(Clone, Copy, Debug, PartialEq, Eq)]
+pub enum Key {
+    /// A request of channel A with this source.
+    RequestSource(u8),
+    /// A Release with this source.
+    ReleaseSource(u8),
+    /// An Acquire of this block.
+    AcquireOf(u32),
+    /// A Release of this block.
+    ReleaseOf(u32),
+    /// A Grant with this sink.
+    GrantSink(u8),
+    /// The GrantAck of this block.
+    GrantAckOf(u32),
+    /// A Probe of this block.
+    ProbeOf(u32),
+}

@@ -206,7 +206,7 @@ record AreRead (n : ℕ) (lanes p : List ℕ) : Type 0 where
   count : length read ≡ n
   all : All (λ x. x < 2 ^ 8) read
 
-lane_digits-last : (xs : List ℕ) (x : ℕ) → lane_digits (xs ++ x ∷ []) ≡ digits 2 x ++ lane_digits xs
+pub lane_digits-last : (xs : List ℕ) (x : ℕ) → lane_digits (xs ++ x ∷ []) ≡ digits 2 x ++ lane_digits xs
 unfolding lane_digits
 lane_digits-last [] x = sym (append-nil (digits 2 x))
 lane_digits-last (y ∷ ys) x = rw (lane_digits-last ys x, append_assoc) refl

@@ -1,6 +1,7 @@
 -- Digits and lanes that are written one after another.
 use Rattle.std.proofs.Common.{◌≡◌, ℕ, zero, suc, ◌+◌, ◌-◌, ◌*◌, ◌/◌, ◌%◌, ◌^◌, ◌<◌, ◌≤◌, List, [], ◌∷◌, ◌++◌, length, get_or, take, refl, sym, ap, ◌∙◌, arith, append_assoc}
 use Rattle.std.proofs.lemmas.List.{append-nil, take_more}
+use Rattle.tl_beat.proofs.DigitLaws.{lane_digits-last}
 use Rattle.tl_beat.specs.Digits.{digit_char, digits, lane_digits}
 
 digits-more : (w k n : ℕ) → w ≡ suc k → digits w n ≡ digit_char (n / 2 ^ (4 * k) % 16) ∷ digits k n
@@ -17,11 +18,6 @@ put_one xs old w i n d lt so_far is =
 pub digits-none : (w n : ℕ) → w ≡ 0 → digits w n ≡ []
 unfolding digits
 digits-none w n e = rw e refl
-
-lane_digits-last : (xs : List ℕ) (x : ℕ) → lane_digits (xs ++ x ∷ []) ≡ digits 2 x ++ lane_digits xs
-unfolding lane_digits
-lane_digits-last [] x = sym (append-nil (digits 2 x))
-lane_digits-last (y ∷ ys) x = rw (lane_digits-last ys x, append_assoc) refl
 
 -- one more lane is written, from the last one down
 pub put_lane : (xs old lanes : List ℕ) (n i : ℕ) → i < n → length lanes ≡ n → xs ++ lane_digits (take (n - i) lanes) ≡ old

@@ -235,7 +235,7 @@ data_room w size true is le = go (cases_Bool (ltb w (2 ^ size)))
     go (inr few) = rw few (omega (arith, (width-bounds w is).1))
 
 -- the beats of a message fill its payload at most
-beats_room : {w : ℕ} (m : Message w) → IsWidth w → w * beats_of m ≤ 64
+pub beats_room : {w : ℕ} (m : Message w) → IsWidth w → w * beats_of m ≤ 64
 beats_room {w} (A m) is = data_room w m.size (a_carries_data m.opcode) is m.small
 beats_room {w} (B m) is = data_room w m.size (b_carries_data m.opcode) is m.small
 beats_room {w} (C m) is = data_room w m.size (c_carries_data m.opcode) is m.small

@@ -2,6 +2,7 @@ pub mod Blocks
 pub mod Bursts
 pub mod Checks
 pub mod Lanes
+pub mod Legal
 pub mod Limits
 pub mod Masks
 pub mod Merges

@@ -1,7 +1,8 @@
 -- What the widths have in common.
-use Rattle.std.proofs.Common.{◌≡◌, ℕ, ◌<◌, ◌≤◌, ◌^◌, false, leb, inl, inr, arith, lit<}
-use Rattle.std.proofs.lemmas.Bool.{lt-leb}
-use Rattle.std.proofs.Math.Nat.{pow-le-pow_right}
+use Rattle.std.proofs.Common.{◌≡◌, ℕ, ◌<◌, ◌≤◌, ◌^◌, false, leb, inl, inr, arith, lit<, ◌/◌, ◌%◌, ◌*◌, ◌+◌, ◌↔◌, eqb, true}
+use Rattle.std.proofs.lemmas.Bool.{lt-leb, eqb-true, eq-eqb}
+use Rattle.std.proofs.lemmas.Nat.{shr_split, pow_pos, mod_below}
+use Rattle.std.proofs.Math.Nat.{pow-le-pow_right, div-eq_of_lt}
 use Rattle.tl_beat.specs.Width.{IsWidth}
 
 pub width-bounds : (w : ℕ) → IsWidth w → (4 ≤ w) × (w ≤ 16)
@@ -14,3 +15,14 @@ size_above_width w size is lt =
     let bytes : 2 ^ 5 ≤ 2 ^ size = pow-le-pow_right {n = 2} (lit< tt) {i = 5} {j = size} more in
     let few : w ≤ 16 = (width-bounds w is).1 in
     lt-leb (2 ^ size) w (omega arith)
+
+-- a number has no bit from bit k on where its quotient by 2 ^ k is zero
+pub no_bits_from : (n m k : ℕ) → m ≡ n → (eqb (m / 2 ^ k) 0 ≡ true) ↔ (n < 2 ^ k)
+no_bits_from n m k is = (
+  λ e. let none : m / 2 ^ k ≡ 0 = eqb-true (m / 2 ^ k) 0 e in
+      let rest : m % 2 ^ k < 2 ^ k = mod_below m (2 ^ k) (pow_pos k) in
+      let whole : m / 2 ^ k * 2 ^ k + m % 2 ^ k ≡ m = shr_split m k in
+      let low : 0 * 2 ^ k + m % 2 ^ k ≡ m = rw none at whole in
+      omega arith,
+  λ lt. eq-eqb (m / 2 ^ k) 0 (div-eq_of_lt (let less : m < 2 ^ k = omega arith in less)),
+)

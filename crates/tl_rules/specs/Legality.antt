@@ -12,6 +12,7 @@ use Rattle.tl_beat.specs.declared.beat.Beat.TheVariants.{A, B, C, D, E}
 use Rattle.tl_beat.specs.Opcode.{a_code, b_code, c_code, d_code, a_carries_data, b_carries_data, c_carries_data, d_carries_data}
 use Rattle.tl_burst.specs.declared.message.Message.{Message}
 use Rattle.tl_burst.specs.Burst.{beats_of, beat_of, bit}
+use Rattle.tl_burst.specs.Messages.{same_bool}
 use Rattle.tl_rules.specs.declared.level.Level.{Level}
 use Rattle.tl_rules.specs.declared.level.Level.TheVariants as level
 use Rattle.tl_rules.specs.declared.rule.Rule.{Rule}
@@ -149,10 +150,6 @@ is_lane w size address lane =
 unfoldable pub each_below : ℕ → (ℕ → Bool) → Bool
 each_below zero test = true
 each_below (suc n) test = test n && each_below n test
-
-abbrev pub same_bool : Bool → Bool → Bool
-same_bool true y = y
-same_bool false y = not y
 
 -- of the 16 bits of the mask, those of the lanes are set and no others
 abbrev pub is_full_mask : ℕ → ℕ → ℕ → ℕ → Bool

@@ -4,6 +4,7 @@
 
 pub mod answer;
 mod atomic;
+pub mod blank;
 mod channel;
 pub mod check;
 pub mod config;

@@ -1,0 +1,81 @@
+//! Messages that say nothing where no beat carries it.
+
+ghost use Rattle.std.specs.Prelude.{◌≡◌, ◌<◌, ◌≤◌, ◌*◌, ◌^◌, ◌↔◌, IsTrue, if◌then◌else◌};
+ghost use Rattle.tl_beat.specs.Width.{IsWidth};
+ghost use Rattle.tl_burst.specs.Burst;
+ghost use Rattle.tl_burst.specs.Burst.{IsBlankAfter, IsZeroFrom};
+
+use tl_burst::burst::beats_of;
+use tl_burst::message::Message;
+
+/// Whether all of a message that none of its beats carries is zero: the payload's bytes past its
+/// data, the bits of the mask past its beats, and those of corrupt.
+pub fn is_blank<const W: usize>(message: &Message<W>) -> bool
+    requires { IsWidth W }
+    ensures { IsTrue result ↔ IsBlankAfter (Burst.beats_of message.now) message.now }
+{
+    let beats = beats_within(message);
+    match message {
+        Message::A(m) => {
+            is_zero_from(&m.payload, data_of::<W>(m.opcode.carries_data(), beats))
+                && has_bits(m.mask, W * beats as usize)
+                && has_beats(m.corrupt, beats)
+        }
+        Message::B(m) => {
+            is_zero_from(&m.payload, data_of::<W>(m.opcode.carries_data(), beats))
+                && has_bits(m.mask, W * beats as usize)
+                && has_beats(m.corrupt, beats)
+        }
+        Message::C(m) => {
+            is_zero_from(&m.payload, data_of::<W>(m.opcode.carries_data(), beats))
+                && has_beats(m.corrupt, beats)
+        }
+        Message::D(m) => {
+            is_zero_from(&m.payload, data_of::<W>(m.opcode.carries_data(), beats))
+                && has_beats(m.corrupt, beats)
+        }
+        Message::E(_) => true,
+    }
+}
+
+/// The number of beats, which fill the payload at most.
+fn beats_within<const W: usize>(message: &Message<W>) -> u8
+    requires { IsWidth W }
+    ensures value { result ≡ Burst.beats_of message.now }
+    ensures room { W * result ≤ 64 }
+    ensures few { result ≤ 16 }
+{
+    beats_of(message)
+}
+
+/// How many bytes of data these beats carry.
+fn data_of<const W: usize>(carries_data: bool, beats: u8) -> usize
+    requires { W * beats ≤ 64 }
+    ensures value { result ≡ (if carries_data then W * beats else 0) }
+    ensures room { result ≤ 64 }
+{
+    if carries_data { W * beats as usize } else { 0 }
+}
+
+fn is_zero_from(payload: &[u8; 64], from: usize) -> bool
+    requires { from ≤ 64 }
+    ensures { IsTrue result ↔ IsZeroFrom from payload.now }
+{
+    payload[from..].iter().all(|byte| *byte == 0)
+}
+
+/// The mask has no bit from this one on.
+fn has_bits(mask: u64, bits: usize) -> bool
+    requires { bits ≤ 64 }
+    ensures { IsTrue result ↔ (mask < 2 ^ bits) }
+{
+    bits == 64 || mask >> bits == 0
+}
+
+/// No beat from this one on is corrupt.
+fn has_beats(corrupt: u16, beats: u8) -> bool
+    requires { beats ≤ 16 }
+    ensures { IsTrue result ↔ (corrupt < 2 ^ beats) }
+{
+    u32::from(corrupt) >> beats == 0
+}

@@ -11,3 +11,6 @@ pub mod put;
 pub mod status;
 pub mod text;
 pub mod tool;
+
+pub use tl_words::command;
+pub use tl_words::words;

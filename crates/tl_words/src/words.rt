@@ -1,11 +1,15 @@
 //! Reads the program's words: `tltool decode [--width 4|8|16] [FILE]`.
 
-use crate::command::{Command, Width};
-use clap::error::ErrorKind;
-use clap::{Arg, ArgMatches};
-use std::alloc::{AllocError, Global};
+ghost use Rattle.std.specs.Prelude.{◌≡◌, IfOk, false, List, Some, map, option_map};
+ghost use Rattle.std.specs.String.{string_bytes};
+ghost use Rattle.clap.specs.Words.{Row, Text, app_of, subcommand_of};
+ghost use Rattle.clap.specs.declared.builder.command.Command.TheViews.{out-Command};
+ghost use Rattle.tl_words.specs.Tool.{command_in, decode_of, file_in, tool_of, width_named};
 
-const WIDTHS: [&str; 3] = ["4", "8", "16"];
+use crate::command::{Command, Width};
+use clap::Arg;
+use clap::error::ErrorKind;
+use std::alloc::{AllocError, Global};
 
 /// Why the words give no command: they aren't of its form, or ask for help, or there is no memory.
 #[derive(Debug, Drop)]
@@ -26,13 +30,14 @@ impl From<clap::Error> for WordsFault {
     }
 }
 
-fn decode<'a>(alloc: Global) -> Result<clap::Command<'a>, AllocError> {
+fn decode<'a>(alloc: Global) -> Result<clap::Command<'a>, AllocError>
+    ensures app { IfOk result (λ c. app_of c ≡ decode_of) }
+    ensures local { IfOk result (λ c. (out-Command c).has_globals ≡ false) }
+{
     let width = Arg::new(alloc, "width")
         .long("width")
         .value_name("BYTES")
-        .value_parser(WIDTHS.as_slice())
-        .default_value("8")
-        .help("Bytes of data that a beat carries");
+        .help("Bytes of data that a beat carries: 4, 8 or 16 [default: 8]");
     let file = Arg::new(alloc, "FILE").help("The file to read [default: standard input]");
     clap::Command::new(alloc, "decode")
         .about("Writes a readable line for each beat line")
@@ -40,7 +45,9 @@ fn decode<'a>(alloc: Global) -> Result<clap::Command<'a>, AllocError> {
         .arg(file)
 }
 
-fn tool<'a>(alloc: Global) -> Result<clap::Command<'a>, AllocError> {
+fn tool<'a>(alloc: Global) -> Result<clap::Command<'a>, AllocError>
+    ensures { IfOk result (λ c. app_of c ≡ tool_of) }
+{
     let decode = decode(alloc)?;
     clap::Command::new(alloc, "tltool")
         .about("Reads, judges and runs TileLink traces")
@@ -48,22 +55,22 @@ fn tool<'a>(alloc: Global) -> Result<clap::Command<'a>, AllocError> {
         .subcommand(decode)
 }
 
-/// The width that a word names, 8 bytes where it names no other.
-fn width_named(word: Option<&str>) -> Width {
+/// The width that a word stands for, 8 bytes where there is no word.
+fn width_named(word: Option<&str>) -> Option<Width>
+    ensures { result ≡ width_named (option_map (λ s. s.now) word.entry) }
+{
     match word {
-        Some("4") => Width::Four,
-        Some("16") => Width::Sixteen,
-        _ => Width::Eight,
+        None => Some(Width::Eight),
+        Some("4") => Some(Width::Four),
+        Some("8") => Some(Width::Eight),
+        Some("16") => Some(Width::Sixteen),
+        Some(_) => None,
     }
 }
 
-fn command_in(found: &ArgMatches<'_>) -> Command {
-    Command::Decode {
-        width: width_named(found.get_str("width")),
-    }
-}
-
-fn copied(alloc: Global, text: Option<&str>) -> Result<Option<String>, AllocError> {
+fn copied(alloc: Global, text: Option<&str>) -> Result<Option<String>, AllocError>
+    ensures { IfOk result (λ r. option_map string_bytes r ≡ option_map (λ s. s.now) text.entry) }
+{
     match text {
         None => Ok(None),
         Some(text) => Ok(Some(String::from_str(alloc, text)?)),
@@ -72,16 +79,23 @@ fn copied(alloc: Global, text: Option<&str>) -> Result<Option<String>, AllocErro
 
 /// The command and FILE that the program's words give, its own name first. Words of another form and
 /// a request for help are a `Usage`, whose text and status are `clap`'s.
-pub fn invocation(
-    alloc: Global,
-    words: &[String],
-) -> Result<(Command, Option<String>), WordsFault> {
+pub fn invocation(alloc: Global, words: &[String]) -> Result<(Command, Option<String>), WordsFault>
+    ensures { IfOk result (λ r. (name : Text) × (rows : List Row) × (subcommand_of tool_of (map string_bytes words.now) ≡ Some (name, rows))
+        × (command_in rows ≡ Some r.0) × (option_map string_bytes r.1 ≡ file_in rows)) }
+{
     let mut tool = tool(alloc)?;
     let matches = tool.try_get_matches_from_mut(words)?;
     let Some((_, found)) = matches.subcommand() else {
         let error = tool.error(ErrorKind::MissingSubcommand, "a subcommand is required")?;
         return Err(WordsFault::Usage(error));
     };
+    let Some(width) = width_named(found.get_str("width")) else {
+        let error = tool.error(ErrorKind::InvalidValue, "the width is 4, 8 or 16 bytes")?;
+        return Err(WordsFault::Usage(error));
+    };
     let file = copied(alloc, found.get_str("FILE"))?;
-    Ok((command_in(found), file))
+    Ok((Command::Decode { width }, file))
 }
+
+#[cfg(test)]
+mod tests;

@@ -2,12 +2,12 @@
 #![tactic(auto)]
 
 use std::process::ExitCode;
+use tl_tool::command::Command;
 use std::{env, fs, io};
 use tl_tool::put::write_open_fault;
 use tl_tool::status::{Status, ToolFault, exit_of};
 use tl_tool::tool::run_tool;
-use tl_words::command::Command;
-use tl_words::words::{WordsFault, invocation};
+use tl_tool::words::{WordsFault, invocation};
 
 /// The exit status of a run, whose fault is told on standard error.
 fn told(rt: &HostRuntime, outcome: Result<Status, ToolFault>) -> u8 {

@@ -1,0 +1,57 @@
+use super::*;
+use std::test::Fail;
+
+fn given(alloc: Global, words: &[&str]) -> Result<Vec<String>, AllocError> {
+    let mut all = Vec::new(alloc);
+    for word in words {
+        all.push(String::from_str(alloc, word)?)?;
+    }
+    Ok(all)
+}
+
+#[test]
+fn gives_the_command_and_the_file(rt: HostRuntime) -> Result<(), Fail> {
+    let rows: [(&[&str], Width, Option<&str>); 4] = [
+        (&["tltool", "decode"], Width::Eight, None),
+        (
+            &["tltool", "decode", "beats.txt"],
+            Width::Eight,
+            Some("beats.txt"),
+        ),
+        (&["tltool", "decode", "--width", "4"], Width::Four, None),
+        (
+            &["tltool", "decode", "--width=16", "-"],
+            Width::Sixteen,
+            Some("-"),
+        ),
+    ];
+    for (words, width, file) in rows {
+        let words = given(rt.alloc(), words)?;
+        let Ok((command, name)) = invocation(rt.alloc(), words.as_slice()) else {
+            panic!(rt; "no command");
+        };
+        assert!(rt; command == Command::Decode { width });
+        assert!(rt; name.as_ref().map(|name| name.as_str()) == file);
+    }
+    Ok(())
+}
+
+#[test]
+fn refuses_other_words(rt: HostRuntime) -> Result<(), Fail> {
+    let rows: [(&[&str], i32); 6] = [
+        (&["tltool"], 2),
+        (&["tltool", "encode"], 2),
+        (&["tltool", "decode", "--width", "5"], 2),
+        (&["tltool", "decode", "a", "b"], 2),
+        (&["tltool", "--help"], 0),
+        (&["tltool", "decode", "--help"], 0),
+    ];
+    for (words, status) in rows {
+        let words = given(rt.alloc(), words)?;
+        let Err(WordsFault::Usage(error)) = invocation(rt.alloc(), words.as_slice()) else {
+            panic!(rt; "no usage");
+        };
+        assert_eq!(rt; error.exit_code(), status);
+    }
+    Ok(())
+}

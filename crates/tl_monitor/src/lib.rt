@@ -1,0 +1,6 @@
+//! A monitor that judges recorded traces of TileLink's links.
+#![tactic(auto)]
+
+mod kind;
+mod past;
+mod recorded;

@@ -8,7 +8,14 @@ use Rattle.tl_burst.specs.Messages.{History, burst_length}
 use Rattle.tl_monitor.specs.declared.recorded.Recorded.{Recorded}
 use Rattle.tl_monitor.specs.declared.past.Sought.{Sought}
 use Rattle.tl_monitor.specs.declared.past.Sought.TheVariants.{Request, Release, Probe}
-use Rattle.tl_rules.specs.History.{begins, ends, is_release, is_probe, block_at, grants, says_held}
+use Rattle.tl_rules.specs.History.{begins, ends, is_release, is_probe, block_at, grants, says_held, is_grant, request_of, pending}
+use Rattle.tl_beat.specs.declared.beat.BeatD.{BeatD}
+use Rattle.tl_rules.specs.declared.key.Key.TheVariants.{GrantSink}
+use Rattle.tl_rules.specs.declared.profile.Profile.{Profile}
+use Rattle.tl_rules.specs.declared.rule.Rule.{Rule}
+use Rattle.tl_rules.specs.declared.rule.Rule.TheVariants.{H6, H7}
+use Rattle.tl_rules.specs.Legality.{rule_if}
+use Rattle.tl_rules.specs.Conformance.{misgrants}
 use Rattle.tl_rules.specs.declared.perm.Perm.{Perm}
 use Rattle.tl_monitor.specs.declared.past.Unfinished.{Unfinished}
 
@@ -65,3 +72,21 @@ b_of _ = None
 abbrev pub c_of : {w : ℕ} → Option (Beat w) → Option (BeatC w)
 c_of (Some (C x)) = Some x
 c_of _ = None
+
+-- the newest beat of an unfinished burst is of a request or Release with this source, or of a Grant
+-- with this sink
+abbrev pub is_request_beat : {w : ℕ} → ℕ → Option (Beat w) → Bool
+is_request_beat s (Some (A x)) = x.source == s
+is_request_beat s _ = false
+
+abbrev pub is_release_beat : {w : ℕ} → ℕ → Option (Beat w) → Bool
+is_release_beat s (Some (C x)) = is_release x.opcode && (x.source == s)
+is_release_beat s _ = false
+
+abbrev pub is_grant_beat : {w : ℕ} → ℕ → Option (Beat w) → Bool
+is_grant_beat s (Some (D x)) = is_grant x.opcode && (x.sink == s)
+is_grant_beat s _ = false
+
+-- the first rule of Grants that one breaks whose request is known
+abbrev pub broken_grant : {w : ℕ} → Profile → BeatD w → History w → Option Rule
+broken_grant p x t = rule_if (misgrants p x (request_of x.source t) t) H6 (rule_if (pending (GrantSink x.sink) t) H7 None)

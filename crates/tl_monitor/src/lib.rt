@@ -2,5 +2,6 @@
 #![tactic(auto)]
 
 mod kind;
+mod order;
 mod past;
 mod recorded;

@@ -121,3 +121,6 @@ pub fn check_trace<const W: usize>(
     }
     Ok(())
 }
+
+#[cfg(test)]
+mod tests;

@@ -10,7 +10,7 @@ use Rattle.tl_burst.specs.Burst.{beats_of, beat_of, begun, IsBlankAfter, IsBurst
 use Rattle.tl_burst.specs.Messages.{same_control, breaks_burst, burst_length, grown}
 use Rattle.tl_burst.specs.Part.{completes, part_of, place}
 use Rattle.tl_burst.specs.declared.part.Broken.TheVariants.{S1}
-use Rattle.tl_burst.proofs.Control.{control_a, control_b, control_c, control_d}
+use Rattle.tl_burst.proofs.ControlFields.{control_a, control_b, control_c, control_d}
 
 -- the control fields are those of any beat of the message
 pub control_anywhere : {w : ℕ} (x : Beat w) (m : Message w) (i : ℕ) → same_control x (beat_of m i) ≡ same_control x (beat_of m 0)

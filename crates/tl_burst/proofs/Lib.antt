@@ -4,4 +4,4 @@ pub mod Whole
 pub mod Lanes
 pub mod Begun
 pub mod Bits
-pub mod Control
+pub mod ControlFields

@@ -3,6 +3,7 @@
 
 pub mod assembler;
 pub mod burst;
+pub mod control;
 mod gather;
 pub mod law;
 pub mod message;

@@ -1,4 +1,4 @@
-use Rattle.tl_burst.proofs.Control.{a_beat_here}
+use Rattle.tl_burst.proofs.ControlFields.{a_beat_here}
 use Rattle.tl_burst.proofs.gather.put_a.Goals as goal
 
 pub returns-clause-here : goal.returns-clause-here

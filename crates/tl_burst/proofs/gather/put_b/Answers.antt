@@ -1,4 +1,4 @@
-use Rattle.tl_burst.proofs.Control.{b_beat_here}
+use Rattle.tl_burst.proofs.ControlFields.{b_beat_here}
 use Rattle.tl_burst.proofs.gather.put_b.Goals as goal
 
 pub returns-clause-here : goal.returns-clause-here

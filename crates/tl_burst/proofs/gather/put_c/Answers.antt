@@ -1,4 +1,4 @@
-use Rattle.tl_burst.proofs.Control.{c_beat_here}
+use Rattle.tl_burst.proofs.ControlFields.{c_beat_here}
 use Rattle.tl_burst.proofs.gather.put_c.Goals as goal
 
 pub returns-clause-here : goal.returns-clause-here

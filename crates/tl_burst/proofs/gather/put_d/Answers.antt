@@ -1,4 +1,4 @@
-use Rattle.tl_burst.proofs.Control.{d_beat_here}
+use Rattle.tl_burst.proofs.ControlFields.{d_beat_here}
 use Rattle.tl_burst.proofs.gather.put_d.Goals as goal
 
 pub returns-clause-here : goal.returns-clause-here

@@ -1,0 +1,135 @@
+-- A monitor that knows one more beat.
+use Rattle.std.proofs.Common.{◌≡◌, ℕ, zero, suc, Bool, false, List, [], ◌∷◌, ◌++◌, length, ◌<◌, ◌≤◌, ◌≢◌, refl, sym, ap, ◌∙◌, arith, inl, inr, ◌+◌, take, drop, reverse}
+use Rattle.std.specs.Prelude.{slice_index_or, slice_get, slice_set, Option, Some, None, Err}
+use Rattle.std.specs.Global.{Vec}
+use Rattle.std.proofs.lemmas.Bool.{cases_eq, eq-eqb, ne_eqb}
+use Rattle.std.proofs.lemmas.List.{get_or-set_same, get_or-set_other, length_push, get_or_push, get_or_append_left, drop_more, take_more, drop_all, reverse-append, length-reverse, length-take-le}
+use Rattle.tl_beat.specs.declared.beat.Beat.{Beat}
+use Rattle.tl_beat.specs.declared.beat.Link.{Link}
+use Rattle.tl_rules.specs.declared.level.Level.{Level}
+use Rattle.tl_rules.specs.declared.profile.Profile.{Profile}
+use Rattle.tl_rules.specs.declared.rule.Rule.{Rule}
+use Rattle.tl_rules.specs.Conformance.{Trace, on_link, broken_after, broken_on_link, fault_from}
+use Rattle.tl_monitor.specs.declared.recorded.Recorded.{Recorded}
+use Rattle.tl_monitor.specs.declared.monitor.Monitor.{Monitor}
+use Rattle.tl_monitor.specs.Past.{past}
+use Rattle.tl_monitor.specs.Knows.{Knows, AllEmpty, Answers, AnswersTrace, IsCount, fault_of, broken, trace_fault_of}
+use Rattle.tl_monitor.specs.declared.fault.MonitorFault.{MonitorFault}
+use Rattle.tl_monitor.specs.declared.fault.MonitorFault.TheVariants as monitor
+use Rattle.tl_monitor.proofs.Pushes.{past-push, past-none}
+
+on_link-own : {w : ℕ} (n : ℕ) (link : Link) (x : Beat w) (t : Trace w) → link.0 ≡ n → on_link n ((link, x) ∷ t) ≡ x ∷ on_link n t
+unfolding on_link
+on_link-own n link x t e = rw (eq-eqb link.0 n e) refl
+
+on_link-other : {w : ℕ} (n : ℕ) (link : Link) (x : Beat w) (t : Trace w) → link.0 ≢ n → on_link n ((link, x) ∷ t) ≡ on_link n t
+unfolding on_link
+on_link-other n link x t apart = rw (ne_eqb link.0 n apart) refl
+
+-- the beat r was put at the end of the history of its link
+pub knows-more : {w : ℕ} (m m' : Monitor w) (levels : List Level) (p : Profile) (t : Trace w) (closed : Bool) (i : ℕ) (link : Link) (r : Recorded w) (old new : Vec (Recorded w))
+    → Knows m levels p t closed → m'.levels ≡ m.levels → m'.profile ≡ m.profile → m'.closed ≡ false → m'.histories.items ≡ slice_set m.histories.items i new
+    → i ≡ link.0 → i < length m.histories.items → old ≡ slice_index_or m.histories.items i old → new.items ≡ old.items ++ r ∷ []
+    → Knows m' levels p ((link, r.beat) ∷ t) false
+knows-more m m' levels p t closed i link r old new k levels_same profile_same open_still items i_is lt old_is new_is = record {
+  levels_are = ap (λ v. v.items) levels_same ∙ k.levels_are;
+  profile_is = profile_same ∙ k.profile_is;
+  closed_is = open_still;
+  histories_are = λ n d below. elim (cases_eq n i) [
+    | inl here ↦
+        let at_i : i < length levels = omega (arith, here) in
+        let known : past old.items ≡ on_link i t = rw old_is (k.histories_are i old at_i) in
+        let own : link.0 ≡ i = sym i_is in
+        rw (items, here, get_or-set_same m.histories.items i new d lt, new_is, past-push old.items r, known, on_link-own i link r.beat t own) refl
+    | inr other ↦
+        let apart : link.0 ≢ n = λ e. other (sym e ∙ sym i_is) in
+        rw (items, get_or-set_other m.histories.items i n new d other, on_link-other n link r.beat t apart) (k.histories_are n d below)
+  ];
+}
+
+get_is : {X : Type 0} (xs : List X) (i : ℕ) (x : X) → i < length xs → x ≡ slice_index_or xs i x → slice_get xs i ≡ Some x
+get_is [] i x lt is = absurd (omega arith)
+get_is (y ∷ ys) zero x lt is = ap Some (sym is)
+get_is (y ∷ ys) (suc i) x lt is = get_is ys i x (omega arith) is
+
+-- a beat that breaks no rule after what its link's history has
+pub no-fault : {w : ℕ} (m : Monitor w) (levels : List Level) (p : Profile) (t : Trace w) (closed : Bool) (i : ℕ) (link : Link) (x : Beat w) (l : Level) (history : Vec (Recorded w)) (beats : List (Recorded w))
+    → Knows m levels p t closed → m.closed ≡ false → i ≡ link.0 → i < length m.levels.items → l ≡ slice_index_or m.levels.items i l → history ≡ slice_index_or m.histories.items i history
+    → beats ≡ history.items → None ≡ broken_after l m.profile x (past beats) → fault_of levels p t closed (link, x) ≡ None
+no-fault m levels p t closed i link x l history beats k open_still i_is lt level_is history_is same_beats none =
+    let not_closed : closed ≡ false = sym k.closed_is ∙ open_still in
+    let at_i : i < length levels = rw k.levels_are at lt in
+    let known : past history.items ≡ on_link i t = rw history_is (k.histories_are i history at_i) in
+    let got : slice_get levels link.0 ≡ Some l = rw (← i_is, ← k.levels_are) (get_is m.levels.items i l lt level_is) in
+    let same : broken_after l p x (on_link link.0 t) ≡ None = sym (none ∙ rw (k.profile_is, same_beats, known, i_is) refl) in
+    rw (not_closed, got, same) refl
+
+pub empty-none : {w : ℕ} (histories : List (Vec (Recorded w))) → histories ≡ [] → AllEmpty 0 histories
+empty-none histories e = record { so_many = ap length e; all_empty = λ n d lt. absurd (omega arith) }
+
+pub empty-more : {w : ℕ} (count : ℕ) (histories : List (Vec (Recorded w))) (v : Vec (Recorded w)) → v.items ≡ [] → AllEmpty count histories → AllEmpty (count + 1) (histories ++ v ∷ [])
+empty-more count histories v e all = record {
+  so_many = omega (arith, length_push histories v, all.so_many);
+  all_empty = λ n d lt. elim (cases_eq n count) [
+    | inl here ↦ rw (here, get_or_push histories v d count all.so_many) e
+    | inr other ↦ rw (get_or_append_left histories (v ∷ []) d n (omega (arith, all.so_many))) (all.all_empty n d (omega arith))
+  ];
+}
+
+on_link-none : {w : ℕ} (n : ℕ) → on_link {w = w} n [] ≡ []
+unfolding on_link
+on_link-none n = refl
+
+pub knows-new : {w : ℕ} (m : Monitor w) (levels : List Level) (p : Profile) → m.levels.items ≡ levels → m.profile ≡ p → m.closed ≡ false → AllEmpty (length levels) m.histories.items → Knows m levels p [] false
+knows-new m levels p levels_are profile_is open_still all = record {
+  levels_are = levels_are;
+  profile_is = profile_is;
+  closed_is = open_still;
+  histories_are = λ n d lt. rw (all.all_empty n d lt) (past-none [] (omega arith) ∙ sym (on_link-none n));
+}
+
+-- the first fault of a trace of which a beginning was judged
+unbroken : (o : Option Rule) → broken o ≡ None → o ≡ None
+unbroken None e = refl
+unbroken (Some r) e = absurd cc
+
+broken_by : (o : Option Rule) (r : Rule) → broken o ≡ Some (monitor.Broken r) → o ≡ Some r
+broken_by None r e = absurd cc
+broken_by (Some s) r e = cc
+
+judged : {w : ℕ} (i : ℕ) (trace : Trace w) (x : Link × Beat w) → i < length trace → x ≡ slice_index_or trace i x → (drop i trace ≡ x ∷ drop (i + 1) trace) × (reverse (take (i + 1) trace) ≡ x ∷ reverse (take i trace))
+judged {w} i trace x lt is =
+    let more : take (i + 1) trace ≡ take i trace ++ x ∷ [] = take_more trace i x lt ∙ ap (λ (y : Link × Beat w). take i trace ++ y ∷ []) (sym is) in
+    let first : drop i trace ≡ x ∷ drop (i + 1) trace = drop_more trace i x lt ∙ ap (λ (y : Link × Beat w). y ∷ drop (i + 1) trace) (sym is) in
+    (first, ap reverse more ∙ reverse-append (take i trace) (x ∷ []))
+
+pub known-goes_on : {w : ℕ} (m : Monitor w) (levels : List Level) (p : Profile) (trace : Trace w) (i : ℕ) (x : Link × Beat w) → i < length trace → x ≡ slice_index_or trace i x → Knows m levels p (x ∷ reverse (take i trace)) false → Knows m levels p (reverse (take (i + 1) trace)) false
+known-goes_on m levels p trace i x lt is k = rw ((judged i trace x lt is).1) k
+
+pub fault-goes_on : {w : ℕ} (levels : List Level) (p : Profile) (trace : Trace w) (i : ℕ) (x : Link × Beat w) → i < length trace → x ≡ slice_index_or trace i x → fault_of levels p (reverse (take i trace)) false x ≡ None
+    → fault_from levels p (reverse (take i trace)) (drop i trace) ≡ fault_from levels p (reverse (take (i + 1) trace)) (drop (i + 1) trace)
+unfolding fault_from
+fault-goes_on levels p trace i x lt is none =
+    let e = judged i trace x lt is in
+    let fine : broken_on_link levels p x (reverse (take i trace)) ≡ None = unbroken (broken_on_link levels p x (reverse (take i trace))) none in
+    rw (e.0, e.1, fine) refl
+
+fault-found : {w : ℕ} (levels : List Level) (p : Profile) (trace : Trace w) (i : ℕ) (x : Link × Beat w) (r : Rule) → i < length trace → x ≡ slice_index_or trace i x → fault_of levels p (reverse (take i trace)) false x ≡ Some (monitor.Broken r)
+    → fault_from levels p (reverse (take i trace)) (drop i trace) ≡ Some (i, r)
+unfolding fault_from
+fault-found levels p trace i x r lt is found =
+    let e = judged i trace x lt is in
+    let here : broken_on_link levels p x (reverse (take i trace)) ≡ Some r = broken_by (broken_on_link levels p x (reverse (take i trace))) r found in
+    let count : length (reverse (take i trace)) ≡ i = length-reverse (take i trace) ∙ length-take-le i trace (omega arith) in
+    rw (e.0, here, count) refl
+
+pub fault-none : {w : ℕ} (levels : List Level) (p : Profile) (trace before : Trace w) (i : ℕ) → length trace ≤ i → fault_from levels p before (drop i trace) ≡ None
+unfolding fault_from
+fault-none levels p trace before i le = rw (drop_all i trace le) refl
+
+pub fault-answered : {w : ℕ} (levels : List Level) (p : Profile) (beats : Trace w) (i : ℕ) (x : Link × Beat w) (e : MonitorFault) → IsCount (length levels) → i < length beats → x ≡ slice_index_or beats i x
+    → fault_from levels p [] beats ≡ fault_from levels p (reverse (take i beats)) (drop i beats) → Answers (fault_of levels p (reverse (take i beats)) false x) (Err e) → AnswersTrace levels p beats (Err (trace_fault_of i e))
+fault-answered levels p beats i x (monitor.Broken rule) counted lt is same answer = (counted, same ∙ fault-found levels p beats i x rule lt is answer)
+fault-answered levels p beats i x monitor.Levels counted lt is same answer = counted
+fault-answered levels p beats i x monitor.Memory counted lt is same answer = counted
+fault-answered levels p beats i x monitor.Closed counted lt is same answer = counted

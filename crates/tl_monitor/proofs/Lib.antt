@@ -1,0 +1,4 @@
+pub mod Looks
+pub mod Pushes
+pub mod Judging
+pub mod Knowing

@@ -1,0 +1,9 @@
+use Rattle.std.proofs.Common.{length, refl, sym, arith, ◌∙◌}
+use Rattle.std.proofs.lemmas.Bool.{eqb-false}
+use Rattle.tl_monitor.proofs.Knowing.{knows-new}
+use Rattle.tl_monitor.proofs.monitor.Monitor.new.Goals as goal
+
+pub returns : goal.returns
+returns g c =
+    let some = eqb-false (length c.args.levels.now) 0 (sym c.is_empty.ensures ∙ c.if-is_empty.false) in
+    ((omega (arith, some), omega arith), knows-new _ c.args.levels.now c.args.profile c.in-Ok-from_slice.ensures.items refl refl c.in-Ok.ensures)

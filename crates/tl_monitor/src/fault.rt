@@ -1,0 +1,27 @@
+//! Why a monitor refuses a beat, and a trace.
+
+use tl_rules::rule::Rule;
+
+/// Why a monitor can't be made or refuses a beat.
+#[derive(Clone, Copy, Debug, PartialEq, Eq)]
+pub enum MonitorFault {
+    /// There aren't 1 to 16 levels.
+    Levels,
+    /// The beat breaks a rule.
+    Broken(Rule),
+    /// There is no memory, and the monitor is as before.
+    Memory,
+    /// An earlier beat broke a rule.
+    Closed,
+}
+
+/// Why a trace is refused.
+#[derive(Clone, Copy, Debug, PartialEq, Eq)]
+pub enum TraceFault {
+    /// The first beat that breaks a rule, from 0 on, and the rule.
+    At(usize, Rule),
+    /// There aren't 1 to 16 levels.
+    Levels,
+    /// There is no memory.
+    Memory,
+}

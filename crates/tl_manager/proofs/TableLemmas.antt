@@ -1,0 +1,37 @@
+-- Rows of entries.
+use Rattle.std.proofs.Common.{◌≡◌, ◌≢◌, ◌⊎◌, ℕ, zero, suc, ◌<◌, List, [], ◌∷◌, length, get_or, set, take, refl, ap, ◌∙◌, arith, inl, inr, get_or-set_same, get_or-set_other}
+use Rattle.std.proofs.lemmas.Bool.{cases_eq}
+use Rattle.std.proofs.lemmas.List.{get_or_default}
+use Rattle.tl_rules.specs.declared.perm.Perm.{Perm}
+use Rattle.tl_rules.specs.declared.perm.Perm.TheVariants as perm
+use Rattle.tl_manager.specs.Table.{entry, perm_of_rows}
+
+pub set_here : (rows : List (List Perm)) (row : List Perm) (b c b' c' : ℕ) (p : Perm) → b' ≡ b → c' ≡ c → b < length rows → c < length row → perm_of_rows (set rows b' (set row c' p)) b c ≡ p
+set_here rows row b c b' c' p e f lt within =
+    rw (e, f) (ap (λ (r : List Perm). get_or r c perm.None) (get_or-set_same rows b (set row c p) [] lt) ∙ get_or-set_same row c p perm.None within)
+
+pub set_others : (rows : List (List Perm)) (row : List Perm) (b c b' c' : ℕ) (p : Perm) → b' ≡ b → c' ≡ c → b < length rows → row ≡ get_or rows b' row → (i j : ℕ) → (i ≢ b) ⊎ (j ≢ c) → perm_of_rows (set rows b' (set row c' p)) i j ≡ perm_of_rows rows i j
+set_others rows row b c b' c' p e f lt same i j other = rw (e, f) (elim (cases_eq i b) [
+  | inl here ↦ rw here (
+      ap (λ (r : List Perm). get_or r j perm.None) (get_or-set_same rows b (set row c p) [] lt)
+      ∙ get_or-set_other row c j p perm.None (elsewhere here)
+      ∙ ap (λ (r : List Perm). get_or r j perm.None) (rw e at same ∙ get_or_default rows b row [] lt))
+  | inr away ↦ ap (λ (r : List Perm). get_or r j perm.None) (get_or-set_other rows b i (set row c p) [] away)
+])
+  where
+    elsewhere : i ≡ b → j ≢ c
+    elsewhere here = elim other [ inl not ↦ absurd (not here) | inr not ↦ not ]
+
+-- one more entry
+pub entry-take_same : (row : List Perm) (i : ℕ) → i < length row → entry (take (suc i) row) i ≡ entry row i
+entry-take_same [] i lt = absurd (omega arith)
+entry-take_same (x ∷ xs) zero lt = refl
+entry-take_same (x ∷ xs) (suc i) lt = entry-take_same xs i (omega arith)
+
+pub entry-take_other : (row : List Perm) (i c : ℕ) → c ≢ i → entry (take (suc i) row) c ≡ entry (take i row) c
+entry-take_other [] zero c other = refl
+entry-take_other [] (suc i) c other = refl
+entry-take_other (x ∷ xs) zero zero other = absurd (other refl)
+entry-take_other (x ∷ xs) zero (suc c) other = refl
+entry-take_other (x ∷ xs) (suc i) zero other = refl
+entry-take_other (x ∷ xs) (suc i) (suc c) other = entry-take_other xs i c (λ e. other (ap suc e))

@@ -1,0 +1,5 @@
+use Rattle.tl_manager.proofs.BitLemmas.{holders-bit}
+use Rattle.tl_manager.proofs.bits.Words.holders.Goals as goal
+
+pub returns : goal.returns
+returns c = λ i. holders-bit c.args.self.owners c.args.self.sharers i c.args.self.apart

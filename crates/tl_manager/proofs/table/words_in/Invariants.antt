@@ -1,0 +1,11 @@
+use Rattle.std.proofs.Common.{◌≡◌, ℕ, take}
+use Rattle.std.specs.Prelude.{bit_and}
+use Rattle.tl_manager.specs.Bits.{perm_in}
+use Rattle.tl_manager.specs.Table.{entry}
+use Rattle.tl_manager.proofs.table.words_in.Given as goal
+
+abbrev pub invariant-loop-client : goal.invariant-loop-client
+invariant-loop-client l = record {
+  apart : bit_and l.words.0 l.words.1.0 ≡ 0;
+  says : (c : ℕ) → perm_in l.words.0 l.words.1.0 c ≡ entry (take l.client l.row) c;
+}

@@ -1,0 +1,4 @@
+pub mod Bits
+pub mod Held
+pub mod Table
+pub mod Word

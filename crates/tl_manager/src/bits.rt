@@ -1,0 +1,121 @@
+//! A directory of two words a block, one bit for each client.
+
+ghost use Rattle.std.specs.Prelude.{◌≡◌, ◌≤◌, ◌<◌, ◌^◌, ◌≢◌, ℕ, IfOk, bit_and, if◌then◌else◌};
+ghost use Rattle.std.specs.Int.{bit_at};
+ghost use Rattle.tl_manager.specs.Bits.{perm_in};
+ghost use Rattle.tl_manager.specs.Word.{trunk_bit, branch_bit, copy_bit};
+
+use crate::directory::Directory;
+use std::alloc::{AllocError, Global};
+use tl_rules::perm::Perm;
+
+/// Who holds a block: bit `c` of `owners` for client `c` with Trunk, of `sharers` with Branch.
+#[derive(Clone, Copy)]
+pub struct Words {
+    pub owners: u16,
+    pub sharers: u16,
+    pub ghost apart: { bit_and owners sharers ≡ 0 },
+}
+
+/// A word with a bit set or cleared.
+fn with_bit(word: u16, place: u8, is_set: bool) -> u16
+    requires { place < 16 }
+    ensures here { bit_at result place ≡ (if is_set then 1 else 0) }
+    ensures others { (c : ℕ) → c ≢ place → bit_at result c ≡ bit_at word c }
+{
+    let bit = 1u16 << place;
+    if is_set { word | bit } else { word & !bit }
+}
+
+impl Words {
+    /// The words of a block that no client holds.
+    pub const NONE: Words = Words {
+        owners: 0,
+        sharers: 0,
+    };
+
+    /// The words after a client's permission is recorded.
+    pub(crate) fn with(self, client: u8, perm: Perm) -> Words
+        requires { client < 16 }
+        ensures here { perm_in result.owners result.sharers client ≡ perm }
+        ensures others { (c : ℕ) → c ≢ client → perm_in result.owners result.sharers c ≡ perm_in self.owners self.sharers c }
+    {
+        let owners = with_bit(self.owners, client, perm == Perm::Trunk);
+        let sharers = with_bit(self.sharers, client, perm == Perm::Branch);
+        Words { owners, sharers }
+    }
+
+    /// What a client holds.
+    fn perm(self, client: u8) -> Perm
+        requires { client < 16 }
+        ensures { result ≡ perm_in self.owners self.sharers client }
+    {
+        if (self.owners >> client) % 2 == 1 {
+            Perm::Trunk
+        } else if (self.sharers >> client) % 2 == 1 {
+            Perm::Branch
+        } else {
+            Perm::None
+        }
+    }
+
+    /// A word whose bit `c` is set exactly where client `c` holds anything.
+    pub(crate) fn holders(self) -> u16
+        ensures { (c : ℕ) → bit_at result c ≡ copy_bit (perm_in self.owners self.sharers c) }
+    {
+        self.owners | self.sharers
+    }
+}
+
+/// A directory of two words a block, the owners (Trunk) and the sharers (Branch), which have no bit
+/// in common.
+#[derive(Drop)]
+pub struct BitDirectory {
+    pub words: Vec<Words>,
+    pub clients: u8,
+    pub ghost few: { clients ≤ 16 },
+}
+
+impl BitDirectory {
+    ghost use Rattle.std.specs.Prelude.{length};
+    ghost use Rattle.tl_manager.specs.Held.{perm_of_words};
+
+    /// A directory of so many blocks and clients, at most 16, of whom none holds anything.
+    pub fn new(alloc: Global, blocks: u16, clients: u8) -> Result<BitDirectory, AllocError>
+        requires { clients ≤ 16 }
+        ensures none { IfOk result (λ d. (b c : ℕ) → perm_of_words d.words.items b c ≡ Perm.None) }
+        ensures covers { IfOk result (λ d. (length d.words.items ≡ blocks) × (d.clients ≡ clients)) }
+    {
+        let mut words = Vec::new(alloc);
+        words.resize(usize::from(blocks), Words::NONE)?;
+        Ok(BitDirectory { words, clients })
+    }
+}
+
+impl Directory for BitDirectory {
+    ghost use Rattle.tl_manager.specs.Held.{perm_of_words};
+    ghost use Rattle.std.specs.Prelude.{length};
+
+    ghost perm_of = { λ d. perm_of_words d.words.items };
+
+    ghost blocks = { λ d. length d.words.items };
+
+    ghost clients = { λ d. d.clients };
+
+    fn get(&self, block: u16, client: u8) -> Perm {
+        self.words[usize::from(block)].perm(client)
+    }
+
+    fn set(&mut self, block: u16, client: u8, perm: Perm) {
+        let block = usize::from(block);
+        self.words[block] = self.words[block].with(client, perm);
+    }
+
+    fn owners(&self, block: u16) -> u16 {
+        self.words[usize::from(block)].owners
+    }
+
+    fn holders(&self, block: u16) -> u16 {
+        self.words[usize::from(block)].holders()
+    }
+}

@@ -1,0 +1,46 @@
+//! What a directory is: a map from block and client to permission.
+
+ghost use Rattle.std.specs.Prelude.{◌≡◌, ◌<◌, ◌⊎◌, ◌≢◌, ℕ};
+ghost use Rattle.std.specs.Int.{bit_at};
+ghost use Rattle.tl_rules.specs.declared.perm.Perm.{Perm};
+ghost use Rattle.tl_manager.specs.Word.{trunk_bit, copy_bit};
+
+use tl_rules::perm::Perm;
+
+/// A map from block and client to what the client was last recorded to hold of the block. It covers
+/// blocks and clients from 0 on, at most 16 clients.
+pub trait Directory: Drop {
+    /// What is recorded of a block and a client.
+    ghost perm_of: { Self → ℕ → ℕ → Perm };
+
+    /// How many blocks it covers.
+    ghost blocks: { Self → ℕ };
+
+    /// How many clients it covers.
+    ghost clients: { Self → ℕ };
+
+    /// What is recorded of a block and a client.
+    fn get(&self, block: u16, client: u8) -> Perm
+        requires block { block < blocks self.now }
+        requires client { client < clients self.now }
+        ensures { result ≡ perm_of self.now block client };
+
+    /// Records a permission, and changes no other entry.
+    fn set(&mut self, block: u16, client: u8, perm: Perm)
+        requires block { block < blocks self.old }
+        requires client { client < clients self.old }
+        ensures here { perm_of self.new block client ≡ perm }
+        ensures others { (b c : ℕ) → (b ≢ block) ⊎ (c ≢ client) → perm_of self.new b c ≡ perm_of self.old b c }
+        ensures blocks { blocks self.new ≡ blocks self.old }
+        ensures clients { clients self.new ≡ clients self.old };
+
+    /// A word whose bit `c` is set exactly where client `c` is recorded Trunk of the block.
+    fn owners(&self, block: u16) -> u16
+        requires { block < blocks self.now }
+        ensures { (c : ℕ) → bit_at result c ≡ trunk_bit (perm_of self.now block c) };
+
+    /// A word whose bit `c` is set exactly where client `c` isn't recorded None of the block.
+    fn holders(&self, block: u16) -> u16
+        requires { block < blocks self.now }
+        ensures { (c : ℕ) → bit_at result c ≡ copy_bit (perm_of self.now block c) };
+}

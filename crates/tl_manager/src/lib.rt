@@ -1,0 +1,8 @@
+//! The manager's side of TileLink links: directories of who holds what.
+#![tactic(auto)]
+
+pub mod bits;
+pub mod directory;
+pub mod table;
+#[cfg(test)]
+mod tests;

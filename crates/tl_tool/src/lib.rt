@@ -12,5 +12,4 @@ pub mod status;
 pub mod text;
 pub mod tool;
 
-pub use tl_words::command;
-pub use tl_words::words;
+pub use tl_words::{command, words};

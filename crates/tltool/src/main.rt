@@ -2,8 +2,8 @@
 #![tactic(auto)]
 
 use std::process::ExitCode;
-use tl_tool::command::Command;
 use std::{env, fs, io};
+use tl_tool::command::Command;
 use tl_tool::put::write_open_fault;
 use tl_tool::status::{Status, ToolFault, exit_of};
 use tl_tool::tool::run_tool;

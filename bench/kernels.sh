@@ -8,7 +8,7 @@ trap 'rm -rf "$work"' EXIT
 
 mkdir -p "$work/crates/kernels/src"
 cp -r "$root"/crates/tl_beat "$root"/crates/tl_burst "$root"/crates/tl_rules "$work/crates/"
-cp "$root/bench/kernels/main.rt" "$work/crates/kernels/src/"
+cp "$root/bench/kernels.rt.txt" "$work/crates/kernels/src/main.rt"
 cp "$root/HANDLES" "$work/"
 {
     grep -E '^(tl_beat|tl_burst|tl_rules):' "$root/crates.txt"

@@ -10,6 +10,7 @@ use crate::level::Level;
 use crate::param::{Arithmetic, Cap, Grow, Intent, Logical, Prune, Report};
 use tl_beat::opcode::{OpA, OpC, OpD};
 
+/// Whether a request of this opcode is of the level.
 pub fn a_opcode_fits(level: Level, opcode: OpA) -> bool
     ensures { result ≡ a_of_level level opcode }
 {
@@ -20,6 +21,7 @@ pub fn a_opcode_fits(level: Level, opcode: OpA) -> bool
     }
 }
 
+/// Whether a response of this opcode is of the level.
 pub fn d_opcode_fits(level: Level, opcode: OpD) -> bool
     ensures { result ≡ d_of_level level opcode }
 {
@@ -37,6 +39,7 @@ pub fn transfers(level: Level) -> bool
     level == Level::C
 }
 
+/// Whether a message of channel A may have this param.
 pub fn a_param_fits(opcode: OpA, param: u8) -> bool
     ensures { result ≡ a_has_param opcode param }
 {
@@ -49,6 +52,7 @@ pub fn a_param_fits(opcode: OpA, param: u8) -> bool
     }
 }
 
+/// Whether a message of channel C may have this param: with data, one that gives up or keeps Trunk.
 pub fn c_param_fits(opcode: OpC, param: u8) -> bool
     ensures { result ≡ c_has_param opcode param }
 {
@@ -64,6 +68,7 @@ pub fn c_param_fits(opcode: OpC, param: u8) -> bool
     }
 }
 
+/// Whether a message of channel D may have this param.
 pub fn d_param_fits(opcode: OpD, param: u8) -> bool
     ensures { result ≡ d_has_param opcode param }
 {
@@ -87,6 +92,7 @@ pub fn d_sink_fits(opcode: OpD, sink: u8) -> bool
     matches!(opcode, OpD::Grant | OpD::GrantData) || sink == 0
 }
 
+/// An access has at most the bytes of a beat at TL-UL, and of a block above it.
 fn access_size_fits<const W: usize>(level: Level, size: u8) -> bool
     requires { IsWidth W }
     ensures value { result ≡ access_has_size W level size }
@@ -98,6 +104,7 @@ fn access_size_fits<const W: usize>(level: Level, size: u8) -> bool
     }
 }
 
+/// Whether a message of channel A may have this size at the level.
 pub fn a_size_fits<const W: usize>(level: Level, opcode: OpA, size: u8) -> bool
     requires { IsWidth W }
     ensures value { result ≡ a_has_size W level opcode size }
@@ -112,6 +119,7 @@ pub fn a_size_fits<const W: usize>(level: Level, opcode: OpA, size: u8) -> bool
     }
 }
 
+/// Whether a message of channel D may have this size at the level.
 pub fn d_size_fits<const W: usize>(level: Level, opcode: OpD, size: u8) -> bool
     requires { IsWidth W }
     ensures { result ≡ d_has_size W level opcode size }
@@ -122,6 +130,7 @@ pub fn d_size_fits<const W: usize>(level: Level, opcode: OpD, size: u8) -> bool
     }
 }
 
+/// Whether the address is a multiple of the size in bytes.
 pub fn address_fits(address: u32, size: u8) -> bool
     requires { size ≤ 6 }
     ensures { result ≡ is_aligned address size }

@@ -1,4 +1,4 @@
-//! Levels of conformance (SiFive TileLink Specification 1.8, "TileLink conformance levels").
+//! Levels of conformance (SiFive TileLink Specification 1.8, "Protocol Conformance Levels").
 
 /// The level of a link: TL-UL (single reads and writes), TL-UH (bursts, atomics and hints as well),
 /// TL-C (transfers of permissions as well).

@@ -1,6 +1,6 @@
-//! The params of TileLink's messages by name (SiFive TileLink Specification 1.8, "Permissions
-//! transitions", "Arithmetic", "Logical" and "Intent"): each with the number that a beat carries,
-//! and with the permissions at the two ends of a transition.
+//! The params of TileLink's messages by name (SiFive TileLink Specification 1.8, chapters on TL-UH
+//! and TL-C): each with the number that a beat carries, and with the permissions at the two ends of
+//! a transition.
 
 ghost use Rattle.std.specs.Prelude.{◌≡◌, IfSome};
 ghost use Rattle.tl_rules.specs.Param.{grow_of, grow_code, grow_left, grow_right};

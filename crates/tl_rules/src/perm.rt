@@ -1,4 +1,4 @@
-//! Permissions on a block (SiFive TileLink Specification 1.8, "Permissions transitions").
+//! Permissions on a block (SiFive TileLink Specification 1.8, chapter on TL-C).
 
 /// What a client holds of a block.
 #[derive(Clone, Copy, Debug, PartialEq, Eq)]

@@ -19,3 +19,6 @@ pub fn report_of(cap: Cap, perm: Perm) -> Report
         (Cap::ToT, Perm::Trunk) => Report::TtoT,
     }
 }
+
+#[cfg(test)]
+mod tests;

@@ -2,6 +2,7 @@ ghost use Rattle.std.specs.Prelude.{◌≡◌, ◌≤◌};
 ghost use Rattle.tl_beat.specs.Width.{IsWidth};
 
 use super::*;
+use crate::blank::is_blank;
 use crate::check::check;
 use crate::merge::merge_masked;
 use crate::rule::Rule;
@@ -193,4 +194,14 @@ fn the_first_beat_that_breaks_a_rule(rt: HostRuntime) {
         check::<8>(Level::UH, Channel::D, &Message::D(answer)),
         Ok(())
     );
+}
+
+/// Payload, mask and corrupt bits past the beats of a message.
+#[test]
+fn blank_messages(rt: HostRuntime) {
+    assert!(rt; is_blank(&request::<8>(OpA::PutFullData, 0, 3, 0, 0, u64::MAX, 0xff)));
+    assert!(rt; !is_blank(&request::<4>(OpA::PutFullData, 0, 2, 0, 0, u64::MAX, 0xf)));
+    assert!(rt; !is_blank(&request::<8>(OpA::PutFullData, 0, 3, 0, 0, 0, 0x1ff)));
+    assert!(rt; !is_blank(&request::<8>(OpA::Get, 0, 3, 0, 0, 1, 0xff)));
+    assert!(rt; is_blank(&request::<8>(OpA::Get, 0, 6, 0, 0, 0, 0xff)));
 }

@@ -1,6 +1,9 @@
 //! `tltool`: reads, judges and runs TileLink traces.
 #![tactic(auto)]
 
+ghost use Rattle.std.specs.Prelude.{◌≡◌};
+ghost use Rattle.tl_tool.specs.Exit.{exit_status};
+
 use std::process::ExitCode;
 use std::{env, fs, io};
 use tl_tool::command::Command;
@@ -10,7 +13,9 @@ use tl_tool::tool::run_tool;
 use tl_tool::words::{WordsFault, invocation};
 
 /// The exit status of a run, whose fault is told on standard error.
-fn told(rt: &HostRuntime, outcome: Result<Status, ToolFault>) -> u8 {
+fn told(rt: &HostRuntime, outcome: Result<Status, ToolFault>) -> u8
+    ensures { result ≡ exit_status outcome }
+{
     if let Err(fault) = outcome {
         let _ = rt.eprintln(fault);
     }

@@ -1,3 +1,4 @@
+pub mod Agent
 pub mod Config
 pub mod Conformance
 pub mod Control

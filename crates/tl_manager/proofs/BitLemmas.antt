@@ -4,8 +4,8 @@ use Rattle.std.specs.Prelude.{bit_and, bit_or, min, max, ◌==◌}
 use Rattle.std.specs.Int.{w16, bit_at}
 use Rattle.std.proofs.lemmas.Bool.{cases_lt, cases_eq}
 use Rattle.std.proofs.lemmas.Nat.Bits.{bit_at_clear_other, bit_at_above, bit_at_and, bit_at_or, bit_at-zero, bit_at-lt, same_from_bits}
-use Rattle.tl_rules.specs.declared.perm.Perm.{Perm}
-use Rattle.tl_rules.specs.declared.perm.Perm.TheVariants.{None, Branch, Trunk}
+use Rattle.tl_params.specs.declared.perm.Perm.{Perm}
+use Rattle.tl_params.specs.declared.perm.Perm.TheVariants.{None, Branch, Trunk}
 use Rattle.tl_manager.specs.Bits.{perm_in}
 use Rattle.tl_manager.specs.Word.{trunk_bit, branch_bit, copy_bit}
 

@@ -1,8 +1,8 @@
 -- A directory of two words a block.
 use Rattle.std.specs.Prelude.{ℕ, ◌==◌, if◌then◌else◌}
 use Rattle.std.specs.Int.{bit_at}
-use Rattle.tl_rules.specs.declared.perm.Perm.{Perm}
-use Rattle.tl_rules.specs.declared.perm.Perm.TheVariants.{None, Branch, Trunk}
+use Rattle.tl_params.specs.declared.perm.Perm.{Perm}
+use Rattle.tl_params.specs.declared.perm.Perm.TheVariants.{None, Branch, Trunk}
 
 -- what two words say of a client
 abbrev pub perm_in : ℕ → ℕ → ℕ → Perm

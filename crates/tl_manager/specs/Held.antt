@@ -1,7 +1,7 @@
 -- What the words of a directory say of a block and a client.
 use Rattle.std.specs.Prelude.{ℕ, List, Option, Some, None, slice_get}
-use Rattle.tl_rules.specs.declared.perm.Perm.{Perm}
-use Rattle.tl_rules.specs.declared.perm.Perm.TheVariants as perm
+use Rattle.tl_params.specs.declared.perm.Perm.{Perm}
+use Rattle.tl_params.specs.declared.perm.Perm.TheVariants as perm
 use Rattle.tl_manager.specs.declared.bits.Words.{Words}
 use Rattle.tl_manager.specs.Bits.{perm_in}
 

@@ -1,7 +1,7 @@
 -- What a table of rows says of a block and a client.
 use Rattle.std.specs.Prelude.{ℕ, List, [], slice_index_or}
-use Rattle.tl_rules.specs.declared.perm.Perm.{Perm}
-use Rattle.tl_rules.specs.declared.perm.Perm.TheVariants as perm
+use Rattle.tl_params.specs.declared.perm.Perm.{Perm}
+use Rattle.tl_params.specs.declared.perm.Perm.TheVariants as perm
 
 -- the entry of a client, None past the last one
 abbrev pub entry : List Perm → ℕ → Perm

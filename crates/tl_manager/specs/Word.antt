@@ -1,7 +1,7 @@
 -- One bit for each client.
 use Rattle.std.specs.Prelude.{ℕ}
-use Rattle.tl_rules.specs.declared.perm.Perm.{Perm}
-use Rattle.tl_rules.specs.declared.perm.Perm.TheVariants.{None, Branch, Trunk}
+use Rattle.tl_params.specs.declared.perm.Perm.{Perm}
+use Rattle.tl_params.specs.declared.perm.Perm.TheVariants.{None, Branch, Trunk}
 
 -- 1 for Trunk
 abbrev pub trunk_bit : Perm → ℕ

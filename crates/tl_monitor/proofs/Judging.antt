@@ -5,7 +5,7 @@ use Rattle.std.proofs.lemmas.Bool.{le-leb}
 use Rattle.tl_beat.specs.declared.beat.Beat.{Beat}
 use Rattle.tl_beat.specs.declared.beat.Beat.TheVariants.{A, B, C, D, E}
 use Rattle.tl_burst.specs.Part.{is_small, IsTakeable}
-use Rattle.tl_rules.specs.declared.rule.Rule.{Rule}
+use Rattle.tl_params.specs.declared.rule.Rule.{Rule}
 
 takeable-small : {w : ℕ} (x : Beat w) → IsTakeable x → is_small x ≡ true
 takeable-small (A x) takeable = le-leb x.size 6 takeable.0

@@ -6,9 +6,9 @@ use Rattle.std.proofs.lemmas.Bool.{cases_eq, eq-eqb, ne_eqb}
 use Rattle.std.proofs.lemmas.List.{get_or-set_same, get_or-set_other, length_push, get_or_push, get_or_append_left, drop_more, take_more, drop_all, reverse-append, length-reverse, length-take-le}
 use Rattle.tl_beat.specs.declared.beat.Beat.{Beat}
 use Rattle.tl_beat.specs.declared.beat.Link.{Link}
-use Rattle.tl_rules.specs.declared.level.Level.{Level}
-use Rattle.tl_rules.specs.declared.profile.Profile.{Profile}
-use Rattle.tl_rules.specs.declared.rule.Rule.{Rule}
+use Rattle.tl_params.specs.declared.level.Level.{Level}
+use Rattle.tl_params.specs.declared.profile.Profile.{Profile}
+use Rattle.tl_params.specs.declared.rule.Rule.{Rule}
 use Rattle.tl_rules.specs.Conformance.{Trace, on_link, broken_after, broken_on_link, fault_from}
 use Rattle.tl_monitor.specs.declared.recorded.Recorded.{Recorded}
 use Rattle.tl_monitor.specs.declared.monitor.Monitor.{Monitor}

@@ -7,9 +7,9 @@ use Rattle.tl_beat.specs.declared.beat.BeatA.{BeatA}
 use Rattle.tl_beat.specs.declared.beat.BeatB.{BeatB}
 use Rattle.tl_beat.specs.declared.beat.BeatC.{BeatC}
 use Rattle.tl_burst.specs.Messages.{History}
-use Rattle.tl_rules.specs.declared.key.Key.{Key}
-use Rattle.tl_rules.specs.declared.perm.Perm.{Perm}
-use Rattle.tl_rules.specs.declared.perm.Perm.TheVariants as perm
+use Rattle.tl_params.specs.declared.key.Key.{Key}
+use Rattle.tl_params.specs.declared.perm.Perm.{Perm}
+use Rattle.tl_params.specs.declared.perm.Perm.TheVariants as perm
 use Rattle.tl_rules.specs.History.{begins, ends, opens, closes, pending, held, says_held, or_perm, request_of, release_of, probe_of, grant_sink, grants, is_release, is_probe, block_at}
 use Rattle.tl_monitor.specs.declared.past.Sought.{Sought}
 use Rattle.tl_monitor.specs.declared.past.Sought.TheVariants.{Request, Release, Probe}

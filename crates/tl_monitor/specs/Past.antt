@@ -10,13 +10,13 @@ use Rattle.tl_monitor.specs.declared.past.Sought.{Sought}
 use Rattle.tl_monitor.specs.declared.past.Sought.TheVariants.{Request, Release, Probe}
 use Rattle.tl_rules.specs.History.{begins, ends, is_release, is_probe, block_at, grants, says_held, is_grant, request_of, pending}
 use Rattle.tl_beat.specs.declared.beat.BeatD.{BeatD}
-use Rattle.tl_rules.specs.declared.key.Key.TheVariants.{GrantSink}
-use Rattle.tl_rules.specs.declared.profile.Profile.{Profile}
-use Rattle.tl_rules.specs.declared.rule.Rule.{Rule}
-use Rattle.tl_rules.specs.declared.rule.Rule.TheVariants.{H6, H7}
+use Rattle.tl_params.specs.declared.key.Key.TheVariants.{GrantSink}
+use Rattle.tl_params.specs.declared.profile.Profile.{Profile}
+use Rattle.tl_params.specs.declared.rule.Rule.{Rule}
+use Rattle.tl_params.specs.declared.rule.Rule.TheVariants.{H6, H7}
 use Rattle.tl_rules.specs.Legality.{rule_if}
 use Rattle.tl_rules.specs.Conformance.{misgrants}
-use Rattle.tl_rules.specs.declared.perm.Perm.{Perm}
+use Rattle.tl_params.specs.declared.perm.Perm.{Perm}
 use Rattle.tl_monitor.specs.declared.past.Unfinished.{Unfinished}
 
 -- the history of beats that were recorded one after another

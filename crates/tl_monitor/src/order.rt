@@ -6,7 +6,7 @@ ghost use Rattle.tl_beat.specs.Width.{IsWidth};
 ghost use Rattle.tl_burst.specs.Messages.{unfinished};
 ghost use Rattle.tl_rules.specs.Conformance;
 ghost use Rattle.tl_rules.specs.History.{pending};
-ghost use Rattle.tl_rules.specs.Param.{prune_of};
+ghost use Rattle.tl_params.specs.Param.{prune_of};
 ghost use Rattle.tl_monitor.specs.Past;
 ghost use Rattle.tl_monitor.specs.Past.{past};
 

@@ -3,8 +3,8 @@
 ghost use Rattle.std.specs.Prelude.{Bool, List, IfOk, ◌≡◌};
 ghost use Rattle.tl_beat.specs.declared.beat.Beat.{Beat};
 ghost use Rattle.tl_beat.specs.Width.{IsWidth};
-ghost use Rattle.tl_rules.specs.declared.level.Level.{Level};
-ghost use Rattle.tl_rules.specs.declared.profile.Profile.{Profile};
+ghost use Rattle.tl_params.specs.declared.level.Level.{Level};
+ghost use Rattle.tl_params.specs.declared.profile.Profile.{Profile};
 ghost use Rattle.tl_rules.specs.Conformance.{Trace};
 ghost use Rattle.tl_monitor.specs.Knows.{Knows, IsNew, Answers, AnswersTrace, fault_of, recorded_after, closed_after, AllEmpty, trace_fault_of};
 

@@ -15,12 +15,12 @@ use Rattle.tl_burst.specs.declared.message.MessageA.{MessageA}
 use Rattle.tl_burst.specs.declared.message.Message.{Message}
 use Rattle.tl_burst.specs.declared.message.Message.TheVariants.{A, B, C, D, E}
 use Rattle.tl_burst.specs.Burst.{bit, data_beats, beats_of, IsBlankAfter}
-use Rattle.tl_rules.specs.declared.param.Arithmetic.{Arithmetic}
-use Rattle.tl_rules.specs.declared.param.Logical.{Logical}
-use Rattle.tl_rules.specs.declared.param.Logical.TheVariants as logical
-use Rattle.tl_rules.specs.Param.{arithmetic_of, logical_of}
+use Rattle.tl_params.specs.declared.param.Arithmetic.{Arithmetic}
+use Rattle.tl_params.specs.declared.param.Logical.{Logical}
+use Rattle.tl_params.specs.declared.param.Logical.TheVariants as logical
+use Rattle.tl_params.specs.Param.{arithmetic_of, logical_of}
 use Rattle.tl_rules.specs.declared.answer.Answer.{Answer}
-use Rattle.tl_rules.specs.declared.level.Level.TheVariants as level
+use Rattle.tl_params.specs.declared.level.Level.TheVariants as level
 use Rattle.tl_rules.specs.Legality.{illegal_message}
 use Rattle.tl_rules.specs.Merge.{merged}
 use Rattle.tl_rules.specs.Place.{base_of, moved_up, logical_bytes}

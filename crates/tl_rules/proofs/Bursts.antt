@@ -12,10 +12,10 @@ use Rattle.tl_burst.specs.declared.message.Message.{Message}
 use Rattle.tl_burst.specs.declared.message.Message.TheVariants.{A, B, C, D, E}
 use Rattle.tl_burst.specs.declared.message.MessageA.{MessageA}
 use Rattle.tl_burst.specs.Burst.{beats_of, beat_of, a_beat_of, data_beats}
-use Rattle.tl_rules.specs.declared.level.Level.{Level}
-use Rattle.tl_rules.specs.declared.level.Level.TheVariants as level
-use Rattle.tl_rules.specs.declared.rule.Rule.{Rule}
-use Rattle.tl_rules.specs.declared.rule.Rule.TheVariants.{L1, L2, L3, L4}
+use Rattle.tl_params.specs.declared.level.Level.{Level}
+use Rattle.tl_params.specs.declared.level.Level.TheVariants as level
+use Rattle.tl_params.specs.declared.rule.Rule.{Rule}
+use Rattle.tl_params.specs.declared.rule.Rule.TheVariants.{L1, L2, L3, L4}
 use Rattle.tl_rules.specs.Legality.{illegal, illegal_message, first_illegal, beats_from, or_else, breaks_l1, rule_if, a_of_level, a_has_param, a_has_size, is_aligned}
 use Rattle.tl_rules.specs.Control.{a_control, a_own}
 use Rattle.tl_rules.proofs.Verdicts.{illegal_a}

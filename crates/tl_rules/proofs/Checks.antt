@@ -21,9 +21,9 @@ use Rattle.tl_burst.specs.declared.message.MessageD.{MessageD}
 use Rattle.tl_burst.specs.declared.message.MessageE.{MessageE}
 use Rattle.tl_burst.specs.Burst.{beats_of, beat_of, a_beat_of, b_beat_of, c_beat_of, d_beat_of, data_beats, mask_at, bit}
 use Rattle.tl_burst.specs.Messages.{on}
-use Rattle.tl_rules.specs.declared.level.Level.{Level}
-use Rattle.tl_rules.specs.declared.rule.Rule.{Rule}
-use Rattle.tl_rules.specs.declared.rule.Rule.TheVariants.{L1, L6, L7}
+use Rattle.tl_params.specs.declared.level.Level.{Level}
+use Rattle.tl_params.specs.declared.rule.Rule.{Rule}
+use Rattle.tl_params.specs.declared.rule.Rule.TheVariants.{L1, L6, L7}
 use Rattle.tl_rules.specs.Legality.{illegal, breaks_l1, illegal_message, first_illegal, beats_from, or_else, verdict, has_transfers, rule_if}
 use Rattle.tl_rules.specs.Control.{a_control, a_own, b_control, b_own, c_control, c_own, d_control, d_own}
 use Rattle.tl_rules.proofs.Bursts.{has_beats, next_rule}

@@ -3,7 +3,6 @@ pub mod Bursts
 pub mod Checks
 pub mod Lanes
 pub mod Legal
-pub mod Limits
 pub mod Masks
 pub mod Merges
 pub mod Numbers

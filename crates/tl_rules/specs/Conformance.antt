@@ -16,19 +16,19 @@ use Rattle.tl_beat.specs.declared.opcode.OpD.{OpD}
 use Rattle.tl_beat.specs.declared.opcode.OpD.TheVariants as d
 use Rattle.tl_beat.specs.Opcode.{c_carries_data}
 use Rattle.tl_burst.specs.Messages.{History, channel_of, unfinished, breaks_burst}
-use Rattle.tl_rules.specs.declared.level.Level.{Level}
-use Rattle.tl_rules.specs.declared.perm.Perm.{Perm}
-use Rattle.tl_rules.specs.declared.perm.Perm.TheVariants as perm
-use Rattle.tl_rules.specs.declared.profile.Profile.{Profile}
-use Rattle.tl_rules.specs.declared.profile.Profile.TheVariants as profile
-use Rattle.tl_rules.specs.declared.rule.Rule.{Rule}
-use Rattle.tl_rules.specs.declared.rule.Rule.TheVariants.{L1, S1, H1, H2, H3, H4, H5, H6, H7, H8, H9, H10, H11, H12, H13}
+use Rattle.tl_params.specs.declared.level.Level.{Level}
+use Rattle.tl_params.specs.declared.perm.Perm.{Perm}
+use Rattle.tl_params.specs.declared.perm.Perm.TheVariants as perm
+use Rattle.tl_params.specs.declared.profile.Profile.{Profile}
+use Rattle.tl_params.specs.declared.profile.Profile.TheVariants as profile
+use Rattle.tl_params.specs.declared.rule.Rule.{Rule}
+use Rattle.tl_params.specs.declared.rule.Rule.TheVariants.{L1, S1, H1, H2, H3, H4, H5, H6, H7, H8, H9, H10, H11, H12, H13}
 use Rattle.tl_rules.specs.History.{begins, block_at, is_acquire, is_probe, is_probe_ack, is_release, is_grant, is_release_ack, request_of, release_of, probe_of, held, pending}
-use Rattle.tl_rules.specs.declared.key.Key.TheVariants.{RequestSource, ReleaseSource, AcquireOf, ReleaseOf, GrantSink, GrantAckOf, ProbeOf}
+use Rattle.tl_params.specs.declared.key.Key.TheVariants.{RequestSource, ReleaseSource, AcquireOf, ReleaseOf, GrantSink, GrantAckOf, ProbeOf}
 use Rattle.tl_rules.specs.Legality.{illegal, rule_if}
-use Rattle.tl_rules.specs.declared.param.Cap.{Cap}
-use Rattle.tl_rules.specs.declared.param.Prune.{Prune}
-use Rattle.tl_rules.specs.Param.{cap_of, prune_of, prune_left, report_at, report_code}
+use Rattle.tl_params.specs.declared.param.Cap.{Cap}
+use Rattle.tl_params.specs.declared.param.Prune.{Prune}
+use Rattle.tl_params.specs.Param.{cap_of, prune_of, prune_left, report_at, report_code}
 
 abbrev pub same_perm : Perm → Perm → Bool
 same_perm perm.None perm.None = true

@@ -7,11 +7,11 @@ use Rattle.tl_burst.specs.declared.message.Message.TheVariants.{A}
 use Rattle.tl_burst.specs.Burst.{byte_at, reaches}
 use Rattle.tl_rules.specs.declared.answer.Answer.{Answer}
 use Rattle.tl_rules.specs.declared.answer.Answer.TheVariants as answer
-use Rattle.tl_rules.specs.declared.param.Arithmetic.{Arithmetic}
-use Rattle.tl_rules.specs.declared.param.Arithmetic.TheVariants as arithmetic
-use Rattle.tl_rules.specs.declared.param.Logical.{Logical}
-use Rattle.tl_rules.specs.declared.param.Logical.TheVariants as logical
-use Rattle.tl_rules.specs.Param.{arithmetic_of, logical_of}
+use Rattle.tl_params.specs.declared.param.Arithmetic.{Arithmetic}
+use Rattle.tl_params.specs.declared.param.Arithmetic.TheVariants as arithmetic
+use Rattle.tl_params.specs.declared.param.Logical.{Logical}
+use Rattle.tl_params.specs.declared.param.Logical.TheVariants as logical
+use Rattle.tl_params.specs.Param.{arithmetic_of, logical_of}
 
 -- a memory gives the byte at each address
 abbrev pub Memory : Type 0

@@ -13,11 +13,11 @@ use Rattle.tl_beat.specs.Opcode.{a_code, b_code, c_code, d_code, a_carries_data,
 use Rattle.tl_burst.specs.declared.message.Message.{Message}
 use Rattle.tl_burst.specs.Burst.{beats_of, beat_of, bit}
 use Rattle.tl_burst.specs.Messages.{same_bool}
-use Rattle.tl_rules.specs.declared.level.Level.{Level}
-use Rattle.tl_rules.specs.declared.level.Level.TheVariants as level
-use Rattle.tl_rules.specs.declared.rule.Rule.{Rule}
-use Rattle.tl_rules.specs.declared.rule.Rule.TheVariants.{L1, L2, L3, L4, L5, L6, L7}
-use Rattle.tl_rules.specs.Param.{grow_of, cap_of, prune_of, report_named, arithmetic_of, logical_of, intent_of}
+use Rattle.tl_params.specs.declared.level.Level.{Level}
+use Rattle.tl_params.specs.declared.level.Level.TheVariants as level
+use Rattle.tl_params.specs.declared.rule.Rule.{Rule}
+use Rattle.tl_params.specs.declared.rule.Rule.TheVariants.{L1, L2, L3, L4, L5, L6, L7}
+use Rattle.tl_params.specs.Param.{grow_of, cap_of, prune_of, report_named, arithmetic_of, logical_of, intent_of}
 
 -- ---- L1: the opcodes of a level
 

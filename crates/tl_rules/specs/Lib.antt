@@ -1,11 +1,8 @@
 pub mod Agent
-pub mod Config
 pub mod Conformance
 pub mod Control
 pub mod Effect
 pub mod History
 pub mod Legality
 pub mod Merge
-pub mod Param
 pub mod Place
-pub mod Range

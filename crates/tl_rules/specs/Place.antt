@@ -1,8 +1,8 @@
 -- What perform's parts do to the lists of bytes.
 use Rattle.std.specs.Prelude.{ℕ, ◌-◌, ◌*◌, ◌/◌, ◌%◌, List, ◌++◌, take, replicate, bit_xor, bit_or, bit_and}
 use Rattle.std.specs.Simd.Lanes.{zip2}
-use Rattle.tl_rules.specs.declared.param.Logical.{Logical}
-use Rattle.tl_rules.specs.declared.param.Logical.TheVariants as logical
+use Rattle.tl_params.specs.declared.param.Logical.{Logical}
+use Rattle.tl_params.specs.declared.param.Logical.TheVariants as logical
 
 -- the place in its block of payload byte 0 of a message at this address
 abbrev pub base_of : ℕ → ℕ → ℕ

@@ -4,8 +4,8 @@ ghost use Rattle.std.specs.Prelude.{◌≡◌, ◌<◌, ◌≤◌, ◌*◌, ◌%
 ghost use Rattle.tl_rules.specs.Effect.{arithmetic_result, signed};
 ghost use Rattle.tl_rules.specs.Place.{logical_bytes};
 
-use crate::param::{Arithmetic, Logical};
 use std::simd::u8x64;
+use tl_params::param::{Arithmetic, Logical};
 
 /// Whether a number of `count` bytes is less than another, both with sign.
 fn less_with_sign(count: usize, left: u64, right: u64) -> bool

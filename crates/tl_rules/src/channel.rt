@@ -7,11 +7,11 @@ ghost use Rattle.tl_rules.specs.Legality.{is_aligned, verdict};
 ghost use Rattle.tl_rules.specs.Control.{a_control, b_control, c_control, d_control};
 ghost use Rattle.tl_rules.specs.Control.{a_own, b_own, c_own, d_own};
 
-use crate::level::Level;
-use crate::param::Cap;
-use crate::rule::Rule;
 use crate::{field, mask};
 use tl_beat::opcode::{OpA, OpB, OpC, OpD};
+use tl_params::level::Level;
+use tl_params::param::Cap;
+use tl_params::rule::Rule;
 
 /// L1 to L4 of channel A.
 pub fn control_of_a<const W: usize>(

@@ -7,12 +7,12 @@ ghost use Rattle.tl_burst.specs.Burst.{beat_of};
 ghost use Rattle.tl_burst.specs.Messages.{on};
 ghost use Rattle.tl_rules.specs.Legality.{verdict, illegal_message, rule_if, has_transfers};
 
-use crate::level::Level;
-use crate::rule::Rule;
 use crate::{channel, field};
 use tl_beat::opcode::Channel;
 use tl_burst::burst::{beats_of, bit_of, mask_of};
 use tl_burst::message::{Message, MessageA, MessageB, MessageC, MessageD};
+use tl_params::level::Level;
+use tl_params::rule::Rule;
 
 /// The rule of the first beat of a message that breaks one, as `check_beat` has it, on this channel
 /// of a link of this level.

@@ -6,9 +6,9 @@ ghost use Rattle.tl_rules.specs.Legality.{a_of_level, d_of_level, has_transfers}
 ghost use Rattle.tl_rules.specs.Legality.{a_has_param, c_has_param, d_has_param, c_has_source, d_has_sink};
 ghost use Rattle.tl_rules.specs.Legality.{access_has_size, a_has_size, d_has_size, is_aligned, may_be_denied};
 
-use crate::level::Level;
-use crate::param::{Arithmetic, Cap, Grow, Intent, Logical, Prune, Report};
 use tl_beat::opcode::{OpA, OpC, OpD};
+use tl_params::level::Level;
+use tl_params::param::{Arithmetic, Cap, Grow, Intent, Logical, Prune, Report};
 
 /// Whether a request of this opcode is of the level.
 pub fn a_opcode_fits(level: Level, opcode: OpA) -> bool

@@ -6,11 +6,11 @@ ghost use Rattle.tl_beat.specs.Width.{IsWidth};
 ghost use Rattle.tl_burst.specs.Part.{IsTakeable};
 ghost use Rattle.tl_rules.specs.Legality.{verdict, illegal};
 
-use crate::level::Level;
-use crate::rule::Rule;
 use crate::{channel, field};
 use tl_beat::beat::{Beat, BeatA, BeatB, BeatC, BeatD};
 use tl_beat::opcode::Channel;
+use tl_params::level::Level;
+use tl_params::rule::Rule;
 
 /// The first L rule that a beat on this channel of a link of this level breaks, in the order L1,
 /// L7, L2, L3, L4, L5, L6. A beat that breaks none can be given to an assembler.

@@ -8,16 +8,16 @@ ghost use Rattle.tl_rules.specs.Legality.{illegal_message, is_aligned};
 ghost use Rattle.tl_rules.specs.Control.{a_control};
 ghost use Rattle.tl_beat.specs.Opcode.{a_carries_data};
 ghost use Rattle.tl_rules.specs.Effect.{IsBlock, effect, block_of, answer_of, after, reply, answer_at, as_payload, bytes_from, bytes_of};
-ghost use Rattle.tl_rules.specs.Param.{arithmetic_of, logical_of};
+ghost use Rattle.tl_params.specs.Param.{arithmetic_of, logical_of};
 
 use crate::answer::Answer;
-use crate::level::Level;
 use crate::merge::merge_masked;
-use crate::param::{Arithmetic, Logical};
 use crate::place::Span;
 use crate::{atomic, place};
 use tl_beat::opcode::{Channel, OpA};
 use tl_burst::message::{Message, MessageA};
+use tl_params::level::Level;
+use tl_params::param::{Arithmetic, Logical};
 
 /// The old bytes that a request reaches, as a payload.
 fn read<const W: usize>(block: &[u8; 64], request: &MessageA<W>) -> [u8; 64]

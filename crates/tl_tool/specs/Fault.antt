@@ -2,8 +2,8 @@
 use Rattle.std.specs.Prelude.{ℕ, List, ◌++◌, codes}
 use Rattle.std.specs.Fmt.{decimal}
 use Rattle.tl_beat.specs.declared.fault.LineFault.TheVariants.{F1, F2, F3, F4, F5, F6}
-use Rattle.tl_rules.specs.declared.rule.Rule as rule_type
-use Rattle.tl_rules.specs.declared.rule.Rule.TheVariants as rule
+use Rattle.tl_params.specs.declared.rule.Rule as rule_type
+use Rattle.tl_params.specs.declared.rule.Rule.TheVariants as rule
 use Rattle.tl_tool.specs.declared.fault.Fault.{Fault}
 use Rattle.tl_tool.specs.declared.fault.Fault.TheVariants.{Header, Line, Rule}
 

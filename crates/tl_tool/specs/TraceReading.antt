@@ -3,10 +3,10 @@ use denote.Ref.{Bor}
 use Rattle.std.specs.Prelude.{◌≡◌, ℕ, zero, suc, List, [], ◌∷◌, Bool, false, option_and_then, Option, Some, None, ◌==◌, ◌&&◌, if◌then◌else◌}
 use Rattle.tl_words.specs.declared.command.Width.{Width}
 use Rattle.tl_words.specs.declared.command.Width.TheVariants.{Four, Eight, Sixteen}
-use Rattle.tl_rules.specs.declared.level.Level.{Level}
-use Rattle.tl_rules.specs.declared.level.Level.TheVariants as level
-use Rattle.tl_rules.specs.declared.profile.Profile.{Profile}
-use Rattle.tl_rules.specs.declared.profile.Profile.TheVariants as profile
+use Rattle.tl_params.specs.declared.level.Level.{Level}
+use Rattle.tl_params.specs.declared.level.Level.TheVariants as level
+use Rattle.tl_params.specs.declared.profile.Profile.{Profile}
+use Rattle.tl_params.specs.declared.profile.Profile.TheVariants as profile
 use Rattle.arrayvec.specs.ArrayVec.{ArrayVec}
 use Rattle.tl_tool.specs.declared.header.Header.{Header}
 use Rattle.tl_tool.specs.Trace.{trace_word}

@@ -2,10 +2,10 @@ ghost use Rattle.std.specs.Prelude.{◌≡◌, is_some};
 ghost use Rattle.tl_beat.specs.Width.{IsWidth};
 
 use crate::legality::check_beat;
-use crate::level::Level;
-use crate::rule::Rule;
 use tl_beat::beat::{Beat, BeatA, BeatB, BeatC, BeatD, BeatE};
 use tl_beat::opcode::{Channel, OpA, OpB, OpC, OpD};
+use tl_params::level::Level;
+use tl_params::rule::Rule;
 
 fn lanes<const W: usize>(carries: bool) -> Option<[u8; W]>
     ensures { is_some result ≡ carries }

@@ -5,10 +5,10 @@ use super::*;
 use crate::blank::is_blank;
 use crate::check::check;
 use crate::merge::merge_masked;
-use crate::rule::Rule;
 use std::process::Abort;
 use tl_beat::opcode::OpD;
 use tl_burst::message::MessageD;
+use tl_params::rule::Rule;
 
 /// A request of 8 bytes or less with the operand's bytes from a place of the payload on.
 fn request<const W: usize>(

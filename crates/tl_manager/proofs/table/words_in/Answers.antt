@@ -1,7 +1,7 @@
 use Rattle.std.proofs.Common.{◌∙◌, ap, arith, add-one, sym, inl, inr, rules, List}
 use Rattle.std.proofs.lemmas.Bool.{cases_eq}
 use Rattle.std.proofs.lemmas.List.{take_all}
-use Rattle.tl_rules.specs.declared.perm.Perm.{Perm}
+use Rattle.tl_params.specs.declared.perm.Perm.{Perm}
 use Rattle.tl_manager.specs.Table.{entry}
 use Rattle.tl_manager.proofs.BitLemmas.{no_bits}
 use Rattle.tl_manager.proofs.TableLemmas.{entry-take_same, entry-take_other}

@@ -1,5 +1,5 @@
 use Rattle.std.proofs.Common.{lit<}
-use Rattle.tl_rules.specs.declared.level.Level.TheVariants as level
+use Rattle.tl_params.specs.declared.level.Level.TheVariants as level
 use Rattle.tl_rules.proofs.Blocks.{message_memory, message_answer, effect_elsewhere}
 use Rattle.tl_rules.proofs.Bursts.{legal_is_request, control_of_legal}
 use Rattle.tl_rules.proofs.perform.perform.Goals as goal

@@ -2,7 +2,7 @@ use Rattle.std.proofs.Common.{◌≡◌, sym, refl}
 use Rattle.std.specs.Prelude.{Option, Some, None, false}
 use Rattle.tl_monitor.specs.Knows.{broken}
 use Rattle.tl_monitor.specs.declared.fault.MonitorFault.TheVariants as monitor
-use Rattle.tl_rules.specs.declared.rule.Rule.{Rule}
+use Rattle.tl_params.specs.declared.rule.Rule.{Rule}
 use Rattle.tl_tool.proofs.watcher.watch.Goals as goal
 
 none_broken : (o : Option Rule) → broken o ≡ None → o ≡ None

@@ -1,9 +1,9 @@
 use Rattle.std.specs.Prelude.{ℕ, Bool, true, false, List, [], ◌∷◌, ◌&&◌, length, Option, Some, None, Result, Ok, Err}
-use Rattle.tl_rules.specs.declared.config.ClientConfig.{ClientConfig}
-use Rattle.tl_rules.specs.declared.config.Config.{Config}
-use Rattle.tl_rules.specs.declared.config.NewFault.{NewFault}
-use Rattle.tl_rules.specs.declared.config.NewFault.TheVariants as fault
-use Rattle.tl_rules.specs.Range.{is_from_to}
+use Rattle.tl_params.specs.declared.config.ClientConfig.{ClientConfig}
+use Rattle.tl_params.specs.declared.config.Config.{Config}
+use Rattle.tl_params.specs.declared.config.NewFault.{NewFault}
+use Rattle.tl_params.specs.declared.config.NewFault.TheVariants as fault
+use Rattle.tl_params.specs.Range.{is_from_to}
 
 -- the fault where the test fails, and otherwise what follows
 abbrev pub fault_unless : Bool → NewFault → Option NewFault → Option NewFault

@@ -1,7 +1,7 @@
 //! What a manager and its clients are made from, and its limits.
 
 ghost use Rattle.std.specs.Prelude.{◌≡◌};
-ghost use Rattle.tl_rules.specs.Range.{is_from_to};
+ghost use Rattle.tl_params.specs.Range.{is_from_to};
 
 use crate::level::Level;
 use crate::profile::Profile;
@@ -44,7 +44,7 @@ pub enum NewFault {
 
 impl From<AllocError> for NewFault {
     ghost use Rattle.std.specs.Prelude.{◌≡◌};
-    ghost use Rattle.tl_rules.specs.declared.config.NewFault.TheVariants.{Memory};
+    ghost use Rattle.tl_params.specs.declared.config.NewFault.TheVariants.{Memory};
 
     ghost from_gives = { λ _ fault. fault ≡ Memory };
 
@@ -67,7 +67,7 @@ fn few_fit(count: u8) -> bool
 
 impl ClientConfig {
     ghost use Rattle.std.specs.Prelude.{◌≡◌};
-    ghost use Rattle.tl_rules.specs.Config.{client_fault, config_verdict};
+    ghost use Rattle.tl_params.specs.Config.{client_fault, config_verdict};
 
     /// The first limit that a client on so many blocks breaks, in the order N2, N4.
     pub fn check(&self, blocks: u16) -> Result<(), NewFault>
@@ -85,7 +85,7 @@ impl ClientConfig {
 
 impl Config {
     ghost use Rattle.std.specs.Prelude.{◌≡◌};
-    ghost use Rattle.tl_rules.specs.Config.{config_fault, config_verdict};
+    ghost use Rattle.tl_params.specs.Config.{config_fault, config_verdict};
 
     /// The first limit that the configuration breaks, in the order N1 to N4.
     pub fn check(&self) -> Result<(), NewFault>

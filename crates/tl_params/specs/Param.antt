@@ -1,20 +1,20 @@
 use Rattle.std.specs.Prelude.{ℕ, ◌==◌, if◌then◌else◌, Option, Some, None}
-use Rattle.tl_rules.specs.declared.param.Grow.{Grow}
-use Rattle.tl_rules.specs.declared.param.Grow.TheVariants as grow
-use Rattle.tl_rules.specs.declared.param.Cap.{Cap}
-use Rattle.tl_rules.specs.declared.param.Cap.TheVariants as cap
-use Rattle.tl_rules.specs.declared.param.Prune.{Prune}
-use Rattle.tl_rules.specs.declared.param.Prune.TheVariants as prune
-use Rattle.tl_rules.specs.declared.param.Report.{Report}
-use Rattle.tl_rules.specs.declared.param.Report.TheVariants as report
-use Rattle.tl_rules.specs.declared.param.Arithmetic.{Arithmetic}
-use Rattle.tl_rules.specs.declared.param.Arithmetic.TheVariants as arithmetic
-use Rattle.tl_rules.specs.declared.param.Logical.{Logical}
-use Rattle.tl_rules.specs.declared.param.Logical.TheVariants as logical
-use Rattle.tl_rules.specs.declared.param.Intent.{Intent}
-use Rattle.tl_rules.specs.declared.param.Intent.TheVariants as intent
-use Rattle.tl_rules.specs.declared.perm.Perm.{Perm}
-use Rattle.tl_rules.specs.declared.perm.Perm.TheVariants as perm
+use Rattle.tl_params.specs.declared.param.Grow.{Grow}
+use Rattle.tl_params.specs.declared.param.Grow.TheVariants as grow
+use Rattle.tl_params.specs.declared.param.Cap.{Cap}
+use Rattle.tl_params.specs.declared.param.Cap.TheVariants as cap
+use Rattle.tl_params.specs.declared.param.Prune.{Prune}
+use Rattle.tl_params.specs.declared.param.Prune.TheVariants as prune
+use Rattle.tl_params.specs.declared.param.Report.{Report}
+use Rattle.tl_params.specs.declared.param.Report.TheVariants as report
+use Rattle.tl_params.specs.declared.param.Arithmetic.{Arithmetic}
+use Rattle.tl_params.specs.declared.param.Arithmetic.TheVariants as arithmetic
+use Rattle.tl_params.specs.declared.param.Logical.{Logical}
+use Rattle.tl_params.specs.declared.param.Logical.TheVariants as logical
+use Rattle.tl_params.specs.declared.param.Intent.{Intent}
+use Rattle.tl_params.specs.declared.param.Intent.TheVariants as intent
+use Rattle.tl_params.specs.declared.perm.Perm.{Perm}
+use Rattle.tl_params.specs.declared.perm.Perm.TheVariants as perm
 
 -- what an Acquire asks for, by number
 abbrev pub grow_code : Grow → ℕ

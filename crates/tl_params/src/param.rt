@@ -3,11 +3,11 @@
 //! a transition.
 
 ghost use Rattle.std.specs.Prelude.{◌≡◌, IfSome};
-ghost use Rattle.tl_rules.specs.Param.{grow_of, grow_code, grow_left, grow_right};
-ghost use Rattle.tl_rules.specs.Param.{cap_of, cap_code, cap_right};
-ghost use Rattle.tl_rules.specs.Param.{prune_of, prune_code, prune_left, prune_right};
-ghost use Rattle.tl_rules.specs.Param.{report_named, report_code, report_left, report_right};
-ghost use Rattle.tl_rules.specs.Param.{arithmetic_of, arithmetic_code, logical_of, logical_code, intent_of, intent_code};
+ghost use Rattle.tl_params.specs.Param.{grow_of, grow_code, grow_left, grow_right};
+ghost use Rattle.tl_params.specs.Param.{cap_of, cap_code, cap_right};
+ghost use Rattle.tl_params.specs.Param.{prune_of, prune_code, prune_left, prune_right};
+ghost use Rattle.tl_params.specs.Param.{report_named, report_code, report_left, report_right};
+ghost use Rattle.tl_params.specs.Param.{arithmetic_of, arithmetic_code, logical_of, logical_code, intent_of, intent_code};
 
 use crate::perm::Perm;
 

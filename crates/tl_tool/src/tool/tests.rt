@@ -1,9 +1,16 @@
 use super::*;
 use crate::put::write_open_fault;
 use crate::status::exit_of;
+use std::alloc::AllocError;
 use std::fmt::Write as _;
 use std::io;
 use std::test::Fail;
+
+mod beats;
+mod legality;
+mod order;
+mod traces;
+mod transfers;
 
 const GET: &[u8] = b"00 A 4 0 3 00 00000040 ff - 0\n";
 

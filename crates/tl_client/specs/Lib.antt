@@ -1,0 +1,4 @@
+pub mod Ask
+pub mod End
+pub mod Offer
+pub mod Send

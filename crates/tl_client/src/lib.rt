@@ -1,0 +1,8 @@
+//! The client's end of a TileLink link: what a client may do, and the client that keeps no copies.
+#![tactic(auto)]
+
+pub mod agent;
+pub mod busy;
+pub mod operation;
+pub mod reply;
+pub mod verdict;

@@ -1,6 +1,7 @@
 -- What a client answers to an operation.
-use Rattle.std.specs.Prelude.{ℕ, zero, suc, Bool, true, false, not, List, [], ◌∷◌, ◌++◌, ◌==◌, ◌&&◌, ◌||◌, ◌+◌, ◌*◌, ◌%◌, ◌^◌, if◌then◌else◌, nat_le, nat_lt, take, drop, slice_index, Option, Some, None, is_none, unwrap_or}
+use Rattle.std.specs.Prelude.{ℕ, zero, suc, Bool, true, false, not, List, [], ◌∷◌, ◌++◌, ◌==◌, ◌&&◌, ◌||◌, ◌+◌, ◌-◌, ◌*◌, ◌%◌, ◌^◌, if◌then◌else◌, nat_le, nat_lt, take, drop, replicate, slice_index, Option, Some, None, is_none, unwrap_or}
 use Rattle.tl_beat.specs.declared.opcode.Channel.TheVariants as channel
+use Rattle.tl_beat.specs.declared.opcode.OpA.{OpA}
 use Rattle.tl_beat.specs.declared.opcode.OpA.TheVariants as a
 use Rattle.tl_beat.specs.Opcode.{a_code}
 use Rattle.tl_burst.specs.declared.message.Message.{Message}
@@ -30,9 +31,13 @@ use Rattle.tl_client.specs.Send.{access, acquire, release}
 
 -- ---- B4: the operation isn't of the level
 
--- a request for an access that the level has
+-- an access that the level has
+abbrev pub is_access_of : Level → OpA → Bool
+is_access_of l opcode = a_of_level l opcode && nat_lt (a_code opcode) 6
+
+-- a request for one
 abbrev pub is_access : {w : ℕ} → Level → Message w → Bool
-is_access l (message.A m) = a_of_level l m.opcode && nat_lt (a_code m.opcode) 6
+is_access l (message.A m) = is_access_of l m.opcode
 is_access l _ = false
 
 abbrev pub breaks_b4 : {w : ℕ} → Level → Op w → Bool
@@ -41,16 +46,17 @@ breaks_b4 l _ = not (has_transfers l)
 
 -- ---- B5: the operation isn't well formed, or is outside the map
 
-abbrev pub all_zero : List ℕ → Bool
-all_zero [] = true
-all_zero (byte ∷ bytes) = (byte == 0) && all_zero bytes
+abbrev pub same_bytes : List ℕ → List ℕ → Bool
+same_bytes [] [] = true
+same_bytes (x ∷ xs) (y ∷ ys) = (x == y) && same_bytes xs ys
+same_bytes _ _ = false
 
 -- no corrupt bit is set, and all that no beat carries is zero
 abbrev pub is_clean : {w : ℕ} → MessageA w → Bool
 is_clean {w} m =
-    all_zero (drop (carried (message.A m)) m.payload)
-    && (nat_lt m.mask (2 ^ (w * beats_of (message.A m)))
-    && (m.corrupt == 0))
+    (m.corrupt == 0)
+    && (same_bytes (drop (carried (message.A m)) m.payload) (replicate (64 - carried (message.A m)) 0)
+    && nat_lt m.mask (2 ^ (w * beats_of (message.A m))))
 
 -- a Load or Store reads or writes 1 to 8 bytes at a multiple of their number
 abbrev pub is_word : ℕ → ℕ → Bool

@@ -1,4 +1,6 @@
 pub mod Ask
 pub mod End
 pub mod Offer
+pub mod Plain
+pub mod Requests
 pub mod Send

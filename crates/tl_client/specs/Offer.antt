@@ -108,14 +108,14 @@ address_asked (Some r) = r.address
 abbrev pub bytes_at : ℕ → ℕ → ℕ → List ℕ → List ℕ
 bytes_at w address size payload = padded (take (2 ^ size) (drop (address % w) payload))
 
--- how the operation ends that asked for this, by the last beat of its response and its payload
-abbrev pub finish_of : {w : ℕ} → OpD → BeatD w → Option (BeatA w) → List ℕ → Finish
-finish_of d.AccessAck x r payload = finish.Ack
-finish_of {w} d.AccessAckData x r payload = finish.Data x.size (bytes_at w (address_asked r) x.size payload)
-finish_of d.HintAck x r payload = finish.Hint
-finish_of d.Grant x r payload = finish.Granted (capped x.param)
-finish_of d.GrantData x r payload = finish.Granted (capped x.param)
-finish_of d.ReleaseAck x r payload = finish.Released
+-- how the operation at this address ends, by opcode, param, size and payload of its response
+abbrev pub finish_of : ℕ → OpD → ℕ → ℕ → ℕ → List ℕ → Finish
+finish_of w d.AccessAck param size address payload = finish.Ack
+finish_of w d.AccessAckData param size address payload = finish.Data size (bytes_at w address size payload)
+finish_of w d.HintAck param size address payload = finish.Hint
+finish_of w d.Grant param size address payload = finish.Granted (capped param)
+finish_of w d.GrantData param size address payload = finish.Granted (capped param)
+finish_of w d.ReleaseAck param size address payload = finish.Released
 
 -- the copy after a Grant without data: the bytes that wait for it, where it answers an AcquirePerm
 abbrev pub granted_perm : {w : ℕ} → OpA → ℕ → End w → End w
@@ -135,7 +135,8 @@ ended _ x f e = silent (verdict.Done x.source f) e
 
 -- the last beat of a response, to this request
 abbrev pub responded : {w : ℕ} → BeatD w → Option (BeatA w) → List ℕ → End w → Offered w
-responded x r payload e = ended x.opcode x (finish_of x.opcode x r payload) (granted x.opcode r payload (with_past (beat.D x ∷ e.past) e))
+responded {w} x r payload e =
+    ended x.opcode x (finish_of w x.opcode x.param x.size (address_asked r) payload) (granted x.opcode r payload (with_past (beat.D x ∷ e.past) e))
 
 -- ---- what is taken
 

@@ -47,7 +47,7 @@ own_length (E m) i = refl
 not_last : (i n : ℕ) → i + 1 < n → (i + 1 == n) ≡ false
 not_last i n lt = grind (arith, nat_tests)
 
-is_last : (i n : ℕ) → i + 1 ≡ n → (i + 1 == n) ≡ true
+pub is_last : (i n : ℕ) → i + 1 ≡ n → (i + 1 == n) ≡ true
 is_last i n e = grind (arith, nat_tests)
 
 grown_more : {w : ℕ} (m : Message w) (i : ℕ) → i + 1 < beats_of m → grown (beat_of m i) (begun m i) ≡ begun m (suc i)

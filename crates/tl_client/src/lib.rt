@@ -4,7 +4,9 @@
 mod access;
 pub mod agent;
 pub mod busy;
+mod judge;
 pub mod operation;
+pub mod plain;
 pub mod reply;
 mod requests;
 mod response;

@@ -4,6 +4,7 @@ ghost use Rattle.std.specs.Prelude.{ℕ, ◌≡◌, ◌<◌, ◌≤◌, ◌==◌
 ghost use Rattle.tl_client.specs.Ask;
 
 use tl_beat::opcode::OpA;
+use tl_burst::message::MessageA;
 
 /// What a response is judged by: fields of the request that it answers.
 #[derive(Clone, Copy, Debug, PartialEq, Eq)]
@@ -11,6 +12,21 @@ pub struct Request {
     pub opcode: OpA,
     pub size: u8,
     pub address: u32,
+}
+
+impl Request {
+    ghost use Rattle.tl_client.specs.Requests.{fields_in};
+
+    /// What a response to an access is judged by.
+    pub fn of<const W: usize>(access: &MessageA<W>) -> Self
+        ensures { result ≡ fields_in access.now }
+    {
+        Request {
+            opcode: access.opcode,
+            size: access.size,
+            address: access.address,
+        }
+    }
 }
 
 /// The open request of each source number.

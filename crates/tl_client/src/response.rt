@@ -37,7 +37,8 @@ fn padded(first: &[u8]) -> [u8; 64]
 fn bytes_at<const W: usize>(address: u32, size: u8, payload: &[u8; 64]) -> [u8; 64]
     requires width { IsWidth W }
     requires small { size ≤ 6 }
-    ensures { result ≡ Offer.bytes_at W address size payload.now }
+    ensures value { result ≡ Offer.bytes_at W address size payload.now }
+    ensures long { length payload.now ≡ 64 }
 {
     let lane = address as usize % W;
     padded(first(&payload[lane..], 1 << size))
@@ -56,7 +57,8 @@ fn capped(param: u8) -> Perm
 /// How the operation at this address ends, by its response.
 pub fn finish_of<const W: usize>(response: &MessageD<W>, address: u32) -> Finish
     requires { IsWidth W }
-    ensures { result ≡ Offer.finish_of W response.now.opcode response.now.param response.now.size address response.now.payload }
+    ensures value { result ≡ Offer.finish_of W response.now.opcode response.now.param response.now.size address response.now.payload }
+    ensures long { response.now.opcode ≡ OpD.AccessAckData → length response.now.payload ≡ 64 }
 {
     match response.opcode {
         OpD::AccessAck => Finish::Ack,

@@ -145,18 +145,3 @@ message_closes (message.A m) x burst s whole = let p = newest_of (message.A m) x
 message_closes (message.B m) x burst s whole = let p = newest_of (message.B m) x burst (beats_of (message.B m)) whole.0 in rw p.1 refl
 message_closes (message.C m) x burst s whole = let p = newest_of (message.C m) x burst (beats_of (message.C m)) whole.0 in rw p.1 refl
 message_closes {w} (message.E m) x burst s whole = let p = newest_of (message.E m) x burst (beats_of {w = w} (message.E m)) whole.0 in rw p.1 refl
-
--- a beat that completes nothing
-pub not_done : {w : ℕ} (x : Beat w) (burst : List (Beat w)) (asked : ℕ → Option Request) → completes x burst ≡ false → plain_verdict asked burst x ≡ Taken
-not_done (beat.A x) burst asked e = refl
-not_done (beat.B x) burst asked e = refl
-not_done (beat.C x) burst asked e = refl
-not_done (beat.D x) burst asked e = rw e refl
-not_done (beat.E x) burst asked e = refl
-
-pub closes_none : {w : ℕ} (x : Beat w) (burst : List (Beat w)) (s : ℕ) → completes x burst ≡ false → ends_request burst x s ≡ false
-closes_none (beat.A x) burst s e = refl
-closes_none (beat.B x) burst s e = refl
-closes_none (beat.C x) burst s e = refl
-closes_none (beat.D x) burst s e = rw e refl
-closes_none (beat.E x) burst s e = refl

@@ -230,3 +230,6 @@ impl<const W: usize> Agent<W> for Plain<W> {
         self.closed
     }
 }
+
+#[cfg(test)]
+mod tests;

@@ -1,0 +1,232 @@
+-- What a plain client answers to a beat that it takes, and what it knows afterwards.
+use Rattle.std.proofs.Common.{◌≡◌, ℕ, Bool, true, false, cond, ◌&&◌, List, [], ◌∷◌, Option, Some, None, Ok, Err, refl, sym, ◌∙◌}
+use Rattle.std.specs.Prelude.{◌==◌, is_none}
+use Rattle.std.proofs.lemmas.Bool.{and_parts, and_left, and_right, eqb-true, not-false}
+use Rattle.tl_beat.specs.declared.beat.Beat.{Beat}
+use Rattle.tl_beat.specs.declared.beat.Beat.TheVariants.{A, B, C, D, E}
+use Rattle.tl_beat.specs.declared.beat.BeatA.{BeatA}
+use Rattle.tl_beat.specs.declared.beat.BeatB.{BeatB}
+use Rattle.tl_beat.specs.declared.beat.BeatD.{BeatD}
+use Rattle.tl_beat.specs.declared.opcode.Channel.{Channel}
+use Rattle.tl_beat.specs.declared.opcode.Channel.TheVariants as channel
+use Rattle.tl_beat.specs.declared.opcode.OpD.{OpD}
+use Rattle.tl_beat.specs.declared.opcode.OpD.TheVariants as d
+use Rattle.tl_beat.specs.Opcode.{d_code}
+use Rattle.tl_burst.specs.Messages.{History, unfinished, grown, same_control, breaks_burst}
+use Rattle.tl_burst.specs.Part.{completes}
+use Rattle.tl_rules.specs.declared.level.Level.{Level}
+use Rattle.tl_rules.specs.declared.key.Key.TheVariants.{RequestSource}
+use Rattle.tl_rules.specs.declared.rule.Rule.{Rule}
+use Rattle.tl_rules.specs.declared.rule.Rule.TheVariants.{L1, S1, A3}
+use Rattle.tl_rules.specs.Agent.{payload_of}
+use Rattle.tl_rules.specs.History.{begins, ends, says_held, pending, request_of}
+use Rattle.tl_rules.specs.Legality.{illegal, or_else, rule_if, has_transfers, verdict}
+use Rattle.tl_rules.proofs.Bursts.{next_rule}
+use Rattle.tl_client.specs.declared.plain.Plain.{Plain}
+use Rattle.tl_client.specs.declared.requests.Request.{Request}
+use Rattle.tl_client.specs.declared.verdict.Finish.{Finish}
+use Rattle.tl_client.specs.declared.verdict.Verdict.TheVariants.{Done, Taken}
+use Rattle.tl_client.specs.End.{Terms, End, with_past}
+use Rattle.tl_client.specs.KnowsPlain.{KnowsPlain, terms_of, answers_pending}
+use Rattle.tl_client.specs.Offer.{offered, judged_later, refused, silent, taken, ended, granted, responded, finish_of, address_asked, stalls, is_sent_on}
+use Rattle.tl_client.specs.Plain.{response_rule, order_rule, plain_rule, address_in, plain_verdict, ends_request}
+use Rattle.tl_client.specs.Requests.{request_at, fields_of, open_request}
+use Rattle.tl_client.proofs.PlainRules.{IsAccessAnswer, legal_answer, judged, some_rule, no_rule}
+use Rattle.tl_client.proofs.Sent.{held_unsaid}
+
+-- ---- what is taken is a response
+
+pub record IsGoodResponse {w : ℕ} (l : Level) (x : BeatD w) (request : Option Request) (burst : List (Beat w)) : Type 0 where
+  pub is_legal : illegal l channel.D (D x) ≡ None
+  pub in_order : order_rule x request burst ≡ None
+
+both_none : (o rest : Option Rule) → or_else o rest ≡ None → (o ≡ None) × (rest ≡ None)
+both_none None rest e = (refl, e)
+both_none (Some r) rest e = absurd cc
+
+good_response : {w : ℕ} (l : Level) (asked : ℕ → Option Request) (burst : List (Beat w)) (closed : Bool) (ch : Channel) (x : Beat w) → plain_rule l asked burst closed ch x ≡ None → (y : BeatD w) × (x ≡ D y) × IsGoodResponse l y (asked y.source) burst
+good_response l asked burst true ch x e = absurd cc
+good_response l asked burst false channel.A x e = absurd cc
+good_response l asked burst false channel.B x e = absurd cc
+good_response l asked burst false channel.C x e = absurd cc
+good_response l asked burst false channel.E x e = absurd cc
+good_response l asked burst false channel.D (A x) e = absurd cc
+good_response l asked burst false channel.D (B x) e = absurd cc
+good_response l asked burst false channel.D (C x) e = absurd cc
+good_response l asked burst false channel.D (E x) e = absurd cc
+good_response l asked burst false channel.D (D x) e =
+    let parts = both_none (illegal l channel.D (D x)) (order_rule x (asked x.source) burst) e in
+    (x, refl, record { is_legal = parts.0; in_order = parts.1 })
+
+-- ---- its request is pending
+
+has_some : {w : ℕ} (x : BeatD w) (b : Bool) (o : Option Request) → response_rule x (cond b o None) ≡ None → b ≡ true
+has_some x true o e = refl
+has_some x false o e = absurd cc
+
+same_source : {w : ℕ} (x z : BeatD w) → same_control (D x) (D z) ≡ true → x.source ≡ z.source
+same_source x z e =
+    let one = and_parts (d_code x.opcode == d_code z.opcode) _ e in
+    let two = and_parts (x.param == z.param) _ one.1 in
+    let three = and_parts (x.size == z.size) _ two.1 in
+    let four = and_parts (x.source == z.source) _ three.1 in
+    eqb-true x.source z.source four.0
+
+pending_here : {w : ℕ} (x : BeatD w) (burst : List (Beat w)) (t : History w) → answers_pending burst t ≡ true → order_rule x (open_request x.source t) burst ≡ None → pending (RequestSource x.source) t ≡ true
+pending_here x [] t answer e =
+    let first = both_none (response_rule x (open_request x.source t)) _ e in
+    has_some x (pending (RequestSource x.source) t) (fields_of (request_of x.source t)) first.0
+pending_here x (A z ∷ burst) t answer e = absurd cc
+pending_here x (B z ∷ burst) t answer e = absurd cc
+pending_here x (C z ∷ burst) t answer e = absurd cc
+pending_here x (E z ∷ burst) t answer e = absurd cc
+pending_here x (D z ∷ burst) t answer e =
+    let first = both_none (rule_if (breaks_burst (D x) (D z ∷ burst)) S1 None) _ e in
+    let continues = next_rule (breaks_burst (D x) (D z ∷ burst)) S1 None first.0 in
+    let source : x.source ≡ z.source = same_source x z (not-false (same_control (D x) (D z)) continues.0) in
+    rw source answer
+
+-- ---- the answer
+
+access_ended : {w : ℕ} (opcode : OpD) (x : BeatD w) (f : Finish) (r : Option (BeatA w)) (payload : List ℕ) (e : End w) → IsAccessAnswer opcode → ended opcode x f (granted opcode r payload e) ≡ silent (Done x.source f) e
+access_ended d.AccessAck x f r payload e answer = refl
+access_ended d.AccessAckData x f r payload e answer = refl
+access_ended d.HintAck x f r payload e answer = refl
+access_ended d.Grant x f r payload e answer = absurd (let no : true ≡ false = answer.0 in cc)
+access_ended d.GrantData x f r payload e answer = absurd (let no : true ≡ false = answer.0 in cc)
+access_ended d.ReleaseAck x f r payload e answer = absurd (let no : true ≡ false = answer.1 in cc)
+
+address_of_open : {w : ℕ} (s : ℕ) (t : History w) → pending (RequestSource s) t ≡ true → address_in (open_request s t) ≡ address_asked (request_of s t)
+address_of_open {w} s t e = rw e (go (request_of s t))
+  where
+    go : (o : Option (BeatA w)) → address_in (fields_of o) ≡ address_asked o
+    go None = refl
+    go (Some r) = refl
+
+response_taken : {w : ℕ} (x : BeatD w) (e : End w) (asked : ℕ → Option Request) (burst : List (Beat w)) → IsAccessAnswer x.opcode → pending (RequestSource x.source) e.past ≡ true
+    → asked x.source ≡ open_request x.source e.past → burst ≡ unfinished channel.D e.past → taken (D x) e ≡ silent (plain_verdict asked burst (D x)) (with_past (D x ∷ e.past) e)
+response_taken {w} x e asked burst answer live asked_is burst_is = rw (asked_is, burst_is) (go (completes (D x) (unfinished channel.D e.past)))
+  where
+    payload : List ℕ
+    payload = payload_of (D x ∷ unfinished channel.D e.past)
+
+    go : (b : Bool) → cond b (responded x (request_of x.source e.past) payload e) (silent Taken (with_past (D x ∷ e.past) e))
+        ≡ silent (cond b (Done x.source (finish_of w x.opcode x.param x.size (address_in (open_request x.source e.past)) payload)) Taken) (with_past (D x ∷ e.past) e)
+    go true = rw (address_of_open x.source e.past live) (access_ended x.opcode x _ (request_of x.source e.past) payload (with_past (D x ∷ e.past) e) answer)
+    go false = refl
+
+-- ---- what is known afterwards
+
+pending-response : {w : ℕ} (s : ℕ) (x : BeatD w) (t : History w) → IsAccessAnswer x.opcode → pending (RequestSource s) (D x ∷ t) ≡ cond (ends (D x) t && (x.source == s)) false (pending (RequestSource s) t)
+unfolding pending
+pending-response s x t answer = rw answer.1 (go (begins (D x) t))
+  where
+    go : (b : Bool) → cond (b && false) true (cond (ends (D x) t && (true && (x.source == s))) false (pending (RequestSource s) t)) ≡ cond (ends (D x) t && (x.source == s)) false (pending (RequestSource s) t)
+    go true = refl
+    go false = refl
+
+request_of-response : {w : ℕ} (s : ℕ) (x : BeatD w) (t : History w) → request_of s (D x ∷ t) ≡ request_of s t
+unfolding request_of
+request_of-response s x t = refl
+
+open-response : {w : ℕ} (s : ℕ) (x : BeatD w) (t : History w) → IsAccessAnswer x.opcode → open_request s (D x ∷ t) ≡ cond (ends_request (unfinished channel.D t) (D x) s) None (open_request s t)
+open-response {w} s x t answer = rw (pending-response s x t answer, request_of-response s x t) (go (ends_request (unfinished channel.D t) (D x) s))
+  where
+    go : (b : Bool) → cond (cond b false (pending (RequestSource s) t)) (fields_of (request_of s t)) None ≡ cond b None (cond (pending (RequestSource s) t) (fields_of (request_of s t)) None)
+    go true = refl
+    go false = refl
+
+unfinished-response : {w : ℕ} (x : BeatD w) (t : History w) → unfinished channel.D (D x ∷ t) ≡ grown (D x) (unfinished channel.D t)
+unfolding unfinished
+unfinished-response x t = refl
+
+unfinished_a-response : {w : ℕ} (x : BeatD w) (t : History w) → unfinished channel.A (D x ∷ t) ≡ unfinished channel.A t
+unfolding unfinished
+unfinished_a-response x t = refl
+
+answers-response : {w : ℕ} (x : BeatD w) (t : History w) → IsAccessAnswer x.opcode → pending (RequestSource x.source) t ≡ true → answers_pending (grown (D x) (unfinished channel.D t)) (D x ∷ t) ≡ true
+answers-response {w} x t answer live = go (completes (D x) (unfinished channel.D t)) refl
+  where
+    go : (b : Bool) → completes (D x) (unfinished channel.D t) ≡ b → answers_pending (cond b [] (D x ∷ unfinished channel.D t)) (D x ∷ t) ≡ true
+    go true is = refl
+    go false is = rw (pending-response x.source x t answer, is) live
+
+grants_nothing : {w : ℕ} (k : ℕ) (x : BeatD w) (t : History w) → IsAccessAnswer x.opcode → says_held k (D x) t ≡ None
+grants_nothing k x t answer = rw answer.0 refl
+
+response_known : {w : ℕ} (p q : Plain w) (e : End w) (x : BeatD w) → KnowsPlain p e → IsAccessAnswer x.opcode → pending (RequestSource x.source) e.past ≡ true → q.closed ≡ p.closed → q.responses ≡ grown (D x) p.responses
+    → ((s : ℕ) → request_at q.requests s ≡ cond (ends_request p.responses (D x) s) None (request_at p.requests s)) → KnowsPlain q (with_past (D x ∷ e.past) e)
+response_known p q e x k answer live closed responses requests = record {
+  closed_is = closed ∙ k.closed_is;
+  requests_are = λ s. requests s ∙ rw (k.requests_are s, k.response_is) (sym (open-response s x e.past answer));
+  response_is = responses ∙ rw k.response_is (sym (unfinished-response x e.past));
+  sent_whole = unfinished_a-response x e.past ∙ k.sent_whole;
+  answers_open = rw (unfinished-response x e.past) (answers-response x e.past answer live);
+  holds_nothing = λ b. held_unsaid b (D x) e.past (grants_nothing b x e.past answer) ∙ k.holds_nothing b;
+  has_no_copy = k.has_no_copy;
+}
+
+-- ---- for any beat
+
+-- the rule that a plain client finds
+abbrev pub rule_at : {w : ℕ} → Plain w → Channel → Beat w → Option Rule
+rule_at p ch x = plain_rule p.config.level (request_at p.requests) p.responses p.closed ch x
+
+offered-plain : {w : ℕ} (p : Plain w) (e : End w) (ch : Channel) (x : Beat w) → KnowsPlain p e → offered (terms_of p) ch x e ≡ judged_later (rule_at p ch x) x e
+offered-plain p e ch x k = rw k.closed_is (judged (terms_of p) ch x e (request_at p.requests) p.responses p.accesses k.sent_whole k.requests_are k.response_is)
+
+-- a beat that breaks a rule
+pub offered-refused : {w : ℕ} (p : Plain w) (e : End w) (ch : Channel) (x : Beat w) (r : Rule) → KnowsPlain p e → Err r ≡ verdict (rule_at p ch x) → offered (terms_of p) ch x e ≡ refused r e
+offered-refused p e ch x r k broken = offered-plain p e ch x k ∙ rw (some_rule (rule_at p ch x) r broken) refl
+
+pub knows-refused : {w : ℕ} (p q : Plain w) (e : End w) (ch : Channel) (x : Beat w) (r : Rule) → KnowsPlain p e → Err r ≡ verdict (rule_at p ch x) → q.closed ≡ true → q.requests ≡ p.requests → q.responses ≡ p.responses
+    → KnowsPlain q (offered (terms_of p) ch x e).after
+knows-refused p q e ch x r k broken closed requests responses = rw (offered-refused p e ch x r k broken) (record {
+  closed_is = closed;
+  requests_are = λ s. rw requests (k.requests_are s);
+  response_is = responses ∙ k.response_is;
+  sent_whole = k.sent_whole;
+  answers_open = k.answers_open;
+  holds_nothing = k.holds_nothing;
+  has_no_copy = k.has_no_copy;
+})
+
+-- a beat that breaks none
+good_source : {w : ℕ} (p : Plain w) (e : End w) (x : BeatD w) → KnowsPlain p e → IsGoodResponse p.config.level x (request_at p.requests x.source) p.responses → pending (RequestSource x.source) e.past ≡ true
+good_source p e x k good = pending_here x (unfinished channel.D e.past) e.past k.answers_open (rw (k.requests_are x.source, k.response_is) at good.in_order)
+
+good_answer : {w : ℕ} (p : Plain w) (x : BeatD w) → IsGoodResponse p.config.level x (request_at p.requests x.source) p.responses → IsAccessAnswer x.opcode
+good_answer p x good = legal_answer p.config.level x p.accesses good.is_legal
+
+pub offered-taken : {w : ℕ} (p : Plain w) (e : End w) (ch : Channel) (x : Beat w) → KnowsPlain p e → Ok tt ≡ verdict (rule_at p ch x) → offered (terms_of p) ch x e ≡ silent (plain_verdict (request_at p.requests) p.responses x) (with_past (x ∷ e.past) e)
+offered-taken {w} p e ch x k none = offered-plain p e ch x k ∙ rw (no_rule (rule_at p ch x) none) (go (good_response p.config.level (request_at p.requests) p.responses p.closed ch x (no_rule (rule_at p ch x) none)))
+  where
+    go : (y : BeatD w) × (x ≡ D y) × IsGoodResponse p.config.level y (request_at p.requests y.source) p.responses → taken x e ≡ silent (plain_verdict (request_at p.requests) p.responses x) (with_past (x ∷ e.past) e)
+    go (y, is, good) = rw is (response_taken y e (request_at p.requests) p.responses (good_answer p y good) (good_source p e y k good) (k.requests_are y.source) k.response_is)
+
+pub knows-taken : {w : ℕ} (p q : Plain w) (e : End w) (ch : Channel) (x : Beat w) → KnowsPlain p e → Ok tt ≡ verdict (rule_at p ch x) → q.closed ≡ p.closed → q.responses ≡ grown x p.responses
+    → ((s : ℕ) → request_at q.requests s ≡ cond (ends_request p.responses x s) None (request_at p.requests s)) → KnowsPlain q (offered (terms_of p) ch x e).after
+knows-taken {w} p q e ch x k none closed responses requests = rw (offered-taken p e ch x k none) (go (good_response p.config.level (request_at p.requests) p.responses p.closed ch x (no_rule (rule_at p ch x) none)))
+  where
+    go : (y : BeatD w) × (x ≡ D y) × IsGoodResponse p.config.level y (request_at p.requests y.source) p.responses → KnowsPlain q (with_past (x ∷ e.past) e)
+    go (y, is, good) = rw is (response_known p q e y k (good_answer p y good) (good_source p e y k good) closed (rw is at responses) (λ s. rw is at requests s))
+
+-- ---- stalls
+
+waits_for_nothing : {w : ℕ} (l : Level) (ch : Channel) (x : BeatB w) (closed : Bool) → has_transfers l ≡ false → is_none (rule_if closed A3 (rule_if (is_sent_on ch) L1 (illegal l ch (B x)))) ≡ false
+unfolding illegal
+waits_for_nothing l ch x true low = refl
+waits_for_nothing l channel.A x false low = refl
+waits_for_nothing l channel.B x false low = rw low refl
+waits_for_nothing l channel.C x false low = refl
+waits_for_nothing l channel.D x false low = refl
+waits_for_nothing l channel.E x false low = refl
+
+-- no beat waits
+pub stalls-plain : {w : ℕ} (terms : Terms) (ch : Channel) (x : Beat w) (e : End w) → has_transfers terms.level ≡ false → stalls terms ch x e ≡ false
+unfolding stalls
+stalls-plain terms ch (A x) e low = and_right _ false refl
+stalls-plain terms ch (B x) e low = and_left _ _ (waits_for_nothing terms.level ch x e.closed low)
+stalls-plain terms ch (C x) e low = and_right _ false refl
+stalls-plain terms ch (D x) e low = and_right _ false refl
+stalls-plain terms ch (E x) e low = and_right _ false refl

@@ -1,2 +1,4 @@
+pub mod Offers
+pub mod Rows
 pub mod BitLemmas
 pub mod TableLemmas

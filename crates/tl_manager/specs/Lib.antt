@@ -1,4 +1,9 @@
 pub mod Bits
+pub mod Handing
 pub mod Held
+pub mod Holders
+pub mod Request
+pub mod Service
+pub mod Slave
 pub mod Table
 pub mod Word

@@ -3,8 +3,9 @@ use Rattle.std.proofs.Common.{◌≡◌, refl, lit≤}
 use Rattle.std.specs.Prelude.{ℕ, true, false, List, [], ◌∷◌, ◌-◌, ◌^◌, map, nat_le, replicate, Some, None}
 use Rattle.std.proofs.lemmas.Bool.{leb-true}
 use Rattle.tl_beat.specs.declared.beat.Beat.{Beat}
-use Rattle.tl_beat.specs.declared.beat.Beat.TheVariants.{A, C, E}
+use Rattle.tl_beat.specs.declared.beat.Beat.TheVariants.{A, C, D, E}
 use Rattle.tl_beat.specs.declared.beat.Link.{Link}
+use Rattle.tl_beat.specs.declared.opcode.Channel.{Channel}
 use Rattle.tl_beat.specs.declared.opcode.OpA.{OpA}
 use Rattle.tl_beat.specs.declared.opcode.OpA.TheVariants as a
 use Rattle.tl_beat.specs.declared.opcode.OpB.TheVariants as b
@@ -32,13 +33,18 @@ with_links p blocks trackers levels = record {
 abbrev pub link_of : ℕ → Link
 link_of n = record { 0 = n }
 
--- a beat with its link, on the channel that is its own
+-- a beat that is offered on a channel of a link
 pub record Offer (w : ℕ) : Type 0 where
   pub link : ℕ
+  pub channel : Channel
   pub beat : Beat w
 
+abbrev pub on_channel : {w : ℕ} → ℕ → Channel → Beat w → Offer w
+on_channel link ch x = record { link = link; channel = ch; beat = x }
+
+-- the same on the beat's own channel
 abbrev pub on : {w : ℕ} → ℕ → Beat w → Offer w
-on link x = record { link = link; beat = x }
+on link x = on_channel link (channel_of x) x
 
 abbrev pub with_first : {w : ℕ} → Answer w → List (Answer w) × End w → List (Answer w) × End w
 with_first answer later = (answer ∷ later.0, later.1)
@@ -49,7 +55,7 @@ and_then first later = with_first first.0 (later first.1)
 -- the answers to these beats, offered one after another, and the end afterwards
 abbrev pub offer_all : {w : ℕ} → Config → List (Offer w) → End w → List (Answer w) × End w
 offer_all config [] e = ([], e)
-offer_all config (x ∷ xs) e = and_then (offered config (link_of x.link) (channel_of x.beat) x.beat e) (offer_all config xs)
+offer_all config (x ∷ xs) e = and_then (offered config (link_of x.link) x.channel x.beat e) (offer_all config xs)
 
 -- the answers of a manager that has taken nothing yet
 abbrev pub answers_to : {w : ℕ} → Config → List (Offer w) → List (Answer w)
@@ -71,6 +77,17 @@ acquire {w} grow address = request a.AcquireBlock refl grow 6 0 address (2 ^ w -
 
 abbrev pub acquire_whole : {w : ℕ} → ℕ → ℕ → Beat w
 acquire_whole {w} grow address = request a.AcquirePerm refl grow 6 0 address (2 ^ w - 1)
+
+-- a beat of a Put of a block of ones
+abbrev pub put_block : ℕ → Beat 8
+put_block source = A (record { opcode = a.PutFullData; param = 0; size = 6; source = source; address = 0; mask = 255; lanes = Some (replicate 8 255); corrupt = false; carries = refl })
+
+-- a Put of 8 bytes whose beat is corrupt
+abbrev pub corrupted : ℕ → Beat 8
+corrupted address = A (record { opcode = a.PutFullData; param = 0; size = 3; source = 0; address = address; mask = 255; lanes = Some (replicate 8 0); corrupt = true; carries = refl })
+
+abbrev pub access_ack : Beat 8
+access_ack = D (record { opcode = d.AccessAck; param = 0; size = 0; source = 0; sink = 0; denied = false; lanes = None; corrupt = false; carries = refl })
 
 abbrev pub report : {w : ℕ} (opcode : OpC) → false ≡ c_carries_data opcode → ℕ → ℕ → Beat w
 report opcode carries param address = C (record { opcode = opcode; param = param; size = 6; source = 0; address = address; lanes = None; corrupt = false; carries = carries })

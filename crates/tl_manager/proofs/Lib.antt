@@ -1,4 +1,12 @@
+pub mod BitLemmas
+pub mod Deeds
+pub mod Free
+pub mod Judged
+pub mod Keeping
+pub mod Lawful
+pub mod Lists
 pub mod Offers
 pub mod Rows
-pub mod BitLemmas
+pub mod Sound
+pub mod Stalls
 pub mod TableLemmas

@@ -2,6 +2,7 @@ pub mod Bits
 pub mod Handing
 pub mod Held
 pub mod Holders
+pub mod Kept
 pub mod Request
 pub mod Service
 pub mod Slave

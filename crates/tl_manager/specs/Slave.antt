@@ -33,9 +33,13 @@ fresh = record { trace = []; closed = []; memory = λ address. 0 }
 
 -- ---- judging
 
--- the level of a link that there is and that isn't closed
+-- the level of a link, where there is one
+abbrev pub level_of : Config → ℕ → Option Level
+level_of config link = option_map (λ client. client.level) (slice_get config.clients.items link)
+
+-- the level of a link that isn't closed
 abbrev pub open_level : {w : ℕ} → Config → Link → End w → Option Level
-open_level config link e = if is_one_of link.0 e.closed then None else option_map (λ client. client.level) (slice_get config.clients.items link.0)
+open_level config link e = if is_one_of link.0 e.closed then None else level_of config link.0
 
 -- the beat is of a channel on which clients send
 abbrev pub is_from_client : {w : ℕ} → Beat w → Bool

@@ -1,5 +1,5 @@
 -- What holds of the manager's end holds after each beat that it is offered.
-use Rattle.std.proofs.Common.{◌≡◌, ℕ, zero, suc, ◌<◌, ◌==◌, Bool, true, false, not, cond, ◌&&◌, ◌||◌, List, [], ◌∷◌, ◌++◌, length, map, Some, None, refl, sym, arith, inl, inr}
+use Rattle.std.proofs.Common.{ap, ◌∙◌, ◌≡◌, ℕ, zero, suc, ◌<◌, ◌==◌, Bool, true, false, not, cond, ◌&&◌, ◌||◌, List, [], ◌∷◌, ◌++◌, length, map, Some, None, refl, sym, arith, inl, inr}
 use Rattle.std.specs.Prelude.{nat_le, filter, option_map, is_some, if◌then◌else◌}
 use Rattle.std.proofs.lemmas.Bool.{or_parts, leb-false, cases_eq, ne_eqb}
 use Rattle.std.proofs.lemmas.List.{length-map}
@@ -29,7 +29,10 @@ use Rattle.tl_manager.specs.Service.{Service, is_ended_by, least_free, trackers_
 use Rattle.tl_manager.specs.Slave.{End, fresh, level_of, Judgement, Breaks, Waits, Passes, is_from_client, must_wait, judged, deed, offered_as, offered}
 use Rattle.tl_manager.proofs.Deeds.{deed_handable, handed_sound}
 use Rattle.tl_manager.proofs.Free.{apart_filter, each_map_filter, least_free-is_free, least_free-le}
+use Rattle.tl_manager.proofs.Handed.{whole-handed, whole-taken, recorded-taken, recorded-handed}
 use Rattle.tl_manager.proofs.Judged.{passed}
+use Rattle.tl_manager.specs.Holders.{recorded}
+use Rattle.tl_manager.specs.Record.{granted_by_all, recorded_after}
 use Rattle.tl_manager.proofs.Lawful.{IsHandable}
 
 -- what holds of the requests in service
@@ -136,29 +139,47 @@ handed_served config (x ∷ handed) t each ok =
 -- ---- any beat that is offered
 
 are_served : {w : ℕ} (config : Config) (e : End w) → IsKept config e → AreServed config (services e.trace)
-are_served config e kept = record { tracked = kept.tracked; trackers_apart = kept.trackers_apart; blocks_apart = kept.blocks_apart }
+are_served config e before = record { tracked = before.tracked; trackers_apart = before.trackers_apart; blocks_apart = before.blocks_apart }
 
 kept_as : {w : ℕ} (j : Judgement) (config : Config) (link : Link) (ch : Channel) (x : Beat w) (e : End w) → IsWidth w → judged config link ch x e ≡ j → IsKept config e → IsKept config (offered_as j config link x e).1
-kept_as (Breaks r) config link ch x e width is kept = record { sound = kept.sound; tracked = kept.tracked; trackers_apart = kept.trackers_apart; blocks_apart = kept.blocks_apart }
-kept_as Waits config link ch x e width is kept = kept
-kept_as Passes config link ch x e width is kept =
+kept_as (Breaks r) config link ch x e width is before = record { sound = before.sound; whole = before.whole; tracked = before.tracked; trackers_apart = before.trackers_apart; blocks_apart = before.blocks_apart }
+kept_as Waits config link ch x e width is before = before
+kept_as Passes config link ch x e width is before =
     let ok = passed config link ch x e is in
-    let handable = deed_handable config link x e width ok.sound kept.sound in
-    let after = handed_served config (deed config link x e).handed ((link, x) ∷ e.trace) handable (taken_beat config link x e.trace ok.waits (are_served config e kept)) in
+    let handable = deed_handable config link x e width ok.sound before.sound in
+    let after = handed_served config (deed config link x e).handed ((link, x) ∷ e.trace) handable (taken_beat config link x e.trace ok.waits (are_served config e before)) in
     record {
-      sound = handed_sound config (deed config link x e).handed ((link, x) ∷ e.trace) handable (ok.sound, kept.sound);
+      sound = handed_sound config (deed config link x e).handed ((link, x) ∷ e.trace) handable (ok.sound, before.sound);
+      whole = λ client. whole-handed config client (deed config link x e).handed ((link, x) ∷ e.trace) width handable (whole-taken client link x e.trace ok.theirs (before.whole client));
       tracked = after.tracked;
       trackers_apart = after.trackers_apart;
       blocks_apart = after.blocks_apart;
     }
 
-pub kept : {w : ℕ} (config : Config) (link : Link) (ch : Channel) (x : Beat w) (e : End w) → IsWidth w → IsKept config e → IsKept config (offered config link ch x e).1
+pub kept-offered : {w : ℕ} (config : Config) (link : Link) (ch : Channel) (x : Beat w) (e : End w) → IsWidth w → IsKept config e → IsKept config (offered config link ch x e).1
 unfolding offered
-kept config link ch x e width ok = kept_as (judged config link ch x e) config link ch x e width refl ok
+kept-offered config link ch x e width ok = kept_as (judged config link ch x e) config link ch x e width refl ok
 
 pub fresh-kept : {w : ℕ} (config : Config) → IsKept {w = w} config fresh
-unfolding services
-fresh-kept config = record { sound = tt; tracked = tt; trackers_apart = tt; blocks_apart = tt }
+unfolding services unfinished on_link
+fresh-kept config = record { sound = tt; whole = λ client. (refl, refl); tracked = tt; trackers_apart = tt; blocks_apart = tt }
+
+-- ---- what is recorded
+
+recorded_as : {w : ℕ} (j : Judgement) (config : Config) (link : Link) (ch : Channel) (x : Beat w) (e : End w) (client block : ℕ) → IsWidth w → judged config link ch x e ≡ j → IsKept config e
+    → recorded client block (offered_as j config link x e).1.trace ≡ recorded_after (offered_as j config link x e).0 (link, x) e.trace client block
+recorded_as (Breaks r) config link ch x e client block width is before = refl
+recorded_as Waits config link ch x e client block width is before = refl
+recorded_as Passes config link ch x e client block width is before =
+    let ok = passed config link ch x e is in
+    let handable = deed_handable config link x e width ok.sound before.sound in
+    recorded-handed config client block (deed config link x e).handed ((link, x) ∷ e.trace) width handable (whole-taken client link x e.trace ok.theirs (before.whole client))
+    ∙ ap (granted_by_all (deed config link x e).handed ((link, x) ∷ e.trace) client block) (recorded-taken client link block x e.trace ok.theirs)
+
+pub recorded-offered : {w : ℕ} (config : Config) (link : Link) (ch : Channel) (x : Beat w) (e : End w) (client block : ℕ) → IsWidth w → IsKept config e
+    → recorded client block (offered config link ch x e).1.trace ≡ recorded_after (offered config link ch x e).0 (link, x) e.trace client block
+unfolding offered
+recorded-offered config link ch x e client block width before = recorded_as (judged config link ch x e) config link ch x e client block width refl before
 
 -- ---- what is handed out is lawful
 
@@ -171,11 +192,11 @@ lawful_message {w} config x width ok =
     legal_beat l is i e = rw (← same_channel x.1 i) (rw is at e)
 
 lawful_as : {w : ℕ} (j : Judgement) (config : Config) (link : Link) (ch : Channel) (x : Beat w) (e : End w) → IsWidth w → judged config link ch x e ≡ j → IsKept config e → IsAnswerLawful config (offered_as j config link x e).0
-lawful_as (Breaks r) config link ch x e width is kept = tt
-lawful_as Waits config link ch x e width is kept = tt
-lawful_as Passes config link ch x e width is kept =
+lawful_as (Breaks r) config link ch x e width is before = tt
+lawful_as Waits config link ch x e width is before = tt
+lawful_as Passes config link ch x e width is before =
     let ok = passed config link ch x e is in
-    each_weaker (IsHandable config) (λ y. (illegal_message_at (level_of config y.0.0) y.1 ≡ None) × IsClean y.1) (deed config link x e).handed (λ y h. lawful_message config y width h) (deed_handable config link x e width ok.sound kept.sound)
+    each_weaker (IsHandable config) (λ y. (illegal_message_at (level_of config y.0.0) y.1 ≡ None) × IsClean y.1) (deed config link x e).handed (λ y h. lawful_message config y width h) (deed_handable config link x e width ok.sound before.sound)
 
 pub lawful : {w : ℕ} (config : Config) (link : Link) (ch : Channel) (x : Beat w) (e : End w) → IsWidth w → IsKept config e → IsAnswerLawful config (offered config link ch x e).0
 unfolding offered

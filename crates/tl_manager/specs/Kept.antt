@@ -5,13 +5,15 @@ use Rattle.tl_beat.specs.declared.beat.Link.{Link}
 use Rattle.tl_burst.specs.declared.message.Message.{Message}
 use Rattle.tl_burst.specs.declared.message.Message.TheVariants.{A, B, C, D, E}
 use Rattle.tl_burst.specs.Burst.{beat_of}
-use Rattle.tl_burst.specs.Messages.{channel_of}
+use Rattle.tl_beat.specs.declared.opcode.Channel.TheVariants as channel
+use Rattle.tl_burst.specs.Messages.{channel_of, unfinished}
 use Rattle.tl_rules.specs.declared.config.Config.{Config}
 use Rattle.tl_rules.specs.declared.level.Level.{Level}
 use Rattle.tl_rules.specs.declared.rule.Rule.{Rule}
 use Rattle.tl_rules.specs.declared.rule.Rule.TheVariants.{L1}
 use Rattle.tl_rules.specs.Agent.{is_outside, is_spoiled}
 use Rattle.tl_rules.specs.History.{block_at}
+use Rattle.tl_rules.specs.Conformance.{on_link}
 use Rattle.tl_rules.specs.Legality.{illegal, illegal_message, is_one_of}
 use Rattle.tl_manager.specs.Handing.{Handed}
 use Rattle.tl_manager.specs.Service.{Service, services, trackers_of}
@@ -69,6 +71,8 @@ blocks_of services = map (λ s. block_at s.request.address) services
 pub record IsKept {w : ℕ} (config : Config) (e : End w) : Type 0 where
   -- each beat that was taken or handed out
   pub sound : Each (IsSound config) e.trace
+  -- no message that was handed out is unfinished
+  pub whole : (client : ℕ) → (unfinished channel.B (on_link client e.trace) ≡ []) × (unfinished channel.D (on_link client e.trace) ≡ [])
   -- the trackers of the requests in service, and their blocks
   pub tracked : Each (λ n. n < config.trackers) (trackers_of (services e.trace))
   pub trackers_apart : AreApart (trackers_of (services e.trace))

@@ -3,6 +3,7 @@ pub mod Handing
 pub mod Held
 pub mod Holders
 pub mod Kept
+pub mod Record
 pub mod Request
 pub mod Service
 pub mod Slave

@@ -8,7 +8,9 @@ ghost use Rattle.tl_beat.specs.declared.beat.Link.{Link};
 ghost use Rattle.tl_beat.specs.declared.opcode.Channel.{Channel};
 ghost use Rattle.tl_beat.specs.Width.{IsWidth};
 ghost use Rattle.tl_rules.specs.declared.config.Config.{Config};
+ghost use Rattle.tl_manager.specs.Holders.{recorded};
 ghost use Rattle.tl_manager.specs.Kept.{IsKept, IsAnswerLawful, is_stalled};
+ghost use Rattle.tl_manager.specs.Record.{recorded_after};
 ghost use Rattle.tl_manager.specs.Slave.{End, fresh, offered, stalls};
 
 /// What holds of a manager's end from the first beat that it is offered on, and that every message
@@ -30,4 +32,14 @@ pub fn stalls_requests<const W: usize>()
         stalls config link ch (Beat.C x) e ≡ false }
     ensures never_e { (config : Config) (link : Link) (ch : Channel) (x : BeatE) (e : End W) →
         stalls {w = W} config link ch (Beat.E x) e ≡ false }
+{}
+
+/// What is recorded of a client and a block after any beat: what the ProbeAck or Release leaves that
+/// the beat completes, then what the Grant gives that is handed out, and otherwise what was before.
+pub fn records_reports<const W: usize>()
+    requires { IsWidth W }
+    ensures { (config : Config) (link : Link) (ch : Channel) (x : Beat W) (e : End W) (client block : ℕ) →
+        IsKept config e →
+        recorded client block (offered config link ch x e).1.trace
+        ≡ recorded_after (offered config link ch x e).0 (link, x) e.trace client block }
 {}

@@ -10,5 +10,6 @@ pub mod Numbers
 pub mod Places
 pub mod Rooms
 pub mod Rows
+pub mod Takeable
 pub mod Verdicts
 pub mod Widths

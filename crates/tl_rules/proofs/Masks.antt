@@ -12,7 +12,7 @@ use Rattle.tl_rules.specs.Legality.{each_below}
 
 -- ---- a run of ones
 
-bit_at_mod : (n w i : ℕ) → i < w → bit_at (n % 2 ^ w) i ≡ bit_at n i
+pub bit_at_mod : (n w i : ℕ) → i < w → bit_at (n % 2 ^ w) i ≡ bit_at n i
 bit_at_mod n w i lt = sym (bit_at_cat_low (n / 2 ^ w) w (n % 2 ^ w) i lt) ∙ ap (λ m. bit_at m i) (shr_split n w)
 
 bit_at_shifted_low : (a k i : ℕ) → i < k → bit_at (a * 2 ^ k) i ≡ 0

@@ -1,9 +1,9 @@
 //! The L rules of each channel over single fields: first the rules of the control fields, which the
 //! beats of a burst share, then those of what each beat has of its own.
 
-ghost use Rattle.std.specs.Prelude.{◌≡◌, ◌≤◌, OnOk};
+ghost use Rattle.std.specs.Prelude.{◌≡◌, ◌<◌, ◌≤◌, ◌^◌, IsTrue, OnOk};
 ghost use Rattle.tl_beat.specs.Width.{IsWidth};
-ghost use Rattle.tl_rules.specs.Legality.{verdict};
+ghost use Rattle.tl_rules.specs.Legality.{is_aligned, verdict};
 ghost use Rattle.tl_rules.specs.Control.{a_control, b_control, c_control, d_control};
 ghost use Rattle.tl_rules.specs.Control.{a_own, b_own, c_own, d_own};
 
@@ -24,6 +24,7 @@ pub fn control_of_a<const W: usize>(
     requires { IsWidth W }
     ensures value { result ≡ verdict (a_control W level opcode param size address) }
     ensures small { OnOk result (size ≤ 6) }
+    ensures aligned { OnOk result (IsTrue (is_aligned address size)) }
 {
     if !field::a_opcode_fits(level, opcode) {
         return Err(Rule::L1);
@@ -50,7 +51,8 @@ pub fn own_of_a<const W: usize>(
 ) -> Result<(), Rule>
     requires width { IsWidth W }
     requires small { size ≤ 6 }
-    ensures { result ≡ verdict (a_own W opcode size address mask corrupt) }
+    ensures value { result ≡ verdict (a_own W opcode size address mask corrupt) }
+    ensures narrow { IsTrue (is_aligned address size) → OnOk result (mask < 2 ^ W) }
 {
     let fits = match opcode {
         OpA::PutPartialData => mask::is_part::<W>(size, address, mask),
@@ -76,6 +78,7 @@ pub fn control_of_b(
 ) -> Result<(), Rule>
     ensures value { result ≡ verdict (b_control level opcode param size source address) }
     ensures small { OnOk result (size ≤ 6) }
+    ensures aligned { OnOk result (IsTrue (is_aligned address size)) }
 {
     if !field::transfers(level) {
         return Err(Rule::L1);
@@ -105,7 +108,8 @@ pub fn own_of_b<const W: usize>(
 ) -> Result<(), Rule>
     requires width { IsWidth W }
     requires small { size ≤ 6 }
-    ensures { result ≡ verdict (b_own W opcode size address mask corrupt) }
+    ensures value { result ≡ verdict (b_own W opcode size address mask corrupt) }
+    ensures narrow { IsTrue (is_aligned address size) → OnOk result (mask < 2 ^ W) }
 {
     if !mask::is_full::<W>(size, address, mask) {
         return Err(Rule::L5);
@@ -125,7 +129,8 @@ pub fn control_of_c(
     source: u8,
     address: u32,
 ) -> Result<(), Rule>
-    ensures { result ≡ verdict (c_control level opcode param size source address) }
+    ensures value { result ≡ verdict (c_control level opcode param size source address) }
+    ensures small { OnOk result (size ≤ 6) }
 {
     if !field::transfers(level) {
         return Err(Rule::L1);
@@ -164,7 +169,8 @@ pub fn control_of_d<const W: usize>(
     sink: u8,
 ) -> Result<(), Rule>
     requires { IsWidth W }
-    ensures { result ≡ verdict (d_control W level opcode param size sink) }
+    ensures value { result ≡ verdict (d_control W level opcode param size sink) }
+    ensures small { OnOk result (size ≤ 6) }
 {
     if !field::d_opcode_fits(level, opcode) {
         return Err(Rule::L1);

@@ -122,7 +122,8 @@ pub fn a_size_fits<const W: usize>(level: Level, opcode: OpA, size: u8) -> bool
 /// Whether a message of channel D may have this size at the level.
 pub fn d_size_fits<const W: usize>(level: Level, opcode: OpD, size: u8) -> bool
     requires { IsWidth W }
-    ensures { result ≡ d_has_size W level opcode size }
+    ensures value { result ≡ d_has_size W level opcode size }
+    ensures small { IsTrue result → size ≤ 6 }
 {
     match opcode {
         OpD::Grant | OpD::GrantData | OpD::ReleaseAck => size == 6,

@@ -1,9 +1,10 @@
 //! Masks: which lanes of a beat carry a byte of its message.
 
-ghost use Rattle.std.specs.Prelude.{◌≡◌, ◌<◌, ◌≤◌, ℕ};
+ghost use Rattle.std.specs.Prelude.{◌≡◌, ◌<◌, ◌≤◌, ◌^◌, ℕ, IsTrue};
+ghost use Rattle.std.specs.Bool.{OnTrue};
 ghost use Rattle.tl_beat.specs.Width.{IsWidth};
 ghost use Rattle.tl_burst.specs.Burst.{bit};
-ghost use Rattle.tl_rules.specs.Legality.{is_lane, is_full_mask, is_part_mask};
+ghost use Rattle.tl_rules.specs.Legality.{is_aligned, is_lane, is_full_mask, is_part_mask};
 
 /// The lanes that carry a byte of a message of this size and address.
 fn lanes<const W: usize>(size: u8, address: u32) -> u16
@@ -24,7 +25,8 @@ fn lanes<const W: usize>(size: u8, address: u32) -> u16
 pub fn is_full<const W: usize>(size: u8, address: u32, mask: u16) -> bool
     requires width { IsWidth W }
     requires small { size ≤ 6 }
-    ensures { result ≡ is_full_mask W size address mask }
+    ensures value { result ≡ is_full_mask W size address mask }
+    ensures narrow { IsTrue (is_aligned address size) → OnTrue result (mask < 2 ^ W) }
 {
     mask == lanes::<W>(size, address)
 }
@@ -33,7 +35,8 @@ pub fn is_full<const W: usize>(size: u8, address: u32, mask: u16) -> bool
 pub fn is_part<const W: usize>(size: u8, address: u32, mask: u16) -> bool
     requires width { IsWidth W }
     requires small { size ≤ 6 }
-    ensures { result ≡ is_part_mask W size address mask }
+    ensures value { result ≡ is_part_mask W size address mask }
+    ensures narrow { IsTrue (is_aligned address size) → OnTrue result (mask < 2 ^ W) }
 {
     mask & !lanes::<W>(size, address) == 0
 }

@@ -5,3 +5,5 @@ pub mod RunLemmas
 pub mod DecodedLemmas
 pub mod CutLemmas
 pub mod SpelledLemmas
+pub mod HeaderLemmas
+pub mod JudgedLemmas

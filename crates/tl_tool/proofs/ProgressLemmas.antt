@@ -122,14 +122,14 @@ module _ {J : Type 0} (knows : J → List (List ℕ) → List ℕ → Type 0) (t
   unfolding lines_of
   all_ended state read text p none = all_lines state read text p ∙ rw none (append-nil p.lines)
 
-  pub finishes_clean : (state : Lines J) (was is : List ℕ) → state.begun.items ≡ [] → Finishes knows tells state.judge was is None → FinishesInput knows tells state was is Clean
+  pub finishes_clean : (state : Lines J) (was is : List ℕ) → state.begun.items ≡ [] → Finishes knows tells state.judge state.count was is None → FinishesInput knows tells state was is Clean
   finishes_clean state was is none ends = λ read before p.
-      rw (all_ended state read (before ++ was) p none) (ends p.lines before p.known)
+      rw (all_ended state read (before ++ was) p none) (ends p.lines before p.known p.counted)
 
-  pub finishes_broken : (state : Lines J) (was said is : List ℕ) (fault : Fault) → state.begun.items ≡ [] → Finishes knows tells state.judge was said (Some fault)
+  pub finishes_broken : (state : Lines J) (was said is : List ℕ) (fault : Fault) → state.begun.items ≡ [] → Finishes knows tells state.judge state.count was said (Some fault)
       → is ≡ said ++ fault_text (state.count + 1) fault → FinishesInput knows tells state was is Broken
   finishes_broken state was said is fault none ends says = λ read before p. (
-    rw (all_ended state read (before ++ was) p none, says, p.counted) (ends p.lines before p.known),
+    rw (all_ended state read (before ++ was) p none, says, p.counted) (ends p.lines before p.known p.counted),
     record {
       front = read;
       rest = [];

@@ -8,4 +8,9 @@ pub mod Run
 pub mod Cuts
 pub mod Text
 pub mod Decoded
+pub mod Width
+pub mod Trace
+pub mod TraceReading
+pub mod Judged
+pub mod Watching
 pub mod Told

@@ -36,7 +36,7 @@ impl<const W: usize> Judge for Decoder<W> {
         Fault::Line(LineFault::F1)
     }
 
-    fn finish(&mut self, _out: &mut Vec<u8>) -> Result<Option<Fault>, AllocError> {
+    fn finish(&mut self, _count: u64, _out: &mut Vec<u8>) -> Result<Option<Fault>, AllocError> {
         Ok(None)
     }
 }

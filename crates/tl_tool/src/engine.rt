@@ -79,7 +79,8 @@ fn close<J: Judge, W: Write>(
 }
 
 /// Judges the lines of an input in turn, up to the first at fault, and writes what is said of each
-/// before more of the input is read. The memory that it takes doesn't grow with the input.
+/// before more of the input is read. Apart from the judge's own, the memory that it takes doesn't grow
+/// with the input.
 pub fn judge_input<J: Judge, R: Read, W: Write>(
     alloc: Global,
     judge: J,

@@ -1,16 +1,53 @@
 //! What a line can be at fault for.
 
 ghost use Rattle.std.specs.Prelude.{◌≡◌, ◌++◌, OnOk};
-ghost use Rattle.tl_tool.specs.Fault.{fault_name, fault_text};
+ghost use Rattle.tl_tool.specs.Fault.{fault_name, fault_text, rule_name};
 
 use itoa::Buffer;
 use std::alloc::AllocError;
 use tl_beat::fault::LineFault;
+use tl_rules::rule::Rule;
 
 /// What a line is at fault for.
 #[derive(Clone, Copy, Debug, PartialEq, Eq)]
 pub enum Fault {
+    /// The header of a trace was expected.
+    Header,
+    /// The line spells no beat.
     Line(LineFault),
+    /// The beat breaks a rule.
+    Rule(Rule),
+}
+
+fn rule_name(rule: Rule) -> &'static str
+    ensures { result.now ≡ rule_name rule }
+{
+    match rule {
+        Rule::L1 => "L1",
+        Rule::L2 => "L2",
+        Rule::L3 => "L3",
+        Rule::L4 => "L4",
+        Rule::L5 => "L5",
+        Rule::L6 => "L6",
+        Rule::L7 => "L7",
+        Rule::S1 => "S1",
+        Rule::H1 => "H1",
+        Rule::H2 => "H2",
+        Rule::H3 => "H3",
+        Rule::H4 => "H4",
+        Rule::H5 => "H5",
+        Rule::H6 => "H6",
+        Rule::H7 => "H7",
+        Rule::H8 => "H8",
+        Rule::H9 => "H9",
+        Rule::H10 => "H10",
+        Rule::H11 => "H11",
+        Rule::H12 => "H12",
+        Rule::H13 => "H13",
+        Rule::A1 => "A1",
+        Rule::A2 => "A2",
+        Rule::A3 => "A3",
+    }
 }
 
 impl Fault {
@@ -25,6 +62,8 @@ impl Fault {
             Fault::Line(LineFault::F4) => "F4",
             Fault::Line(LineFault::F5) => "F5",
             Fault::Line(LineFault::F6) => "F6",
+            Fault::Header => "F7",
+            Fault::Rule(rule) => rule_name(rule),
         }
     }
 }

@@ -24,7 +24,8 @@ pub trait Judge: Drop {
     fn open_fault(&self) -> Fault
         ensures { (line said : List ℕ) → IsOpen line → Stops knows tells self.now line said said result };
 
-    /// Appends what is to be written at the end of the input, or answers that a line is missing there.
-    fn finish(&mut self, out: &mut Vec<u8>) -> Result<Option<Fault>, AllocError>
-        ensures { IfOk result (Finishes knows tells self.old out.old.items out.new.items) };
+    /// Appends what is to be written at the end of an input of this many lines, or answers that a line
+    /// is missing there.
+    fn finish(&mut self, count: u64, out: &mut Vec<u8>) -> Result<Option<Fault>, AllocError>
+        ensures { IfOk result (Finishes knows tells self.old count out.old.items out.new.items) };
 }

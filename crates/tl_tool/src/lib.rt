@@ -1,9 +1,10 @@
-//! The command's engine: reads lines of text and writes a text for each, in constant memory.
+//! The command's engine: reads lines of text, line by line, and writes what a command says of them.
 #![tactic(auto)]
 
 pub mod decoder;
 pub mod engine;
 pub mod fault;
+pub mod header;
 pub mod judge;
 pub mod lines;
 pub mod params;
@@ -11,5 +12,6 @@ pub mod put;
 pub mod status;
 pub mod text;
 pub mod tool;
+pub mod watcher;
 
 pub use tl_words::{command, words};

@@ -134,7 +134,7 @@ impl<J: Judge> Lines<J> {
         if !self.begun.is_empty() {
             return self.stop(out);
         }
-        match self.judge.finish(out)? {
+        match self.judge.finish(self.count, out)? {
             None => Ok(Status::Clean),
             Some(fault) => {
                 put_fault(number_after(self.count)?, fault, out)?;

@@ -7,12 +7,13 @@ ghost use Rattle.tl_tool.specs.Told.{text_told};
 use crate::decoder::Decoder;
 use crate::engine::judge_input;
 use crate::status::{Status, ToolFault};
+use crate::watcher::Watcher;
 use std::alloc::Global;
 use std::io::{Read, Write};
 use tl_words::command::{Command, Width};
 
 /// Runs a command: reads the input to its end or to the first line at fault, and writes the command's
-/// text of it. Its memory doesn't grow with the input.
+/// text of it. `decode` takes memory that doesn't grow with the input, `monitor` keeps the beats besides.
 ///
 /// `Broken` says that a `line N X` was written, and that it stands whatever follows the input, unless
 /// line N is a rest of at most 256 bytes without LF at the end of the input. `Clean` comes at the end of
@@ -34,6 +35,7 @@ pub fn run_tool<R: Read, W: Write>(
             Width::Eight => judge_input(alloc, Decoder::<8> {}, reader, writer),
             Width::Sixteen => judge_input(alloc, Decoder::<16> {}, reader, writer),
         },
+        Command::Monitor => judge_input(alloc, Watcher::Waiting(alloc), reader, writer),
     }
 }
 

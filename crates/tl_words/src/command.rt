@@ -13,4 +13,6 @@ pub enum Width {
 pub enum Command {
     /// Writes a readable line for each beat line of this width.
     Decode { width: Width },
+    /// Judges a recorded trace.
+    Monitor,
 }

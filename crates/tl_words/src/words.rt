@@ -1,10 +1,10 @@
-//! Reads the program's words: `tltool decode [--width 4|8|16] [FILE]`.
+//! Reads the program's words: `tltool decode [--width 4|8|16] [FILE]` and `tltool monitor [FILE]`.
 
 ghost use Rattle.std.specs.Prelude.{◌≡◌, IfOk, false, List, Some, map, option_map};
 ghost use Rattle.std.specs.String.{string_bytes};
 ghost use Rattle.clap.specs.Words.{Row, Text, app_of, subcommand_of};
 ghost use Rattle.clap.specs.declared.builder.command.Command.TheViews.{out-Command};
-ghost use Rattle.tl_words.specs.Tool.{command_in, decode_of, file_in, tool_of, width_named};
+ghost use Rattle.tl_words.specs.Tool.{command_in, command_named, decode_of, file_in, monitor_of, tool_of, width_named};
 
 use crate::command::{Command, Width};
 use clap::Arg;
@@ -45,14 +45,26 @@ fn decode<'a>(alloc: Global) -> Result<clap::Command<'a>, AllocError>
         .arg(file)
 }
 
+fn monitor<'a>(alloc: Global) -> Result<clap::Command<'a>, AllocError>
+    ensures app { IfOk result (λ c. app_of c ≡ monitor_of) }
+    ensures local { IfOk result (λ c. (out-Command c).has_globals ≡ false) }
+{
+    let file = Arg::new(alloc, "FILE").help("The trace to judge [default: standard input]");
+    clap::Command::new(alloc, "monitor")
+        .about("Judges a recorded trace, up to the first beat that breaks a rule")
+        .arg(file)
+}
+
 fn tool<'a>(alloc: Global) -> Result<clap::Command<'a>, AllocError>
     ensures { IfOk result (λ c. app_of c ≡ tool_of) }
 {
     let decode = decode(alloc)?;
+    let monitor = monitor(alloc)?;
     clap::Command::new(alloc, "tltool")
         .about("Reads, judges and runs TileLink traces")
         .subcommand_required(true)
-        .subcommand(decode)
+        .subcommand(decode)?
+        .subcommand(monitor)
 }
 
 /// The width that a word stands for, 8 bytes where there is no word.
@@ -65,6 +77,20 @@ fn width_named(word: Option<&str>) -> Option<Width>
         Some("8") => Some(Width::Eight),
         Some("16") => Some(Width::Sixteen),
         Some(_) => None,
+    }
+}
+
+/// The command of this name, with the word of its width.
+fn command_named(name: &str, width: Option<&str>) -> Option<Command>
+    ensures { result ≡ command_named name.now (option_map (λ s. s.now) width.entry) }
+{
+    match name {
+        "decode" => {
+            let width = width_named(width)?;
+            Some(Command::Decode { width })
+        }
+        "monitor" => Some(Command::Monitor),
+        _ => None,
     }
 }
 
@@ -81,20 +107,20 @@ fn copied(alloc: Global, text: Option<&str>) -> Result<Option<String>, AllocErro
 /// a request for help are a `Usage`, whose text and status are `clap`'s.
 pub fn invocation(alloc: Global, words: &[String]) -> Result<(Command, Option<String>), WordsFault>
     ensures { IfOk result (λ r. (name : Text) × (rows : List Row) × (subcommand_of tool_of (map string_bytes words.now) ≡ Some (name, rows))
-        × (command_in rows ≡ Some r.0) × (option_map string_bytes r.1 ≡ file_in rows)) }
+        × (command_in name rows ≡ Some r.0) × (option_map string_bytes r.1 ≡ file_in rows)) }
 {
     let mut tool = tool(alloc)?;
     let matches = tool.try_get_matches_from_mut(words)?;
-    let Some((_, found)) = matches.subcommand() else {
+    let Some((name, found)) = matches.subcommand() else {
         let error = tool.error(ErrorKind::MissingSubcommand, "a subcommand is required")?;
         return Err(WordsFault::Usage(error));
     };
-    let Some(width) = width_named(found.get_str("width")) else {
+    let Some(command) = command_named(name, found.get_str("width")) else {
         let error = tool.error(ErrorKind::InvalidValue, "the width is 4, 8 or 16 bytes")?;
         return Err(WordsFault::Usage(error));
     };
     let file = copied(alloc, found.get_str("FILE"))?;
-    Ok((Command::Decode { width }, file))
+    Ok((command, file))
 }
 
 #[cfg(test)]

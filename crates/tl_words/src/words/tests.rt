@@ -11,26 +11,31 @@ fn given(alloc: Global, words: &[&str]) -> Result<Vec<String>, AllocError> {
 
 #[test]
 fn gives_the_command_and_the_file(rt: HostRuntime) -> Result<(), Fail> {
-    let rows: [(&[&str], Width, Option<&str>); 4] = [
-        (&["tltool", "decode"], Width::Eight, None),
+    let four = Command::Decode { width: Width::Four };
+    let eight = Command::Decode {
+        width: Width::Eight,
+    };
+    let sixteen = Command::Decode {
+        width: Width::Sixteen,
+    };
+    let rows: [(&[&str], Command, Option<&str>); 6] = [
+        (&["tltool", "decode"], eight, None),
+        (&["tltool", "decode", "beats.txt"], eight, Some("beats.txt")),
+        (&["tltool", "decode", "--width", "4"], four, None),
+        (&["tltool", "decode", "--width=16", "-"], sixteen, Some("-")),
+        (&["tltool", "monitor"], Command::Monitor, None),
         (
-            &["tltool", "decode", "beats.txt"],
-            Width::Eight,
-            Some("beats.txt"),
-        ),
-        (&["tltool", "decode", "--width", "4"], Width::Four, None),
-        (
-            &["tltool", "decode", "--width=16", "-"],
-            Width::Sixteen,
-            Some("-"),
+            &["tltool", "monitor", "two_caches.trace"],
+            Command::Monitor,
+            Some("two_caches.trace"),
         ),
     ];
-    for (words, width, file) in rows {
+    for (words, wanted, file) in rows {
         let words = given(rt.alloc(), words)?;
         let Ok((command, name)) = invocation(rt.alloc(), words.as_slice()) else {
             panic!(rt; "no command");
         };
-        assert!(rt; command == Command::Decode { width });
+        assert!(rt; command == wanted);
         assert!(rt; name.as_ref().map(|name| name.as_str()) == file);
     }
     Ok(())
@@ -38,13 +43,16 @@ fn gives_the_command_and_the_file(rt: HostRuntime) -> Result<(), Fail> {
 
 #[test]
 fn refuses_other_words(rt: HostRuntime) -> Result<(), Fail> {
-    let rows: [(&[&str], i32); 6] = [
+    let rows: [(&[&str], i32); 9] = [
         (&["tltool"], 2),
         (&["tltool", "encode"], 2),
         (&["tltool", "decode", "--width", "5"], 2),
         (&["tltool", "decode", "a", "b"], 2),
+        (&["tltool", "monitor", "--width", "4"], 2),
+        (&["tltool", "monitor", "a", "b"], 2),
         (&["tltool", "--help"], 0),
         (&["tltool", "decode", "--help"], 0),
+        (&["tltool", "monitor", "--help"], 0),
     ];
     for (words, status) in rows {
         let words = given(rt.alloc(), words)?;

@@ -24,11 +24,11 @@ pub returns-in_err-own_of_a : goal.returns-in_err-own_of_a
 returns-in_err-own_of_a g c =
     let p = err_from_is_err_and c.from_residual-in_err-own_of_a.result c.from_residual-in_err-own_of_a.ensures.1 in
     let control = passed_control c.args.level channel.A (A c.args.message.now) _ (a_owns c.args.message.now) (a_beats c.args.level c.args.message.now) (sym c.in_ok-control_of_a.was ∙ c.control_of_a.ensures.value) in
-    let own : Err c.in_err-own_of_a.field-0.0 ≡ verdict (a_owns c.args.message.now c.loop-i.i) = c.in_err-own_of_a.ensures ∙ rw (c.mask_of-mask.ensures, c.bit_of.ensures) refl in
+    let own : Err c.in_err-own_of_a.field-0.0 ≡ verdict (a_owns c.args.message.now c.loop-i.i) = c.in_err-own_of_a.ensures.value ∙ rw (c.mask_of-mask.ensures, c.bit_of.ensures) refl in
     p.1 ∙ ap Err p.2 ∙ sym (ap verdict control ∙ found_first (a_owns c.args.message.now) c.loop-i.i _ _ c.loop-i.invariant own (rw c.requires.beats at c.loop-i-test.true))
 
 pub loop-i-preserved : goal.loop-i-preserved
-loop-i-preserved g c = none_more (a_owns c.args.message.now) c.loop-i.i c.loop-i.invariant (sym c.in_ok-own_of_a.was ∙ c.own_of_a.ensures ∙ rw (c.mask_of-mask.ensures, c.bit_of.ensures) refl)
+loop-i-preserved g c = none_more (a_owns c.args.message.now) c.loop-i.i c.loop-i.invariant (sym c.in_ok-own_of_a.was ∙ c.own_of_a.ensures.value ∙ rw (c.mask_of-mask.ensures, c.bit_of.ensures) refl)
 
 pub returns : goal.returns
 returns g c =

@@ -11,4 +11,4 @@ returns-in_err-control_of_b g c =
 
 pub returns : goal.returns
 returns g c =
-    c.own_of_b.ensures ∙ rw (c.mask_of-mask.ensures, c.bit_of.ensures) (sym (ap verdict (b_single c.args.level c.args.message.now (sym c.in_ok-control_of_b.was ∙ c.control_of_b.ensures.value))))
+    c.own_of_b.ensures.value ∙ rw (c.mask_of-mask.ensures, c.bit_of.ensures) (sym (ap verdict (b_single c.args.level c.args.message.now (sym c.in_ok-control_of_b.was ∙ c.control_of_b.ensures.value))))

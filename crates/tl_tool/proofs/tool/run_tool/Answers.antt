@@ -1,5 +1,6 @@
 use Rattle.std.proofs.Common.{refl}
 use Rattle.tl_tool.proofs.DecodedLemmas.{decodes_more, judged_line}
+use Rattle.tl_tool.proofs.JudgedLemmas.{judged_total}
 use Rattle.tl_tool.proofs.tool.run_tool.Goals as goal
 
 pub judge_input-requires-clause-total : goal.judge_input-requires-clause-total
@@ -10,3 +11,6 @@ judge_input-requires-in-Eight-clause-total g c = λ judge. decodes_more 8 (judge
 
 pub judge_input-requires-in-Sixteen-clause-total : goal.judge_input-requires-in-Sixteen-clause-total
 judge_input-requires-in-Sixteen-clause-total g c = λ judge. decodes_more 16 (judged_line 16 refl)
+
+pub judge_input-requires-in-Monitor-clause-total : goal.judge_input-requires-in-Monitor-clause-total
+judge_input-requires-in-Monitor-clause-total g c = judged_total

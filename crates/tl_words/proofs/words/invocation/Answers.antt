@@ -8,8 +8,7 @@ use Rattle.clap.specs.declared.parser.matches.ArgMatches.TheViews.{out-ArgMatche
 use Rattle.clap.specs.declared.parser.matches.SubCommand.{SubCommand}
 use Rattle.clap.proofs.OnLiterals.{clap_on_literals}
 use Rattle.clap.proofs.WalkLemmas.{first_value-rows}
-use Rattle.tl_words.specs.declared.command.Command.TheVariants.{Decode}
-use Rattle.tl_words.specs.Tool.{tool_of, width_named}
+use Rattle.tl_words.specs.Tool.{tool_of, command_named}
 use Rattle.tl_words.proofs.words.invocation.Goals as goal
 
 simple : is_simple tool_of ≡ true
@@ -32,11 +31,11 @@ returns c =
     let h = c.in_ok-matches.ensures.ok.2 (ap is_simple c.in_ok-tool.ensures ∙ simple) in
     let rows = rows_of (found_of c.in-Some.found.now) in
     let same_names : subcommand_name_of c.in_ok-matches.matches ≡ option_map (λ p. p.0) (subcommand_rows_of c.in_ok-matches.matches) = names_are (out-ArgMatches c.in_ok-matches.matches).subcommand in
-    let entered : subcommand_rows_of c.in_ok-matches.matches ≡ Some (c.in-Some.field-0-0.now, rows) =
-    both_parts (subcommand_rows_of c.in_ok-matches.matches) c.in-Some.field-0-0.now rows (c.in-Some.ensures.name ∙ same_names) c.in-Some.ensures.rows in (
-      c.in-Some.field-0-0.now,
+    let entered : subcommand_rows_of c.in_ok-matches.matches ≡ Some (c.in-Some.name.now, rows) =
+    both_parts (subcommand_rows_of c.in_ok-matches.matches) c.in-Some.name.now rows (c.in-Some.ensures.name ∙ same_names) c.in-Some.ensures.rows in (
+      c.in-Some.name.now,
       rows,
       ap (λ (a : App). subcommand_of a (map string_bytes c.args.words.now)) (sym c.in_ok-tool.ensures) ∙ sym h.1 ∙ entered,
-      ap (option_map Decode) (ap width_named (sym (c.get_str.ensures ∙ first_value-rows (found_of c.in-Some.found.now) (codes "width"))) ∙ sym c.in-Some-width_named.ensures),
+      ap (command_named c.in-Some.name.now) (sym (c.get_str.ensures ∙ first_value-rows (found_of c.in-Some.found.now) (codes "width"))) ∙ sym c.in-Some-command_named.ensures,
       c.in_ok-file.ensures ∙ c.get_str-2.ensures ∙ first_value-rows (found_of c.in-Some.found.now) (codes "FILE"),
     )

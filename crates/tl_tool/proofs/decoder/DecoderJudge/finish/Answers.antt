@@ -2,4 +2,4 @@ use Rattle.tl_tool.proofs.DecodedLemmas.{before-end}
 use Rattle.tl_tool.proofs.decoder.DecoderJudge.finish.Goals as goal
 
 pub returns : goal.returns
-returns g c = λ lines before known. before-end g.row.W lines _ known
+returns g c = λ lines before known counted. before-end g.row.W lines _ known

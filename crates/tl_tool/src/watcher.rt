@@ -1,0 +1,117 @@
+//! Judges a recorded trace.
+
+ghost use Rattle.std.specs.Prelude.{◌≡◌, ◌++◌, [], false, IfOk, OnOk};
+ghost use Rattle.tl_beat.specs.Width.{IsWidth};
+ghost use Rattle.tl_monitor.specs.Knows.{Knows};
+ghost use Rattle.tl_tool.specs.Judged.{Judged, clean_text};
+ghost use Rattle.tl_tool.specs.Watching.{Begins, KnowsLines, Watches};
+
+use crate::fault::Fault;
+use crate::header::{Header, read_header};
+use crate::judge::Judge;
+use itoa::Buffer;
+use std::alloc::{AllocError, Global};
+use tl_beat::fault::LineFault;
+use tl_beat::read::read_line;
+use tl_monitor::fault::MonitorFault;
+use tl_monitor::monitor::Monitor;
+use tl_words::command::Width;
+
+/// Judges the lines of a trace: the header, and then the beats of up to 16 links by a monitor.
+#[derive(Drop)]
+pub enum Watcher {
+    /// The header hasn't been read.
+    Waiting(Global),
+    Four(Monitor<4>),
+    Eight(Monitor<8>),
+    Sixteen(Monitor<16>),
+}
+
+/// A monitor of the links that a header names, which has seen no beat.
+fn monitor_of<const W: usize>(alloc: Global, header: &Header) -> Result<Monitor<W>, AllocError>
+    requires { IsWidth W }
+    ensures { IfOk result (λ m. Knows m header.now.levels.items header.now.profile [] false) }
+{
+    Monitor::new(alloc, header.levels.as_slice(), header.profile).map_err(|_| AllocError)
+}
+
+/// Judges the line of the next beat.
+fn watch<const W: usize>(monitor: &mut Monitor<W>, line: &[u8]) -> Result<Option<Fault>, AllocError>
+    requires { IsWidth W }
+    ensures { IfOk result (Watches monitor.old monitor.new line.now) }
+{
+    let (link, beat) = match read_line(line) {
+        Ok(read) => read,
+        Err(fault) => return Ok(Some(Fault::Line(fault))),
+    };
+    match monitor.push(link, &beat) {
+        Ok(()) => Ok(None),
+        Err(MonitorFault::Broken(rule)) => Ok(Some(Fault::Rule(rule))),
+        Err(_) => Err(AllocError),
+    }
+}
+
+#[tactic(auto, unfolding(crate::specs::Judged::clean_text))]
+/// Appends `clean N`, where none of N beats is at fault.
+fn put_clean(number: u64, out: &mut Vec<u8>) -> Result<(), AllocError>
+    ensures { OnOk result (out.new.items ≡ out.old.items ++ clean_text number) }
+{
+    let mut digits = Buffer::new();
+    out.extend_from_slice(b"clean ")?;
+    out.extend_from_slice(digits.format(number).as_bytes())?;
+    out.push(b'\n')?;
+    Ok(())
+}
+
+/// Judges the links that a header names. A line of another form names none.
+fn begin(alloc: Global, line: &[u8]) -> Result<Option<Watcher>, AllocError>
+    ensures { IfOk result (Begins line.now) }
+{
+    let Some(header) = read_header(line) else {
+        return Ok(None);
+    };
+    let watcher = match header.width {
+        Width::Four => Watcher::Four(monitor_of(alloc, &header)?),
+        Width::Eight => Watcher::Eight(monitor_of(alloc, &header)?),
+        Width::Sixteen => Watcher::Sixteen(monitor_of(alloc, &header)?),
+    };
+    Ok(Some(watcher))
+}
+
+impl Judge for Watcher {
+    ghost knows = { KnowsLines };
+
+    ghost tells = { Judged };
+
+    fn judge(&mut self, line: &[u8], _out: &mut Vec<u8>) -> Result<Option<Fault>, AllocError> {
+        match self {
+            Watcher::Waiting(alloc) => match begin(*alloc, line)? {
+                None => Ok(Some(Fault::Header)),
+                Some(watcher) => {
+                    *self = watcher;
+                    Ok(None)
+                }
+            },
+            Watcher::Four(monitor) => watch(monitor, line),
+            Watcher::Eight(monitor) => watch(monitor, line),
+            Watcher::Sixteen(monitor) => watch(monitor, line),
+        }
+    }
+
+    fn open_fault(&self) -> Fault {
+        match self {
+            Watcher::Waiting(_) => Fault::Header,
+            _ => Fault::Line(LineFault::F1),
+        }
+    }
+
+    fn finish(&mut self, count: u64, out: &mut Vec<u8>) -> Result<Option<Fault>, AllocError> {
+        match self {
+            Watcher::Waiting(_) => Ok(Some(Fault::Header)),
+            _ => {
+                put_clean(count.saturating_sub(1), out)?;
+                Ok(None)
+            }
+        }
+    }
+}

@@ -1,2 +1,14 @@
 pub mod BitLemmas
+pub mod Deeds
+pub mod Free
+pub mod Handed
+pub mod Judged
+pub mod Keeping
+pub mod Lawful
+pub mod Lists
+pub mod Offers
+pub mod Rows
+pub mod Sent
+pub mod Sound
+pub mod Stalls
 pub mod TableLemmas

@@ -1,4 +1,11 @@
 pub mod Bits
+pub mod Handing
 pub mod Held
+pub mod Holders
+pub mod Kept
+pub mod Record
+pub mod Request
+pub mod Service
+pub mod Slave
 pub mod Table
 pub mod Word

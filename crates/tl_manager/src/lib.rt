@@ -3,6 +3,7 @@
 
 pub mod bits;
 pub mod directory;
+pub mod law;
 pub mod table;
 #[cfg(test)]
 mod tests;

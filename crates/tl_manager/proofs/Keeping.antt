@@ -1,0 +1,203 @@
+-- What holds of the manager's end holds after each beat that it is offered.
+use Rattle.std.proofs.Common.{ap, ◌∙◌, ◌≡◌, ℕ, zero, suc, ◌<◌, ◌==◌, Bool, true, false, not, cond, ◌&&◌, ◌||◌, List, [], ◌∷◌, ◌++◌, length, map, Some, None, refl, sym, arith, inl, inr}
+use Rattle.std.specs.Prelude.{nat_le, filter, option_map, is_some, if◌then◌else◌}
+use Rattle.std.proofs.lemmas.Bool.{or_parts, leb-false, cases_eq, ne_eqb}
+use Rattle.std.proofs.lemmas.List.{length-map}
+use Rattle.tl_beat.specs.Width.{IsWidth}
+use Rattle.tl_beat.specs.declared.beat.Beat.{Beat}
+use Rattle.tl_beat.specs.declared.beat.Beat.TheVariants as beat
+use Rattle.tl_beat.specs.declared.beat.BeatA.{BeatA}
+use Rattle.tl_beat.specs.declared.beat.Link.{Link}
+use Rattle.tl_beat.specs.declared.opcode.Channel.{Channel}
+use Rattle.tl_burst.specs.declared.message.Message.{Message}
+use Rattle.tl_burst.specs.declared.message.Message.TheVariants.{A, B, C, D, E}
+use Rattle.tl_burst.specs.Burst.{beats_of, beat_of, begun, burst_of}
+use Rattle.tl_burst.specs.Messages.{channel_of, unfinished}
+use Rattle.tl_rules.specs.declared.config.Config.{Config}
+use Rattle.tl_rules.specs.Conformance.{Trace, on_link}
+use Rattle.tl_rules.specs.History.{ends, block_at}
+use Rattle.tl_rules.specs.declared.level.Level.{Level}
+use Rattle.tl_rules.specs.Legality.{illegal, is_one_of}
+use Rattle.tl_rules.proofs.Legal.{legal_from_beats}
+use Rattle.tl_burst.proofs.Splitting.{beats-positive}
+use Rattle.tl_manager.proofs.Lists.{each_weaker}
+use Rattle.tl_manager.proofs.Sound.{leveled}
+use Rattle.tl_manager.specs.Handing.{Handed, with_handed}
+use Rattle.tl_manager.specs.Kept.{Each, AreApart, IsClean, illegal_at, illegal_message_at, blocks_of, IsKept, IsAnswerLawful}
+use Rattle.tl_manager.specs.Request.{request_if, request_carried}
+use Rattle.tl_manager.specs.Service.{Service, is_ended_by, least_free, trackers_of, with_service, served, services, serving, is_in_service}
+use Rattle.tl_manager.specs.Slave.{End, fresh, level_of, Judgement, Breaks, Waits, Passes, is_from_client, must_wait, judged, deed, offered_as, offered}
+use Rattle.tl_manager.proofs.Deeds.{deed_handable, handed_sound}
+use Rattle.tl_manager.proofs.Free.{apart_filter, each_map_filter, least_free-is_free, least_free-le}
+use Rattle.tl_manager.proofs.Handed.{whole-handed, whole-taken, recorded-taken, recorded-handed}
+use Rattle.tl_manager.proofs.Judged.{passed}
+use Rattle.tl_manager.specs.Holders.{recorded}
+use Rattle.tl_manager.specs.Record.{granted_by_all, recorded_after}
+use Rattle.tl_manager.proofs.Lawful.{IsHandable}
+
+-- what holds of the requests in service
+record AreServed {w : ℕ} (config : Config) (ss : List (Service w)) : Type 0 where
+  tracked : Each (λ n. n < config.trackers) (trackers_of ss)
+  trackers_apart : AreApart (trackers_of ss)
+  blocks_apart : AreApart (blocks_of ss)
+
+served_filter : {w : ℕ} (config : Config) (test : Service w → Bool) (ss : List (Service w)) → AreServed config ss → AreServed config (filter test ss)
+served_filter config test ss ok = record {
+  tracked = each_map_filter (λ n. n < config.trackers) (λ s. s.tracker) test ss ok.tracked;
+  trackers_apart = apart_filter (λ s. s.tracker) test ss ok.trackers_apart;
+  blocks_apart = apart_filter (λ s. block_at s.request.address) test ss ok.blocks_apart;
+}
+
+filtered : {w : ℕ} (config : Config) (test : Service w → Bool) (ss : List (Service w)) (b : Bool) → AreServed config ss → AreServed config (if b then filter test ss else ss)
+filtered config test ss true ok = served_filter config test ss ok
+filtered config test ss false ok = ok
+
+abbrev is_request : {w : ℕ} → Beat w → Bool
+is_request (beat.A x) = true
+is_request _ = false
+
+same_channel : {w : ℕ} (m : Message w) (i : ℕ) → channel_of (beat_of m i) ≡ channel_of (beat_of m 0)
+same_channel (A m) i = refl
+same_channel (B m) i = refl
+same_channel (C m) i = refl
+same_channel (D m) i = refl
+same_channel (E m) i = refl
+
+-- ---- a request that is taken
+
+eqb_swap : (m n : ℕ) → (m == n) ≡ (n == m)
+eqb_swap m n = elim (cases_eq m n) [
+  | inl same ↦ rw same refl
+  | inr other ↦ rw (ne_eqb m n other, ne_eqb n m (λ e. other (sym e))) refl
+]
+
+unserved : {w : ℕ} (block : ℕ) (ss : List (Service w)) → is_in_service block ss ≡ false → is_one_of block (blocks_of ss) ≡ false
+unserved block [] e = refl
+unserved {w} block (s ∷ ss) e = go (block_at s.request.address == block) (eqb_swap block (block_at s.request.address)) e (unserved block ss)
+  where
+    go : (b : Bool) → (block == block_at s.request.address) ≡ b → is_some (cond b (Some s) (serving block ss)) ≡ false → (is_in_service block ss ≡ false → is_one_of block (blocks_of ss) ≡ false) → is_one_of block (blocks_of (s ∷ ss)) ≡ false
+    go true same f rest = absurd cc
+    go false other f rest = rw (other, rest f) refl
+
+served_new : {w : ℕ} (config : Config) (link : Link) (x : BeatA w) (beats : List (Beat w)) (ss : List (Service w)) (fits : Bool) (e : nat_le x.size 6 ≡ fits) → is_in_service (block_at x.address) ss ≡ false → length ss < config.trackers → AreServed config ss
+    → AreServed config (with_service (option_map (λ m. record { tracker = least_free (trackers_of ss); link = link; request = m }) (request_if x beats fits e)) ss)
+served_new config link x beats ss false e unused room ok = ok
+served_new config link x beats ss true e unused room ok =
+    let low = least_free-le (trackers_of ss) in
+    let len : length (trackers_of ss) ≡ length ss = length-map ss (λ s. s.tracker) in
+    record {
+      tracked = (omega (arith, low, len), ok.tracked);
+      trackers_apart = (least_free-is_free (trackers_of ss), ok.trackers_apart);
+      blocks_apart = (unserved (block_at x.address) ss unused, ok.blocks_apart);
+    }
+
+taken_request : {w : ℕ} (config : Config) (link : Link) (x : BeatA w) (t : Trace w) → must_wait config link (beat.A x) t ≡ false → AreServed config (services t) → AreServed config (services ((link, beat.A x) ∷ t))
+unfolding services request_carried
+taken_request {w} config link x t waits ok = go (ends (beat.A x) (on_link link.0 t)) waits
+  where
+    go : (b : Bool) → (b && (is_in_service (block_at x.address) (services t) || nat_le config.trackers (length (services t)))) ≡ false
+        → AreServed config (if b then served (link, beat.A x) (unfinished (channel_of (beat.A x)) (on_link link.0 t)) (services t) else services t)
+    go false e = ok
+    go true e =
+        let p = or_parts (is_in_service (block_at x.address) (services t)) (nat_le config.trackers (length (services t))) e in
+        served_new config link x (beat.A x ∷ unfinished (channel_of (beat.A x)) (on_link link.0 t)) (services t) (nat_le x.size 6) refl p.0 (leb-false config.trackers (length (services t)) p.1) ok
+
+-- ---- any other beat ends services at most
+
+other_beat : {w : ℕ} (config : Config) (x : Link × Beat w) (t : Trace w) → is_request x.1 ≡ false → AreServed config (services t) → AreServed config (services (x ∷ t))
+unfolding services
+other_beat config (link, beat.A x) t other ok = absurd cc
+other_beat config (link, beat.B x) t other ok = filtered config (λ s. not (is_ended_by (link, beat.B x) s)) (services t) (ends (beat.B x) (on_link link.0 t)) ok
+other_beat config (link, beat.C x) t other ok = filtered config (λ s. not (is_ended_by (link, beat.C x) s)) (services t) (ends (beat.C x) (on_link link.0 t)) ok
+other_beat config (link, beat.D x) t other ok = filtered config (λ s. not (is_ended_by (link, beat.D x) s)) (services t) (ends (beat.D x) (on_link link.0 t)) ok
+other_beat config (link, beat.E x) t other ok = filtered config (λ s. not (is_ended_by (link, beat.E x) s)) (services t) (ends (beat.E x) (on_link link.0 t)) ok
+
+taken_beat : {w : ℕ} (config : Config) (link : Link) (x : Beat w) (t : Trace w) → must_wait config link x t ≡ false → AreServed config (services t) → AreServed config (services ((link, x) ∷ t))
+taken_beat config link (beat.A x) t waits ok = taken_request config link x t waits ok
+taken_beat config link (beat.B x) t waits ok = other_beat config (link, beat.B x) t refl ok
+taken_beat config link (beat.C x) t waits ok = other_beat config (link, beat.C x) t refl ok
+taken_beat config link (beat.D x) t waits ok = other_beat config (link, beat.D x) t refl ok
+taken_beat config link (beat.E x) t waits ok = other_beat config (link, beat.E x) t refl ok
+
+our_beat : {w : ℕ} (m : Message w) (i : ℕ) → is_from_client (beat_of m 0) ≡ false → is_request (beat_of m i) ≡ false
+our_beat (A m) i ours = absurd cc
+our_beat (B m) i ours = refl
+our_beat (C m) i ours = absurd cc
+our_beat (D m) i ours = refl
+our_beat (E m) i ours = absurd cc
+
+burst_served : {w : ℕ} (config : Config) (link : Link) (m : Message w) (n : ℕ) (t : Trace w) → is_from_client (beat_of m 0) ≡ false → AreServed config (services t) → AreServed config (services (map (λ b. (link, b)) (begun m n) ++ t))
+burst_served config link m zero t ours ok = ok
+burst_served config link m (suc n) t ours ok = other_beat config (link, beat_of m n) (map (λ b. (link, b)) (begun m n) ++ t) (our_beat m n ours) (burst_served config link m n t ours ok)
+
+handed_served : {w : ℕ} (config : Config) (handed : Handed w) (t : Trace w) → Each (IsHandable config) handed → AreServed config (services t) → AreServed config (services (with_handed handed t))
+unfolding with_handed
+handed_served config [] t each ok = ok
+handed_served config (x ∷ handed) t each ok =
+    handed_served config handed (map (λ b. (x.0, b)) (burst_of x.1) ++ t) each.1 (burst_served config x.0 x.1 (beats_of x.1) t each.0.ours ok)
+
+-- ---- any beat that is offered
+
+are_served : {w : ℕ} (config : Config) (e : End w) → IsKept config e → AreServed config (services e.trace)
+are_served config e before = record { tracked = before.tracked; trackers_apart = before.trackers_apart; blocks_apart = before.blocks_apart }
+
+kept_as : {w : ℕ} (j : Judgement) (config : Config) (link : Link) (ch : Channel) (x : Beat w) (e : End w) → IsWidth w → judged config link ch x e ≡ j → IsKept config e → IsKept config (offered_as j config link x e).1
+kept_as (Breaks r) config link ch x e width is before = record { sound = before.sound; whole = before.whole; tracked = before.tracked; trackers_apart = before.trackers_apart; blocks_apart = before.blocks_apart }
+kept_as Waits config link ch x e width is before = before
+kept_as Passes config link ch x e width is before =
+    let ok = passed config link ch x e is in
+    let handable = deed_handable config link x e width ok.sound before.sound in
+    let after = handed_served config (deed config link x e).handed ((link, x) ∷ e.trace) handable (taken_beat config link x e.trace ok.waits (are_served config e before)) in
+    record {
+      sound = handed_sound config (deed config link x e).handed ((link, x) ∷ e.trace) handable (ok.sound, before.sound);
+      whole = λ client. whole-handed config client (deed config link x e).handed ((link, x) ∷ e.trace) width handable (whole-taken client link x e.trace ok.theirs (before.whole client));
+      tracked = after.tracked;
+      trackers_apart = after.trackers_apart;
+      blocks_apart = after.blocks_apart;
+    }
+
+pub kept-offered : {w : ℕ} (config : Config) (link : Link) (ch : Channel) (x : Beat w) (e : End w) → IsWidth w → IsKept config e → IsKept config (offered config link ch x e).1
+unfolding offered
+kept-offered config link ch x e width ok = kept_as (judged config link ch x e) config link ch x e width refl ok
+
+pub fresh-kept : {w : ℕ} (config : Config) → IsKept {w = w} config fresh
+unfolding services unfinished on_link
+fresh-kept config = record { sound = tt; whole = λ client. (refl, refl); tracked = tt; trackers_apart = tt; blocks_apart = tt }
+
+-- ---- what is recorded
+
+recorded_as : {w : ℕ} (j : Judgement) (config : Config) (link : Link) (ch : Channel) (x : Beat w) (e : End w) (client block : ℕ) → IsWidth w → judged config link ch x e ≡ j → IsKept config e
+    → recorded client block (offered_as j config link x e).1.trace ≡ recorded_after (offered_as j config link x e).0 (link, x) e.trace client block
+recorded_as (Breaks r) config link ch x e client block width is before = refl
+recorded_as Waits config link ch x e client block width is before = refl
+recorded_as Passes config link ch x e client block width is before =
+    let ok = passed config link ch x e is in
+    let handable = deed_handable config link x e width ok.sound before.sound in
+    recorded-handed config client block (deed config link x e).handed ((link, x) ∷ e.trace) width handable (whole-taken client link x e.trace ok.theirs (before.whole client))
+    ∙ ap (granted_by_all (deed config link x e).handed ((link, x) ∷ e.trace) client block) (recorded-taken client link block x e.trace ok.theirs)
+
+pub recorded-offered : {w : ℕ} (config : Config) (link : Link) (ch : Channel) (x : Beat w) (e : End w) (client block : ℕ) → IsWidth w → IsKept config e
+    → recorded client block (offered config link ch x e).1.trace ≡ recorded_after (offered config link ch x e).0 (link, x) e.trace client block
+unfolding offered
+recorded-offered config link ch x e client block width before = recorded_as (judged config link ch x e) config link ch x e client block width refl before
+
+-- ---- what is handed out is lawful
+
+lawful_message : {w : ℕ} (config : Config) (x : Link × Message w) → IsWidth w → IsHandable config x → (illegal_message_at (level_of config x.0.0) x.1 ≡ None) × IsClean x.1
+lawful_message {w} config x width ok =
+    let first = leveled (level_of config x.0.0) (beat_of x.1 0) (ok.beats 0 (beats-positive x.1 width)).lawful in
+    (rw first.1 (legal_from_beats first.0 (channel_of (beat_of x.1 0)) x.1 (λ i lt. legal_beat first.0 first.1 i (ok.beats i lt).lawful)), ok.clean)
+  where
+    legal_beat : (l : Level) → level_of config x.0.0 ≡ Some l → (i : ℕ) → illegal_at (level_of config x.0.0) (beat_of x.1 i) ≡ None → illegal l (channel_of (beat_of x.1 0)) (beat_of x.1 i) ≡ None
+    legal_beat l is i e = rw (← same_channel x.1 i) (rw is at e)
+
+lawful_as : {w : ℕ} (j : Judgement) (config : Config) (link : Link) (ch : Channel) (x : Beat w) (e : End w) → IsWidth w → judged config link ch x e ≡ j → IsKept config e → IsAnswerLawful config (offered_as j config link x e).0
+lawful_as (Breaks r) config link ch x e width is before = tt
+lawful_as Waits config link ch x e width is before = tt
+lawful_as Passes config link ch x e width is before =
+    let ok = passed config link ch x e is in
+    each_weaker (IsHandable config) (λ y. (illegal_message_at (level_of config y.0.0) y.1 ≡ None) × IsClean y.1) (deed config link x e).handed (λ y h. lawful_message config y width h) (deed_handable config link x e width ok.sound before.sound)
+
+pub lawful : {w : ℕ} (config : Config) (link : Link) (ch : Channel) (x : Beat w) (e : End w) → IsWidth w → IsKept config e → IsAnswerLawful config (offered config link ch x e).0
+unfolding offered
+lawful config link ch x e width ok = lawful_as (judged config link ch x e) config link ch x e width refl ok

@@ -1,0 +1,221 @@
+-- What a history says after a message was handed out on a channel where nothing was unfinished.
+use Rattle.std.proofs.Common.{◌≡◌, ℕ, zero, suc, ◌+◌, ◌==◌, ◌<◌, ◌≤◌, Bool, true, false, cond, ◌&&◌, [], ◌∷◌, ◌++◌, Option, Some, None, refl, ◌∙◌, ap₂, arith}
+use Rattle.std.proofs.lemmas.Bool.Decides.{nat_tests}
+use Rattle.tl_beat.specs.declared.beat.Beat.{Beat}
+use Rattle.tl_beat.specs.declared.opcode.Channel.{Channel}
+use Rattle.tl_beat.specs.declared.opcode.Channel.TheVariants as channel
+use Rattle.tl_burst.specs.declared.message.Message.{Message}
+use Rattle.tl_burst.specs.declared.message.Message.TheVariants.{A, B, C, D, E}
+use Rattle.tl_burst.specs.declared.message.MessageB.{MessageB}
+use Rattle.tl_burst.specs.declared.message.MessageD.{MessageD}
+use Rattle.tl_burst.specs.Burst.{beats_of, beat_of, begun}
+use Rattle.tl_burst.specs.Messages.{History, channel_of, on, burst_length, grown, unfinished}
+use Rattle.tl_burst.proofs.Begun.{length-begun}
+use Rattle.tl_rules.specs.declared.key.Key.{Key}
+use Rattle.tl_rules.specs.History.{begins, ends, opens, closes, pending, request_of, asks_for, is_grant, capped, says_held, or_perm, held}
+use Rattle.tl_rules.specs.Agent.{sent}
+use Rattle.tl_rules.specs.declared.perm.Perm.{Perm}
+use Rattle.std.specs.Prelude.{if◌then◌else◌}
+
+-- ---- beats of one message
+
+-- the channel of a message
+abbrev pub channel_in : {w : ℕ} → Message w → Channel
+channel_in m = channel_of (beat_of m 0)
+
+same_channel : {w : ℕ} (m : Message w) (i : ℕ) → channel_of (beat_of m i) ≡ channel_in m
+same_channel (A m) i = refl
+same_channel (B m) i = refl
+same_channel (C m) i = refl
+same_channel (D m) i = refl
+same_channel (E m) i = refl
+
+on_own : {w : ℕ} (m : Message w) (i : ℕ) → on (channel_in m) (beat_of m i) ≡ true
+on_own (A m) i = refl
+on_own (B m) i = refl
+on_own (C m) i = refl
+on_own (D m) i = refl
+on_own (E m) i = refl
+
+own_length : {w : ℕ} (m : Message w) (i : ℕ) → burst_length (beat_of m i) ≡ beats_of m
+own_length (A m) i = refl
+own_length (B m) i = refl
+own_length (C m) i = refl
+own_length (D m) i = refl
+own_length (E m) i = refl
+
+-- ---- what is unfinished
+
+pub not_last : (i n : ℕ) → i + 1 < n → (i + 1 == n) ≡ false
+not_last i n lt = grind (arith, nat_tests)
+
+pub is_last : (i n : ℕ) → i + 1 ≡ n → (i + 1 == n) ≡ true
+is_last i n e = grind (arith, nat_tests)
+
+grown_more : {w : ℕ} (m : Message w) (i : ℕ) → i + 1 < beats_of m → grown (beat_of m i) (begun m i) ≡ begun m (suc i)
+grown_more m i lt = rw (length-begun m i, own_length m i, not_last i (beats_of m) lt) refl
+
+grown_last : {w : ℕ} (m : Message w) (i : ℕ) → i + 1 ≡ beats_of m → grown (beat_of m i) (begun m i) ≡ []
+grown_last m i e = rw (length-begun m i, own_length m i, is_last i (beats_of m) e) refl
+
+-- the beats of a message that isn't complete are unfinished
+pub unfinished-begun : {w : ℕ} (m : Message w) (t : History w) (i : ℕ) → unfinished (channel_in m) t ≡ [] → i < beats_of m → unfinished (channel_in m) (begun m i ++ t) ≡ begun m i
+unfolding unfinished
+unfinished-begun m t zero none lt = none
+unfinished-begun m t (suc i) none lt =
+    let before : unfinished (channel_in m) (begun m i ++ t) ≡ begun m i = unfinished-begun m t i none (omega arith) in
+    rw (on_own m i, before) (grown_more m i (omega arith))
+
+grown_at_last : {w : ℕ} (m : Message w) (t : History w) (i : ℕ) → unfinished (channel_in m) t ≡ [] → i + 1 ≡ beats_of m → unfinished (channel_in m) (beat_of m i ∷ (begun m i ++ t)) ≡ []
+unfolding unfinished
+grown_at_last m t i none e =
+    let before : unfinished (channel_in m) (begun m i ++ t) ≡ begun m i = unfinished-begun m t i none (omega arith) in
+    rw (on_own m i, before) (grown_last m i e)
+
+none_at : {w : ℕ} (m : Message w) (t : History w) (n : ℕ) → unfinished (channel_in m) t ≡ [] → 0 < n → n ≡ beats_of m → unfinished (channel_in m) (begun m n ++ t) ≡ []
+none_at m t zero none pos e = absurd (omega arith)
+none_at m t (suc i) none pos e = grown_at_last m t i none (omega arith)
+
+-- and none once it is complete
+pub unfinished-sent : {w : ℕ} (m : Message w) (t : History w) → unfinished (channel_in m) t ≡ [] → 0 < beats_of m → unfinished (channel_in m) (sent m t) ≡ []
+unfinished-sent m t none pos = none_at m t (beats_of m) none pos refl
+
+off_other : {w : ℕ} (ch : Channel) (m : Message w) (i : ℕ) → on ch (beat_of m 0) ≡ false → on ch (beat_of m i) ≡ false
+off_other channel.A (A m) i e = e
+off_other channel.B (A m) i e = e
+off_other channel.C (A m) i e = e
+off_other channel.D (A m) i e = e
+off_other channel.E (A m) i e = e
+off_other channel.A (B m) i e = e
+off_other channel.B (B m) i e = e
+off_other channel.C (B m) i e = e
+off_other channel.D (B m) i e = e
+off_other channel.E (B m) i e = e
+off_other channel.A (C m) i e = e
+off_other channel.B (C m) i e = e
+off_other channel.C (C m) i e = e
+off_other channel.D (C m) i e = e
+off_other channel.E (C m) i e = e
+off_other channel.A (D m) i e = e
+off_other channel.B (D m) i e = e
+off_other channel.C (D m) i e = e
+off_other channel.D (D m) i e = e
+off_other channel.E (D m) i e = e
+off_other channel.A (E m) i e = e
+off_other channel.B (E m) i e = e
+off_other channel.C (E m) i e = e
+off_other channel.D (E m) i e = e
+off_other channel.E (E m) i e = e
+
+other_at : {w : ℕ} (ch : Channel) (m : Message w) (t : History w) (n : ℕ) → on ch (beat_of m 0) ≡ false → unfinished ch (begun m n ++ t) ≡ unfinished ch t
+unfolding unfinished
+other_at ch m t zero off = refl
+other_at ch m t (suc i) off = rw (off_other ch m i off) (other_at ch m t i off)
+
+-- other channels are as before
+pub unfinished-sent_other : {w : ℕ} (ch : Channel) (m : Message w) (t : History w) → on ch (beat_of m 0) ≡ false → unfinished ch (sent m t) ≡ unfinished ch t
+unfinished-sent_other ch m t off = other_at ch m t (beats_of m) off
+
+-- ---- where the message begins and ends
+
+begins-first : {w : ℕ} (m : Message w) (t : History w) → unfinished (channel_in m) t ≡ [] → begins (beat_of m 0) t ≡ true
+begins-first m t none = rw none refl
+
+begins-later : {w : ℕ} (m : Message w) (t : History w) (i : ℕ) → unfinished (channel_in m) t ≡ [] → suc i < beats_of m → begins (beat_of m (suc i)) (begun m (suc i) ++ t) ≡ false
+begins-later m t i none lt = rw (same_channel m (suc i), unfinished-begun m t (suc i) none lt) refl
+
+ends-at : {w : ℕ} (m : Message w) (t : History w) (i : ℕ) → unfinished (channel_in m) t ≡ [] → i < beats_of m → ends (beat_of m i) (begun m i ++ t) ≡ (i + 1 == beats_of m)
+ends-at m t i none lt = rw (same_channel m i, unfinished-begun m t i none lt, length-begun m i, own_length m i) refl
+
+-- ---- what is pending
+
+-- the beats of the message close nothing of this key
+abbrev pub ClosesNothing : {w : ℕ} → Key → Message w → Type 0
+ClosesNothing {w} k m = (i : ℕ) (t : History w) → closes k (beat_of m i) t ≡ false
+
+opening : {w : ℕ} (k : Key) (x : Beat w) (t : History w) → begins x t ≡ true → closes k x t ≡ false → pending k (x ∷ t) ≡ cond (opens k x t) true (pending k t)
+unfolding pending
+opening k x t first none = go (ends x t)
+  where
+    go : (b : Bool) → cond (begins x t && opens k x t) true (cond (b && closes k x t) false (pending k t)) ≡ cond (opens k x t) true (pending k t)
+    go true = rw (first, none) refl
+    go false = rw first refl
+
+continuing : {w : ℕ} (k : Key) (x : Beat w) (t : History w) → begins x t ≡ false → closes k x t ≡ false → pending k (x ∷ t) ≡ pending k t
+unfolding pending
+continuing k x t later none = go (ends x t)
+  where
+    go : (b : Bool) → cond (begins x t && opens k x t) true (cond (b && closes k x t) false (pending k t)) ≡ pending k t
+    go true = rw (later, none) refl
+    go false = rw later refl
+
+opened_at : {w : ℕ} (k : Key) (m : Message w) (t : History w) (i : ℕ) → unfinished (channel_in m) t ≡ [] → ClosesNothing k m → i < beats_of m → pending k (begun m (suc i) ++ t) ≡ cond (opens k (beat_of m 0) t) true (pending k t)
+opened_at k m t zero none closes_none lt = opening k (beat_of m 0) t (begins-first m t none) (closes_none 0 t)
+opened_at k m t (suc i) none closes_none lt =
+    continuing k (beat_of m (suc i)) (begun m (suc i) ++ t) (begins-later m t i none lt) (closes_none (suc i) _) ∙ opened_at k m t i none closes_none (omega arith)
+
+opened_by : {w : ℕ} (k : Key) (m : Message w) (t : History w) (n : ℕ) → unfinished (channel_in m) t ≡ [] → ClosesNothing k m → 0 < n → n ≤ beats_of m → pending k (begun m n ++ t) ≡ cond (opens k (beat_of m 0) t) true (pending k t)
+opened_by k m t zero none closes_none pos le = absurd (omega arith)
+opened_by k m t (suc i) none closes_none pos le = opened_at k m t i none closes_none (omega arith)
+
+-- what a message opens is pending
+pub pending-sent : {w : ℕ} (k : Key) (m : Message w) (t : History w) → unfinished (channel_in m) t ≡ [] → ClosesNothing k m → 0 < beats_of m → pending k (sent m t) ≡ cond (opens k (beat_of m 0) t) true (pending k t)
+pending-sent k m t none closes_none pos = opened_by k m t (beats_of m) none closes_none pos (omega arith)
+
+-- ---- what is held
+
+-- a beat that says nothing of a block leaves what is held of it
+pub held_unsaid : {w : ℕ} (k : ℕ) (x : Beat w) (t : History w) → says_held k x t ≡ None → held k (x ∷ t) ≡ held k t
+unfolding held
+held_unsaid k x t none = go (ends x t)
+  where
+    go : (b : Bool) → cond b (or_perm (says_held k x t) (held k t)) (held k t) ≡ held k t
+    go true = rw none refl
+    go false = refl
+
+held_begun-b : {w : ℕ} (k : ℕ) (m : MessageB w) (t : History w) (n : ℕ) → held k (begun (B m) n ++ t) ≡ held k t
+held_begun-b k m t zero = refl
+held_begun-b k m t (suc i) = held_unsaid k (beat_of (B m) i) (begun (B m) i ++ t) refl ∙ held_begun-b k m t i
+
+-- a Probe leaves what is held
+pub held-sent_b : {w : ℕ} (k : ℕ) (m : MessageB w) (t : History w) → held k (sent (B m) t) ≡ held k t
+held-sent_b k m t = held_begun-b k m t (beats_of (B m))
+
+request_begun-d : {w : ℕ} (s : ℕ) (m : MessageD w) (t : History w) (n : ℕ) → request_of s (begun (D m) n ++ t) ≡ request_of s t
+unfolding request_of
+request_begun-d s m t zero = refl
+request_begun-d s m t (suc i) = request_begun-d s m t i
+
+-- what a message of channel D says of a block, where it answers a request of this history
+abbrev pub says : {w : ℕ} → ℕ → MessageD w → History w → Option Perm
+says k m t = if is_grant m.opcode && asks_for k (request_of m.source t) then Some (capped m.param) else None
+
+says-at : {w : ℕ} (k : ℕ) (m : MessageD w) (t : History w) (i : ℕ) → says_held k (beat_of (D m) i) (begun (D m) i ++ t) ≡ says k m t
+says-at k m t i = rw (request_begun-d m.source m t i) refl
+
+held_not_yet : {w : ℕ} (k : ℕ) (m : MessageD w) (t : History w) (n : ℕ) → unfinished channel.D t ≡ [] → n < beats_of (D m) → held k (begun (D m) n ++ t) ≡ held k t
+unfolding held
+held_not_yet k m t zero none lt = refl
+held_not_yet k m t (suc i) none lt =
+    let still : ends (beat_of (D m) i) (begun (D m) i ++ t) ≡ false = ends-at (D m) t i none (omega arith) ∙ not_last i (beats_of (D m)) (omega arith) in
+    rw still (held_not_yet k m t i none (omega arith))
+
+held_last : {w : ℕ} (k : ℕ) (m : MessageD w) (t : History w) (n : ℕ) → unfinished channel.D t ≡ [] → 0 < n → n ≡ beats_of (D m) → held k (begun (D m) n ++ t) ≡ or_perm (says k m t) (held k t)
+unfolding held
+held_last k m t zero none pos e = absurd (omega arith)
+held_last k m t (suc i) none pos e =
+    let last : ends (beat_of (D m) i) (begun (D m) i ++ t) ≡ true = ends-at (D m) t i none (omega arith) ∙ is_last i (beats_of (D m)) (omega arith) in
+    rw last (ap₂ or_perm (says-at k m t i) (held_not_yet k m t i none (omega arith)))
+
+pub request-sent_b : {w : ℕ} (s : ℕ) (m : MessageB w) (t : History w) (n : ℕ) → request_of s (begun (B m) n ++ t) ≡ request_of s t
+unfolding request_of
+request-sent_b s m t zero = refl
+request-sent_b s m t (suc i) = request-sent_b s m t i
+
+-- a Grant makes what is held what its cap names
+pub held-sent_d : {w : ℕ} (k : ℕ) (m : MessageD w) (t : History w) → unfinished channel.D t ≡ [] → 0 < beats_of (D m) → held k (sent (D m) t) ≡ or_perm (says k m t) (held k t)
+held-sent_d k m t none pos = held_last k m t (beats_of (D m)) none pos refl
+
+-- a message of channel D is no request
+pub request-sent_d : {w : ℕ} (s : ℕ) (m : MessageD w) (t : History w) → request_of s (sent (D m) t) ≡ request_of s t
+request-sent_d s m t = request_begun-d s m t (beats_of (D m))

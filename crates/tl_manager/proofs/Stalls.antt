@@ -1,0 +1,44 @@
+-- Which beats are stalled.
+use Rattle.std.proofs.Common.{◌≡◌, ℕ, false, Option, Some, None, refl}
+use Rattle.tl_beat.specs.declared.beat.Beat.{Beat}
+use Rattle.tl_beat.specs.declared.beat.Link.{Link}
+use Rattle.tl_beat.specs.declared.opcode.Channel.{Channel}
+use Rattle.tl_rules.specs.declared.config.Config.{Config}
+use Rattle.tl_rules.specs.declared.level.Level.{Level}
+use Rattle.tl_rules.specs.declared.rule.Rule.{Rule}
+use Rattle.tl_rules.specs.declared.rule.Rule.TheVariants.{A1, A2}
+use Rattle.tl_rules.specs.Agent.{is_outside, is_spoiled}
+use Rattle.tl_rules.specs.Conformance.{Trace, on_link, broken_in_order}
+use Rattle.tl_rules.specs.Legality.{rule_if}
+use Rattle.tl_manager.specs.Kept.{is_stalled}
+use Rattle.tl_manager.specs.Slave.{End, Judgement, Breaks, Waits, Passes, breaks_or, unlawful, before_stall, must_wait, judged_at, judged_on, judged, open_level, offered_as, offered, is_waiting, stalls}
+
+stalled_as : {w : ℕ} (j : Judgement) (config : Config) (link : Link) (x : Beat w) (e : End w) → is_waiting j ≡ is_stalled (offered_as j config link x e).0
+stalled_as (Breaks r) config link x e = refl
+stalled_as Waits config link x e = refl
+stalled_as Passes config link x e = refl
+
+pub stalls-answered : {w : ℕ} (config : Config) (link : Link) (ch : Channel) (x : Beat w) (e : End w) → stalls config link ch x e ≡ is_stalled (offered config link ch x e).0
+unfolding stalls offered
+stalls-answered config link ch x e = stalled_as (judged config link ch x e) config link x e
+
+goes_on : (o : Option Rule) (rest : Judgement) → is_waiting rest ≡ false → is_waiting (breaks_or o rest) ≡ false
+goes_on None rest e = e
+goes_on (Some r) rest e = refl
+
+never_at : {w : ℕ} (config : Config) (l : Level) (link : Link) (ch : Channel) (x : Beat w) (t : Trace w) → must_wait config link x t ≡ false → is_waiting (judged_at config l link ch x t) ≡ false
+unfolding judged_at
+never_at config l link ch x t free =
+    goes_on (unlawful l ch x) _
+    (goes_on (before_stall (broken_in_order config.profile x (on_link link.0 t))) _
+    (rw free (goes_on (broken_in_order config.profile x (on_link link.0 t)) _
+    (goes_on (rule_if (is_outside config.blocks x) A1 (rule_if (is_spoiled x) A2 None)) Passes refl))))
+
+-- what needn't wait isn't stalled
+pub never-stalled : {w : ℕ} (config : Config) (link : Link) (ch : Channel) (x : Beat w) (e : End w) → must_wait config link x e.trace ≡ false → stalls config link ch x e ≡ false
+unfolding stalls
+never-stalled config link ch x e free = go (open_level config link e)
+  where
+    go : (o : Option Level) → is_waiting (judged_on config o link ch x e.trace) ≡ false
+    go None = refl
+    go (Some l) = never_at config l link ch x e.trace free

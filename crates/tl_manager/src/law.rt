@@ -1,0 +1,45 @@
+//! What the definitions of a manager's answers amount to, as laws.
+
+ghost use Rattle.std.specs.Prelude.{◌≡◌, ℕ, false};
+ghost use Rattle.tl_beat.specs.declared.beat.Beat.{Beat};
+ghost use Rattle.tl_beat.specs.declared.beat.BeatC.{BeatC};
+ghost use Rattle.tl_beat.specs.declared.beat.BeatE.{BeatE};
+ghost use Rattle.tl_beat.specs.declared.beat.Link.{Link};
+ghost use Rattle.tl_beat.specs.declared.opcode.Channel.{Channel};
+ghost use Rattle.tl_beat.specs.Width.{IsWidth};
+ghost use Rattle.tl_rules.specs.declared.config.Config.{Config};
+ghost use Rattle.tl_manager.specs.Holders.{recorded};
+ghost use Rattle.tl_manager.specs.Kept.{IsKept, IsAnswerLawful, is_stalled};
+ghost use Rattle.tl_manager.specs.Record.{recorded_after};
+ghost use Rattle.tl_manager.specs.Slave.{End, fresh, offered, stalls};
+
+/// What holds of a manager's end from the first beat that it is offered on, and that every message
+/// which it hands out breaks no rule of legality at its link's level, isn't corrupt and isn't denied.
+pub fn sends_lawfully<const W: usize>()
+    requires { IsWidth W }
+    ensures fresh { (config : Config) → IsKept {w = W} config fresh }
+    ensures kept { (config : Config) (link : Link) (ch : Channel) (x : Beat W) (e : End W) →
+        IsKept config e → IsKept config (offered config link ch x e).1 }
+    ensures lawful { (config : Config) (link : Link) (ch : Channel) (x : Beat W) (e : End W) →
+        IsKept config e → IsAnswerLawful config (offered config link ch x e).0 }
+{}
+
+/// A beat is stalled exactly where it is answered so, and none of the channels C and E ever is.
+pub fn stalls_requests<const W: usize>()
+    ensures answered { (config : Config) (link : Link) (ch : Channel) (x : Beat W) (e : End W) →
+        stalls config link ch x e ≡ is_stalled (offered config link ch x e).0 }
+    ensures never_c { (config : Config) (link : Link) (ch : Channel) (x : BeatC W) (e : End W) →
+        stalls config link ch (Beat.C x) e ≡ false }
+    ensures never_e { (config : Config) (link : Link) (ch : Channel) (x : BeatE) (e : End W) →
+        stalls {w = W} config link ch (Beat.E x) e ≡ false }
+{}
+
+/// What is recorded of a client and a block after any beat: what the ProbeAck or Release leaves that
+/// the beat completes, then what the Grant gives that is handed out, and otherwise what was before.
+pub fn records_reports<const W: usize>()
+    requires { IsWidth W }
+    ensures { (config : Config) (link : Link) (ch : Channel) (x : Beat W) (e : End W) (client block : ℕ) →
+        IsKept config e →
+        recorded client block (offered config link ch x e).1.trace
+        ≡ recorded_after (offered config link ch x e).0 (link, x) e.trace client block }
+{}

@@ -10,7 +10,7 @@ use Rattle.tl_burst.specs.declared.message.Message.TheVariants as message
 use Rattle.tl_burst.specs.declared.message.MessageA.{MessageA}
 use Rattle.tl_burst.specs.Burst.{a_beat_of}
 use Rattle.tl_burst.specs.Messages.{History, unfinished}
-use Rattle.tl_rules.specs.declared.key.Key.TheVariants.{RequestSource}
+use Rattle.tl_params.specs.declared.key.Key.TheVariants.{RequestSource}
 use Rattle.tl_rules.specs.Agent.{sent}
 use Rattle.tl_rules.specs.History.{block_at, begins, ends, closes, pending, request_of, held}
 use Rattle.tl_rules.specs.Legality.{has_transfers}

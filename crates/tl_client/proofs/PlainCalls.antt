@@ -22,10 +22,10 @@ use Rattle.tl_burst.specs.Burst.{beats_of, beat_of, begun, d_beat_of, IsBurst, I
 use Rattle.tl_burst.specs.Messages.{breaks_burst}
 use Rattle.tl_burst.specs.Part.{IsTakeable, is_empty, completes, place, part_of}
 use Rattle.tl_burst.proofs.Begun.{length-begun}
-use Rattle.tl_rules.specs.declared.level.Level.{Level}
-use Rattle.tl_rules.specs.declared.rule.Rule.{Rule}
-use Rattle.tl_rules.specs.declared.config.NewFault.{NewFault}
-use Rattle.tl_rules.specs.Config.{config_verdict}
+use Rattle.tl_params.specs.declared.level.Level.{Level}
+use Rattle.tl_params.specs.declared.rule.Rule.{Rule}
+use Rattle.tl_params.specs.declared.config.NewFault.{NewFault}
+use Rattle.tl_params.specs.Config.{config_verdict}
 use Rattle.tl_rules.specs.Agent.{payload_of}
 use Rattle.tl_rules.specs.Legality.{illegal, or_else, verdict}
 use Rattle.tl_rules.proofs.Checks.{beats_room}

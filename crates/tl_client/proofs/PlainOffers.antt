@@ -14,10 +14,10 @@ use Rattle.tl_beat.specs.declared.opcode.OpD.TheVariants as d
 use Rattle.tl_beat.specs.Opcode.{d_code}
 use Rattle.tl_burst.specs.Messages.{History, unfinished, grown, same_control, breaks_burst}
 use Rattle.tl_burst.specs.Part.{completes}
-use Rattle.tl_rules.specs.declared.level.Level.{Level}
-use Rattle.tl_rules.specs.declared.key.Key.TheVariants.{RequestSource}
-use Rattle.tl_rules.specs.declared.rule.Rule.{Rule}
-use Rattle.tl_rules.specs.declared.rule.Rule.TheVariants.{L1, S1, A3}
+use Rattle.tl_params.specs.declared.level.Level.{Level}
+use Rattle.tl_params.specs.declared.key.Key.TheVariants.{RequestSource}
+use Rattle.tl_params.specs.declared.rule.Rule.{Rule}
+use Rattle.tl_params.specs.declared.rule.Rule.TheVariants.{L1, S1, A3}
 use Rattle.tl_rules.specs.Agent.{payload_of}
 use Rattle.tl_rules.specs.History.{begins, ends, says_held, pending, request_of}
 use Rattle.tl_rules.specs.Legality.{illegal, or_else, rule_if, has_transfers, verdict}

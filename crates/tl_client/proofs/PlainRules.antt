@@ -13,12 +13,12 @@ use Rattle.tl_beat.specs.declared.opcode.OpD.{OpD}
 use Rattle.tl_beat.specs.declared.opcode.OpD.TheVariants as d
 use Rattle.tl_burst.specs.Messages.{History, unfinished, breaks_burst}
 use Rattle.tl_burst.specs.Part.{is_empty}
-use Rattle.tl_rules.specs.declared.level.Level.{Level}
-use Rattle.tl_rules.specs.declared.level.Level.TheVariants as level
-use Rattle.tl_rules.specs.declared.key.Key.TheVariants.{RequestSource}
-use Rattle.tl_rules.specs.declared.profile.Profile.{Profile}
-use Rattle.tl_rules.specs.declared.rule.Rule.{Rule}
-use Rattle.tl_rules.specs.declared.rule.Rule.TheVariants.{L1, L2, L3, L7, S1, H2, H3}
+use Rattle.tl_params.specs.declared.level.Level.{Level}
+use Rattle.tl_params.specs.declared.level.Level.TheVariants as level
+use Rattle.tl_params.specs.declared.key.Key.TheVariants.{RequestSource}
+use Rattle.tl_params.specs.declared.profile.Profile.{Profile}
+use Rattle.tl_params.specs.declared.rule.Rule.{Rule}
+use Rattle.tl_params.specs.declared.rule.Rule.TheVariants.{L1, L2, L3, L7, S1, H2, H3}
 use Rattle.tl_rules.specs.Conformance.{broken_order, broken_in_order, broken_d, admits, size_of_request}
 use Rattle.tl_rules.specs.History.{is_grant, is_release_ack, pending, request_of}
 use Rattle.tl_rules.specs.Legality.{illegal, rule_if, has_transfers, d_of_level, d_has_size, access_has_size, breaks_l1, breaks_l2, breaks_l3, breaks_l7, verdict}

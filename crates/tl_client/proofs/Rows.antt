@@ -14,14 +14,14 @@ use Rattle.tl_beat.specs.declared.opcode.OpD.TheVariants as d
 use Rattle.tl_burst.specs.declared.message.Message.{Message}
 use Rattle.tl_burst.specs.declared.message.Message.TheVariants as message
 use Rattle.tl_burst.specs.Messages.{unfinished}
-use Rattle.tl_rules.specs.declared.level.Level.TheVariants as level
-use Rattle.tl_rules.specs.declared.param.Grow.TheVariants.{NtoB, NtoT, BtoT}
-use Rattle.tl_rules.specs.declared.param.Prune.TheVariants.{TtoN, BtoN}
-use Rattle.tl_rules.specs.declared.perm.Perm.{Perm}
-use Rattle.tl_rules.specs.declared.perm.Perm.TheVariants.{Branch, Trunk}
-use Rattle.tl_rules.specs.declared.profile.Profile.TheVariants as profile
-use Rattle.tl_rules.specs.declared.rule.Rule.{Rule}
-use Rattle.tl_rules.specs.declared.rule.Rule.TheVariants.{L7, H2, H3, H6, A1, A3}
+use Rattle.tl_params.specs.declared.level.Level.TheVariants as level
+use Rattle.tl_params.specs.declared.param.Grow.TheVariants.{NtoB, NtoT, BtoT}
+use Rattle.tl_params.specs.declared.param.Prune.TheVariants.{TtoN, BtoN}
+use Rattle.tl_params.specs.declared.perm.Perm.{Perm}
+use Rattle.tl_params.specs.declared.perm.Perm.TheVariants.{Branch, Trunk}
+use Rattle.tl_params.specs.declared.profile.Profile.TheVariants as profile
+use Rattle.tl_params.specs.declared.rule.Rule.{Rule}
+use Rattle.tl_params.specs.declared.rule.Rule.TheVariants.{L7, H2, H3, H6, A1, A3}
 use Rattle.tl_rules.specs.Agent.{bytes_carried}
 use Rattle.tl_rules.specs.Conformance.{broken_order}
 use Rattle.tl_rules.specs.Effect.{number_from}

@@ -10,8 +10,8 @@ use Rattle.tl_burst.specs.declared.message.MessageA.{MessageA}
 use Rattle.tl_burst.specs.Burst.{a_beat_of, beats_of, beat_of, begun}
 use Rattle.tl_burst.specs.Messages.{History, channel_of, on, burst_length, grown, unfinished}
 use Rattle.tl_burst.proofs.Begun.{length-begun}
-use Rattle.tl_rules.specs.declared.key.Key.{Key}
-use Rattle.tl_rules.specs.declared.key.Key.TheVariants as key
+use Rattle.tl_params.specs.declared.key.Key.{Key}
+use Rattle.tl_params.specs.declared.key.Key.TheVariants as key
 use Rattle.tl_rules.specs.History.{begins, ends, opens, closes, pending, request_of, says_held, or_perm, held}
 use Rattle.tl_rules.specs.Agent.{sent}
 

@@ -9,17 +9,17 @@ use Rattle.tl_burst.specs.declared.message.Message.TheVariants as message
 use Rattle.tl_burst.specs.declared.message.MessageA.{MessageA}
 use Rattle.tl_burst.specs.Burst.{beats_of, carried}
 use Rattle.tl_burst.specs.Messages.{History}
-use Rattle.tl_rules.specs.declared.key.Key.TheVariants.{RequestSource, ReleaseSource, AcquireOf, ReleaseOf}
-use Rattle.tl_rules.specs.declared.level.Level.{Level}
-use Rattle.tl_rules.specs.declared.param.Grow.{Grow}
-use Rattle.tl_rules.specs.declared.param.Grow.TheVariants as grow
-use Rattle.tl_rules.specs.declared.perm.Perm.{Perm}
-use Rattle.tl_rules.specs.declared.perm.Perm.TheVariants as perm
+use Rattle.tl_params.specs.declared.key.Key.TheVariants.{RequestSource, ReleaseSource, AcquireOf, ReleaseOf}
+use Rattle.tl_params.specs.declared.level.Level.{Level}
+use Rattle.tl_params.specs.declared.param.Grow.{Grow}
+use Rattle.tl_params.specs.declared.param.Grow.TheVariants as grow
+use Rattle.tl_params.specs.declared.perm.Perm.{Perm}
+use Rattle.tl_params.specs.declared.perm.Perm.TheVariants as perm
 use Rattle.tl_rules.specs.Conformance.{same_perm}
 use Rattle.tl_rules.specs.Effect.{number_from, byte_of}
 use Rattle.tl_rules.specs.History.{block_at, pending}
 use Rattle.tl_rules.specs.Legality.{a_of_level, has_transfers, illegal_message, is_aligned}
-use Rattle.tl_rules.specs.Param.{grow_left, prune_left, prune_right}
+use Rattle.tl_params.specs.Param.{grow_left, prune_left, prune_right}
 use Rattle.tl_client.specs.declared.busy.Busy.{Busy}
 use Rattle.tl_client.specs.declared.busy.Busy.TheVariants.{B1, B2, B3, B4, B5}
 use Rattle.tl_client.specs.declared.operation.Op.{Op}

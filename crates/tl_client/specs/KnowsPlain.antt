@@ -3,12 +3,12 @@ use Rattle.tl_beat.specs.declared.beat.Beat.{Beat}
 use Rattle.tl_beat.specs.declared.beat.Beat.TheVariants as beat
 use Rattle.tl_beat.specs.declared.opcode.Channel.TheVariants as channel
 use Rattle.tl_burst.specs.Messages.{History, unfinished}
-use Rattle.tl_rules.specs.declared.config.ClientConfig.{ClientConfig}
-use Rattle.tl_rules.specs.declared.config.NewFault.{NewFault}
-use Rattle.tl_rules.specs.declared.key.Key.TheVariants.{RequestSource}
-use Rattle.tl_rules.specs.declared.perm.Perm.TheVariants as perm
-use Rattle.tl_rules.specs.declared.profile.Profile.{Profile}
-use Rattle.tl_rules.specs.Config.{client_fault}
+use Rattle.tl_params.specs.declared.config.ClientConfig.{ClientConfig}
+use Rattle.tl_params.specs.declared.config.NewFault.{NewFault}
+use Rattle.tl_params.specs.declared.key.Key.TheVariants.{RequestSource}
+use Rattle.tl_params.specs.declared.perm.Perm.TheVariants as perm
+use Rattle.tl_params.specs.declared.profile.Profile.{Profile}
+use Rattle.tl_params.specs.Config.{client_fault}
 use Rattle.tl_rules.specs.History.{pending, held}
 use Rattle.tl_client.specs.declared.plain.Plain.{Plain}
 use Rattle.tl_client.specs.End.{Terms, End, fresh}

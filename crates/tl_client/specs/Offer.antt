@@ -13,18 +13,18 @@ use Rattle.tl_beat.specs.declared.opcode.OpD.{OpD}
 use Rattle.tl_beat.specs.declared.opcode.OpD.TheVariants as d
 use Rattle.tl_burst.specs.declared.message.Message.{Message}
 use Rattle.tl_burst.specs.Messages.{History, unfinished}
-use Rattle.tl_rules.specs.declared.key.Key.TheVariants.{ReleaseOf}
-use Rattle.tl_rules.specs.declared.param.Cap.{Cap}
-use Rattle.tl_rules.specs.declared.param.Cap.TheVariants as cap
-use Rattle.tl_rules.specs.declared.param.Report.{Report}
-use Rattle.tl_rules.specs.declared.perm.Perm.{Perm}
-use Rattle.tl_rules.specs.declared.rule.Rule.{Rule}
-use Rattle.tl_rules.specs.declared.rule.Rule.TheVariants.{L1, A1, A2, A3}
+use Rattle.tl_params.specs.declared.key.Key.TheVariants.{ReleaseOf}
+use Rattle.tl_params.specs.declared.param.Cap.{Cap}
+use Rattle.tl_params.specs.declared.param.Cap.TheVariants as cap
+use Rattle.tl_params.specs.declared.param.Report.{Report}
+use Rattle.tl_params.specs.declared.perm.Perm.{Perm}
+use Rattle.tl_params.specs.declared.rule.Rule.{Rule}
+use Rattle.tl_params.specs.declared.rule.Rule.TheVariants.{L1, A1, A2, A3}
 use Rattle.tl_rules.specs.Agent.{is_outside, is_spoiled, payload_of}
 use Rattle.tl_rules.specs.Conformance.{broken_in_order}
 use Rattle.tl_rules.specs.History.{block_at, ends, is_probe, capped, pending, request_of}
 use Rattle.tl_rules.specs.Legality.{illegal, or_else, rule_if}
-use Rattle.tl_rules.specs.Param.{cap_of, report_at, report_right}
+use Rattle.tl_params.specs.Param.{cap_of, report_at, report_right}
 use Rattle.tl_client.specs.declared.verdict.Finish.{Finish}
 use Rattle.tl_client.specs.declared.verdict.Finish.TheVariants as finish
 use Rattle.tl_client.specs.declared.verdict.Verdict.{Verdict}

@@ -13,9 +13,9 @@ use Rattle.tl_burst.specs.declared.part.Part.{Part}
 use Rattle.tl_burst.specs.declared.part.Part.TheVariants.{First, Only}
 use Rattle.tl_burst.specs.Messages.{breaks_burst}
 use Rattle.tl_burst.specs.Part.{is_empty, completes}
-use Rattle.tl_rules.specs.declared.level.Level.{Level}
-use Rattle.tl_rules.specs.declared.rule.Rule.{Rule}
-use Rattle.tl_rules.specs.declared.rule.Rule.TheVariants.{L1, S1, H2, H3, A2, A3}
+use Rattle.tl_params.specs.declared.level.Level.{Level}
+use Rattle.tl_params.specs.declared.rule.Rule.{Rule}
+use Rattle.tl_params.specs.declared.rule.Rule.TheVariants.{L1, S1, H2, H3, A2, A3}
 use Rattle.tl_rules.specs.Agent.{payload_of}
 use Rattle.tl_rules.specs.Conformance.{answers}
 use Rattle.tl_rules.specs.History.{block_at}

@@ -2,7 +2,7 @@ use Rattle.std.specs.Prelude.{ℕ, if◌then◌else◌, slice_get, Option, Some,
 use Rattle.tl_beat.specs.declared.beat.BeatA.{BeatA}
 use Rattle.tl_burst.specs.declared.message.MessageA.{MessageA}
 use Rattle.tl_burst.specs.Messages.{History}
-use Rattle.tl_rules.specs.declared.key.Key.TheVariants.{RequestSource}
+use Rattle.tl_params.specs.declared.key.Key.TheVariants.{RequestSource}
 use Rattle.tl_rules.specs.History.{pending, request_of}
 use Rattle.tl_client.specs.declared.requests.Request.{Request}
 use Rattle.tl_client.specs.declared.requests.Requests.{Requests}

@@ -12,13 +12,13 @@ use Rattle.tl_burst.specs.declared.message.Message.{Message}
 use Rattle.tl_burst.specs.declared.message.Message.TheVariants.{A}
 use Rattle.tl_burst.specs.Burst.{beats_of, beat_of, begun, burst_of}
 use Rattle.tl_burst.specs.Messages.{channel_of, unfinished}
-use Rattle.tl_rules.specs.declared.config.Config.{Config}
-use Rattle.tl_rules.specs.declared.level.Level.TheVariants as level
-use Rattle.tl_rules.specs.declared.param.Cap.{Cap}
-use Rattle.tl_rules.specs.declared.param.Cap.TheVariants as cap
-use Rattle.tl_rules.specs.declared.perm.Perm.{Perm}
-use Rattle.tl_rules.specs.declared.perm.Perm.TheVariants as perm
-use Rattle.tl_rules.specs.declared.rule.Rule.TheVariants.{L1, L2, L3}
+use Rattle.tl_params.specs.declared.config.Config.{Config}
+use Rattle.tl_params.specs.declared.level.Level.TheVariants as level
+use Rattle.tl_params.specs.declared.param.Cap.{Cap}
+use Rattle.tl_params.specs.declared.param.Cap.TheVariants as cap
+use Rattle.tl_params.specs.declared.perm.Perm.{Perm}
+use Rattle.tl_params.specs.declared.perm.Perm.TheVariants as perm
+use Rattle.tl_params.specs.declared.rule.Rule.TheVariants.{L1, L2, L3}
 use Rattle.tl_rules.specs.Conformance.{Trace, on_link}
 use Rattle.tl_rules.specs.Effect.{Memory, effect, answer_of}
 use Rattle.tl_rules.specs.History.{ends, block_at, is_acquire, is_probe_ack, is_release}

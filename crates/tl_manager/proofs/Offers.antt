@@ -16,9 +16,9 @@ use Rattle.tl_beat.specs.Opcode.{a_carries_data, c_carries_data}
 use Rattle.tl_burst.specs.declared.message.Message.{Message}
 use Rattle.tl_burst.specs.declared.message.Message.TheVariants as message
 use Rattle.tl_burst.specs.Messages.{channel_of}
-use Rattle.tl_rules.specs.declared.config.Config.{Config}
-use Rattle.tl_rules.specs.declared.level.Level.{Level}
-use Rattle.tl_rules.specs.declared.profile.Profile.{Profile}
+use Rattle.tl_params.specs.declared.config.Config.{Config}
+use Rattle.tl_params.specs.declared.level.Level.{Level}
+use Rattle.tl_params.specs.declared.profile.Profile.{Profile}
 use Rattle.tl_manager.specs.Slave.{End, Answer, Sent, fresh, offered}
 
 -- a manager of so many blocks and trackers, whose links have these levels

@@ -5,11 +5,11 @@ use Rattle.tl_beat.specs.declared.opcode.Channel.TheVariants as channel
 use Rattle.tl_beat.specs.declared.opcode.OpA.TheVariants as a
 use Rattle.tl_beat.specs.declared.opcode.OpC.TheVariants as c
 use Rattle.tl_beat.specs.declared.opcode.OpD.TheVariants as d
-use Rattle.tl_rules.specs.declared.config.Config.{Config}
-use Rattle.tl_rules.specs.declared.level.Level.TheVariants as level
-use Rattle.tl_rules.specs.declared.profile.Profile.{Profile}
-use Rattle.tl_rules.specs.declared.profile.Profile.TheVariants as profile
-use Rattle.tl_rules.specs.declared.rule.Rule.TheVariants.{L1, S1, H1, H8, H10, A1, A2, A3}
+use Rattle.tl_params.specs.declared.config.Config.{Config}
+use Rattle.tl_params.specs.declared.level.Level.TheVariants as level
+use Rattle.tl_params.specs.declared.profile.Profile.{Profile}
+use Rattle.tl_params.specs.declared.profile.Profile.TheVariants as profile
+use Rattle.tl_params.specs.declared.rule.Rule.TheVariants.{L1, S1, H1, H8, H10, A1, A2, A3}
 use Rattle.tl_rules.specs.Agent.{bytes_carried}
 use Rattle.tl_rules.specs.Conformance.{on_link, broken_order}
 use Rattle.tl_rules.specs.Effect.{bytes_from, number_from, effect}

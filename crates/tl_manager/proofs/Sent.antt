@@ -11,10 +11,10 @@ use Rattle.tl_burst.specs.declared.message.MessageD.{MessageD}
 use Rattle.tl_burst.specs.Burst.{beats_of, beat_of, begun}
 use Rattle.tl_burst.specs.Messages.{History, channel_of, on, burst_length, grown, unfinished}
 use Rattle.tl_burst.proofs.Begun.{length-begun}
-use Rattle.tl_rules.specs.declared.key.Key.{Key}
+use Rattle.tl_params.specs.declared.key.Key.{Key}
 use Rattle.tl_rules.specs.History.{begins, ends, opens, closes, pending, request_of, asks_for, is_grant, capped, says_held, or_perm, held}
 use Rattle.tl_rules.specs.Agent.{sent}
-use Rattle.tl_rules.specs.declared.perm.Perm.{Perm}
+use Rattle.tl_params.specs.declared.perm.Perm.{Perm}
 use Rattle.std.specs.Prelude.{if◌then◌else◌}
 
 -- ---- beats of one message

@@ -13,17 +13,17 @@ use Rattle.tl_burst.specs.declared.message.MessageA.{MessageA}
 use Rattle.tl_burst.specs.Burst.{burst_of}
 use Rattle.tl_rules.specs.declared.answer.Answer.{Answer}
 use Rattle.tl_rules.specs.declared.answer.Answer.TheVariants as answer
-use Rattle.tl_rules.specs.declared.config.Config.{Config}
-use Rattle.tl_rules.specs.declared.param.Cap.{Cap}
-use Rattle.tl_rules.specs.declared.param.Cap.TheVariants as cap
-use Rattle.tl_rules.specs.declared.perm.Perm.{Perm}
-use Rattle.tl_rules.specs.declared.perm.Perm.TheVariants as perm
-use Rattle.tl_rules.specs.declared.profile.Profile.{Profile}
-use Rattle.tl_rules.specs.declared.profile.Profile.TheVariants as profile
+use Rattle.tl_params.specs.declared.config.Config.{Config}
+use Rattle.tl_params.specs.declared.param.Cap.{Cap}
+use Rattle.tl_params.specs.declared.param.Cap.TheVariants as cap
+use Rattle.tl_params.specs.declared.perm.Perm.{Perm}
+use Rattle.tl_params.specs.declared.perm.Perm.TheVariants as perm
+use Rattle.tl_params.specs.declared.profile.Profile.{Profile}
+use Rattle.tl_params.specs.declared.profile.Profile.TheVariants as profile
 use Rattle.tl_rules.specs.History.{block_at, is_acquire}
 use Rattle.tl_rules.specs.Conformance.{Trace, same_perm}
 use Rattle.tl_rules.specs.Effect.{Memory, bytes_from, effect, answer_of}
-use Rattle.tl_rules.specs.Param.{cap_code}
+use Rattle.tl_params.specs.Param.{cap_code}
 use Rattle.tl_manager.specs.Service.{Service}
 use Rattle.tl_manager.specs.Holders.{recorded, is_unheld}
 

@@ -7,11 +7,11 @@ use Rattle.tl_beat.specs.declared.beat.Link.{Link}
 use Rattle.tl_beat.specs.declared.opcode.Channel.{Channel}
 use Rattle.tl_beat.specs.Opcode.{c_carries_data}
 use Rattle.tl_burst.specs.Messages.{channel_of, unfinished}
-use Rattle.tl_rules.specs.declared.config.Config.{Config}
-use Rattle.tl_rules.specs.declared.level.Level.{Level}
-use Rattle.tl_rules.specs.declared.param.Cap.{Cap}
-use Rattle.tl_rules.specs.declared.rule.Rule.{Rule}
-use Rattle.tl_rules.specs.declared.rule.Rule.TheVariants.{L1, S1, H1, A1, A2, A3}
+use Rattle.tl_params.specs.declared.config.Config.{Config}
+use Rattle.tl_params.specs.declared.level.Level.{Level}
+use Rattle.tl_params.specs.declared.param.Cap.{Cap}
+use Rattle.tl_params.specs.declared.rule.Rule.{Rule}
+use Rattle.tl_params.specs.declared.rule.Rule.TheVariants.{L1, S1, H1, A1, A2, A3}
 use Rattle.tl_rules.specs.Agent.{is_outside, is_spoiled, payload_of}
 use Rattle.tl_rules.specs.Conformance.{Trace, on_link, broken_in_order}
 use Rattle.tl_rules.specs.Effect.{Memory}

@@ -7,7 +7,7 @@ ghost use Rattle.tl_beat.specs.declared.beat.BeatE.{BeatE};
 ghost use Rattle.tl_beat.specs.declared.beat.Link.{Link};
 ghost use Rattle.tl_beat.specs.declared.opcode.Channel.{Channel};
 ghost use Rattle.tl_beat.specs.Width.{IsWidth};
-ghost use Rattle.tl_rules.specs.declared.config.Config.{Config};
+ghost use Rattle.tl_params.specs.declared.config.Config.{Config};
 ghost use Rattle.tl_manager.specs.Holders.{recorded};
 ghost use Rattle.tl_manager.specs.Kept.{IsKept, IsAnswerLawful, is_stalled};
 ghost use Rattle.tl_manager.specs.Record.{recorded_after};

@@ -39,11 +39,11 @@ use Rattle.tl_manager.specs.Record.{granted_by_all, recorded_after}
 use Rattle.tl_manager.proofs.Lawful.{IsHandable}
 
 -- what holds of the requests in service
-record AreServed {w : ℕ} (config : Config) (ss : List (Service w)) : Type 0 where
-  requests : Each (IsPerformable config) ss
-  tracked : Each (λ n. n < config.trackers) (trackers_of ss)
-  trackers_apart : AreApart (trackers_of ss)
-  blocks_apart : AreApart (blocks_of ss)
+pub record AreServed {w : ℕ} (config : Config) (ss : List (Service w)) : Type 0 where
+  pub requests : Each (IsPerformable config) ss
+  pub tracked : Each (λ n. n < config.trackers) (trackers_of ss)
+  pub trackers_apart : AreApart (trackers_of ss)
+  pub blocks_apart : AreApart (blocks_of ss)
 
 served_filter : {w : ℕ} (config : Config) (test : Service w → Bool) (ss : List (Service w)) → AreServed config ss → AreServed config (filter test ss)
 served_filter config test ss ok = record {
@@ -125,7 +125,7 @@ other_beat config (link, beat.D x) t other ok = filtered config (λ s. not (is_e
 other_beat config (link, beat.E x) t other ok = filtered config (λ s. not (is_ended_by (link, beat.E x) s)) (services t) (ends (beat.E x) (on_link link.0 t)) ok
 
 -- a client's beat that passes
-taken_beat : {w : ℕ} (config : Config) (link : Link) (x : Beat w) (e : End w) → IsWidth w → IsKept config e → IsPassed config link x e.trace → AreServed config (services e.trace) → AreServed config (services ((link, x) ∷ e.trace))
+pub taken_beat : {w : ℕ} (config : Config) (link : Link) (x : Beat w) (e : End w) → IsWidth w → IsKept config e → IsPassed config link x e.trace → AreServed config (services e.trace) → AreServed config (services ((link, x) ∷ e.trace))
 taken_beat config link (beat.A x) e width before passes ok = taken_request config link x e.trace width passes.sound (whole_request config link x e.trace passes.sound before.sound (before.bursts link.0) passes.order) passes.waits ok
 taken_beat config link (beat.B x) e width before passes ok = other_beat config (link, beat.B x) e.trace refl ok
 taken_beat config link (beat.C x) e width before passes ok = other_beat config (link, beat.C x) e.trace refl ok
@@ -151,7 +151,7 @@ handed_served config (x ∷ handed) t each ok =
 
 -- ---- any beat that is offered
 
-are_served : {w : ℕ} (config : Config) (e : End w) → IsKept config e → AreServed config (services e.trace)
+pub are_served : {w : ℕ} (config : Config) (e : End w) → IsKept config e → AreServed config (services e.trace)
 are_served config e before = record { requests = before.requests; tracked = before.tracked; trackers_apart = before.trackers_apart; blocks_apart = before.blocks_apart }
 
 kept_as : {w : ℕ} (j : Judgement) (config : Config) (link : Link) (ch : Channel) (x : Beat w) (e : End w) → IsWidth w → IsTyped x → judged config link ch x e ≡ j → IsKept config e → IsKept config (offered_as j config link x e).1

@@ -9,6 +9,7 @@ pub mod Keeping
 pub mod Lawful
 pub mod Lists
 pub mod Masks
+pub mod Memories
 pub mod Offers
 pub mod Requests
 pub mod Rows

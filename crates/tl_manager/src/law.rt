@@ -12,12 +12,14 @@ ghost use Rattle.tl_burst.specs.declared.message.Message.{Message};
 ghost use Rattle.tl_burst.specs.declared.message.MessageA.{MessageA};
 ghost use Rattle.tl_burst.specs.declared.message.MessageC.{MessageC};
 ghost use Rattle.tl_burst.specs.Burst.{IsBurst};
+ghost use Rattle.tl_rules.specs.declared.rule.Rule.{Rule};
 ghost use Rattle.tl_rules.specs.Agent.{payload_of};
+ghost use Rattle.tl_rules.specs.History.{block_at};
 ghost use Rattle.tl_manager.specs.Holders.{recorded};
 ghost use Rattle.tl_manager.specs.Kept.{IsTyped, IsKept, IsAnswerLawful, is_stalled};
-ghost use Rattle.tl_manager.specs.Record.{recorded_after};
+ghost use Rattle.tl_manager.specs.Record.{recorded_after, is_of_block};
 ghost use Rattle.tl_manager.specs.Request.{request_carried};
-ghost use Rattle.tl_manager.specs.Slave.{End, fresh, offered, stalls};
+ghost use Rattle.tl_manager.specs.Slave.{End, Refused, Stalled, fresh, refused, offered, stalls};
 
 /// What holds of a manager's end from the first beat that it is offered on, and that every message
 /// which it hands out breaks no rule of legality at its link's level, isn't corrupt and isn't denied.
@@ -58,4 +60,17 @@ pub fn assembles_messages<const W: usize>()
         IsBurst (Message.A m) beats → request_carried beats ≡ Some m }
     ensures data { (m : MessageC W) (beats : List (Beat W)) → length m.payload ≡ 64 →
         IsBurst (Message.C m) beats → payload_of beats ≡ m.payload }
+{}
+
+/// A beat changes the memory in its own block alone. One that is refused closes its link, one that is
+/// stalled changes nothing, and neither does anything besides.
+pub fn keeps_the_rest<const W: usize>()
+    requires { IsWidth W }
+    ensures memory { (config : Config) (link : Link) (ch : Channel) (x : Beat W) (e : End W) (address : ℕ) →
+        IsTyped x → IsKept config e → is_of_block (block_at address) x ≡ false →
+        (offered config link ch x e).1.memory address ≡ e.memory address }
+    ensures refusal { (config : Config) (link : Link) (ch : Channel) (x : Beat W) (e : End W) (rule : Rule) →
+        (offered config link ch x e).0 ≡ Refused rule → (offered config link ch x e).1 ≡ refused link e }
+    ensures stall { (config : Config) (link : Link) (ch : Channel) (x : Beat W) (e : End W) →
+        (offered config link ch x e).0 ≡ Stalled → (offered config link ch x e).1 ≡ e }
 {}

@@ -15,7 +15,7 @@ use Rattle.tl_rules.specs.Agent.{is_outside, is_spoiled}
 use Rattle.tl_rules.specs.Conformance.{Trace, on_link, broken_in_order}
 use Rattle.tl_rules.specs.Legality.{illegal, breaks_l1, is_one_of, rule_if}
 use Rattle.tl_rules.proofs.Bursts.{next_rule}
-use Rattle.tl_manager.specs.Kept.{IsSound}
+use Rattle.tl_manager.specs.Kept.{IsTyped, IsSound}
 use Rattle.tl_manager.specs.Slave.{End, Judgement, Passes, breaks_or, waits_or, unlawful, is_from_client, before_stall, must_wait, judged_at, judged_on, judged, level_of, open_level}
 
 past_rule : (o : Option Rule) (rest : Judgement) → breaks_or o rest ≡ Passes → (o ≡ None) × (rest ≡ Passes)
@@ -50,9 +50,9 @@ pub record IsPassed {w : ℕ} (config : Config) (link : Link) (x : Beat w) (t : 
   pub order : broken_in_order config.profile x (on_link link.0 t) ≡ None
   pub waits : must_wait config link x t ≡ false
 
-passed_at : {w : ℕ} (config : Config) (l : Level) (link : Link) (ch : Channel) (x : Beat w) (t : Trace w) → level_of config link.0 ≡ Some l → judged_at config l link ch x t ≡ Passes → IsPassed config link x t
+passed_at : {w : ℕ} (config : Config) (l : Level) (link : Link) (ch : Channel) (x : Beat w) (t : Trace w) → IsTyped x → level_of config link.0 ≡ Some l → judged_at config l link ch x t ≡ Passes → IsPassed config link x t
 unfolding judged_at
-passed_at config l link ch x t has_level e =
+passed_at config l link ch x t typed has_level e =
     let lawful = past_rule (unlawful l ch x) _ e in
     let theirs = from_client (is_from_client x) (illegal l ch x) lawful.0 in
     let early = past_rule (before_stall (broken_in_order config.profile x (on_link link.0 t))) _ lawful.1 in
@@ -63,7 +63,7 @@ passed_at config l link ch x t has_level e =
     let clean = next_rule (is_spoiled x) A2 None inside.1 in
     record {
       theirs = theirs.0;
-      sound = record { lawful = rw has_level (legal_at_own l ch x theirs.1); inside = inside.0; clean = clean.0 };
+      sound = record { lawful = rw has_level (legal_at_own l ch x theirs.1); inside = inside.0; clean = clean.0; typed = typed };
       order = order.0;
       waits = stall.0;
     }
@@ -72,9 +72,9 @@ there_is : (closed : Bool) (o : Option Level) (l : Level) → (if closed then No
 there_is true o l e = absurd cc
 there_is false o l e = e
 
-pub passed : {w : ℕ} (config : Config) (link : Link) (ch : Channel) (x : Beat w) (e : End w) → judged config link ch x e ≡ Passes → IsPassed config link x e.trace
-passed config link ch x e passes = go (open_level config link e) refl passes
+pub passed : {w : ℕ} (config : Config) (link : Link) (ch : Channel) (x : Beat w) (e : End w) → IsTyped x → judged config link ch x e ≡ Passes → IsPassed config link x e.trace
+passed config link ch x e typed passes = go (open_level config link e) refl passes
   where
     go : (o : Option Level) → open_level config link e ≡ o → judged_on config o link ch x e.trace ≡ Passes → IsPassed config link x e.trace
     go None is f = absurd cc
-    go (Some l) is f = passed_at config l link ch x e.trace (there_is (is_one_of link.0 e.closed) (level_of config link.0) l is) f
+    go (Some l) is f = passed_at config l link ch x e.trace typed (there_is (is_one_of link.0 e.closed) (level_of config link.0) l is) f

@@ -1,7 +1,7 @@
 -- What holds of the manager's end holds after each beat that it is offered.
-use Rattle.std.proofs.Common.{ap, ◌∙◌, ◌≡◌, ℕ, zero, suc, ◌<◌, ◌==◌, Bool, true, false, not, cond, ◌&&◌, ◌||◌, List, [], ◌∷◌, ◌++◌, length, map, Some, None, refl, sym, arith, inl, inr}
+use Rattle.std.proofs.Common.{ap, ◌∙◌, ◌≡◌, ℕ, zero, suc, ◌+◌, ◌<◌, ◌==◌, Bool, true, false, not, cond, ◌&&◌, ◌||◌, List, [], ◌∷◌, ◌++◌, length, map, Some, None, refl, sym, arith, inl, inr}
 use Rattle.std.specs.Prelude.{nat_le, filter, option_map, is_some, if◌then◌else◌}
-use Rattle.std.proofs.lemmas.Bool.{or_parts, leb-false, cases_eq, ne_eqb}
+use Rattle.std.proofs.lemmas.Bool.{or_parts, leb-false, eqb-true, cases_eq, ne_eqb}
 use Rattle.std.proofs.lemmas.List.{length-map}
 use Rattle.tl_beat.specs.Width.{IsWidth}
 use Rattle.tl_beat.specs.declared.beat.Beat.{Beat}
@@ -9,40 +9,45 @@ use Rattle.tl_beat.specs.declared.beat.Beat.TheVariants as beat
 use Rattle.tl_beat.specs.declared.beat.BeatA.{BeatA}
 use Rattle.tl_beat.specs.declared.beat.Link.{Link}
 use Rattle.tl_beat.specs.declared.opcode.Channel.{Channel}
+use Rattle.tl_beat.specs.declared.opcode.Channel.TheVariants as channel
 use Rattle.tl_burst.specs.declared.message.Message.{Message}
 use Rattle.tl_burst.specs.declared.message.Message.TheVariants.{A, B, C, D, E}
 use Rattle.tl_burst.specs.Burst.{beats_of, beat_of, begun, burst_of}
-use Rattle.tl_burst.specs.Messages.{channel_of, unfinished}
-use Rattle.tl_params.specs.declared.config.Config.{Config}
+use Rattle.tl_burst.specs.Messages.{channel_of, unfinished, burst_length}
+use Rattle.tl_rules.specs.declared.config.Config.{Config}
 use Rattle.tl_rules.specs.Conformance.{Trace, on_link}
 use Rattle.tl_rules.specs.History.{ends, block_at}
 use Rattle.tl_params.specs.declared.level.Level.{Level}
 use Rattle.tl_rules.specs.Legality.{illegal, is_one_of}
 use Rattle.tl_rules.proofs.Legal.{legal_from_beats}
 use Rattle.tl_burst.proofs.Splitting.{beats-positive}
-use Rattle.tl_manager.proofs.Lists.{each_weaker}
+use Rattle.tl_manager.proofs.Lists.{each_filter, each_weaker}
 use Rattle.tl_manager.proofs.Sound.{leveled}
 use Rattle.tl_manager.specs.Handing.{Handed, with_handed}
-use Rattle.tl_manager.specs.Kept.{Each, AreApart, IsClean, illegal_at, illegal_message_at, blocks_of, IsKept, IsAnswerLawful}
+use Rattle.tl_manager.specs.Kept.{Each, AreApart, IsSound, IsTyped, IsClean, IsPerformable, illegal_at, illegal_message_at, blocks_of, IsKept, IsAnswerLawful}
 use Rattle.tl_manager.specs.Request.{request_if, request_carried}
 use Rattle.tl_manager.specs.Service.{Service, is_ended_by, least_free, trackers_of, with_service, served, services, serving, is_in_service}
 use Rattle.tl_manager.specs.Slave.{End, fresh, level_of, Judgement, Breaks, Waits, Passes, is_from_client, must_wait, judged, deed, offered_as, offered}
 use Rattle.tl_manager.proofs.Deeds.{deed_handable, handed_sound}
 use Rattle.tl_manager.proofs.Free.{apart_filter, each_map_filter, least_free-is_free, least_free-le}
 use Rattle.tl_manager.proofs.Handed.{whole-handed, whole-taken, recorded-taken, recorded-handed}
-use Rattle.tl_manager.proofs.Judged.{passed}
+use Rattle.tl_manager.proofs.Continued.{whole_request, of_one-taken, requests-handed}
+use Rattle.tl_manager.proofs.Judged.{IsPassed, passed}
+use Rattle.tl_manager.proofs.Requests.{IsWhole, performable}
 use Rattle.tl_manager.specs.Holders.{recorded}
 use Rattle.tl_manager.specs.Record.{granted_by_all, recorded_after}
 use Rattle.tl_manager.proofs.Lawful.{IsHandable}
 
 -- what holds of the requests in service
-record AreServed {w : ℕ} (config : Config) (ss : List (Service w)) : Type 0 where
-  tracked : Each (λ n. n < config.trackers) (trackers_of ss)
-  trackers_apart : AreApart (trackers_of ss)
-  blocks_apart : AreApart (blocks_of ss)
+pub record AreServed {w : ℕ} (config : Config) (ss : List (Service w)) : Type 0 where
+  pub requests : Each (IsPerformable config) ss
+  pub tracked : Each (λ n. n < config.trackers) (trackers_of ss)
+  pub trackers_apart : AreApart (trackers_of ss)
+  pub blocks_apart : AreApart (blocks_of ss)
 
 served_filter : {w : ℕ} (config : Config) (test : Service w → Bool) (ss : List (Service w)) → AreServed config ss → AreServed config (filter test ss)
 served_filter config test ss ok = record {
+  requests = each_filter (IsPerformable config) test ss ok.requests;
   tracked = each_map_filter (λ n. n < config.trackers) (λ s. s.tracker) test ss ok.tracked;
   trackers_apart = apart_filter (λ s. s.tracker) test ss ok.trackers_apart;
   blocks_apart = apart_filter (λ s. block_at s.request.address) test ss ok.blocks_apart;
@@ -79,28 +84,35 @@ unserved {w} block (s ∷ ss) e = go (block_at s.request.address == block) (eqb_
     go true same f rest = absurd cc
     go false other f rest = rw (other, rest f) refl
 
-served_new : {w : ℕ} (config : Config) (link : Link) (x : BeatA w) (beats : List (Beat w)) (ss : List (Service w)) (fits : Bool) (e : nat_le x.size 6 ≡ fits) → is_in_service (block_at x.address) ss ≡ false → length ss < config.trackers → AreServed config ss
+served_new : {w : ℕ} (config : Config) (link : Link) (x : BeatA w) (beats : List (Beat w)) (ss : List (Service w)) (fits : Bool) (e : nat_le x.size 6 ≡ fits) → IsWidth w → IsSound config (link, beat.A x) → Each (IsWhole config link x) beats → length beats ≡ burst_length (beat.A x)
+    → is_in_service (block_at x.address) ss ≡ false → length ss < config.trackers → AreServed config ss
     → AreServed config (with_service (option_map (λ m. record { tracker = least_free (trackers_of ss); link = link; request = m }) (request_if x beats fits e)) ss)
-served_new config link x beats ss false e unused room ok = ok
-served_new config link x beats ss true e unused room ok =
+served_new config link x beats ss false e width sound whole long unused room ok = ok
+served_new config link x beats ss true e width sound whole long unused room ok =
     let low = least_free-le (trackers_of ss) in
     let len : length (trackers_of ss) ≡ length ss = length-map ss (λ s. s.tracker) in
     record {
+      requests = (performable config link x beats (least_free (trackers_of ss)) e width sound whole long, ok.requests);
       tracked = (omega (arith, low, len), ok.tracked);
       trackers_apart = (least_free-is_free (trackers_of ss), ok.trackers_apart);
       blocks_apart = (unserved (block_at x.address) ss unused, ok.blocks_apart);
     }
 
-taken_request : {w : ℕ} (config : Config) (link : Link) (x : BeatA w) (t : Trace w) → must_wait config link (beat.A x) t ≡ false → AreServed config (services t) → AreServed config (services ((link, beat.A x) ∷ t))
+taken_request : {w : ℕ} (config : Config) (link : Link) (x : BeatA w) (t : Trace w) → IsWidth w → IsSound config (link, beat.A x) → Each (IsWhole config link x) (beat.A x ∷ unfinished channel.A (on_link link.0 t)) → must_wait config link (beat.A x) t ≡ false → AreServed config (services t)
+    → AreServed config (services ((link, beat.A x) ∷ t))
 unfolding services request_carried
-taken_request {w} config link x t waits ok = go (ends (beat.A x) (on_link link.0 t)) waits
+taken_request {w} config link x t width sound whole waits ok = go (ends (beat.A x) (on_link link.0 t)) refl waits
   where
-    go : (b : Bool) → (b && (is_in_service (block_at x.address) (services t) || nat_le config.trackers (length (services t)))) ≡ false
-        → AreServed config (if b then served (link, beat.A x) (unfinished (channel_of (beat.A x)) (on_link link.0 t)) (services t) else services t)
-    go false e = ok
-    go true e =
+    burst : List (Beat w)
+    burst = unfinished channel.A (on_link link.0 t)
+
+    go : (b : Bool) → (length burst + 1 == burst_length (beat.A x)) ≡ b → (b && (is_in_service (block_at x.address) (services t) || nat_le config.trackers (length (services t)))) ≡ false
+        → AreServed config (if b then served (link, beat.A x) burst (services t) else services t)
+    go false last e = ok
+    go true last e =
         let p = or_parts (is_in_service (block_at x.address) (services t)) (nat_le config.trackers (length (services t))) e in
-        served_new config link x (beat.A x ∷ unfinished (channel_of (beat.A x)) (on_link link.0 t)) (services t) (nat_le x.size 6) refl p.0 (leb-false config.trackers (length (services t)) p.1) ok
+        let long = eqb-true (length burst + 1) (burst_length (beat.A x)) last in
+        served_new config link x (beat.A x ∷ burst) (services t) (nat_le x.size 6) refl width sound whole (omega (arith, long)) p.0 (leb-false config.trackers (length (services t)) p.1) ok
 
 -- ---- any other beat ends services at most
 
@@ -112,12 +124,13 @@ other_beat config (link, beat.C x) t other ok = filtered config (λ s. not (is_e
 other_beat config (link, beat.D x) t other ok = filtered config (λ s. not (is_ended_by (link, beat.D x) s)) (services t) (ends (beat.D x) (on_link link.0 t)) ok
 other_beat config (link, beat.E x) t other ok = filtered config (λ s. not (is_ended_by (link, beat.E x) s)) (services t) (ends (beat.E x) (on_link link.0 t)) ok
 
-taken_beat : {w : ℕ} (config : Config) (link : Link) (x : Beat w) (t : Trace w) → must_wait config link x t ≡ false → AreServed config (services t) → AreServed config (services ((link, x) ∷ t))
-taken_beat config link (beat.A x) t waits ok = taken_request config link x t waits ok
-taken_beat config link (beat.B x) t waits ok = other_beat config (link, beat.B x) t refl ok
-taken_beat config link (beat.C x) t waits ok = other_beat config (link, beat.C x) t refl ok
-taken_beat config link (beat.D x) t waits ok = other_beat config (link, beat.D x) t refl ok
-taken_beat config link (beat.E x) t waits ok = other_beat config (link, beat.E x) t refl ok
+-- a client's beat that passes
+pub taken_beat : {w : ℕ} (config : Config) (link : Link) (x : Beat w) (e : End w) → IsWidth w → IsKept config e → IsPassed config link x e.trace → AreServed config (services e.trace) → AreServed config (services ((link, x) ∷ e.trace))
+taken_beat config link (beat.A x) e width before passes ok = taken_request config link x e.trace width passes.sound (whole_request config link x e.trace passes.sound before.sound (before.bursts link.0) passes.order) passes.waits ok
+taken_beat config link (beat.B x) e width before passes ok = other_beat config (link, beat.B x) e.trace refl ok
+taken_beat config link (beat.C x) e width before passes ok = other_beat config (link, beat.C x) e.trace refl ok
+taken_beat config link (beat.D x) e width before passes ok = other_beat config (link, beat.D x) e.trace refl ok
+taken_beat config link (beat.E x) e width before passes ok = other_beat config (link, beat.E x) e.trace refl ok
 
 our_beat : {w : ℕ} (m : Message w) (i : ℕ) → is_from_client (beat_of m 0) ≡ false → is_request (beat_of m i) ≡ false
 our_beat (A m) i ours = absurd cc
@@ -138,48 +151,50 @@ handed_served config (x ∷ handed) t each ok =
 
 -- ---- any beat that is offered
 
-are_served : {w : ℕ} (config : Config) (e : End w) → IsKept config e → AreServed config (services e.trace)
-are_served config e before = record { tracked = before.tracked; trackers_apart = before.trackers_apart; blocks_apart = before.blocks_apart }
+pub are_served : {w : ℕ} (config : Config) (e : End w) → IsKept config e → AreServed config (services e.trace)
+are_served config e before = record { requests = before.requests; tracked = before.tracked; trackers_apart = before.trackers_apart; blocks_apart = before.blocks_apart }
 
-kept_as : {w : ℕ} (j : Judgement) (config : Config) (link : Link) (ch : Channel) (x : Beat w) (e : End w) → IsWidth w → judged config link ch x e ≡ j → IsKept config e → IsKept config (offered_as j config link x e).1
-kept_as (Breaks r) config link ch x e width is before = record { sound = before.sound; whole = before.whole; tracked = before.tracked; trackers_apart = before.trackers_apart; blocks_apart = before.blocks_apart }
-kept_as Waits config link ch x e width is before = before
-kept_as Passes config link ch x e width is before =
-    let ok = passed config link ch x e is in
+kept_as : {w : ℕ} (j : Judgement) (config : Config) (link : Link) (ch : Channel) (x : Beat w) (e : End w) → IsWidth w → IsTyped x → judged config link ch x e ≡ j → IsKept config e → IsKept config (offered_as j config link x e).1
+kept_as (Breaks r) config link ch x e width typed is before = record { sound = before.sound; whole = before.whole; bursts = before.bursts; requests = before.requests; tracked = before.tracked; trackers_apart = before.trackers_apart; blocks_apart = before.blocks_apart }
+kept_as Waits config link ch x e width typed is before = before
+kept_as Passes config link ch x e width typed is before =
+    let ok = passed config link ch x e typed is in
     let handable = deed_handable config link x e width ok.sound before.sound in
-    let after = handed_served config (deed config link x e).handed ((link, x) ∷ e.trace) handable (taken_beat config link x e.trace ok.waits (are_served config e before)) in
+    let after = handed_served config (deed config link x e).handed ((link, x) ∷ e.trace) handable (taken_beat config link x e width before ok (are_served config e before)) in
     record {
       sound = handed_sound config (deed config link x e).handed ((link, x) ∷ e.trace) handable (ok.sound, before.sound);
       whole = λ client. whole-handed config client (deed config link x e).handed ((link, x) ∷ e.trace) width handable (whole-taken client link x e.trace ok.theirs (before.whole client));
+      bursts = λ client. rw (requests-handed config client (deed config link x e).handed ((link, x) ∷ e.trace) handable) (of_one-taken config client link x e.trace ok.theirs ok.order before.bursts);
+      requests = after.requests;
       tracked = after.tracked;
       trackers_apart = after.trackers_apart;
       blocks_apart = after.blocks_apart;
     }
 
-pub kept-offered : {w : ℕ} (config : Config) (link : Link) (ch : Channel) (x : Beat w) (e : End w) → IsWidth w → IsKept config e → IsKept config (offered config link ch x e).1
+pub kept-offered : {w : ℕ} (config : Config) (link : Link) (ch : Channel) (x : Beat w) (e : End w) → IsWidth w → IsTyped x → IsKept config e → IsKept config (offered config link ch x e).1
 unfolding offered
-kept-offered config link ch x e width ok = kept_as (judged config link ch x e) config link ch x e width refl ok
+kept-offered config link ch x e width typed ok = kept_as (judged config link ch x e) config link ch x e width typed refl ok
 
 pub fresh-kept : {w : ℕ} (config : Config) → IsKept {w = w} config fresh
 unfolding services unfinished on_link
-fresh-kept config = record { sound = tt; whole = λ client. (refl, refl); tracked = tt; trackers_apart = tt; blocks_apart = tt }
+fresh-kept config = record { sound = tt; whole = λ client. (refl, refl); bursts = λ client. tt; requests = tt; tracked = tt; trackers_apart = tt; blocks_apart = tt }
 
 -- ---- what is recorded
 
-recorded_as : {w : ℕ} (j : Judgement) (config : Config) (link : Link) (ch : Channel) (x : Beat w) (e : End w) (client block : ℕ) → IsWidth w → judged config link ch x e ≡ j → IsKept config e
+recorded_as : {w : ℕ} (j : Judgement) (config : Config) (link : Link) (ch : Channel) (x : Beat w) (e : End w) (client block : ℕ) → IsWidth w → IsTyped x → judged config link ch x e ≡ j → IsKept config e
     → recorded client block (offered_as j config link x e).1.trace ≡ recorded_after (offered_as j config link x e).0 (link, x) e.trace client block
-recorded_as (Breaks r) config link ch x e client block width is before = refl
-recorded_as Waits config link ch x e client block width is before = refl
-recorded_as Passes config link ch x e client block width is before =
-    let ok = passed config link ch x e is in
+recorded_as (Breaks r) config link ch x e client block width typed is before = refl
+recorded_as Waits config link ch x e client block width typed is before = refl
+recorded_as Passes config link ch x e client block width typed is before =
+    let ok = passed config link ch x e typed is in
     let handable = deed_handable config link x e width ok.sound before.sound in
     recorded-handed config client block (deed config link x e).handed ((link, x) ∷ e.trace) width handable (whole-taken client link x e.trace ok.theirs (before.whole client))
     ∙ ap (granted_by_all (deed config link x e).handed ((link, x) ∷ e.trace) client block) (recorded-taken client link block x e.trace ok.theirs)
 
-pub recorded-offered : {w : ℕ} (config : Config) (link : Link) (ch : Channel) (x : Beat w) (e : End w) (client block : ℕ) → IsWidth w → IsKept config e
+pub recorded-offered : {w : ℕ} (config : Config) (link : Link) (ch : Channel) (x : Beat w) (e : End w) (client block : ℕ) → IsWidth w → IsTyped x → IsKept config e
     → recorded client block (offered config link ch x e).1.trace ≡ recorded_after (offered config link ch x e).0 (link, x) e.trace client block
 unfolding offered
-recorded-offered config link ch x e client block width before = recorded_as (judged config link ch x e) config link ch x e client block width refl before
+recorded-offered config link ch x e client block width typed before = recorded_as (judged config link ch x e) config link ch x e client block width typed refl before
 
 -- ---- what is handed out is lawful
 
@@ -191,13 +206,13 @@ lawful_message {w} config x width ok =
     legal_beat : (l : Level) → level_of config x.0.0 ≡ Some l → (i : ℕ) → illegal_at (level_of config x.0.0) (beat_of x.1 i) ≡ None → illegal l (channel_of (beat_of x.1 0)) (beat_of x.1 i) ≡ None
     legal_beat l is i e = rw (← same_channel x.1 i) (rw is at e)
 
-lawful_as : {w : ℕ} (j : Judgement) (config : Config) (link : Link) (ch : Channel) (x : Beat w) (e : End w) → IsWidth w → judged config link ch x e ≡ j → IsKept config e → IsAnswerLawful config (offered_as j config link x e).0
-lawful_as (Breaks r) config link ch x e width is before = tt
-lawful_as Waits config link ch x e width is before = tt
-lawful_as Passes config link ch x e width is before =
-    let ok = passed config link ch x e is in
+lawful_as : {w : ℕ} (j : Judgement) (config : Config) (link : Link) (ch : Channel) (x : Beat w) (e : End w) → IsWidth w → IsTyped x → judged config link ch x e ≡ j → IsKept config e → IsAnswerLawful config (offered_as j config link x e).0
+lawful_as (Breaks r) config link ch x e width typed is before = tt
+lawful_as Waits config link ch x e width typed is before = tt
+lawful_as Passes config link ch x e width typed is before =
+    let ok = passed config link ch x e typed is in
     each_weaker (IsHandable config) (λ y. (illegal_message_at (level_of config y.0.0) y.1 ≡ None) × IsClean y.1) (deed config link x e).handed (λ y h. lawful_message config y width h) (deed_handable config link x e width ok.sound before.sound)
 
-pub lawful : {w : ℕ} (config : Config) (link : Link) (ch : Channel) (x : Beat w) (e : End w) → IsWidth w → IsKept config e → IsAnswerLawful config (offered config link ch x e).0
+pub lawful : {w : ℕ} (config : Config) (link : Link) (ch : Channel) (x : Beat w) (e : End w) → IsWidth w → IsTyped x → IsKept config e → IsAnswerLawful config (offered config link ch x e).0
 unfolding offered
-lawful config link ch x e width ok = lawful_as (judged config link ch x e) config link ch x e width refl ok
+lawful config link ch x e width typed ok = lawful_as (judged config link ch x e) config link ch x e width typed refl ok

@@ -37,7 +37,7 @@ pub record IsHandable {w : ℕ} (config : Config) (x : Link × Message w) : Type
   pub beats : (i : ℕ) → i < beats_of x.1 → IsSound config (x.0, beat_of x.1 i)
   pub clean : IsClean x.1
 
-no_bit : (i : ℕ) → bit 0 i ≡ false
+pub no_bit : (i : ℕ) → bit 0 i ≡ false
 no_bit i = rw zero-div refl
 
 -- ---- on channel D
@@ -55,6 +55,7 @@ d_handable {w} config link l m has_level of_level params sized corrupt denied = 
     lawful = rw has_level (illegal_d l _ ∙ rw (corrupt, denied) (d_lawful w l m.opcode m.param m.size m.sink (bit 0 i) of_level params sized (no_bit i)));
     inside = refl;
     clean = rw (corrupt, denied, no_bit i) refl;
+    typed = tt;
   };
   clean = (corrupt, denied);
 }
@@ -178,6 +179,7 @@ probe_handable {w} config client block c width has_level inside =
             lawful = rw has_level (illegal_b level.C _ ∙ rw (probe_control c (64 * block) aligned, full_mask w (64 * block) width) refl);
             inside = rw same inside;
             clean = no_bit 0;
+            typed = tt;
           });
       clean = refl;
     }

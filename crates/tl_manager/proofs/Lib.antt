@@ -1,4 +1,6 @@
+pub mod Assembled
 pub mod BitLemmas
+pub mod Continued
 pub mod Deeds
 pub mod Free
 pub mod Handed
@@ -6,7 +8,10 @@ pub mod Judged
 pub mod Keeping
 pub mod Lawful
 pub mod Lists
+pub mod Masks
+pub mod Memories
 pub mod Offers
+pub mod Requests
 pub mod Rows
 pub mod Sent
 pub mod Sound

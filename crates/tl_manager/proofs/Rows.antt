@@ -102,6 +102,12 @@ a_source_is_free_once_it_is_answered : answers_to {w = 8} (with_links profile.On
 unfolding bytes_carried on_link broken_order bytes_from effect request_of release_of probe_of grant_sink pending held illegal each_below unfinished with_handed clients_from masks_carried corrupt_carried request_carried least_free services judged_at deed offered
 a_source_is_free_once_it_is_answered = refl
 
+some_lanes_of_a_beat : answers_to {w = 8} (with_links profile.One 1 1 (level.UL ∷ []))
+    (on 0 (request_of_data a.PutPartialData refl 0 2 4 80 (replicate 4 0 ++ 17 ∷ 34 ∷ 51 ∷ 68 ∷ [])) ∷ on 0 (request a.Get refl 0 2 0 4 240) ∷ [])
+    ≡ said 0 (answer d.AccessAck 2 refl zeros) ∷ said 0 (answer d.AccessAckData 2 refl (replicate 4 0 ++ 17 ∷ 0 ∷ 51 ∷ 0 ∷ replicate 56 0)) ∷ []
+unfolding bytes_carried on_link broken_order bytes_from effect request_of release_of probe_of grant_sink pending held illegal each_below unfinished with_handed clients_from masks_carried corrupt_carried request_carried least_free services judged_at deed offered
+some_lanes_of_a_beat = refl
+
 -- ---- probes, grants and releases
 
 a_reader_gets_what_the_writer_stored : answers_to {w = 8} (two_caches profile.One)
@@ -158,6 +164,18 @@ plain_accesses_of_what_a_cache_holds : answers_to {w = 8} (with_links profile.On
     ≡ granted 0 ++ said 0 (probe 1) ∷ after_beats 7 (said 1 (answer d.AccessAckData 0 refl (block_from 90))) ++ said 0 (probe 2) ∷ said 1 (answer d.AccessAck 0 refl zeros) ∷ said 1 (answer d.AccessAckData 0 refl (block_from 107)) ∷ []
 unfolding bytes_carried on_link broken_order bytes_from effect request_of release_of probe_of grant_sink pending held illegal each_below unfinished with_handed clients_from masks_carried corrupt_carried request_carried least_free services judged_at deed offered
 plain_accesses_of_what_a_cache_holds = refl
+
+a_writer_probed_by_its_own_access : answers_to {w = 8} (with_links profile.One 1 1 (level.C ∷ []))
+    (writes ++ on 0 (get 0 3 0) ∷ reported 0 0 90)
+    ≡ granted 0 ++ said 0 (probe 1) ∷ after_beats 7 (said 0 (answer d.AccessAckData 3 refl (block_from 90)))
+unfolding bytes_carried on_link broken_order bytes_from effect request_of release_of probe_of grant_sink pending held illegal each_below unfinished with_handed clients_from masks_carried corrupt_carried request_carried least_free services judged_at deed offered
+a_writer_probed_by_its_own_access = refl
+
+an_intent_probes_nobody : answers_to {w = 8} (two_caches profile.One)
+    (writes ++ on 1 (request a.Intent refl 1 6 0 0 255) ∷ [])
+    ≡ granted 0 ++ said 1 (answer d.HintAck 6 refl zeros) ∷ []
+unfolding bytes_carried on_link broken_order bytes_from effect request_of release_of probe_of grant_sink pending held illegal each_below unfinished with_handed clients_from masks_carried corrupt_carried request_carried least_free services judged_at deed offered
+an_intent_probes_nobody = refl
 
 -- ---- the second profile
 
@@ -235,6 +253,18 @@ a_closed_link_is_still_answered : answers_to {w = 8} (with_links profile.One 4 2
     ≡ said 1 (grant_data 0 0 zeros) ∷ taken ∷ said 1 (probe 1) ∷ Refused H1 ∷ after_beats 7 (said 0 (grant_data 1 0 zeros)) ++ Stalled ∷ Stalled ∷ []
 unfolding bytes_carried on_link broken_order bytes_from effect request_of release_of probe_of grant_sink pending held illegal each_below unfinished with_handed clients_from masks_carried corrupt_carried request_carried least_free services judged_at deed offered
 a_closed_link_is_still_answered = refl
+
+a_source_in_use_before_the_stall : answers_to {w = 8} (two_caches profile.One)
+    (writes ++ on 1 (acquire 1 0) ∷ on 1 (acquire 1 0) ∷ [])
+    ≡ granted 0 ++ said 0 (probe 2) ∷ Refused H1 ∷ []
+unfolding bytes_carried on_link broken_order bytes_from effect request_of release_of probe_of grant_sink pending held illegal each_below unfinished with_handed clients_from masks_carried corrupt_carried request_carried least_free services judged_at deed offered
+a_source_in_use_before_the_stall = refl
+
+another_source_before_the_stall : answers_to {w = 8} (with_links profile.One 1 1 (level.C ∷ level.UH ∷ []))
+    (on 0 (acquire 1 0) ∷ replicate 7 (on 1 (put_block 0)) ++ on 1 (put_block 1) ∷ [])
+    ≡ said 0 (grant_data 0 0 zeros) ∷ replicate 7 taken ++ Refused S1 ∷ []
+unfolding bytes_carried on_link broken_order bytes_from effect request_of release_of probe_of grant_sink pending held illegal each_below unfinished with_handed clients_from masks_carried corrupt_carried request_carried least_free services judged_at deed offered
+another_source_before_the_stall = refl
 
 -- ---- other widths
 

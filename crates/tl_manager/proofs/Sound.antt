@@ -1,5 +1,5 @@
 -- Beats that break no L rule at their links: what they say of levels and of the requests in service.
-use Rattle.std.proofs.Common.{◌≡◌, ℕ, ◌==◌, Bool, true, false, not, ◌&&◌, List, [], ◌∷◌, Option, Some, None, refl, sym, ap, ◌∙◌}
+use Rattle.std.proofs.Common.{subst, ◌≡◌, ℕ, ◌==◌, Bool, true, false, not, ◌&&◌, List, [], ◌∷◌, Option, Some, None, refl, sym, ap, ◌∙◌}
 use Rattle.std.specs.Prelude.{nat_le, option_map, if◌then◌else◌}
 use Rattle.std.proofs.lemmas.Bool.{eqb-true}
 use Rattle.tl_beat.specs.declared.beat.Beat.{Beat}
@@ -9,16 +9,15 @@ use Rattle.tl_beat.specs.declared.beat.Link.{Link}
 use Rattle.tl_beat.specs.declared.opcode.OpD.{OpD}
 use Rattle.tl_beat.specs.declared.opcode.OpD.TheVariants as d
 use Rattle.tl_burst.specs.Messages.{History, channel_of, unfinished}
-use Rattle.tl_params.specs.declared.config.Config.{Config}
-use Rattle.tl_params.specs.declared.level.Level.{Level}
-use Rattle.tl_params.specs.declared.level.Level.TheVariants as level
-use Rattle.tl_params.specs.declared.perm.Perm.{Perm}
-use Rattle.tl_params.specs.declared.rule.Rule.{Rule}
-use Rattle.tl_params.specs.declared.rule.Rule.TheVariants.{L1}
+use Rattle.tl_rules.specs.declared.config.Config.{Config}
+use Rattle.tl_rules.specs.declared.level.Level.{Level}
+use Rattle.tl_rules.specs.declared.level.Level.TheVariants as level
+use Rattle.tl_rules.specs.declared.perm.Perm.{Perm}
+use Rattle.tl_rules.specs.declared.rule.Rule.TheVariants.{L1}
 use Rattle.tl_rules.specs.Conformance.{Trace, on_link}
 use Rattle.tl_rules.specs.Control.{a_control, a_own}
 use Rattle.tl_rules.specs.History.{ends, block_at, capped, held, says_held, or_perm, is_grant}
-use Rattle.tl_rules.specs.Legality.{illegal, breaks_l1, has_transfers, d_of_level, or_else}
+use Rattle.tl_rules.specs.Legality.{illegal, breaks_l1, has_transfers, d_of_level}
 use Rattle.tl_rules.proofs.Bursts.{next_rule}
 use Rattle.tl_rules.proofs.Verdicts.{illegal_a}
 use Rattle.tl_manager.specs.Holders.{recorded, has_copy}
@@ -26,16 +25,13 @@ use Rattle.tl_manager.specs.Kept.{Each, IsSound, illegal_at}
 use Rattle.tl_manager.specs.Request.{request_if, request_carried}
 use Rattle.tl_manager.specs.Service.{Service, least_free, trackers_of, with_service, is_ended_by, served, services}
 use Rattle.tl_manager.specs.Slave.{level_of}
-use Rattle.tl_manager.proofs.Lists.{each_filter}
+use Rattle.tl_manager.proofs.Masks.{both_none}
+use Rattle.tl_manager.proofs.Lists.{each_filter, each_weaker}
 
 -- where a beat breaks no L rule there is a level
 pub leveled : {w : ℕ} (o : Option Level) (x : Beat w) → illegal_at o x ≡ None → (l : Level) × (o ≡ Some l) × (illegal l (channel_of x) x ≡ None)
 leveled None x e = absurd cc
 leveled (Some l) x e = (l, refl, e)
-
-both_none : (o rest : Option Rule) → or_else o rest ≡ None → (o ≡ None) × (rest ≡ None)
-both_none None rest e = (refl, e)
-both_none (Some r) rest e = absurd cc
 
 -- ---- requests in service
 
@@ -79,14 +75,15 @@ servable config (x ∷ t) each = go (ends x.1 (on_link x.0.0 t)) (servable confi
 
 -- ---- who holds a block has a link of the level C
 
--- each beat of a link breaks no L rule there
-pub each_on_link : {w : ℕ} (config : Config) (client : ℕ) (t : Trace w) → Each (IsSound config) t → Each (λ x. illegal_at (level_of config client) x ≡ None) (on_link client t)
+-- the beats of a link
+pub sound_on_link : {w : ℕ} (config : Config) (client : ℕ) (t : Trace w) → Each (IsSound config) t → Each (λ x. IsSound config (record { 0 = client }, x)) (on_link client t)
 unfolding on_link
-each_on_link config client [] each = tt
-each_on_link config client (x ∷ t) each = go (x.0.0 == client) refl (each_on_link config client t each.1)
+sound_on_link config client [] each = tt
+sound_on_link {w} config client (x ∷ t) each = go (x.0.0 == client) refl (sound_on_link config client t each.1)
   where
-    go : (b : Bool) → (x.0.0 == client) ≡ b → Each (λ y. illegal_at (level_of config client) y ≡ None) (on_link client t) → Each (λ y. illegal_at (level_of config client) y ≡ None) (if b then x.1 ∷ on_link client t else on_link client t)
-    go true e rest = (ap (λ n. illegal_at (level_of config n) x.1) (sym (eqb-true x.0.0 client e)) ∙ each.0.lawful, rest)
+    go : (b : Bool) → (x.0.0 == client) ≡ b → Each (λ y. IsSound config (record { 0 = client }, y)) (on_link client t)
+        → Each (λ y. IsSound config (record { 0 = client }, y)) (if b then x.1 ∷ on_link client t else on_link client t)
+    go true e rest = (subst (λ (n : ℕ). IsSound config (record { 0 = n }, x.1)) (eqb-true x.0.0 client e) each.0, rest)
     go false e rest = rest
 
 pub transfers_level : (l : Level) → not (has_transfers l) ≡ false → l ≡ level.C
@@ -137,4 +134,6 @@ copy_level o k (x ∷ t) each copy = go (ends x t) (says_held k x t) (copy_level
     go false said before e f = before f
 
 pub holder_level : {w : ℕ} (config : Config) (client block : ℕ) (t : Trace w) → Each (IsSound config) t → has_copy (recorded client block t) ≡ true → level_of config client ≡ Some level.C
-holder_level config client block t each copy = copy_level (level_of config client) block (on_link client t) (each_on_link config client t each) copy
+holder_level config client block t each copy =
+    copy_level (level_of config client) block (on_link client t)
+    (each_weaker (λ x. IsSound config (record { 0 = client }, x)) (λ x. illegal_at (level_of config client) x ≡ None) (on_link client t) (λ x ok. ok.lawful) (sound_on_link config client t each)) copy

@@ -1,10 +1,12 @@
 -- What holds of the manager's end after any beats that it is offered, from a fresh one on.
-use Rattle.std.specs.Prelude.{ℕ, Bool, true, false, List, [], ◌∷◌, ◌≡◌, ◌<◌, map, Option, Some, None}
+use Rattle.tl_beat.specs.declared.beat.Beat.TheVariants as beat
+use Rattle.tl_beat.specs.declared.beat.BeatA.{BeatA}
+use Rattle.std.specs.Prelude.{nat_le, IfSome, length, ◌^◌, ℕ, Bool, true, false, List, [], ◌∷◌, ◌≡◌, ◌<◌, map, Option, Some, None}
 use Rattle.tl_beat.specs.declared.beat.Beat.{Beat}
 use Rattle.tl_beat.specs.declared.beat.Link.{Link}
 use Rattle.tl_burst.specs.declared.message.Message.{Message}
 use Rattle.tl_burst.specs.declared.message.Message.TheVariants.{A, B, C, D, E}
-use Rattle.tl_burst.specs.Burst.{beat_of}
+use Rattle.tl_burst.specs.Burst.{beats_of, beat_of, IsBlankAfter}
 use Rattle.tl_beat.specs.declared.opcode.Channel.TheVariants as channel
 use Rattle.tl_burst.specs.Messages.{channel_of, unfinished}
 use Rattle.tl_params.specs.declared.config.Config.{Config}
@@ -37,11 +39,17 @@ abbrev pub illegal_message_at : {w : ℕ} → Option Level → Message w → Opt
 illegal_message_at None m = Some L1
 illegal_message_at (Some l) m = illegal_message l (channel_of (beat_of m 0)) m
 
+-- the numbers of a beat of channel A are those of its type: 16 bits of mask, and a byte for each lane
+abbrev pub IsTyped : {w : ℕ} → Beat w → Type 0
+IsTyped {w} (beat.A x) = (x.mask < 2 ^ 16) × IfSome x.lanes (λ lanes. length lanes ≡ w)
+IsTyped _ = Unit {0}
+
 -- a beat that breaks no L rule at its link, is of a block of the map, and isn't corrupt or denied
 pub record IsSound {w : ℕ} (config : Config) (x : Link × Beat w) : Type 0 where
   pub lawful : illegal_at (level_of config x.0.0) x.1 ≡ None
   pub inside : is_outside config.blocks x.1 ≡ false
   pub clean : is_spoiled x.1 ≡ false
+  pub typed : IsTyped x.1
 
 -- no beat of the message is corrupt, and it isn't denied
 abbrev pub IsClean : {w : ℕ} → Message w → Type 0
@@ -65,6 +73,24 @@ abbrev pub is_stalled : {w : ℕ} → Answer w → Bool
 is_stalled Stalled = true
 is_stalled _ = false
 
+-- the beat has the control fields of x by which a request is judged
+abbrev pub IsLike : {w : ℕ} → BeatA w → Beat w → Type 0
+IsLike x (beat.A y) = (y.opcode ≡ x.opcode) × (y.size ≡ x.size) × (y.address ≡ x.address)
+IsLike x _ = ⊥
+
+-- beats of one request, the newest first
+abbrev pub AreOfOne : {w : ℕ} → List (Beat w) → Type 0
+AreOfOne [] = Unit {0}
+AreOfOne (beat.A x ∷ beats) = Each (IsLike x) beats
+AreOfOne (_ ∷ beats) = ⊥
+
+-- a request that breaks no L rule at its link, is zero where no beat carries anything, and is of a
+-- block of the map
+pub record IsPerformable {w : ℕ} (config : Config) (s : Service w) : Type 0 where
+  pub lawful : illegal_message_at (level_of config s.link.0) (A s.request) ≡ None
+  pub blank : IsBlankAfter (beats_of (A s.request)) (A s.request)
+  pub inside : nat_le config.blocks (block_at s.request.address) ≡ false
+
 abbrev pub blocks_of : {w : ℕ} → List (Service w) → List ℕ
 blocks_of services = map (λ s. block_at s.request.address) services
 
@@ -73,7 +99,10 @@ pub record IsKept {w : ℕ} (config : Config) (e : End w) : Type 0 where
   pub sound : Each (IsSound config) e.trace
   -- no message that was handed out is unfinished
   pub whole : (client : ℕ) → (unfinished channel.B (on_link client e.trace) ≡ []) × (unfinished channel.D (on_link client e.trace) ≡ [])
-  -- the trackers of the requests in service, and their blocks
+  -- the beats of a request that isn't complete
+  pub bursts : (client : ℕ) → AreOfOne (unfinished channel.A (on_link client e.trace))
+  -- the requests in service, their trackers and their blocks
+  pub requests : Each (IsPerformable config) (services e.trace)
   pub tracked : Each (λ n. n < config.trackers) (trackers_of (services e.trace))
   pub trackers_apart : AreApart (trackers_of (services e.trace))
   pub blocks_apart : AreApart (blocks_of (services e.trace))

@@ -1,5 +1,5 @@
 -- What is recorded of a client and a block after a beat that the manager is offered.
-use Rattle.std.specs.Prelude.{ℕ, [], ◌∷◌, ◌==◌, ◌&&◌, ◌||◌, if◌then◌else◌, Option, Some, None}
+use Rattle.std.specs.Prelude.{ℕ, Bool, false, [], ◌∷◌, ◌==◌, ◌&&◌, ◌||◌, if◌then◌else◌, Option, Some, None}
 use Rattle.tl_beat.specs.declared.beat.Beat.{Beat}
 use Rattle.tl_beat.specs.declared.beat.Beat.TheVariants as beat
 use Rattle.tl_beat.specs.declared.beat.Link.{Link}
@@ -36,3 +36,9 @@ recorded_after (Refused rule) x t client block = recorded client block t
 recorded_after Stalled x t client block = recorded client block t
 recorded_after (Sent handed) x t client block =
     granted_by_all handed (x ∷ t) client block (or_perm (reported_by x t client block) (recorded client block t))
+
+-- the beat is of the block
+abbrev pub is_of_block : {w : ℕ} → ℕ → Beat w → Bool
+is_of_block block (beat.A x) = block_at x.address == block
+is_of_block block (beat.C x) = block_at x.address == block
+is_of_block block _ = false

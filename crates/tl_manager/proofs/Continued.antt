@@ -13,9 +13,9 @@ use Rattle.tl_burst.specs.Burst.{beat_of}
 use Rattle.tl_burst.specs.Messages.{History, unfinished, breaks_burst, same_control, burst_length}
 use Rattle.tl_burst.specs.Part.{is_empty}
 use Rattle.tl_burst.proofs.ControlFields.{control_a}
-use Rattle.tl_rules.specs.declared.config.Config.{Config}
-use Rattle.tl_rules.specs.declared.profile.Profile.{Profile}
-use Rattle.tl_rules.specs.declared.rule.Rule.TheVariants.{S1}
+use Rattle.tl_params.specs.declared.config.Config.{Config}
+use Rattle.tl_params.specs.declared.profile.Profile.{Profile}
+use Rattle.tl_params.specs.declared.rule.Rule.TheVariants.{S1}
 use Rattle.tl_rules.specs.Agent.{sent}
 use Rattle.tl_rules.specs.Conformance.{Trace, on_link, broken_in_order, broken_order}
 use Rattle.tl_rules.specs.Legality.{rule_if}

@@ -14,7 +14,7 @@ use Rattle.tl_burst.specs.declared.message.Message.{Message}
 use Rattle.tl_burst.specs.declared.message.Message.TheVariants.{A, B, C, D, E}
 use Rattle.tl_burst.specs.Burst.{beats_of, beat_of, begun, burst_of}
 use Rattle.tl_burst.specs.Messages.{channel_of, unfinished, burst_length}
-use Rattle.tl_rules.specs.declared.config.Config.{Config}
+use Rattle.tl_params.specs.declared.config.Config.{Config}
 use Rattle.tl_rules.specs.Conformance.{Trace, on_link}
 use Rattle.tl_rules.specs.History.{ends, block_at}
 use Rattle.tl_params.specs.declared.level.Level.{Level}

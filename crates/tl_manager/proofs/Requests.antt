@@ -15,8 +15,8 @@ use Rattle.tl_burst.specs.declared.message.Message.TheVariants.{A}
 use Rattle.tl_burst.specs.declared.message.MessageA.{MessageA}
 use Rattle.tl_burst.specs.Burst.{beats_of, a_beat_of, IsZeroFrom}
 use Rattle.tl_burst.specs.Messages.{burst_length}
-use Rattle.tl_rules.specs.declared.config.Config.{Config}
-use Rattle.tl_rules.specs.declared.level.Level.{Level}
+use Rattle.tl_params.specs.declared.config.Config.{Config}
+use Rattle.tl_params.specs.declared.level.Level.{Level}
 use Rattle.tl_rules.specs.Agent.{bytes_carried, lanes_of, payload_of, is_spoiled}
 use Rattle.tl_rules.specs.Control.{a_control, a_own}
 use Rattle.tl_rules.specs.Legality.{illegal}

@@ -27,7 +27,7 @@ use Rattle.tl_client.specs.End.{Terms, End, fresh, sending}
 use Rattle.tl_client.specs.KnowsPlain.{KnowsPlain, terms_of, answers_pending}
 use Rattle.tl_client.specs.Plain.{started_by}
 use Rattle.tl_client.specs.Requests.{request_at, fields_in, fields_of, open_request}
-use Rattle.tl_client.proofs.Sent.{unfinished-sent, unfinished-sent_other, pending-sent, request_of-sent, request_closes_nothing, held-sent_request}
+use Rattle.tl_client.proofs.Sent.{unfinished-sent, unfinished-sent_other, pending-sent, request_of-sent, request_closes_nothing, held-sent_unsaid}
 
 -- ---- the answer
 
@@ -96,7 +96,7 @@ knows-started p q e m is k closed responses requests =
       response_is = responses ∙ k.response_is ∙ sym burst;
       sent_whole = unfinished-sent (message.A m) e.past k.sent_whole (has_beats (message.A m) is);
       answers_open = rw burst (still_pending (unfinished channel.D e.past) m e.past is k.sent_whole k.answers_open);
-      holds_nothing = λ b. held-sent_request b m e.past ∙ k.holds_nothing b;
+      holds_nothing = λ b. held-sent_unsaid b (message.A m) e.past (λ i t. refl) ∙ k.holds_nothing b;
       has_no_copy = k.has_no_copy;
     }
 

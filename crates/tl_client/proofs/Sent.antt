@@ -1,5 +1,5 @@
 -- What a history says after a message was handed out on a channel where nothing was unfinished.
-use Rattle.std.proofs.Common.{◌≡◌, ℕ, zero, suc, ◌+◌, ◌==◌, ◌<◌, ◌≤◌, Bool, true, false, cond, ◌&&◌, [], ◌∷◌, ◌++◌, Some, None, refl, ◌∙◌, arith}
+use Rattle.std.proofs.Common.{◌≡◌, ℕ, zero, suc, ◌+◌, ◌==◌, ◌<◌, ◌≤◌, Bool, true, false, cond, ◌&&◌, [], ◌∷◌, ◌++◌, Some, None, refl, ap, ◌∙◌, arith}
 use Rattle.std.proofs.lemmas.Bool.Decides.{nat_tests}
 use Rattle.tl_beat.specs.declared.beat.Beat.{Beat}
 use Rattle.tl_beat.specs.declared.opcode.Channel.{Channel}
@@ -7,6 +7,8 @@ use Rattle.tl_beat.specs.declared.opcode.Channel.TheVariants as channel
 use Rattle.tl_burst.specs.declared.message.Message.{Message}
 use Rattle.tl_burst.specs.declared.message.Message.TheVariants.{A, B, C, D, E}
 use Rattle.tl_burst.specs.declared.message.MessageA.{MessageA}
+use Rattle.tl_burst.specs.declared.message.MessageC.{MessageC}
+use Rattle.tl_burst.specs.declared.message.MessageE.{MessageE}
 use Rattle.tl_burst.specs.Burst.{a_beat_of, beats_of, beat_of, begun}
 use Rattle.tl_burst.specs.Messages.{History, channel_of, on, burst_length, grown, unfinished}
 use Rattle.tl_burst.proofs.Begun.{length-begun}
@@ -198,10 +200,37 @@ held_unsaid k x t none = go (ends x t)
     go true = rw none refl
     go false = refl
 
-held_begun : {w : ℕ} (k : ℕ) (m : MessageA w) (t : History w) (n : ℕ) → held k (begun (A m) n ++ t) ≡ held k t
-held_begun k m t zero = refl
-held_begun k m t (suc i) = held_unsaid k (beat_of (A m) i) (begun (A m) i ++ t) refl ∙ held_begun k m t i
+-- the beats of the message say nothing of the block
+abbrev pub SaysNothing : {w : ℕ} → ℕ → Message w → Type 0
+SaysNothing {w} k m = (i : ℕ) (t : History w) → says_held k (beat_of m i) t ≡ None
 
--- a request leaves what is held
-pub held-sent_request : {w : ℕ} (k : ℕ) (m : MessageA w) (t : History w) → held k (sent (A m) t) ≡ held k t
-held-sent_request k m t = held_begun k m t (beats_of (A m))
+held_begun : {w : ℕ} (k : ℕ) (m : Message w) (t : History w) (n : ℕ) → SaysNothing k m → held k (begun m n ++ t) ≡ held k t
+held_begun k m t zero nothing = refl
+held_begun k m t (suc i) nothing = held_unsaid k (beat_of m i) (begun m i ++ t) (nothing i _) ∙ held_begun k m t i nothing
+
+-- a message that says nothing of a block leaves what is held of it
+pub held-sent_unsaid : {w : ℕ} (k : ℕ) (m : Message w) (t : History w) → SaysNothing k m → held k (sent m t) ≡ held k t
+held-sent_unsaid k m t nothing = held_begun k m t (beats_of m) nothing
+
+unended : {w : ℕ} (k : ℕ) (x : Beat w) (t : History w) → ends x t ≡ false → held k (x ∷ t) ≡ held k t
+unfolding held
+unended k x t e = rw e refl
+
+ended : {w : ℕ} (k : ℕ) (x : Beat w) (t : History w) → ends x t ≡ true → held k (x ∷ t) ≡ or_perm (says_held k x t) (held k t)
+unfolding held
+ended k x t e = rw e refl
+
+held-begun_c : {w : ℕ} (k : ℕ) (m : MessageC w) (t : History w) (i : ℕ) → unfinished channel.C t ≡ [] → i < beats_of (C m) → held k (begun (C m) i ++ t) ≡ held k t
+held-begun_c k m t zero none lt = refl
+held-begun_c k m t (suc i) none lt =
+    unended k (beat_of (C m) i) (begun (C m) i ++ t) (ends-at (C m) t i none (omega arith) ∙ not_last i (beats_of (C m)) (omega arith)) ∙ held-begun_c k m t i none (omega arith)
+
+held_after_c : {w : ℕ} (k : ℕ) (m : MessageC w) (t : History w) (n : ℕ) → unfinished channel.C t ≡ [] → 0 < n → n ≡ beats_of (C m) → held k (begun (C m) n ++ t) ≡ or_perm (says_held k (beat_of (C m) 0) t) (held k t)
+held_after_c k m t zero none pos e = absurd (omega arith)
+held_after_c k m t (suc i) none pos e =
+    ended k (beat_of (C m) i) (begun (C m) i ++ t) (ends-at (C m) t i none (omega arith) ∙ is_last i (beats_of (C m)) (omega arith))
+    ∙ ap (λ p. or_perm (says_held k (beat_of (C m) 0) t) p) (held-begun_c k m t i none (omega arith))
+
+-- a message of channel C says what is held
+pub held-sent_c : {w : ℕ} (k : ℕ) (m : MessageC w) (t : History w) → unfinished channel.C t ≡ [] → 0 < beats_of (C m) → held k (sent (C m) t) ≡ or_perm (says_held k (beat_of (C m) 0) t) (held k t)
+held-sent_c k m t none pos = held_after_c k m t (beats_of (C m)) none pos refl

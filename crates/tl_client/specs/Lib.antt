@@ -1,5 +1,6 @@
 pub mod Ask
 pub mod End
+pub mod Held
 pub mod KnowsPlain
 pub mod Offer
 pub mod Plain

@@ -159,3 +159,9 @@ judged None terms x e = if waits x e.past then silent verdict.Stalled e else jud
 -- what a client answers to a beat of the channel named
 unfoldable pub offered : {w : ℕ} → Terms → Channel → Beat w → End w → Offered w
 offered terms ch x e = judged (broken_before terms ch x e) terms x e
+
+-- ---- whether a beat is stalled, by the answer
+
+abbrev pub is_stalled : {w : ℕ} → Result (Verdict × Option (Message w)) Rule → Bool
+is_stalled (Ok (verdict.Stalled, m)) = true
+is_stalled _ = false

@@ -9,13 +9,14 @@ use Rattle.tl_beat.specs.declared.opcode.OpC.TheVariants as c
 use Rattle.tl_burst.specs.declared.message.Message.{Message}
 use Rattle.tl_burst.specs.declared.message.Message.TheVariants as message
 use Rattle.tl_burst.specs.declared.message.MessageA.{MessageA}
-use Rattle.tl_params.specs.declared.param.Grow.{Grow}
-use Rattle.tl_params.specs.declared.param.Prune.{Prune}
-use Rattle.tl_params.specs.declared.param.Prune.TheVariants as prune
-use Rattle.tl_params.specs.declared.param.Report.{Report}
-use Rattle.tl_params.specs.declared.perm.Perm.{Perm}
-use Rattle.tl_params.specs.declared.perm.Perm.TheVariants as perm
-use Rattle.tl_params.specs.Param.{grow_code, prune_code, report_code}
+use Rattle.tl_burst.specs.declared.message.MessageC.{MessageC}
+use Rattle.tl_rules.specs.declared.param.Grow.{Grow}
+use Rattle.tl_rules.specs.declared.param.Prune.{Prune}
+use Rattle.tl_rules.specs.declared.param.Prune.TheVariants as prune
+use Rattle.tl_rules.specs.declared.param.Report.{Report}
+use Rattle.tl_rules.specs.declared.perm.Perm.{Perm}
+use Rattle.tl_rules.specs.declared.perm.Perm.TheVariants as perm
+use Rattle.tl_rules.specs.Param.{grow_code, prune_code, report_code}
 use Rattle.tl_client.specs.End.{zeros}
 
 -- an access with the source that the client chose
@@ -37,8 +38,8 @@ acquire {w} opcode grow source block = message.A (record {
 })
 
 -- a message of channel C about a block, with these bytes as its payload
-abbrev pub on_c : {w : ℕ} → OpC → ℕ → ℕ → ℕ → List ℕ → Message w
-on_c opcode param source block payload = message.C (record {
+abbrev pub about : {w : ℕ} → OpC → ℕ → ℕ → ℕ → List ℕ → MessageC w
+about opcode param source block payload = record {
   opcode = opcode;
   param = param;
   size = 6;
@@ -47,7 +48,10 @@ on_c opcode param source block payload = message.C (record {
   payload = payload;
   corrupt = 0;
   small = lit≤ tt;
-})
+}
+
+abbrev pub on_c : {w : ℕ} → OpC → ℕ → ℕ → ℕ → List ℕ → Message w
+on_c opcode param source block payload = message.C (about opcode param source block payload)
 
 -- a Release, with the copy where it gives Trunk up
 abbrev pub release : {w : ℕ} → Prune → ℕ → ℕ → List ℕ → Message w

@@ -5,6 +5,7 @@ mod access;
 pub mod agent;
 pub mod busy;
 mod judge;
+pub mod law;
 pub mod operation;
 pub mod plain;
 pub mod reply;

@@ -1,0 +1,5 @@
+use Rattle.tl_client.proofs.HeldAfter.{held-offered}
+use Rattle.tl_client.proofs.law.held_after_offered.Goals as goal
+
+pub returns : goal.returns
+returns g c = λ terms ch x e k none. held-offered terms ch x e k c.requires none

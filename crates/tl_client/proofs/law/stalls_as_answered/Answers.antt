@@ -1,0 +1,5 @@
+use Rattle.tl_client.proofs.Stalls.{stalls-offered}
+use Rattle.tl_client.proofs.law.stalls_as_answered.Goals as goal
+
+pub returns : goal.returns
+returns g c = λ terms ch x e. stalls-offered terms ch x e

@@ -20,18 +20,18 @@ use Rattle.tl_beat.specs.declared.opcode.OpD.{OpD}
 use Rattle.tl_beat.specs.declared.opcode.OpD.TheVariants as d
 use Rattle.tl_burst.specs.Messages.{History, unfinished}
 use Rattle.tl_burst.specs.declared.message.Message.TheVariants as message
-use Rattle.tl_rules.specs.declared.param.Prune.{Prune}
-use Rattle.tl_rules.specs.declared.param.Prune.TheVariants as prune
-use Rattle.tl_rules.specs.declared.param.Report.{Report}
-use Rattle.tl_rules.specs.declared.param.Report.TheVariants as report
-use Rattle.tl_rules.specs.declared.perm.Perm.{Perm}
-use Rattle.tl_rules.specs.declared.perm.Perm.TheVariants as perm
-use Rattle.tl_rules.specs.declared.level.Level.{Level}
-use Rattle.tl_rules.specs.declared.rule.Rule.{Rule}
-use Rattle.tl_rules.specs.declared.rule.Rule.TheVariants.{L1, A3}
+use Rattle.tl_params.specs.declared.param.Prune.{Prune}
+use Rattle.tl_params.specs.declared.param.Prune.TheVariants as prune
+use Rattle.tl_params.specs.declared.param.Report.{Report}
+use Rattle.tl_params.specs.declared.param.Report.TheVariants as report
+use Rattle.tl_params.specs.declared.perm.Perm.{Perm}
+use Rattle.tl_params.specs.declared.perm.Perm.TheVariants as perm
+use Rattle.tl_params.specs.declared.level.Level.{Level}
+use Rattle.tl_params.specs.declared.rule.Rule.{Rule}
+use Rattle.tl_params.specs.declared.rule.Rule.TheVariants.{L1, A3}
 use Rattle.tl_rules.specs.Agent.{sent, payload_of}
 use Rattle.tl_rules.specs.History.{block_at, is_probe_ack, is_release, ends, grants, capped, reported, request_of, or_perm, held}
-use Rattle.tl_rules.specs.Param.{prune_code, prune_right, report_code, report_right}
+use Rattle.tl_params.specs.Param.{prune_code, prune_right, report_code, report_right}
 use Rattle.tl_rules.specs.Legality.{illegal, breaks_l1}
 use Rattle.tl_rules.proofs.Bursts.{has_beats, next_rule}
 use Rattle.tl_client.specs.declared.busy.Busy.{Busy}
@@ -44,7 +44,7 @@ use Rattle.tl_client.specs.End.{Terms, End, zeros, copy_at, held_at, kept_for, w
 use Rattle.tl_client.specs.Held.{left_by, held_with, held_by}
 use Rattle.tl_client.specs.Send.{about, access, acquire, on_c, release, probe_ack, grant_ack}
 use Rattle.tl_client.specs.Offer.{Offered, offered, taken, ended, granted, granted_perm, responded, silent, is_sent_on, waits, broken_before, broken_later, judged, judged_later, report_for}
-use Rattle.tl_client.proofs.Sent.{held-sent_c, held-sent_unsaid, held_unsaid}
+use Rattle.tl_rules.proofs.Sent.{held-sent_c, held-sent_unsaid, held_unsaid}
 
 same_block : (block : ℕ) → block_at (64 * block) ≡ block
 same_block block = omega arith

@@ -27,7 +27,7 @@ use Rattle.tl_client.specs.End.{Terms, End, fresh, sending}
 use Rattle.tl_client.specs.KnowsPlain.{KnowsPlain, terms_of, answers_pending}
 use Rattle.tl_client.specs.Plain.{started_by}
 use Rattle.tl_client.specs.Requests.{request_at, fields_in, fields_of, open_request}
-use Rattle.tl_client.proofs.Sent.{unfinished-sent, unfinished-sent_other, pending-sent, request_of-sent, request_closes_nothing, held-sent_unsaid}
+use Rattle.tl_rules.proofs.Sent.{unfinished-sent, unfinished-sent_other, pending-sent, request_of-sent, request_closes_nothing, held-sent_unsaid}
 
 -- ---- the answer
 

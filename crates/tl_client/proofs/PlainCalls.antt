@@ -35,8 +35,8 @@ use Rattle.tl_client.specs.declared.requests.Request.{Request}
 use Rattle.tl_client.specs.declared.verdict.Verdict.TheVariants.{Done, Taken}
 use Rattle.tl_client.specs.Offer.{finish_of}
 use Rattle.tl_client.specs.Plain.{access_in, started_by, is_first, response_rule, order_rule, plain_verdict, ends_request, message_verdict, closes_request, IsWhole, address_in}
-use Rattle.tl_client.proofs.Sent.{is_last}
-use Rattle.tl_client.proofs.Payload.{payload_of-burst}
+use Rattle.tl_rules.proofs.Sent.{is_last}
+use Rattle.tl_rules.proofs.Payload.{payload-d}
 use Rattle.tl_client.proofs.PlainRules.{legal_size, no_rule}
 
 -- ---- what starts
@@ -106,20 +106,14 @@ same_finish w d.Grant param size address payload other same = refl
 same_finish w d.GrantData param size address payload other same = refl
 same_finish w d.ReleaseAck param size address payload other same = refl
 
-blank_from : (n : ℕ) (b : Bool) (payload : List ℕ) → b ≡ true → IsZeroFrom (cond b n 0) payload → IsZeroFrom n payload
-blank_from n b payload e blank = rw e at blank
-
-payload_here : {w : ℕ} (m : MessageD w) (beats : List (Beat w)) → IsWidth w → IsBurst (message.D m) beats → length m.payload ≡ 64 → m.opcode ≡ d.AccessAckData → m.payload ≡ payload_of beats
-payload_here {w} m beats is burst long opcode =
-    let carries : d_carries_data m.opcode ≡ true = rw opcode refl in
-    let blank : IsZeroFrom (w * beats_of (message.D m)) m.payload = blank_from (w * beats_of (message.D m)) (d_carries_data m.opcode) m.payload carries burst.1.0 in
-    rw burst.0 (sym (payload_of-burst m carries long (beats_room (message.D m) is) blank))
+payload_here : {w : ℕ} (m : MessageD w) (beats : List (Beat w)) → IsWidth w → IsBurst (message.D m) beats → length m.payload ≡ 64 → m.payload ≡ payload_of beats
+payload_here m beats is burst long = sym (payload-d m beats is long burst)
 
 response_done : {w : ℕ} (m : MessageD w) (x : Beat w) (burst : List (Beat w)) (asked : ℕ → Option Request) (i : ℕ) → IsWidth w → IsBurst (message.D m) (x ∷ burst) → IsWhole (message.D m) → IsLastOf m x burst i → message_verdict asked (message.D m) ≡ plain_verdict asked burst x
 response_done {w} m x burst asked i is whole long last =
     let done = completed m x burst i last in
     let beats : IsBurst (message.D m) (beat.D (d_beat_of m i) ∷ burst) = rw last.last at whole in
-    rw (last.last, done) (ap (λ f. Done m.source f) (same_finish w m.opcode m.param m.size (address_in (asked m.source)) m.payload (payload_of (beat.D (d_beat_of m i) ∷ burst)) (λ opcode. payload_here m _ is beats (long opcode) opcode)))
+    rw (last.last, done) (ap (λ f. Done m.source f) (same_finish w m.opcode m.param m.size (address_in (asked m.source)) m.payload (payload_of (beat.D (d_beat_of m i) ∷ burst)) (λ opcode. payload_here m _ is beats (long opcode))))
 
 newest_of : {w : ℕ} (m : Message w) (x : Beat w) (burst : List (Beat w)) (n : ℕ) → (x ∷ burst) ≡ begun m n → (i : ℕ) × (x ≡ beat_of m i)
 newest_of m x burst zero is = absurd cc

@@ -32,7 +32,7 @@ use Rattle.tl_client.specs.Offer.{offered, judged_later, refused, silent, taken,
 use Rattle.tl_client.specs.Plain.{response_rule, order_rule, plain_rule, address_in, plain_verdict, ends_request}
 use Rattle.tl_client.specs.Requests.{request_at, fields_of, open_request}
 use Rattle.tl_client.proofs.PlainRules.{IsAccessAnswer, legal_answer, judged, some_rule, no_rule}
-use Rattle.tl_client.proofs.Sent.{held_unsaid}
+use Rattle.tl_rules.proofs.Sent.{held_unsaid}
 
 -- ---- what is taken is a response
 

@@ -10,13 +10,13 @@ use Rattle.tl_burst.specs.declared.message.Message.{Message}
 use Rattle.tl_burst.specs.declared.message.Message.TheVariants as message
 use Rattle.tl_burst.specs.declared.message.MessageA.{MessageA}
 use Rattle.tl_burst.specs.declared.message.MessageC.{MessageC}
-use Rattle.tl_rules.specs.declared.param.Grow.{Grow}
-use Rattle.tl_rules.specs.declared.param.Prune.{Prune}
-use Rattle.tl_rules.specs.declared.param.Prune.TheVariants as prune
-use Rattle.tl_rules.specs.declared.param.Report.{Report}
-use Rattle.tl_rules.specs.declared.perm.Perm.{Perm}
-use Rattle.tl_rules.specs.declared.perm.Perm.TheVariants as perm
-use Rattle.tl_rules.specs.Param.{grow_code, prune_code, report_code}
+use Rattle.tl_params.specs.declared.param.Grow.{Grow}
+use Rattle.tl_params.specs.declared.param.Prune.{Prune}
+use Rattle.tl_params.specs.declared.param.Prune.TheVariants as prune
+use Rattle.tl_params.specs.declared.param.Report.{Report}
+use Rattle.tl_params.specs.declared.perm.Perm.{Perm}
+use Rattle.tl_params.specs.declared.perm.Perm.TheVariants as perm
+use Rattle.tl_params.specs.Param.{grow_code, prune_code, report_code}
 use Rattle.tl_client.specs.End.{zeros}
 
 -- an access with the source that the client chose

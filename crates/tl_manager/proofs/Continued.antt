@@ -28,7 +28,7 @@ use Rattle.tl_manager.proofs.Lawful.{IsHandable}
 use Rattle.tl_manager.proofs.Lists.{each_weaker}
 use Rattle.tl_manager.proofs.Masks.{each_unfinished}
 use Rattle.tl_manager.proofs.Requests.{IsWhole}
-use Rattle.tl_manager.proofs.Sent.{unfinished-sent_other}
+use Rattle.tl_rules.proofs.Sent.{unfinished-sent_other}
 use Rattle.tl_manager.proofs.Sound.{sound_on_link}
 
 like_too : {w : ℕ} (x y : BeatA w) (z : Beat w) → IsLike x (beat.A y) → IsLike y z → IsLike x z

@@ -22,7 +22,7 @@ use Rattle.tl_manager.specs.Kept.{Each}
 use Rattle.tl_manager.specs.Record.{reported_by, granted_by, granted_by_all}
 use Rattle.tl_manager.specs.Slave.{is_from_client}
 use Rattle.tl_manager.proofs.Lawful.{IsHandable}
-use Rattle.tl_manager.proofs.Sent.{unfinished-sent, unfinished-sent_other, held_unsaid, held-sent_b, held-sent_d, request-sent_b, request-sent_d}
+use Rattle.tl_rules.proofs.Sent.{unfinished-sent, unfinished-sent_other, held_unsaid, held-sent_unsaid, held-sent_d, request_of-other}
 
 -- ---- one link of a trace
 
@@ -124,7 +124,7 @@ recorded-taken client link block (beat.E x) t theirs = unsaid client link block 
 held-sent : {w : ℕ} (block : ℕ) (m : Message w) (link : Link) (client : ℕ) (t : Trace w) → IsWidth w → is_from_client (beat_of m 0) ≡ false → IsWhole (on_link client t) → (link.0 == client) ≡ true
     → held block (sent m (on_link client t)) ≡ or_perm (granted_by (link, m) t client block) (held block (on_link client t))
 held-sent block (A m) link client t width ours ok e = absurd cc
-held-sent block (B m) link client t width ours ok e = held-sent_b block m (on_link client t)
+held-sent block (B m) link client t width ours ok e = held-sent_unsaid block (B m) (on_link client t) (λ i u. refl)
 held-sent block (C m) link client t width ours ok e = absurd cc
 held-sent block (D m) link client t width ours ok e = held-sent_d block m (on_link client t) ok.1 (beats-positive (D m) width) ∙ rw e refl
 held-sent block (E m) link client t width ours ok e = absurd cc
@@ -145,9 +145,9 @@ recorded-sent {w} client block link m t width ours ok = go (link.0 == client) re
 
 request_of-ours : {w : ℕ} (s : ℕ) (m : Message w) (t : History w) → is_from_client (beat_of m 0) ≡ false → request_of s (sent m t) ≡ request_of s t
 request_of-ours s (A m) t ours = absurd cc
-request_of-ours s (B m) t ours = request-sent_b s m t (beats_of (B m))
+request_of-ours s (B m) t ours = request_of-other s (B m) t (beats_of (B m)) refl
 request_of-ours s (C m) t ours = absurd cc
-request_of-ours s (D m) t ours = request-sent_d s m t
+request_of-ours s (D m) t ours = request_of-other s (D m) t (beats_of (D m)) refl
 request_of-ours s (E m) t ours = absurd cc
 
 -- what is handed out is no request

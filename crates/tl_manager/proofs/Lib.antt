@@ -13,7 +13,6 @@ pub mod Memories
 pub mod Offers
 pub mod Requests
 pub mod Rows
-pub mod Sent
 pub mod Sound
 pub mod Stalls
 pub mod TableLemmas

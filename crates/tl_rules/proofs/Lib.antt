@@ -6,9 +6,11 @@ pub mod Legal
 pub mod Masks
 pub mod Merges
 pub mod Numbers
+pub mod Payload
 pub mod Places
 pub mod Rooms
 pub mod Rows
+pub mod Sent
 pub mod Takeable
 pub mod Verdicts
 pub mod Widths

@@ -1,20 +1,23 @@
 -- What a history says after a message was handed out on a channel where nothing was unfinished.
-use Rattle.std.proofs.Common.{◌≡◌, ℕ, zero, suc, ◌+◌, ◌==◌, ◌<◌, ◌≤◌, Bool, true, false, cond, ◌&&◌, [], ◌∷◌, ◌++◌, Some, None, refl, ap, ◌∙◌, arith}
+use Rattle.std.proofs.Common.{◌≡◌, ℕ, zero, suc, ◌+◌, ◌==◌, ◌<◌, ◌≤◌, Bool, true, false, cond, ◌&&◌, [], ◌∷◌, ◌++◌, Some, None, refl, ap₂, ◌∙◌, arith}
+use Rattle.std.specs.Prelude.{Option, if◌then◌else◌}
 use Rattle.std.proofs.lemmas.Bool.Decides.{nat_tests}
 use Rattle.tl_beat.specs.declared.beat.Beat.{Beat}
+use Rattle.tl_beat.specs.declared.beat.Beat.TheVariants as beat
 use Rattle.tl_beat.specs.declared.opcode.Channel.{Channel}
 use Rattle.tl_beat.specs.declared.opcode.Channel.TheVariants as channel
 use Rattle.tl_burst.specs.declared.message.Message.{Message}
 use Rattle.tl_burst.specs.declared.message.Message.TheVariants.{A, B, C, D, E}
 use Rattle.tl_burst.specs.declared.message.MessageA.{MessageA}
 use Rattle.tl_burst.specs.declared.message.MessageC.{MessageC}
-use Rattle.tl_burst.specs.declared.message.MessageE.{MessageE}
+use Rattle.tl_burst.specs.declared.message.MessageD.{MessageD}
 use Rattle.tl_burst.specs.Burst.{a_beat_of, beats_of, beat_of, begun}
 use Rattle.tl_burst.specs.Messages.{History, channel_of, on, burst_length, grown, unfinished}
 use Rattle.tl_burst.proofs.Begun.{length-begun}
 use Rattle.tl_params.specs.declared.key.Key.{Key}
 use Rattle.tl_params.specs.declared.key.Key.TheVariants as key
-use Rattle.tl_rules.specs.History.{begins, ends, opens, closes, pending, request_of, says_held, or_perm, held}
+use Rattle.tl_params.specs.declared.perm.Perm.{Perm}
+use Rattle.tl_rules.specs.History.{begins, ends, opens, closes, pending, request_of, asks_for, is_grant, capped, says_held, or_perm, held}
 use Rattle.tl_rules.specs.Agent.{sent}
 
 -- ---- beats of one message
@@ -189,6 +192,19 @@ request_closes_nothing (key.GrantSink s) m i t = refl
 request_closes_nothing (key.GrantAckOf b) m i t = refl
 request_closes_nothing (key.ProbeOf b) m i t = refl
 
+unasked : {w : ℕ} (s : ℕ) (x : Beat w) (t : History w) → on channel.A x ≡ false → request_of s (x ∷ t) ≡ request_of s t
+unfolding request_of
+unasked s (beat.A x) t off = absurd cc
+unasked s (beat.B x) t off = refl
+unasked s (beat.C x) t off = refl
+unasked s (beat.D x) t off = refl
+unasked s (beat.E x) t off = refl
+
+-- the first beats of a message of another channel are no request
+pub request_of-other : {w : ℕ} (s : ℕ) (m : Message w) (t : History w) (n : ℕ) → on channel.A (beat_of m 0) ≡ false → request_of s (begun m n ++ t) ≡ request_of s t
+request_of-other s m t zero off = refl
+request_of-other s m t (suc i) off = unasked s (beat_of m i) (begun m i ++ t) (off_other channel.A m i off) ∙ request_of-other s m t i off
+
 -- ---- what is held
 
 -- a beat that says nothing of a block leaves what is held of it
@@ -220,17 +236,29 @@ ended : {w : ℕ} (k : ℕ) (x : Beat w) (t : History w) → ends x t ≡ true �
 unfolding held
 ended k x t e = rw e refl
 
-held-begun_c : {w : ℕ} (k : ℕ) (m : MessageC w) (t : History w) (i : ℕ) → unfinished channel.C t ≡ [] → i < beats_of (C m) → held k (begun (C m) i ++ t) ≡ held k t
-held-begun_c k m t zero none lt = refl
-held-begun_c k m t (suc i) none lt =
-    unended k (beat_of (C m) i) (begun (C m) i ++ t) (ends-at (C m) t i none (omega arith) ∙ not_last i (beats_of (C m)) (omega arith)) ∙ held-begun_c k m t i none (omega arith)
+held_before_last : {w : ℕ} (k : ℕ) (m : Message w) (t : History w) (i : ℕ) → unfinished (channel_in m) t ≡ [] → i < beats_of m → held k (begun m i ++ t) ≡ held k t
+held_before_last k m t zero none lt = refl
+held_before_last k m t (suc i) none lt =
+    unended k (beat_of m i) (begun m i ++ t) (ends-at m t i none (omega arith) ∙ not_last i (beats_of m) (omega arith)) ∙ held_before_last k m t i none (omega arith)
 
-held_after_c : {w : ℕ} (k : ℕ) (m : MessageC w) (t : History w) (n : ℕ) → unfinished channel.C t ≡ [] → 0 < n → n ≡ beats_of (C m) → held k (begun (C m) n ++ t) ≡ or_perm (says_held k (beat_of (C m) 0) t) (held k t)
-held_after_c k m t zero none pos e = absurd (omega arith)
-held_after_c k m t (suc i) none pos e =
-    ended k (beat_of (C m) i) (begun (C m) i ++ t) (ends-at (C m) t i none (omega arith) ∙ is_last i (beats_of (C m)) (omega arith))
-    ∙ ap (λ p. or_perm (says_held k (beat_of (C m) 0) t) p) (held-begun_c k m t i none (omega arith))
+held_at_last : {w : ℕ} (k : ℕ) (m : Message w) (t : History w) (n : ℕ) (said : Option Perm) → unfinished (channel_in m) t ≡ [] → 0 < n → n ≡ beats_of m → ((i : ℕ) → says_held k (beat_of m i) (begun m i ++ t) ≡ said)
+    → held k (begun m n ++ t) ≡ or_perm said (held k t)
+held_at_last k m t zero said none pos e says = absurd (omega arith)
+held_at_last k m t (suc i) said none pos e says =
+    ended k (beat_of m i) (begun m i ++ t) (ends-at m t i none (omega arith) ∙ is_last i (beats_of m) (omega arith))
+    ∙ ap₂ or_perm (says i) (held_before_last k m t i none (omega arith))
 
 -- a message of channel C says what is held
 pub held-sent_c : {w : ℕ} (k : ℕ) (m : MessageC w) (t : History w) → unfinished channel.C t ≡ [] → 0 < beats_of (C m) → held k (sent (C m) t) ≡ or_perm (says_held k (beat_of (C m) 0) t) (held k t)
-held-sent_c k m t none pos = held_after_c k m t (beats_of (C m)) none pos refl
+held-sent_c k m t none pos = held_at_last k (C m) t (beats_of (C m)) (says_held k (beat_of (C m) 0) t) none pos refl (λ i. refl)
+
+-- what a message of channel D says of a block, where it answers a request of this history
+abbrev pub says : {w : ℕ} → ℕ → MessageD w → History w → Option Perm
+says k m t = if is_grant m.opcode && asks_for k (request_of m.source t) then Some (capped m.param) else None
+
+says-at : {w : ℕ} (k : ℕ) (m : MessageD w) (t : History w) (i : ℕ) → says_held k (beat_of (D m) i) (begun (D m) i ++ t) ≡ says k m t
+says-at k m t i = rw (request_of-other m.source (D m) t i refl) refl
+
+-- a Grant makes what is held what its cap names
+pub held-sent_d : {w : ℕ} (k : ℕ) (m : MessageD w) (t : History w) → unfinished channel.D t ≡ [] → 0 < beats_of (D m) → held k (sent (D m) t) ≡ or_perm (says k m t) (held k t)
+held-sent_d k m t none pos = held_at_last k (D m) t (beats_of (D m)) (says k m t) none pos refl (says-at k m t)

@@ -37,7 +37,6 @@ use Rattle.tl_client.specs.Offer.{finish_of}
 use Rattle.tl_client.specs.Plain.{access_in, started_by, is_first, response_rule, order_rule, plain_verdict, ends_request, message_verdict, closes_request, IsWhole, address_in}
 use Rattle.tl_rules.proofs.Sent.{is_last}
 use Rattle.tl_rules.proofs.Payload.{payload-d}
-use Rattle.tl_client.proofs.PlainRules.{legal_size, no_rule}
 
 -- ---- what starts
 
@@ -70,12 +69,12 @@ judged_first x request burst part r is first broken =
     let empty : is_empty burst ≡ true = sym (first_of_burst (beat.D x) burst part is).1 ∙ first in
     rw empty (some_rule (response_rule x request) _ r broken)
 
-pub small_response : {w : ℕ} (l : Level) (ch : Channel) (x : Beat w) (y : BeatD w) → IsWidth w → ch ≡ channel.D → x ≡ beat.D y → Ok tt ≡ verdict (illegal l ch x) → y.size ≤ 6
-small_response l ch x y is on_d response passed = legal_size l y is (no_rule (illegal l channel.D (beat.D y)) (rw (on_d, response) at passed))
+pub small_response : {w : ℕ} (x : Beat w) (y : BeatD w) → x ≡ beat.D y → IsTakeable x → y.size ≤ 6
+small_response x y response takeable = rw response at takeable
 
-pub takeable_response : {w : ℕ} (r : Result (Unit {0}) Rule) (x : Beat w) (y : BeatD w) → x ≡ beat.D y → y.size ≤ 6 → OnOk r (IsTakeable x)
-takeable_response (Ok u) x y response small = rw response small
-takeable_response (Err rule) x y response small = tt
+pub takeable_response : {w : ℕ} (r : Result (Unit {0}) Rule) (x : Beat w) → IsTakeable x → OnOk r (IsTakeable x)
+takeable_response (Ok u) x takeable = takeable
+takeable_response (Err rule) x takeable = tt
 
 -- ---- a new client
 

@@ -42,32 +42,6 @@ no_rule (Some s) e = absurd cc
 
 -- ---- what a legal response is
 
-access_size : (w : ℕ) (l : Level) (size : ℕ) → IsWidth w → access_has_size w l size ≡ true → size ≤ 6
-access_size w level.UL size is e = elim (cases_lt 4 size) [
-  | inl above ↦ absurd (both_ways (leb (2 ^ size) w) (size_above_width w size is above) e)
-  | inr few ↦ omega arith
-]
-access_size w level.UH size is e = leb-true size 6 e
-access_size w level.C size is e = leb-true size 6 e
-
-response_size : (w : ℕ) (l : Level) (opcode : OpD) (size : ℕ) → IsWidth w → d_has_size w l opcode size ≡ true → size ≤ 6
-response_size w l d.AccessAck size is e = access_size w l size is e
-response_size w l d.AccessAckData size is e = access_size w l size is e
-response_size w l d.HintAck size is e = access_size w l size is e
-response_size w l d.Grant size is e = let whole = eqb-true size 6 e in omega (arith, whole)
-response_size w l d.GrantData size is e = let whole = eqb-true size 6 e in omega (arith, whole)
-response_size w l d.ReleaseAck size is e = let whole = eqb-true size 6 e in omega (arith, whole)
-
--- a response that breaks no L rule has a size that a message may have
-pub legal_size : {w : ℕ} (l : Level) (x : BeatD w) → IsWidth w → illegal l channel.D (D x) ≡ None → x.size ≤ 6
-unfolding illegal
-legal_size {w} l x is e =
-    let one = next_rule (breaks_l1 l channel.D (D x)) L1 _ e in
-    let seven = next_rule (breaks_l7 (D x)) L7 _ one.1 in
-    let two = next_rule (breaks_l2 (D x)) L2 _ seven.1 in
-    let three = next_rule (breaks_l3 l (D x)) L3 _ two.1 in
-    response_size w l x.opcode x.size is (not-false (d_has_size w l x.opcode x.size) three.0)
-
 abbrev pub IsAccessAnswer : OpD → Type 0
 IsAccessAnswer opcode = (is_grant opcode ≡ false) × (is_release_ack opcode ≡ false)
 

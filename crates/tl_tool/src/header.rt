@@ -1,6 +1,6 @@
 //! Reads the header of a trace.
 
-ghost use Rattle.std.specs.Prelude.{◌≡◌, ◌≢◌, ◌++◌, ◌∷◌, ◌≤◌, [], List, ℕ, IfSome, MatchOption, length};
+ghost use Rattle.std.specs.Prelude.{◌≡◌, ◌≢◌, ◌++◌, List, ℕ, IfSome, MatchOption};
 ghost use Rattle.tl_rules.specs.declared.level.Level.{Level};
 ghost use Rattle.tl_rules.specs.declared.profile.Profile.{Profile};
 ghost use Rattle.tl_tool.specs.Trace.{IsHeader, SpellsHeader, trace_word};

@@ -286,3 +286,9 @@ header_or_none line = go (header_at line) refl
         → ((width : Width) × (p : Profile) × (levels : List Level) × SpellsHeader line width p levels) ⊎ ((width : Width) (p : Profile) (levels : List Level) → ¬ SpellsHeader line width p levels)
     go None is = inr (λ width p levels h. let e = header_again line width p levels h in absurd cc)
     go (Some ((width, p), levels)) is = inl (width, p, levels, header_taken line width p levels is)
+
+-- a line spells one header at most
+pub one_header : (line : List ℕ) (width other : Width) (p q : Profile) (levels others : List Level) → SpellsHeader line width p levels → SpellsHeader line other q others → meaning width p levels ≡ meaning other q others
+one_header line width other p q levels others s t =
+    let same : Some (meaning width p levels) ≡ Some (meaning other q others) = sym (header_again line width p levels s) ∙ header_again line other q others t in
+    cc

@@ -7,3 +7,4 @@ pub mod CutLemmas
 pub mod SpelledLemmas
 pub mod HeaderLemmas
 pub mod JudgedLemmas
+pub mod OnceLemmas

@@ -6,6 +6,7 @@ pub mod engine;
 pub mod fault;
 pub mod header;
 pub mod judge;
+pub mod law;
 pub mod lines;
 pub mod params;
 pub mod put;

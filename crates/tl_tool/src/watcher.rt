@@ -27,7 +27,7 @@ pub enum Watcher {
     Sixteen(Monitor<16>),
 }
 
-/// A monitor of the links that a header names, which has seen no beat.
+/// A monitor of the links that a header names, 1 to 16, which has seen no beat.
 fn monitor_of<const W: usize>(alloc: Global, header: &Header) -> Result<Monitor<W>, AllocError>
     requires { IsWidth W }
     ensures { IfOk result (λ m. Knows m header.now.levels.items header.now.profile [] false) }
@@ -35,7 +35,7 @@ fn monitor_of<const W: usize>(alloc: Global, header: &Header) -> Result<Monitor<
     Monitor::new(alloc, header.levels.as_slice(), header.profile).map_err(|_| AllocError)
 }
 
-/// Judges the line of the next beat.
+/// Judges the line of the next beat. A monitor that has refused a beat isn't asked again.
 fn watch<const W: usize>(monitor: &mut Monitor<W>, line: &[u8]) -> Result<Option<Fault>, AllocError>
     requires { IsWidth W }
     ensures { IfOk result (Watches monitor.old monitor.new line.now) }

@@ -6,7 +6,7 @@ use Rattle.tl_beat.specs.declared.beat.Beat.{Beat}
 use Rattle.tl_beat.specs.declared.opcode.Channel.{Channel}
 use Rattle.tl_burst.specs.Messages.{History, burst_length, grown, unfinished, on}
 use Rattle.tl_monitor.specs.declared.recorded.Recorded.{Recorded}
-use Rattle.tl_monitor.specs.Past.{past, top_of, count_in, grown_top}
+use Rattle.tl_monitor.specs.Past.{past, top_of, count_in, grown_top, top_with}
 
 pub past-push : {w : ℕ} (before : List (Recorded w)) (x : Recorded w) → past (before ++ x ∷ []) ≡ x.beat ∷ past before
 unfolding past
@@ -42,10 +42,14 @@ pub top-nil : {w : ℕ} (ch : Channel) (t : History w) → t ≡ [] → top_of (
 unfolding unfinished
 top-nil ch t e = rw e refl
 
-pub top-here : {w : ℕ} (ch : Channel) (t before : History w) (x : Beat w) → t ≡ x ∷ before → on ch x ≡ true → top_of (unfinished ch t) ≡ grown_top x (top_of (unfinished ch before))
+pub top-with : {w : ℕ} (ch : Channel) (t before : History w) (x : Beat w) → t ≡ x ∷ before → top_of (unfinished ch t) ≡ top_with ch x (top_of (unfinished ch before))
 unfolding unfinished
-top-here ch t before x is here = rw (is, here) (top-grown x (unfinished ch before))
+top-with ch t before x is = rw is (go (on ch x))
+  where
+    go : (b : Bool) → top_of (if b then grown x (unfinished ch before) else unfinished ch before) ≡ (if b then grown_top x (top_of (unfinished ch before)) else top_of (unfinished ch before))
+    go true = top-grown x (unfinished ch before)
+    go false = refl
 
-pub top-other : {w : ℕ} (ch : Channel) (t before : History w) (x : Beat w) → t ≡ x ∷ before → on ch x ≡ false → top_of (unfinished ch t) ≡ top_of (unfinished ch before)
-unfolding unfinished
-top-other ch t before x is other = rw (is, other) refl
+-- the beats up to the next one
+pub past-next : {w : ℕ} (beats : List (Recorded w)) (i : ℕ) (x : Recorded w) → i < length beats → x ≡ get_or beats i x → past (take (i + 1) beats) ≡ x.beat ∷ past (take i beats)
+past-next beats i x lt is = ap past (take_more beats i x lt ∙ ap (λ y. take i beats ++ y ∷ []) (sym is)) ∙ past-push (take i beats) x

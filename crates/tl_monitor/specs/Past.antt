@@ -4,7 +4,8 @@ use Rattle.tl_beat.specs.declared.beat.Beat.TheVariants.{A, B, C, D}
 use Rattle.tl_beat.specs.declared.beat.BeatA.{BeatA}
 use Rattle.tl_beat.specs.declared.beat.BeatB.{BeatB}
 use Rattle.tl_beat.specs.declared.beat.BeatC.{BeatC}
-use Rattle.tl_burst.specs.Messages.{History, burst_length}
+use Rattle.tl_beat.specs.declared.opcode.Channel.{Channel}
+use Rattle.tl_burst.specs.Messages.{History, burst_length, on}
 use Rattle.tl_monitor.specs.declared.recorded.Recorded.{Recorded}
 use Rattle.tl_monitor.specs.declared.past.Sought.{Sought}
 use Rattle.tl_monitor.specs.declared.past.Sought.TheVariants.{Request, Release, Probe}
@@ -35,6 +36,10 @@ count_in (Some u) = u.count
 -- with the next beat, nothing where that is the last
 abbrev pub grown_top : {w : ℕ} → Beat w → Option (Unfinished w) → Option (Unfinished w)
 grown_top x burst = if count_in burst + 1 == burst_length x then None else Some (record { newest = x; count = count_in burst + 1 })
+
+-- with a beat that may be of another channel
+abbrev pub top_with : {w : ℕ} → Channel → Beat w → Option (Unfinished w) → Option (Unfinished w)
+top_with ch x burst = if on ch x then grown_top x burst else burst
 
 abbrev pub newest_of : {w : ℕ} → List (Beat w) → Option (Beat w)
 newest_of [] = None

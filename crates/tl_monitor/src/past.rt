@@ -7,7 +7,7 @@ ghost use Rattle.tl_burst.specs.Part.{is_small};
 ghost use Rattle.tl_rules.specs.History;
 ghost use Rattle.tl_rules.specs.History.{releases};
 ghost use Rattle.tl_monitor.specs.Past;
-ghost use Rattle.tl_monitor.specs.Past.{past, top_of, count_in, grown_top, newest_of};
+ghost use Rattle.tl_monitor.specs.Past.{past, top_of, count_in, grown_top, top_with, newest_of};
 
 use crate::kind::{
     capped, is_acquire, is_grant, is_probe, is_probe_ack, is_release, is_release_ack, reported,
@@ -56,19 +56,13 @@ fn is_on<const W: usize>(channel: Channel, beat: &Beat<W>) -> bool
 fn burst_on<const W: usize>(channel: Channel, beats: &[Recorded<W>]) -> Option<Unfinished<W>>
     requires { IsWidth W }
     ensures burst { result ≡ top_of (Messages.unfinished channel (past beats.now)) }
-    ensures few { IfSome result (λ u. u.count ≤ length beats.now) }
+    ensures few { count_in result ≤ length beats.now }
 {
-    match beats {
-        [] => None,
-        [before @ .., x] => {
-            let burst = burst_on(channel, before);
-            if is_on(channel, &x.beat) {
-                grown(x, burst)
-            } else {
-                burst
-            }
-        }
+    let mut burst = None;
+    for x in beats {
+        burst = with_beat(channel, x, burst);
     }
+    burst
 }
 
 /// How many beats of its burst came before a beat that is the next one.
@@ -95,6 +89,24 @@ fn grown<const W: usize>(x: &Recorded<W>, burst: Option<Unfinished<W>>) -> Optio
             newest: x.beat,
             count,
         })
+    }
+}
+
+/// What is unfinished on a channel after one beat more.
+fn with_beat<const W: usize>(
+    channel: Channel,
+    x: &Recorded<W>,
+    burst: Option<Unfinished<W>>,
+) -> Option<Unfinished<W>>
+    requires width { IsWidth W }
+    requires few { count_in burst < 2 ^ 63 }
+    ensures burst { result ≡ top_with channel x.now.beat burst.entry }
+    ensures few { count_in result ≤ count_in burst.entry + 1 }
+{
+    if is_on(channel, &x.beat) {
+        grown(x, burst)
+    } else {
+        burst
     }
 }
 
@@ -161,16 +173,14 @@ fn last_begun<const W: usize>(sought: Sought, beats: &[Recorded<W>]) -> Option<B
     requires { IsWidth W }
     ensures { result ≡ Past.last_begun sought (past beats.now) }
 {
-    match beats {
-        [] => None,
-        [before @ .., x] => {
-            if begins_sought(sought, &x.beat, before) {
-                Some(x.beat)
-            } else {
-                last_begun(sought, before)
-            }
+    let mut rest = beats;
+    while let [before @ .., x] = rest {
+        if begins_sought(sought, &x.beat, before) {
+            return Some(x.beat);
         }
+        rest = before;
     }
+    None
 }
 
 fn a_of<const W: usize>(x: Option<Beat<W>>) -> Option<BeatA<W>>
@@ -265,13 +275,14 @@ fn grant_sink<const W: usize>(block: u32, beats: &[Recorded<W>]) -> Option<u8>
     requires { IsWidth W }
     ensures { result ≡ History.grant_sink block (past beats.now) }
 {
-    match beats {
-        [] => None,
-        [before @ .., x] => match granted_sink(block, &x.beat, before) {
-            Some(sink) => Some(sink),
-            None => grant_sink(block, before),
-        },
+    let mut rest = beats;
+    while let [before @ .., x] = rest {
+        match granted_sink(block, &x.beat, before) {
+            Some(sink) => return Some(sink),
+            None => rest = before,
+        }
     }
+    None
 }
 
 /// Whether a message that begins with this beat opens the key.
@@ -320,7 +331,7 @@ fn opens_now<const W: usize>(key: Key, x: &Beat<W>, before: &[Recorded<W>]) -> b
     requires { IsWidth W }
     ensures { result ≡ (History.begins x.now (past before.now) && History.opens key x.now (past before.now)) }
 {
-    begins(x, before) && opens(key, x, before)
+    opens(key, x, before) && begins(x, before)
 }
 
 /// Whether the key is closed with this beat.
@@ -328,7 +339,7 @@ fn closes_now<const W: usize>(key: Key, x: &Recorded<W>, before: &[Recorded<W>])
     requires { IsWidth W }
     ensures { result ≡ (History.ends x.now.beat (past before.now) && History.closes key x.now.beat (past before.now)) }
 {
-    ends(x, before) && closes(key, &x.beat, before)
+    closes(key, &x.beat, before) && ends(x, before)
 }
 
 /// Whether of all openings and closings of the key the last is an opening.
@@ -336,18 +347,17 @@ pub fn is_pending<const W: usize>(key: Key, beats: &[Recorded<W>]) -> bool
     requires { IsWidth W }
     ensures { result ≡ History.pending key (past beats.now) }
 {
-    match beats {
-        [] => false,
-        [before @ .., x] => {
-            if opens_now(key, &x.beat, before) {
-                true
-            } else if closes_now(key, x, before) {
-                false
-            } else {
-                is_pending(key, before)
-            }
+    let mut rest = beats;
+    while let [before @ .., x] = rest {
+        if opens_now(key, &x.beat, before) {
+            return true;
         }
+        if closes_now(key, x, before) {
+            return false;
+        }
+        rest = before;
     }
+    false
 }
 
 /// What a message that is complete with this beat says is held of the block.
@@ -391,11 +401,12 @@ pub fn held<const W: usize>(block: u32, beats: &[Recorded<W>]) -> Perm
     requires { IsWidth W }
     ensures { result ≡ History.held block (past beats.now) }
 {
-    match beats {
-        [] => Perm::None,
-        [before @ .., x] => match says_now(block, x, before) {
-            Some(perm) => perm,
-            None => held(block, before),
-        },
+    let mut rest = beats;
+    while let [before @ .., x] = rest {
+        match says_now(block, x, before) {
+            Some(perm) => return perm,
+            None => rest = before,
+        }
     }
+    Perm::None
 }

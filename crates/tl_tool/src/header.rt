@@ -1,8 +1,8 @@
 //! Reads the header of a trace.
 
 ghost use Rattle.std.specs.Prelude.{◌≡◌, ◌≢◌, ◌++◌, List, ℕ, IfSome, MatchOption};
-ghost use Rattle.tl_rules.specs.declared.level.Level.{Level};
-ghost use Rattle.tl_rules.specs.declared.profile.Profile.{Profile};
+ghost use Rattle.tl_params.specs.declared.level.Level.{Level};
+ghost use Rattle.tl_params.specs.declared.profile.Profile.{Profile};
 ghost use Rattle.tl_tool.specs.Trace.{IsHeader, SpellsHeader, trace_word};
 ghost use Rattle.tl_tool.specs.TraceReading.{Gives, GivesHeader, GivesLevels, header_at, is_end, level_at, levels_at, profile_at, version_at, width_at};
 ghost use Rattle.tl_words.specs.declared.command.Width.{Width};

@@ -32,7 +32,7 @@ use Rattle.tl_rules.proofs.Checks.{beats_room}
 use Rattle.tl_client.specs.declared.operation.Op.{Op}
 use Rattle.tl_client.specs.declared.operation.Op.TheVariants.{Access}
 use Rattle.tl_client.specs.declared.requests.Request.{Request}
-use Rattle.tl_client.specs.declared.verdict.Verdict.TheVariants.{Done, Taken}
+use Rattle.tl_client.specs.declared.verdict.Verdict.TheVariants.{Done}
 use Rattle.tl_client.specs.Offer.{finish_of}
 use Rattle.tl_client.specs.Plain.{access_in, started_by, is_first, response_rule, order_rule, plain_verdict, ends_request, message_verdict, closes_request, IsWhole, address_in}
 use Rattle.tl_client.proofs.Sent.{is_last}

@@ -6,4 +6,5 @@ pub mod Offer
 pub mod Plain
 pub mod Requests
 pub mod Send
+pub mod Sound
 pub mod Width

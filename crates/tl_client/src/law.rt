@@ -11,6 +11,7 @@ ghost use Rattle.tl_client.specs.declared.operation.Op.{Op};
 ghost use Rattle.tl_client.specs.Ask.{asked, busy};
 ghost use Rattle.tl_client.specs.End.{Terms, End};
 ghost use Rattle.tl_client.specs.Held.{left_by, held_by};
+ghost use Rattle.tl_client.specs.Sound.{IsSoundIfAny, IsSoundAnswer};
 ghost use Rattle.tl_client.specs.Offer.{offered, stalls, is_stalled};
 
 /// A beat is stalled exactly where that is what is answered.
@@ -33,4 +34,12 @@ pub fn held_after_offered<const W: usize>()
     requires { IsWidth W }
     ensures { (terms : Terms) (ch : Channel) (x : Beat W) (e : End W) (k : ℕ) → unfinished channel.C e.past ≡ [] →
         held k (offered terms ch x e).after.past ≡ held_by (offered terms ch x e).answer x e.past k }
+{}
+
+/// A message that is handed out breaks no rule by itself at the client's level, and no corrupt bit of
+/// it is set.
+pub fn hands_out_sound_messages<const W: usize>()
+    requires { IsWidth W }
+    ensures asked { (terms : Terms) (op : Op W) (e : End W) → IsSoundIfAny terms.level (asked terms op e).message }
+    ensures offered { (terms : Terms) (ch : Channel) (x : Beat W) (e : End W) → IsSoundAnswer terms.level (offered terms ch x e).answer }
 {}

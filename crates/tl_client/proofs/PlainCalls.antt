@@ -37,7 +37,8 @@ use Rattle.tl_client.specs.Offer.{finish_of}
 use Rattle.tl_client.specs.Plain.{access_in, started_by, is_first, response_rule, order_rule, plain_verdict, ends_request, message_verdict, closes_request, IsWhole, address_in}
 use Rattle.tl_client.proofs.Sent.{is_last}
 use Rattle.tl_client.proofs.Payload.{payload_of-burst}
-use Rattle.tl_client.proofs.PlainRules.{legal_size, no_rule}
+use Rattle.tl_client.proofs.PlainRules.{legal_size}
+use Rattle.tl_client.proofs.Verdicts.{no_rule}
 
 -- ---- what starts
 

@@ -20,7 +20,7 @@ use Rattle.tl_rules.specs.declared.rule.Rule.{Rule}
 use Rattle.tl_rules.specs.declared.rule.Rule.TheVariants.{L1, S1, A3}
 use Rattle.tl_rules.specs.Agent.{payload_of}
 use Rattle.tl_rules.specs.History.{begins, ends, says_held, pending, request_of}
-use Rattle.tl_rules.specs.Legality.{illegal, or_else, rule_if, has_transfers, verdict}
+use Rattle.tl_rules.specs.Legality.{illegal, rule_if, has_transfers, verdict}
 use Rattle.tl_rules.proofs.Bursts.{next_rule}
 use Rattle.tl_client.specs.declared.plain.Plain.{Plain}
 use Rattle.tl_client.specs.declared.requests.Request.{Request}
@@ -31,7 +31,8 @@ use Rattle.tl_client.specs.KnowsPlain.{KnowsPlain, terms_of, answers_pending}
 use Rattle.tl_client.specs.Offer.{offered, judged_later, refused, silent, taken, ended, granted, responded, finish_of, address_asked, stalls, is_sent_on}
 use Rattle.tl_client.specs.Plain.{response_rule, order_rule, plain_rule, address_in, plain_verdict, ends_request}
 use Rattle.tl_client.specs.Requests.{request_at, fields_of, open_request}
-use Rattle.tl_client.proofs.PlainRules.{IsAccessAnswer, legal_answer, judged, some_rule, no_rule}
+use Rattle.tl_client.proofs.PlainRules.{IsAccessAnswer, legal_answer, judged}
+use Rattle.tl_client.proofs.Verdicts.{both_none, some_rule, no_rule}
 use Rattle.tl_client.proofs.Sent.{held_unsaid}
 
 -- ---- what is taken is a response
@@ -39,10 +40,6 @@ use Rattle.tl_client.proofs.Sent.{held_unsaid}
 pub record IsGoodResponse {w : ℕ} (l : Level) (x : BeatD w) (request : Option Request) (burst : List (Beat w)) : Type 0 where
   pub is_legal : illegal l channel.D (D x) ≡ None
   pub in_order : order_rule x request burst ≡ None
-
-both_none : (o rest : Option Rule) → or_else o rest ≡ None → (o ≡ None) × (rest ≡ None)
-both_none None rest e = (refl, e)
-both_none (Some r) rest e = absurd cc
 
 good_response : {w : ℕ} (l : Level) (asked : ℕ → Option Request) (burst : List (Beat w)) (closed : Bool) (ch : Channel) (x : Beat w) → plain_rule l asked burst closed ch x ≡ None → (y : BeatD w) × (x ≡ D y) × IsGoodResponse l y (asked y.source) burst
 good_response l asked burst true ch x e = absurd cc

@@ -1,7 +1,7 @@
 -- The messages that a client hands out break no rule by themselves.
-use Rattle.std.proofs.Common.{◌≡◌, ℕ, zero, suc, ◌+◌, ◌-◌, ◌*◌, ◌/◌, ◌%◌, ◌^◌, ◌<◌, ◌≤◌, Bool, true, false, not, cond, leb, ltb, eqb, ◌&&◌, ◌||◌, List, [], ◌∷◌, Option, Some, None, Ok, Err, refl, sym, ◌∙◌, ap, arith, inl, inr}
-use Rattle.std.specs.Prelude.{◌==◌, is_none, is_some}
-use Rattle.std.proofs.lemmas.Bool.{not-false, cases_Bool, and_parts, eqb-true, or_parts}
+use Rattle.std.proofs.Common.{◌≡◌, ℕ, ◌-◌, ◌*◌, ◌%◌, ◌^◌, ◌<◌, Bool, true, false, not, cond, leb, eqb, List, ◌∷◌, Option, Some, None, refl, ◌∙◌, arith, inl, inr}
+use Rattle.std.specs.Prelude.{is_none}
+use Rattle.std.proofs.lemmas.Bool.{not-false, and_parts, eqb-true, or_parts}
 use Rattle.std.proofs.Math.Nat.{zero-div}
 use Rattle.tl_beat.specs.Width.{IsWidth}
 use Rattle.tl_beat.specs.declared.beat.Beat.{Beat}
@@ -12,7 +12,6 @@ use Rattle.tl_beat.specs.declared.opcode.Channel.{Channel}
 use Rattle.tl_beat.specs.declared.opcode.Channel.TheVariants as channel
 use Rattle.tl_beat.specs.declared.opcode.OpD.{OpD}
 use Rattle.tl_beat.specs.declared.opcode.OpD.TheVariants as d
-use Rattle.tl_beat.specs.declared.opcode.OpA.{OpA}
 use Rattle.tl_beat.specs.declared.opcode.OpA.TheVariants as a
 use Rattle.tl_beat.specs.declared.opcode.OpB.{OpB}
 use Rattle.tl_beat.specs.declared.opcode.OpB.TheVariants as b
@@ -22,7 +21,7 @@ use Rattle.tl_beat.specs.Opcode.{c_code}
 use Rattle.tl_burst.specs.declared.message.Message.{Message}
 use Rattle.tl_burst.specs.declared.message.Message.TheVariants.{A, B, C, D, E}
 use Rattle.tl_burst.specs.declared.message.MessageA.{MessageA}
-use Rattle.tl_burst.specs.Burst.{beats_of, beat_of, mask_at, bit}
+use Rattle.tl_burst.specs.Burst.{beat_of, mask_at, bit}
 use Rattle.tl_rules.specs.declared.level.Level.{Level}
 use Rattle.tl_rules.specs.declared.level.Level.TheVariants as level
 use Rattle.tl_rules.specs.declared.param.Grow.{Grow}
@@ -36,7 +35,7 @@ use Rattle.tl_rules.specs.declared.param.Report.TheVariants as report
 use Rattle.tl_rules.specs.declared.perm.Perm.{Perm}
 use Rattle.tl_rules.specs.declared.perm.Perm.TheVariants as perm
 use Rattle.tl_rules.specs.Legality.{illegal, illegal_message, is_aligned, is_full_mask, each_below, c_has_param, c_has_source, d_of_level, has_transfers}
-use Rattle.tl_rules.specs.Param.{grow_code, prune_code, report_code, report_at, cap_of}
+use Rattle.tl_rules.specs.Param.{report_code, report_at, cap_of}
 use Rattle.tl_rules.proofs.Legal.{legal_from_beats, legal_beat}
 use Rattle.tl_rules.specs.History.{block_at, is_grant, ends}
 use Rattle.tl_rules.specs.declared.rule.Rule.{Rule}
@@ -49,9 +48,10 @@ use Rattle.tl_client.specs.declared.busy.Busy.{Busy}
 use Rattle.tl_client.specs.declared.busy.Busy.TheVariants.{B4, B5}
 use Rattle.tl_client.specs.declared.operation.Op.{Op}
 use Rattle.tl_client.specs.declared.operation.Op.TheVariants.{Load, Store, Acquire, AcquireWhole, Release, Access}
-use Rattle.tl_client.specs.Ask.{asked, asked_given, busy, busy_if, breaks_b4, breaks_b5, block_of, is_sound, is_clean, done, load, store, source_or_0, free_request, free_release, whole_grow}
-use Rattle.tl_client.specs.Send.{about, access, acquire, on_c, release, probe_ack, grant_ack}
+use Rattle.tl_client.specs.Ask.{asked, asked_given, busy, breaks_b4, breaks_b5, block_of, is_sound, is_clean, done, load, store, source_or_0, free_request, free_release, whole_grow}
+use Rattle.tl_client.specs.Send.{access, acquire, on_c, release, probe_ack, grant_ack}
 use Rattle.tl_client.specs.End.{Terms, End, zeros, copy_at, held_at, with_past}
+use Rattle.tl_client.proofs.Verdicts.{next_busy}
 use Rattle.tl_client.specs.Sound.{IsSound, IsSoundIfAny, IsSoundAnswer}
 
 -- ---- fields
@@ -162,10 +162,6 @@ sound_access l m s legal clean = record {
 }
 
 -- ---- operations
-
-next_busy : (t : Bool) (b : Busy) (rest : Option Busy) → busy_if t b rest ≡ None → (t ≡ false) × (rest ≡ None)
-next_busy true b rest e = absurd cc
-next_busy false b rest e = (refl, e)
 
 at_c : {w : ℕ} (l : Level) (m : Message w) → has_transfers l ≡ true → IsSound level.C m → IsSound l m
 at_c level.C m e sound = sound

@@ -1,6 +1,7 @@
 pub mod Ask
 pub mod End
 pub mod Held
+pub mod Kept
 pub mod KnowsPlain
 pub mod Offer
 pub mod Plain

@@ -9,7 +9,8 @@ ghost use Rattle.tl_burst.specs.Messages.{unfinished};
 ghost use Rattle.tl_rules.specs.History.{held};
 ghost use Rattle.tl_client.specs.declared.operation.Op.{Op};
 ghost use Rattle.tl_client.specs.Ask.{asked, busy};
-ghost use Rattle.tl_client.specs.End.{Terms, End};
+ghost use Rattle.tl_client.specs.End.{Terms, End, fresh};
+ghost use Rattle.tl_client.specs.Kept.{IsKept};
 ghost use Rattle.tl_client.specs.Held.{left_by, held_by};
 ghost use Rattle.tl_client.specs.Sound.{IsSoundIfAny, IsSoundAnswer};
 ghost use Rattle.tl_client.specs.Offer.{offered, stalls, is_stalled};
@@ -42,4 +43,13 @@ pub fn hands_out_sound_messages<const W: usize>()
     requires { IsWidth W }
     ensures asked { (terms : Terms) (op : Op W) (e : End W) → IsSoundIfAny terms.level (asked terms op e).message }
     ensures offered { (terms : Terms) (ch : Channel) (x : Beat W) (e : End W) → IsSoundAnswer terms.level (offered terms ch x e).answer }
+{}
+
+/// A client keeps what `IsKept` says: whole messages, a copy exactly where something is held, and the
+/// bytes of each AcquirePerm until its Grant.
+pub fn keeps<const W: usize>()
+    requires { IsWidth W }
+    ensures fresh { IsKept (fresh {w = W}) }
+    ensures asked { (terms : Terms) (op : Op W) (e : End W) → IsKept e → IsKept (asked terms op e).after }
+    ensures offered { (terms : Terms) (ch : Channel) (x : Beat W) (e : End W) → IsKept e → IsKept (offered terms ch x e).after }
 {}

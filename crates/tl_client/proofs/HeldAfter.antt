@@ -31,7 +31,7 @@ use Rattle.tl_rules.specs.declared.rule.Rule.{Rule}
 use Rattle.tl_rules.specs.declared.rule.Rule.TheVariants.{L1, A3}
 use Rattle.tl_rules.specs.Agent.{sent, payload_of}
 use Rattle.tl_rules.specs.History.{block_at, is_probe_ack, is_release, ends, grants, capped, reported, request_of, or_perm, held}
-use Rattle.tl_rules.specs.Param.{prune_code, prune_right, report_code, report_right}
+use Rattle.tl_rules.specs.Param.{prune_right, report_code, report_right}
 use Rattle.tl_rules.specs.Legality.{illegal, breaks_l1}
 use Rattle.tl_rules.proofs.Bursts.{has_beats, next_rule}
 use Rattle.tl_client.specs.declared.busy.Busy.{Busy}
@@ -64,11 +64,6 @@ held-on_c k opcode param source block payload t is none tells =
     ∙ said ((is_probe_ack opcode || is_release opcode) && (block_at (64 * block) == k)) (k == block) (reported param) (held k t) (rw (tells, same_block block) (swapped block k))
 
 -- ---- operations
-
-prune_told : (p : Prune) → reported (prune_code p) ≡ prune_right p
-prune_told prune.TtoB = refl
-prune_told prune.TtoN = refl
-prune_told prune.BtoN = refl
 
 report_told : (r : Report) → reported (report_code r) ≡ report_right r
 report_told report.TtoB = refl

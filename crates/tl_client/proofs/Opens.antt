@@ -14,13 +14,13 @@ use Rattle.tl_burst.specs.declared.message.MessageA.{MessageA}
 use Rattle.tl_burst.specs.declared.message.MessageC.{MessageC}
 use Rattle.tl_burst.specs.declared.message.MessageE.{MessageE}
 use Rattle.tl_burst.specs.Burst.{a_beat_of, beat_of, beats_of, begun}
-use Rattle.tl_burst.specs.Messages.{History, unfinished}
+use Rattle.tl_burst.specs.Messages.{History, unfinished, grown}
 use Rattle.tl_rules.specs.declared.key.Key.{Key}
 use Rattle.tl_rules.specs.declared.key.Key.TheVariants.{RequestSource, AcquireOf}
 use Rattle.tl_rules.specs.Agent.{sent}
 use Rattle.tl_rules.specs.History.{begins, ends, opens, closes, grants, is_acquire, is_release_ack, block_at, pending, request_of}
 use Rattle.tl_rules.proofs.Bursts.{has_beats}
-use Rattle.tl_client.specs.Kept.{open_beat}
+use Rattle.tl_client.specs.Requests.{open_beat}
 use Rattle.tl_client.proofs.Sent.{pending-sent, request_of-sent, request_closes_nothing, ClosesNothing, channel_in}
 
 -- a beat that neither opens nor closes the key
@@ -60,7 +60,7 @@ request_of-b : {w : ℕ} (s : ℕ) (x : BeatB w) (t : History w) → request_of 
 unfolding request_of
 request_of-b s x t = refl
 
-request_of-d : {w : ℕ} (s : ℕ) (x : BeatD w) (t : History w) → request_of s (beat.D x ∷ t) ≡ request_of s t
+pub request_of-d : {w : ℕ} (s : ℕ) (x : BeatD w) (t : History w) → request_of s (beat.D x ∷ t) ≡ request_of s t
 unfolding request_of
 request_of-d s x t = refl
 
@@ -111,3 +111,9 @@ acquire_of-b k x t = pending-quiet (AcquireOf k) (beat.B x) t refl refl
 
 pub acquire_of-d : {w : ℕ} (k : ℕ) (x : BeatD w) (t : History w) → pending (AcquireOf k) (beat.D x ∷ t) ≡ cond (ends (beat.D x) t && grants k x t) false (pending (AcquireOf k) t)
 acquire_of-d k x t = pending-closed (AcquireOf k) (beat.D x) t refl
+
+-- ---- what is unfinished after a response
+
+pub unfinished-d : {w : ℕ} (x : BeatD w) (t : History w) → (unfinished channel.A (beat.D x ∷ t) ≡ unfinished channel.A t) × (unfinished channel.B (beat.D x ∷ t) ≡ unfinished channel.B t) × (unfinished channel.C (beat.D x ∷ t) ≡ unfinished channel.C t) × (unfinished channel.E (beat.D x ∷ t) ≡ unfinished channel.E t) × (unfinished channel.D (beat.D x ∷ t) ≡ grown (beat.D x) (unfinished channel.D t))
+unfolding unfinished
+unfinished-d x t = (refl, refl, refl, refl, refl)

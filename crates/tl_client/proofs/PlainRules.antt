@@ -86,7 +86,7 @@ response_agrees : {w : ℕ} (p : Profile) (x : BeatD w) (t : History w) → IsAc
 response_agrees {w} p x t answer sent =
     rw (answer.0, answer.1, sent) (go (pending (RequestSource x.source) t) (request_of x.source t))
   where
-    go : (b : Bool) (o : Option (BeatA w)) → rule_if (not (b && (true && admits x.opcode o))) H2 (rule_if (not (x.size == size_of_request o)) H3 None) ≡ response_rule x (cond b (fields_of o) None)
+    go : (b : Bool) (o : Option (BeatA w)) → rule_if (not (b && (true && admits x.opcode o))) H2 (rule_if (not (x.size == size_of_request o)) H3 None) ≡ response_rule x (fields_of (cond b o None))
     go false o = refl
     go true None = refl
     go true (Some r) = refl

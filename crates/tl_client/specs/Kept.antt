@@ -1,5 +1,5 @@
 -- What a client's calls keep.
-use Rattle.std.specs.Prelude.{ℕ, Bool, true, false, List, [], ◌∷◌, ◌≡◌, ◌==◌, ◌&&◌, if◌then◌else◌, Option, Some, None, is_some}
+use Rattle.std.specs.Prelude.{ℕ, Bool, true, false, List, [], ◌∷◌, ◌≡◌, ◌==◌, ◌&&◌, Option, Some, None, is_some}
 use Rattle.tl_beat.specs.declared.beat.Beat.{Beat}
 use Rattle.tl_beat.specs.declared.beat.Beat.TheVariants as beat
 use Rattle.tl_beat.specs.declared.beat.BeatA.{BeatA}
@@ -7,21 +7,18 @@ use Rattle.tl_beat.specs.declared.opcode.Channel.TheVariants as channel
 use Rattle.tl_beat.specs.declared.opcode.OpA.{OpA}
 use Rattle.tl_beat.specs.declared.opcode.OpA.TheVariants as a
 use Rattle.tl_burst.specs.Messages.{History, unfinished}
-use Rattle.tl_rules.specs.declared.key.Key.TheVariants.{RequestSource, AcquireOf}
+use Rattle.tl_rules.specs.declared.key.Key.TheVariants.{AcquireOf}
 use Rattle.tl_rules.specs.declared.perm.Perm.{Perm}
 use Rattle.tl_rules.specs.declared.perm.Perm.TheVariants as perm
 use Rattle.tl_rules.specs.Conformance.{is_grant_without_data}
-use Rattle.tl_rules.specs.History.{block_at, is_acquire, is_grant, capped, pending, request_of, held}
+use Rattle.tl_rules.specs.History.{block_at, is_acquire, is_grant, capped, pending, held}
 use Rattle.tl_client.specs.End.{End}
+use Rattle.tl_client.specs.Requests.{open_beat}
 
 -- something is held
 abbrev pub holds : Perm → Bool
 holds perm.None = false
 holds _ = true
-
--- the request with this source that is pending
-abbrev pub open_beat : {w : ℕ} → ℕ → History w → Option (BeatA w)
-open_beat s t = if pending (RequestSource s) t then request_of s t else None
 
 abbrev pub is_acquire_perm : OpA → Bool
 is_acquire_perm a.AcquirePerm = true

@@ -1,5 +1,5 @@
 -- What is kept as a client is asked for something.
-use Rattle.std.proofs.Common.{◌≡◌, ℕ, zero, suc, ◌+◌, ◌*◌, Bool, true, false, cond, ◌⊎◌, List, Option, Some, None, refl, sym, ◌∙◌, ap, inl, inr}
+use Rattle.std.proofs.Common.{◌≡◌, ℕ, ◌<◌, ◌*◌, Bool, true, false, cond, ◌⊎◌, List, Option, Some, None, refl, sym, ◌∙◌, ap, arith, inl, inr}
 use Rattle.std.specs.Prelude.{◌==◌, is_some, is_none}
 use Rattle.std.proofs.lemmas.Bool.{and_parts, or_parts, not-false, eqb-true, eq-eqb, cases_Bool, both_ways}
 use Rattle.tl_beat.specs.Width.{IsWidth}
@@ -11,7 +11,7 @@ use Rattle.tl_burst.specs.declared.message.MessageA.{MessageA}
 use Rattle.tl_burst.specs.declared.message.MessageC.{MessageC}
 use Rattle.tl_rules.specs.Agent.{sent}
 use Rattle.tl_rules.specs.declared.level.Level.{Level}
-use Rattle.tl_rules.specs.declared.key.Key.TheVariants.{RequestSource, AcquireOf, ReleaseOf}
+use Rattle.tl_rules.specs.declared.key.Key.TheVariants.{RequestSource, ReleaseSource, AcquireOf, ReleaseOf}
 use Rattle.tl_rules.specs.declared.param.Prune.{Prune}
 use Rattle.tl_rules.specs.declared.param.Prune.TheVariants as prune
 use Rattle.tl_rules.specs.declared.perm.Perm.{Perm}
@@ -23,24 +23,15 @@ use Rattle.tl_client.specs.declared.busy.Busy.{Busy}
 use Rattle.tl_client.specs.declared.busy.Busy.TheVariants.{B1, B2, B3, B4, B5}
 use Rattle.tl_client.specs.declared.operation.Op.{Op}
 use Rattle.tl_client.specs.declared.operation.Op.TheVariants.{Load, Store, Acquire, AcquireWhole, Release, Access}
-use Rattle.tl_client.specs.Ask.{asked, asked_given, busy, breaks_b1, breaks_b2, breaks_b3, breaks_b4, breaks_b5, block_of, is_access_of, done, load, store, least_free, free_request, free_release, source_or_0, whole_grow}
+use Rattle.tl_client.specs.declared.reply.Reply.TheVariants as reply
+use Rattle.tl_client.specs.Ask.{asked, asked_given, busy, breaks_b1, breaks_b2, breaks_b3, breaks_b4, breaks_b5, block_of, is_access_of, done, load, store, free_request, free_release, source_or_0, whole_grow}
 use Rattle.tl_client.specs.End.{Terms, End, copy_at, held_at, kept_for, sending, set_at, with_copy, with_waiting, zeros}
 use Rattle.tl_client.specs.Kept.{IsKept, holds, is_acquire_perm}
 use Rattle.tl_client.specs.Send.{about, sourced, acquisition, release}
+use Rattle.tl_client.proofs.Free.{least_free-some}
 use Rattle.tl_client.proofs.HeldAfter.{same_block, held-release, kept_past}
 use Rattle.tl_client.proofs.Kept.{kept-a, kept-c}
 use Rattle.tl_client.proofs.Verdicts.{next_busy}
-
--- ---- sources
-
-found_free : (taken : ℕ → Bool) (s n : ℕ) → is_none (least_free taken s n) ≡ false → taken (source_or_0 (least_free taken s n)) ≡ false
-unfolding least_free
-found_free taken s zero e = absurd cc
-found_free taken s (suc n) e = go (taken s) refl (found_free taken (s + 1) n) e
-  where
-    go : (b : Bool) → taken s ≡ b → (is_none (least_free taken (s + 1) n) ≡ false → taken (source_or_0 (least_free taken (s + 1) n)) ≡ false) → is_none (cond b (least_free taken (s + 1) n) (Some s)) ≡ false → taken (source_or_0 (cond b (least_free taken (s + 1) n) (Some s))) ≡ false
-    go true is later some = later some
-    go false is later some = is
 
 -- ---- copies
 
@@ -150,20 +141,20 @@ kept_done {w} terms (Acquire block grow) e is kept four two three one =
     let idle = or_parts (pending (AcquireOf block) e.past) (pending (ReleaseOf block) e.past) two in
     let m : MessageA w = acquisition a.AcquireBlock grow (source_or_0 (free_request terms e.past)) block in
     kept-a e (sending (A m) e) m is kept
-    (record { free = found_free (λ s. pending (RequestSource s) e.past) 0 terms.sources one; alone = λ acquires. rw (same_block block) idle.0 })
+    (record { free = (least_free-some (λ s. pending (RequestSource s) e.past) 0 terms.sources one).0; alone = λ acquires. rw (same_block block) idle.0 })
     refl (λ k. refl) (λ k some. some) (λ whole. absurd (let no : false ≡ true = whole in cc))
 kept_done {w} terms (AcquireWhole block bytes) e is kept four two three one =
     let idle = or_parts (pending (AcquireOf block) e.past) (pending (ReleaseOf block) e.past) two in
     let m : MessageA w = acquisition a.AcquirePerm (whole_grow (held_at e block)) (source_or_0 (free_request terms e.past)) block in
     kept-a e (with_waiting block (Some bytes) (sending (A m) e)) m is kept
-    (record { free = found_free (λ s. pending (RequestSource s) e.past) 0 terms.sources one; alone = λ acquires. rw (same_block block) idle.0 })
+    (record { free = (least_free-some (λ s. pending (RequestSource s) e.past) 0 terms.sources one).0; alone = λ acquires. rw (same_block block) idle.0 })
     refl (λ k. refl) (λ k some. set_more block k bytes e.waiting some) (λ whole. set_here block (block_at (64 * block)) bytes e.waiting (same_block block))
 kept_done terms (Release block prune) e is kept four two three one = kept_release e prune (source_or_0 (free_release terms e.past)) block (copy_at e block) is kept (not-false (same_perm (prune_left prune) (held_at e block)) three)
 kept_done {w} terms (Access (A x)) e is kept four two three one =
     let plain = no_acquire terms.level x.opcode (not-false (is_access_of terms.level x.opcode) four) in
     let m : MessageA w = sourced (source_or_0 (free_request terms e.past)) x in
     kept-a e (sending (A m) e) m is kept
-    (record { free = found_free (λ s. pending (RequestSource s) e.past) 0 terms.sources one; alone = λ acquires. absurd (both_ways (is_acquire x.opcode) plain.0 acquires) })
+    (record { free = (least_free-some (λ s. pending (RequestSource s) e.past) 0 terms.sources one).0; alone = λ acquires. absurd (both_ways (is_acquire x.opcode) plain.0 acquires) })
     refl (λ k. refl) (λ k some. some) (λ whole. absurd (both_ways (is_acquire_perm x.opcode) plain.1 whole))
 kept_done terms (Access (B m)) e is kept four two three one = kept
 kept_done terms (Access (C m)) e is kept four two three one = kept
@@ -185,6 +176,50 @@ not_busy terms op e none =
     let three = next_busy (breaks_b3 op (held_at e (block_of op))) B3 _ two.1 in
     let one = next_busy (breaks_b1 terms op e.past) B1 None three.1 in
     record { b4 = four.0; b2 = two.0; b3 = three.0; b1 = one.0 }
+
+no_start : {w : ℕ} (address size : ℕ) (p : Perm) (e : End w) (s : ℕ) → (load address size p e).reply ≡ reply.Started s → ⊥
+no_start address size perm.None e s is = absurd cc
+no_start address size perm.Branch e s is = absurd cc
+no_start address size perm.Trunk e s is = absurd cc
+
+no_start_stored : {w : ℕ} (address size value : ℕ) (p : Perm) (e : End w) (s : ℕ) → (store address size value p e).reply ≡ reply.Started s → ⊥
+no_start_stored address size value perm.None e s is = absurd cc
+no_start_stored address size value perm.Branch e s is = absurd cc
+no_start_stored address size value perm.Trunk e s is = absurd cc
+
+request_below : {w : ℕ} (terms : Terms) (e : End w) (s : ℕ) → is_none (free_request terms e.past) ≡ false → reply.Started (source_or_0 (free_request terms e.past)) ≡ reply.Started s → s < terms.sources
+request_below terms e s one is =
+    let same : source_or_0 (free_request terms e.past) ≡ s = cc in
+    let below = (least_free-some (λ k. pending (RequestSource k) e.past) 0 terms.sources one).1 in
+    omega (arith, below, same)
+
+release_below : {w : ℕ} (terms : Terms) (e : End w) (s : ℕ) → is_none (free_release terms e.past) ≡ false → reply.Started (source_or_0 (free_release terms e.past)) ≡ reply.Started s → s < terms.sources
+release_below terms e s one is =
+    let same : source_or_0 (free_release terms e.past) ≡ s = cc in
+    let below = (least_free-some (λ k. pending (ReleaseSource k) e.past) 0 terms.sources one).1 in
+    omega (arith, below, same)
+
+-- the source of what starts
+below_done : {w : ℕ} (terms : Terms) (op : Op w) (e : End w) (s : ℕ) → breaks_b1 terms op e.past ≡ false → (done terms op e).reply ≡ reply.Started s → s < terms.sources
+below_done terms (Load address size) e s one is = absurd (no_start address size (held_at e (block_at address)) e s is)
+below_done terms (Store address size value) e s one is = absurd (no_start_stored address size value (held_at e (block_at address)) e s is)
+below_done terms (Acquire block grow) e s one is = request_below terms e s one is
+below_done terms (AcquireWhole block bytes) e s one is = request_below terms e s one is
+below_done terms (Release block prune) e s one is = release_below terms e s one is
+below_done terms (Access (A m)) e s one is = request_below terms e s one is
+below_done terms (Access (B m)) e s one is = absurd cc
+below_done terms (Access (C m)) e s one is = absurd cc
+below_done terms (Access (D m)) e s one is = absurd cc
+below_done terms (Access (E m)) e s one is = absurd cc
+
+below_given : {w : ℕ} (o : Option Busy) (terms : Terms) (op : Op w) (e : End w) (s : ℕ) → (o ≡ None → NotBusy terms op e) → (asked_given o terms op e).reply ≡ reply.Started s → s < terms.sources
+below_given (Some b) terms op e s free is = absurd cc
+below_given None terms op e s free is = below_done terms op e s (free refl).b1 is
+
+-- the source of what starts is one of the client's
+pub started-below : {w : ℕ} (terms : Terms) (op : Op w) (e : End w) (s : ℕ) → (asked terms op e).reply ≡ reply.Started s → s < terms.sources
+unfolding asked
+started-below terms op e s is = below_given (busy terms op e) terms op e s (not_busy terms op e) is
 
 kept_given : {w : ℕ} (o : Option Busy) (terms : Terms) (op : Op w) (e : End w) → IsWidth w → IsKept e → (o ≡ None → NotBusy terms op e) → IsKept (asked_given o terms op e).after
 kept_given (Some b) terms op e is kept free = kept

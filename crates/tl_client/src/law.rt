@@ -1,6 +1,6 @@
 //! What a client may do, as laws.
 
-ghost use Rattle.std.specs.Prelude.{ℕ, ◌≡◌, []};
+ghost use Rattle.std.specs.Prelude.{ℕ, ◌≡◌, ◌<◌, []};
 ghost use Rattle.tl_beat.specs.declared.beat.Beat.{Beat};
 ghost use Rattle.tl_beat.specs.declared.opcode.Channel.{Channel};
 ghost use Rattle.tl_beat.specs.declared.opcode.Channel.TheVariants as channel;
@@ -8,6 +8,7 @@ ghost use Rattle.tl_beat.specs.Width.{IsWidth};
 ghost use Rattle.tl_burst.specs.Messages.{unfinished};
 ghost use Rattle.tl_rules.specs.History.{held};
 ghost use Rattle.tl_client.specs.declared.operation.Op.{Op};
+ghost use Rattle.tl_client.specs.declared.reply.Reply.TheVariants as reply;
 ghost use Rattle.tl_client.specs.Ask.{asked, busy};
 ghost use Rattle.tl_client.specs.End.{Terms, End, fresh};
 ghost use Rattle.tl_client.specs.Kept.{IsKept};
@@ -52,4 +53,9 @@ pub fn keeps<const W: usize>()
     ensures fresh { IsKept (fresh {w = W}) }
     ensures asked { (terms : Terms) (op : Op W) (e : End W) → IsKept e → IsKept (asked terms op e).after }
     ensures offered { (terms : Terms) (ch : Channel) (x : Beat W) (e : End W) → IsKept e → IsKept (offered terms ch x e).after }
+{}
+
+/// The source that an operation starts with is one of the client's.
+pub fn starts_with_own_sources<const W: usize>()
+    ensures { (terms : Terms) (op : Op W) (e : End W) (s : ℕ) → (asked terms op e).reply ≡ reply.Started s → s < terms.sources }
 {}

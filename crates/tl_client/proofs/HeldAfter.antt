@@ -1,5 +1,5 @@
 -- What is held after the calls of a client.
-use Rattle.std.proofs.Common.{◌≡◌, ℕ, zero, suc, ◌*◌, ◌/◌, ◌<◌, Bool, true, false, cond, ◌&&◌, ◌||◌, List, [], ◌∷◌, Option, Some, None, Ok, Err, refl, sym, ◌∙◌, ap, arith}
+use Rattle.std.proofs.Common.{◌≡◌, ℕ, ◌*◌, Bool, true, false, cond, ◌&&◌, ◌||◌, List, [], ◌∷◌, Option, Some, None, refl, sym, ◌∙◌, ap, arith}
 use Rattle.std.specs.Prelude.{◌==◌}
 use Rattle.std.proofs.lemmas.Bool.Decides.{nat_tests}
 use Rattle.tl_beat.specs.Width.{IsWidth}
@@ -31,7 +31,7 @@ use Rattle.tl_params.specs.declared.rule.Rule.{Rule}
 use Rattle.tl_params.specs.declared.rule.Rule.TheVariants.{L1, A3}
 use Rattle.tl_rules.specs.Agent.{sent, payload_of}
 use Rattle.tl_rules.specs.History.{block_at, is_probe_ack, is_release, ends, grants, capped, reported, request_of, or_perm, held}
-use Rattle.tl_params.specs.Param.{prune_code, prune_right, report_code, report_right}
+use Rattle.tl_rules.specs.Param.{prune_right, report_code, report_right}
 use Rattle.tl_rules.specs.Legality.{illegal, breaks_l1}
 use Rattle.tl_rules.proofs.Bursts.{has_beats, next_rule}
 use Rattle.tl_client.specs.declared.busy.Busy.{Busy}
@@ -46,14 +46,14 @@ use Rattle.tl_client.specs.Send.{about, access, acquire, on_c, release, probe_ac
 use Rattle.tl_client.specs.Offer.{Offered, offered, taken, ended, granted, granted_perm, responded, silent, is_sent_on, waits, broken_before, broken_later, judged, judged_later, report_for}
 use Rattle.tl_rules.proofs.Sent.{held-sent_c, held-sent_unsaid, held_unsaid}
 
-same_block : (block : ℕ) → block_at (64 * block) ≡ block
+pub same_block : (block : ℕ) → block_at (64 * block) ≡ block
 same_block block = omega arith
 
 said : (b d : Bool) (p q : Perm) → b ≡ d → or_perm (cond b (Some p) None) q ≡ cond d p q
 said true d p q e = rw (← e) refl
 said false d p q e = rw (← e) refl
 
-swapped : (a b : ℕ) → (a == b) ≡ (b == a)
+pub swapped : (a b : ℕ) → (a == b) ≡ (b == a)
 swapped a b = grind (arith, nat_tests)
 
 -- a message of a block on channel C
@@ -65,11 +65,6 @@ held-on_c k opcode param source block payload t is none tells =
 
 -- ---- operations
 
-prune_told : (p : Prune) → reported (prune_code p) ≡ prune_right p
-prune_told prune.TtoB = refl
-prune_told prune.TtoN = refl
-prune_told prune.BtoN = refl
-
 report_told : (r : Report) → reported (report_code r) ≡ report_right r
 report_told report.TtoB = refl
 report_told report.TtoN = refl
@@ -78,12 +73,12 @@ report_told report.TtoT = refl
 report_told report.BtoB = refl
 report_told report.NtoN = refl
 
-held-release : {w : ℕ} (k : ℕ) (p : Prune) (source block : ℕ) (copy : List ℕ) (t : History w) → IsWidth w → unfinished channel.C t ≡ [] → held k (sent (release p source block copy) t) ≡ cond (k == block) (prune_right p) (held k t)
+pub held-release : {w : ℕ} (k : ℕ) (p : Prune) (source block : ℕ) (copy : List ℕ) (t : History w) → IsWidth w → unfinished channel.C t ≡ [] → held k (sent (release p source block copy) t) ≡ cond (k == block) (prune_right p) (held k t)
 held-release k prune.TtoB source block copy t is none = held-on_c k c.ReleaseData 0 source block copy t is none refl
 held-release k prune.TtoN source block copy t is none = held-on_c k c.ReleaseData 1 source block copy t is none refl
 held-release k prune.BtoN source block copy t is none = held-on_c k c.Release 2 source block zeros t is none refl
 
-held-probe_ack : {w : ℕ} (k : ℕ) (opcode : OpB) (p : Perm) (r : Report) (block : ℕ) (copy : List ℕ) (t : History w) → IsWidth w → unfinished channel.C t ≡ [] → held k (sent (probe_ack opcode p r block copy) t) ≡ cond (k == block) (report_right r) (held k t)
+pub held-probe_ack : {w : ℕ} (k : ℕ) (opcode : OpB) (p : Perm) (r : Report) (block : ℕ) (copy : List ℕ) (t : History w) → IsWidth w → unfinished channel.C t ≡ [] → held k (sent (probe_ack opcode p r block copy) t) ≡ cond (k == block) (report_right r) (held k t)
 held-probe_ack k opcode p r block copy t is none = go opcode p
   where
     with_data : held k (sent (on_c c.ProbeAckData (report_code r) 0 block copy) t) ≡ cond (k == block) (report_right r) (held k t)
@@ -104,7 +99,7 @@ held-probe_ack k opcode p r block copy t is none = go opcode p
     go b.Get q = without_data
     go b.Intent q = without_data
 
-kept_past : {w : ℕ} (block : ℕ) (p : Perm) (e : End w) → (kept_for block p e).past ≡ e.past
+pub kept_past : {w : ℕ} (block : ℕ) (p : Perm) (e : End w) → (kept_for block p e).past ≡ e.past
 kept_past block perm.None e = refl
 kept_past block perm.Branch e = refl
 kept_past block perm.Trunk e = refl
@@ -158,7 +153,7 @@ held-probed x e k is none =
     ∙ held-probe_ack k x.opcode p (report_for x p) (block_at x.address) (copy_at e (block_at x.address)) (beat.B x ∷ e.past) is (still_whole x e.past ∙ none)
     ∙ ap (λ q. cond (k == block_at x.address) (report_right (report_for x p)) q) (held-beat_b k x e.past)
 
-held-beat_d : {w : ℕ} (k : ℕ) (x : BeatD w) (t : History w) → held k (beat.D x ∷ t) ≡ held_with (beat.D x) t k
+pub held-beat_d : {w : ℕ} (k : ℕ) (x : BeatD w) (t : History w) → held k (beat.D x ∷ t) ≡ held_with (beat.D x) t k
 unfolding held
 held-beat_d k x t = go (ends (beat.D x) t) (grants k x t)
   where
@@ -226,12 +221,12 @@ held-taken_d {w} x e k = go (ends (beat.D x) e.past)
     go false = held-beat_d k x e.past
 
 -- the beat comes to a client
-abbrev IsIncoming : {w : ℕ} → Beat w → Type 0
+abbrev pub IsIncoming : {w : ℕ} → Beat w → Type 0
 IsIncoming (beat.B x) = Unit {0}
 IsIncoming (beat.D x) = Unit {0}
 IsIncoming _ = ⊥
 
-comes : {w : ℕ} (l : Level) (ch : Channel) (x : Beat w) → is_sent_on ch ≡ false → breaks_l1 l ch x ≡ false → IsIncoming x
+pub comes : {w : ℕ} (l : Level) (ch : Channel) (x : Beat w) → is_sent_on ch ≡ false → breaks_l1 l ch x ≡ false → IsIncoming x
 comes l channel.A x e f = absurd cc
 comes l channel.C x e f = absurd cc
 comes l channel.E x e f = absurd cc

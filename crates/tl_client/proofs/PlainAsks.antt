@@ -26,8 +26,9 @@ use Rattle.tl_client.specs.Ask.{Asked, asked, breaks_b4, busy, only, started, fr
 use Rattle.tl_client.specs.End.{Terms, End, fresh, sending}
 use Rattle.tl_client.specs.KnowsPlain.{KnowsPlain, terms_of, answers_pending}
 use Rattle.tl_client.specs.Plain.{started_by}
-use Rattle.tl_client.specs.Requests.{request_at, fields_in, fields_of, open_request}
-use Rattle.tl_rules.proofs.Sent.{unfinished-sent, unfinished-sent_other, pending-sent, request_of-sent, request_closes_nothing, held-sent_unsaid}
+use Rattle.tl_client.specs.Requests.{request_at, fields_in, fields_of, open_beat, open_request}
+use Rattle.tl_client.proofs.Opens.{open_beat-a}
+use Rattle.tl_client.proofs.Sent.{unfinished-sent, unfinished-sent_other, pending-sent, request_closes_nothing, held-sent_unsaid}
 
 -- ---- the answer
 
@@ -64,13 +65,11 @@ asked-plain terms (Access (message.E m)) e low = not_of_level terms (Access (mes
 -- ---- what is known afterwards
 
 open-sent : {w : ℕ} (s : ℕ) (m : MessageA w) (t : History w) → IsWidth w → unfinished channel.A t ≡ [] → open_request s (sent (message.A m) t) ≡ cond (m.source == s) (Some (fields_in m)) (open_request s t)
-open-sent {w} s m t is none =
-    rw (pending-sent (RequestSource s) (message.A m) t none (request_closes_nothing (RequestSource s) m) (has_beats (message.A m) is), request_of-sent s m t none (has_beats (message.A m) is))
-    (go (m.source == s) (pending (RequestSource s) t) (request_of s t))
+open-sent {w} s m t is none = rw (open_beat-a s m t is none) (go (m.source == s) (open_beat s t))
   where
-    go : (b p : Bool) (o : Option (BeatA w)) → cond (cond b true p) (fields_of (cond b (Some (a_beat_of m 0)) o)) None ≡ cond b (Some (fields_in m)) (cond p (fields_of o) None)
-    go true p o = refl
-    go false p o = refl
+    go : (b : Bool) (o : Option (BeatA w)) → fields_of (cond b (Some (a_beat_of m 0)) o) ≡ cond b (Some (fields_in m)) (fields_of o)
+    go true o = refl
+    go false o = refl
 
 still_pending : {w : ℕ} (burst : List (Beat w)) (m : MessageA w) (t : History w) → IsWidth w → unfinished channel.A t ≡ [] → answers_pending burst t ≡ true → answers_pending burst (sent (message.A m) t) ≡ true
 still_pending [] m t is none e = refl
@@ -144,7 +143,7 @@ requested s (beat.E x ∷ t) e = before_other (begins (beat.E x) t) (ends (beat.
 is_some-open : {w : ℕ} (s : ℕ) (t : History w) → is_some (open_request s t) ≡ pending (RequestSource s) t
 is_some-open {w} s t = go (pending (RequestSource s) t) (request_of s t) (requested s t)
   where
-    go : (b : Bool) (o : Option (BeatA w)) → (b ≡ true → is_some o ≡ true) → is_some (cond b (fields_of o) None) ≡ b
+    go : (b : Bool) (o : Option (BeatA w)) → (b ≡ true → is_some o ≡ true) → is_some (fields_of (cond b o None)) ≡ b
     go false o some = refl
     go true None some = some refl
     go true (Some x) some = refl

@@ -32,11 +32,13 @@ use Rattle.tl_rules.proofs.Checks.{beats_room}
 use Rattle.tl_client.specs.declared.operation.Op.{Op}
 use Rattle.tl_client.specs.declared.operation.Op.TheVariants.{Access}
 use Rattle.tl_client.specs.declared.requests.Request.{Request}
-use Rattle.tl_client.specs.declared.verdict.Verdict.TheVariants.{Done, Taken}
+use Rattle.tl_client.specs.declared.verdict.Verdict.TheVariants.{Done}
 use Rattle.tl_client.specs.Offer.{finish_of}
 use Rattle.tl_client.specs.Plain.{access_in, started_by, is_first, response_rule, order_rule, plain_verdict, ends_request, message_verdict, closes_request, IsWhole, address_in}
-use Rattle.tl_rules.proofs.Sent.{is_last}
-use Rattle.tl_rules.proofs.Payload.{payload-d}
+use Rattle.tl_client.proofs.Sent.{is_last}
+use Rattle.tl_client.proofs.Payload.{payload_of-burst}
+use Rattle.tl_client.proofs.PlainRules.{legal_size}
+use Rattle.tl_client.proofs.Verdicts.{no_rule}
 
 -- ---- what starts
 

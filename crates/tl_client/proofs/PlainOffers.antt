@@ -19,8 +19,8 @@ use Rattle.tl_params.specs.declared.key.Key.TheVariants.{RequestSource}
 use Rattle.tl_params.specs.declared.rule.Rule.{Rule}
 use Rattle.tl_params.specs.declared.rule.Rule.TheVariants.{L1, S1, A3}
 use Rattle.tl_rules.specs.Agent.{payload_of}
-use Rattle.tl_rules.specs.History.{begins, ends, says_held, pending, request_of}
-use Rattle.tl_rules.specs.Legality.{illegal, or_else, rule_if, has_transfers, verdict}
+use Rattle.tl_rules.specs.History.{ends, says_held, pending, request_of}
+use Rattle.tl_rules.specs.Legality.{illegal, rule_if, has_transfers, verdict}
 use Rattle.tl_rules.proofs.Bursts.{next_rule}
 use Rattle.tl_client.specs.declared.plain.Plain.{Plain}
 use Rattle.tl_client.specs.declared.requests.Request.{Request}
@@ -30,19 +30,17 @@ use Rattle.tl_client.specs.End.{Terms, End, with_past}
 use Rattle.tl_client.specs.KnowsPlain.{KnowsPlain, terms_of, answers_pending}
 use Rattle.tl_client.specs.Offer.{offered, judged_later, refused, silent, taken, ended, granted, responded, finish_of, address_asked, stalls, is_sent_on}
 use Rattle.tl_client.specs.Plain.{response_rule, order_rule, plain_rule, address_in, plain_verdict, ends_request}
-use Rattle.tl_client.specs.Requests.{request_at, fields_of, open_request}
-use Rattle.tl_client.proofs.PlainRules.{IsAccessAnswer, legal_answer, judged, some_rule, no_rule}
-use Rattle.tl_rules.proofs.Sent.{held_unsaid}
+use Rattle.tl_client.specs.Requests.{request_at, fields_of, open_beat, open_request}
+use Rattle.tl_client.proofs.PlainRules.{IsAccessAnswer, legal_answer, judged}
+use Rattle.tl_client.proofs.Verdicts.{both_none, some_rule, no_rule}
+use Rattle.tl_client.proofs.Opens.{open_beat-d, pending-closed, unfinished-d}
+use Rattle.tl_client.proofs.Sent.{held_unsaid}
 
 -- ---- what is taken is a response
 
 pub record IsGoodResponse {w : ℕ} (l : Level) (x : BeatD w) (request : Option Request) (burst : List (Beat w)) : Type 0 where
   pub is_legal : illegal l channel.D (D x) ≡ None
   pub in_order : order_rule x request burst ≡ None
-
-both_none : (o rest : Option Rule) → or_else o rest ≡ None → (o ≡ None) × (rest ≡ None)
-both_none None rest e = (refl, e)
-both_none (Some r) rest e = absurd cc
 
 good_response : {w : ℕ} (l : Level) (asked : ℕ → Option Request) (burst : List (Beat w)) (closed : Bool) (ch : Channel) (x : Beat w) → plain_rule l asked burst closed ch x ≡ None → (y : BeatD w) × (x ≡ D y) × IsGoodResponse l y (asked y.source) burst
 good_response l asked burst true ch x e = absurd cc
@@ -60,7 +58,7 @@ good_response l asked burst false channel.D (D x) e =
 
 -- ---- its request is pending
 
-has_some : {w : ℕ} (x : BeatD w) (b : Bool) (o : Option Request) → response_rule x (cond b o None) ≡ None → b ≡ true
+has_some : {w : ℕ} (x : BeatD w) (b : Bool) (o : Option (BeatA w)) → response_rule x (fields_of (cond b o None)) ≡ None → b ≡ true
 has_some x true o e = refl
 has_some x false o e = absurd cc
 
@@ -75,7 +73,7 @@ same_source x z e =
 pending_here : {w : ℕ} (x : BeatD w) (burst : List (Beat w)) (t : History w) → answers_pending burst t ≡ true → order_rule x (open_request x.source t) burst ≡ None → pending (RequestSource x.source) t ≡ true
 pending_here x [] t answer e =
     let first = both_none (response_rule x (open_request x.source t)) _ e in
-    has_some x (pending (RequestSource x.source) t) (fields_of (request_of x.source t)) first.0
+    has_some x (pending (RequestSource x.source) t) (request_of x.source t) first.0
 pending_here x (A z ∷ burst) t answer e = absurd cc
 pending_here x (B z ∷ burst) t answer e = absurd cc
 pending_here x (C z ∷ burst) t answer e = absurd cc
@@ -118,31 +116,14 @@ response_taken {w} x e asked burst answer live asked_is burst_is = rw (asked_is,
 -- ---- what is known afterwards
 
 pending-response : {w : ℕ} (s : ℕ) (x : BeatD w) (t : History w) → IsAccessAnswer x.opcode → pending (RequestSource s) (D x ∷ t) ≡ cond (ends (D x) t && (x.source == s)) false (pending (RequestSource s) t)
-unfolding pending
-pending-response s x t answer = rw answer.1 (go (begins (D x) t))
-  where
-    go : (b : Bool) → cond (b && false) true (cond (ends (D x) t && (true && (x.source == s))) false (pending (RequestSource s) t)) ≡ cond (ends (D x) t && (x.source == s)) false (pending (RequestSource s) t)
-    go true = refl
-    go false = refl
-
-request_of-response : {w : ℕ} (s : ℕ) (x : BeatD w) (t : History w) → request_of s (D x ∷ t) ≡ request_of s t
-unfolding request_of
-request_of-response s x t = refl
+pending-response s x t answer = pending-closed (RequestSource s) (D x) t refl ∙ rw answer.1 refl
 
 open-response : {w : ℕ} (s : ℕ) (x : BeatD w) (t : History w) → IsAccessAnswer x.opcode → open_request s (D x ∷ t) ≡ cond (ends_request (unfinished channel.D t) (D x) s) None (open_request s t)
-open-response {w} s x t answer = rw (pending-response s x t answer, request_of-response s x t) (go (ends_request (unfinished channel.D t) (D x) s))
+open-response {w} s x t answer = rw (open_beat-d s x t, answer.1) (go (ends_request (unfinished channel.D t) (D x) s) (open_beat s t))
   where
-    go : (b : Bool) → cond (cond b false (pending (RequestSource s) t)) (fields_of (request_of s t)) None ≡ cond b None (cond (pending (RequestSource s) t) (fields_of (request_of s t)) None)
-    go true = refl
-    go false = refl
-
-unfinished-response : {w : ℕ} (x : BeatD w) (t : History w) → unfinished channel.D (D x ∷ t) ≡ grown (D x) (unfinished channel.D t)
-unfolding unfinished
-unfinished-response x t = refl
-
-unfinished_a-response : {w : ℕ} (x : BeatD w) (t : History w) → unfinished channel.A (D x ∷ t) ≡ unfinished channel.A t
-unfolding unfinished
-unfinished_a-response x t = refl
+    go : (b : Bool) (o : Option (BeatA w)) → fields_of (cond b None o) ≡ cond b None (fields_of o)
+    go true o = refl
+    go false o = refl
 
 answers-response : {w : ℕ} (x : BeatD w) (t : History w) → IsAccessAnswer x.opcode → pending (RequestSource x.source) t ≡ true → answers_pending (grown (D x) (unfinished channel.D t)) (D x ∷ t) ≡ true
 answers-response {w} x t answer live = go (completes (D x) (unfinished channel.D t)) refl
@@ -159,9 +140,9 @@ response_known : {w : ℕ} (p q : Plain w) (e : End w) (x : BeatD w) → KnowsPl
 response_known p q e x k answer live closed responses requests = record {
   closed_is = closed ∙ k.closed_is;
   requests_are = λ s. requests s ∙ rw (k.requests_are s, k.response_is) (sym (open-response s x e.past answer));
-  response_is = responses ∙ rw k.response_is (sym (unfinished-response x e.past));
-  sent_whole = unfinished_a-response x e.past ∙ k.sent_whole;
-  answers_open = rw (unfinished-response x e.past) (answers-response x e.past answer live);
+  response_is = responses ∙ rw k.response_is (sym (unfinished-d x e.past).4);
+  sent_whole = (unfinished-d x e.past).0 ∙ k.sent_whole;
+  answers_open = rw (unfinished-d x e.past).4 (answers-response x e.past answer live);
   holds_nothing = λ b. held_unsaid b (D x) e.past (grants_nothing b x e.past answer) ∙ k.holds_nothing b;
   has_no_copy = k.has_no_copy;
 }

@@ -1,5 +1,5 @@
 -- A plain client judges by what it keeps as its end of the link is judged.
-use Rattle.std.proofs.Common.{◌≡◌, ℕ, ◌≤◌, ◌^◌, Bool, true, false, not, cond, leb, ◌&&◌, List, [], Option, Some, None, Ok, Err, refl, arith, inl, inr}
+use Rattle.std.proofs.Common.{◌≡◌, ℕ, ◌≤◌, ◌^◌, Bool, true, false, not, cond, leb, ◌&&◌, List, [], Option, Some, None, refl, arith, inl, inr}
 use Rattle.std.specs.Prelude.{◌==◌}
 use Rattle.std.proofs.lemmas.Bool.{not-false, leb-true, eqb-true, cases_lt, cases_Bool, both_ways, not_from_false}
 use Rattle.tl_beat.specs.Width.{IsWidth}
@@ -21,7 +21,7 @@ use Rattle.tl_params.specs.declared.rule.Rule.{Rule}
 use Rattle.tl_params.specs.declared.rule.Rule.TheVariants.{L1, L2, L3, L7, S1, H2, H3}
 use Rattle.tl_rules.specs.Conformance.{broken_order, broken_in_order, broken_d, admits, size_of_request}
 use Rattle.tl_rules.specs.History.{is_grant, is_release_ack, pending, request_of}
-use Rattle.tl_rules.specs.Legality.{illegal, rule_if, has_transfers, d_of_level, d_has_size, access_has_size, breaks_l1, breaks_l2, breaks_l3, breaks_l7, verdict}
+use Rattle.tl_rules.specs.Legality.{illegal, rule_if, has_transfers, d_of_level, d_has_size, access_has_size, breaks_l1, breaks_l2, breaks_l3, breaks_l7}
 use Rattle.tl_rules.proofs.Bursts.{next_rule}
 use Rattle.tl_rules.proofs.Widths.{size_above_width}
 use Rattle.tl_client.specs.declared.requests.Request.{Request}
@@ -29,16 +29,6 @@ use Rattle.tl_client.specs.Requests.{fields_of, open_request}
 use Rattle.tl_client.specs.Plain.{response_rule, plain_rule}
 use Rattle.tl_client.specs.End.{Terms, End}
 use Rattle.tl_client.specs.Offer.{offered, judged_later, is_sent_on}
-
--- ---- verdicts
-
-pub some_rule : (o : Option Rule) (r : Rule) → Err r ≡ verdict o → o ≡ Some r
-some_rule None r e = absurd cc
-some_rule (Some s) r e = cc
-
-pub no_rule : (o : Option Rule) → Ok tt ≡ verdict o → o ≡ None
-no_rule None e = refl
-no_rule (Some s) e = absurd cc
 
 -- ---- what a legal response is
 
@@ -70,7 +60,7 @@ response_agrees : {w : ℕ} (p : Profile) (x : BeatD w) (t : History w) → IsAc
 response_agrees {w} p x t answer sent =
     rw (answer.0, answer.1, sent) (go (pending (RequestSource x.source) t) (request_of x.source t))
   where
-    go : (b : Bool) (o : Option (BeatA w)) → rule_if (not (b && (true && admits x.opcode o))) H2 (rule_if (not (x.size == size_of_request o)) H3 None) ≡ response_rule x (cond b (fields_of o) None)
+    go : (b : Bool) (o : Option (BeatA w)) → rule_if (not (b && (true && admits x.opcode o))) H2 (rule_if (not (x.size == size_of_request o)) H3 None) ≡ response_rule x (fields_of (cond b o None))
     go false o = refl
     go true None = refl
     go true (Some r) = refl

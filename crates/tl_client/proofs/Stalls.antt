@@ -1,9 +1,8 @@
 -- A beat is stalled exactly where it is answered so.
-use Rattle.std.proofs.Common.{◌≡◌, Bool, true, false, cond, ◌&&◌, ◌∷◌, Option, Some, None, Ok, Err, refl, sym, ◌∙◌}
-use Rattle.std.specs.Prelude.{List, ℕ, is_none}
+use Rattle.std.proofs.Common.{◌≡◌, Bool, true, false, cond, ◌&&◌, ◌∷◌, Option, Some, None, refl, sym}
+use Rattle.std.specs.Prelude.{ℕ, is_none}
 use Rattle.tl_beat.specs.declared.beat.Beat.{Beat}
 use Rattle.tl_beat.specs.declared.beat.Beat.TheVariants.{A, B, C, D, E}
-use Rattle.tl_beat.specs.declared.beat.BeatA.{BeatA}
 use Rattle.tl_beat.specs.declared.beat.BeatD.{BeatD}
 use Rattle.tl_beat.specs.declared.opcode.Channel.{Channel}
 use Rattle.tl_beat.specs.declared.opcode.OpD.{OpD}
@@ -13,7 +12,7 @@ use Rattle.tl_rules.specs.History.{ends}
 use Rattle.tl_client.specs.declared.verdict.Finish.{Finish}
 use Rattle.tl_client.specs.declared.verdict.Verdict.TheVariants.{Stalled, Taken}
 use Rattle.tl_client.specs.End.{Terms, End, with_past}
-use Rattle.tl_client.specs.Offer.{Offered, offered, stalls, is_stalled, broken_before, broken_later, waits, taken, ended, responded, silent, judged, judged_later}
+use Rattle.tl_client.specs.Offer.{Offered, offered, stalls, is_stalled, broken_before, broken_later, waits, taken, ended, silent, judged, judged_later}
 
 ended_now : {w : ℕ} (opcode : OpD) (x : BeatD w) (f : Finish) (e : End w) → is_stalled (ended opcode x f e).answer ≡ false
 ended_now d.AccessAck x f e = refl

@@ -1,9 +1,11 @@
 pub mod Ask
 pub mod End
 pub mod Held
+pub mod Kept
 pub mod KnowsPlain
 pub mod Offer
 pub mod Plain
 pub mod Requests
 pub mod Send
+pub mod Sound
 pub mod Width

@@ -23,6 +23,9 @@ abbrev pub fields_of : {w : ℕ} → Option (BeatA w) → Option Request
 fields_of None = None
 fields_of (Some x) = Some (record { opcode = x.opcode; size = x.size; address = x.address })
 
--- the request that is open after a history
+-- the request with this source that is pending after a history
+abbrev pub open_beat : {w : ℕ} → ℕ → History w → Option (BeatA w)
+open_beat s t = if pending (RequestSource s) t then request_of s t else None
+
 abbrev pub open_request : {w : ℕ} → ℕ → History w → Option Request
-open_request s t = if pending (RequestSource s) t then fields_of (request_of s t) else None
+open_request s t = fields_of (open_beat s t)

@@ -20,12 +20,15 @@ use Rattle.tl_params.specs.Param.{grow_code, prune_code, report_code}
 use Rattle.tl_client.specs.End.{zeros}
 
 -- an access with the source that the client chose
+abbrev pub sourced : {w : ℕ} → ℕ → MessageA w → MessageA w
+sourced source m = record m { source = source }
+
 abbrev pub access : {w : ℕ} → ℕ → MessageA w → Message w
-access source m = message.A (record m { source = source })
+access source m = message.A (sourced source m)
 
 -- an Acquire of a block
-abbrev pub acquire : {w : ℕ} → OpA → Grow → ℕ → ℕ → Message w
-acquire {w} opcode grow source block = message.A (record {
+abbrev pub acquisition : {w : ℕ} → OpA → Grow → ℕ → ℕ → MessageA w
+acquisition {w} opcode grow source block = record {
   opcode = opcode;
   param = grow_code grow;
   size = 6;
@@ -35,7 +38,10 @@ acquire {w} opcode grow source block = message.A (record {
   mask = 2 ^ w - 1;
   corrupt = 0;
   small = lit≤ tt;
-})
+}
+
+abbrev pub acquire : {w : ℕ} → OpA → Grow → ℕ → ℕ → Message w
+acquire opcode grow source block = message.A (acquisition opcode grow source block)
 
 -- a message of channel C about a block, with these bytes as its payload
 abbrev pub about : {w : ℕ} → OpC → ℕ → ℕ → ℕ → List ℕ → MessageC w

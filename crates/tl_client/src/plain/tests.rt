@@ -292,7 +292,9 @@ fn limits_of_a_client(rt: HostRuntime) {
 }
 
 /// Any client reads, and is answered.
-fn reads<const W: usize, A: Agent<W>>(rt: &impl Abort, agent: &mut A, mask: u64) {
+fn reads<const W: usize, A: Agent<W>>(rt: &impl Abort, agent: &mut A, mask: u64)
+    requires { IsWidth W }
+{
     let access = get(0, 2, mask);
     assert_eq!(rt; agent.ask(ask(access)), started(access));
     let beat = Beat::D(response(OpD::AccessAckData, 2, 0, Some([9; W])));

@@ -14,12 +14,12 @@ use Rattle.tl_beat.specs.declared.opcode.OpD.TheVariants as d
 use Rattle.tl_beat.specs.Opcode.{d_code, d_carries_data}
 use Rattle.tl_burst.specs.Messages.{History, unfinished, same_control, breaks_burst}
 use Rattle.tl_burst.specs.Part.{completes}
-use Rattle.tl_rules.specs.declared.key.Key.TheVariants.{RequestSource}
-use Rattle.tl_rules.specs.declared.perm.Perm.{Perm}
-use Rattle.tl_rules.specs.declared.perm.Perm.TheVariants as perm
-use Rattle.tl_rules.specs.declared.profile.Profile.{Profile}
-use Rattle.tl_rules.specs.declared.profile.Profile.TheVariants as profile
-use Rattle.tl_rules.specs.declared.rule.Rule.TheVariants.{S1, H2, H3, H6}
+use Rattle.tl_params.specs.declared.key.Key.TheVariants.{RequestSource}
+use Rattle.tl_params.specs.declared.perm.Perm.{Perm}
+use Rattle.tl_params.specs.declared.perm.Perm.TheVariants as perm
+use Rattle.tl_params.specs.declared.profile.Profile.{Profile}
+use Rattle.tl_params.specs.declared.profile.Profile.TheVariants as profile
+use Rattle.tl_params.specs.declared.rule.Rule.TheVariants.{S1, H2, H3, H6}
 use Rattle.tl_rules.specs.Conformance.{answers, admits, fits_grow, has_request, misgrants, same_perm, is_acquire_block, is_grant_without_data, size_asked, broken_order, broken_in_order}
 use Rattle.tl_rules.specs.History.{block_at, is_acquire, is_grant, is_release_ack, capped, pending, request_of, held}
 use Rattle.tl_rules.proofs.Bursts.{next_rule}

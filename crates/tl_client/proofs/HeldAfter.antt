@@ -31,7 +31,7 @@ use Rattle.tl_params.specs.declared.rule.Rule.{Rule}
 use Rattle.tl_params.specs.declared.rule.Rule.TheVariants.{L1, A3}
 use Rattle.tl_rules.specs.Agent.{sent, payload_of}
 use Rattle.tl_rules.specs.History.{block_at, is_probe_ack, is_release, ends, grants, capped, reported, request_of, or_perm, held}
-use Rattle.tl_rules.specs.Param.{prune_right, report_code, report_right}
+use Rattle.tl_params.specs.Param.{prune_right, report_code, report_right}
 use Rattle.tl_rules.specs.Legality.{illegal, breaks_l1}
 use Rattle.tl_rules.proofs.Bursts.{has_beats, next_rule}
 use Rattle.tl_client.specs.declared.busy.Busy.{Busy}

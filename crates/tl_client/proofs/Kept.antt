@@ -12,7 +12,7 @@ use Rattle.tl_burst.specs.declared.message.MessageC.{MessageC}
 use Rattle.tl_burst.specs.declared.message.MessageE.{MessageE}
 use Rattle.tl_burst.specs.Burst.{a_beat_of}
 use Rattle.tl_burst.specs.Messages.{History, unfinished}
-use Rattle.tl_rules.specs.declared.key.Key.TheVariants.{RequestSource, AcquireOf}
+use Rattle.tl_params.specs.declared.key.Key.TheVariants.{RequestSource, AcquireOf}
 use Rattle.tl_rules.specs.Agent.{sent}
 use Rattle.tl_rules.specs.History.{block_at, is_acquire, pending, held}
 use Rattle.tl_rules.proofs.Bursts.{has_beats}
@@ -20,7 +20,7 @@ use Rattle.tl_client.specs.End.{End}
 use Rattle.tl_client.specs.Kept.{IsKept, IsGranting, holds, acquires, stores_whole, is_acquire_perm, is_acquire_beat}
 use Rattle.tl_client.specs.Requests.{open_beat}
 use Rattle.tl_client.proofs.Opens.{open_beat-a, open_beat-c, open_beat-e, acquire_of-a, acquire_of-c, acquire_of-e}
-use Rattle.tl_client.proofs.Sent.{unfinished-sent, unfinished-sent_other, held-sent_unsaid}
+use Rattle.tl_rules.proofs.Sent.{unfinished-sent, unfinished-sent_other, held-sent_unsaid}
 
 -- ---- a request is handed out
 

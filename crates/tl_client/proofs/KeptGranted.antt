@@ -14,7 +14,7 @@ use Rattle.tl_beat.specs.declared.opcode.OpD.{OpD}
 use Rattle.tl_beat.specs.declared.opcode.OpD.TheVariants as d
 use Rattle.tl_burst.specs.Messages.{History, unfinished, grown}
 use Rattle.tl_burst.specs.Part.{completes}
-use Rattle.tl_rules.specs.declared.key.Key.TheVariants.{RequestSource}
+use Rattle.tl_params.specs.declared.key.Key.TheVariants.{RequestSource}
 use Rattle.tl_rules.specs.Conformance.{is_acquire_block, is_grant_without_data}
 use Rattle.tl_rules.specs.History.{block_at, is_acquire, is_grant, ends, grants, asks_for, capped, pending, request_of, held}
 use Rattle.tl_rules.specs.Agent.{payload_of}

@@ -14,20 +14,20 @@ use Rattle.tl_beat.specs.Opcode.{b_code, b_carries_data}
 use Rattle.tl_burst.specs.declared.message.Message.TheVariants as message
 use Rattle.tl_burst.specs.declared.message.MessageC.{MessageC}
 use Rattle.tl_burst.specs.Messages.{History, unfinished}
-use Rattle.tl_rules.specs.declared.profile.Profile.{Profile}
+use Rattle.tl_params.specs.declared.profile.Profile.{Profile}
 use Rattle.tl_rules.specs.Conformance.{broken_in_order}
 use Rattle.tl_rules.specs.History.{block_at, is_grant, pending, held}
-use Rattle.tl_rules.specs.declared.level.Level.{Level}
-use Rattle.tl_rules.specs.declared.param.Cap.{Cap}
-use Rattle.tl_rules.specs.declared.param.Cap.TheVariants as cap
-use Rattle.tl_rules.specs.declared.param.Report.{Report}
-use Rattle.tl_rules.specs.declared.perm.Perm.{Perm}
-use Rattle.tl_rules.specs.declared.perm.Perm.TheVariants as perm
-use Rattle.tl_rules.specs.declared.rule.Rule.{Rule}
-use Rattle.tl_rules.specs.declared.rule.Rule.TheVariants.{L1, L7, A3}
+use Rattle.tl_params.specs.declared.level.Level.{Level}
+use Rattle.tl_params.specs.declared.param.Cap.{Cap}
+use Rattle.tl_params.specs.declared.param.Cap.TheVariants as cap
+use Rattle.tl_params.specs.declared.param.Report.{Report}
+use Rattle.tl_params.specs.declared.perm.Perm.{Perm}
+use Rattle.tl_params.specs.declared.perm.Perm.TheVariants as perm
+use Rattle.tl_params.specs.declared.rule.Rule.{Rule}
+use Rattle.tl_params.specs.declared.rule.Rule.TheVariants.{L1, L7, A3}
 use Rattle.tl_rules.specs.Agent.{sent}
 use Rattle.tl_rules.specs.Legality.{illegal, breaks_l1}
-use Rattle.tl_rules.specs.Param.{cap_of, report_at, report_code, report_right}
+use Rattle.tl_params.specs.Param.{cap_of, report_at, report_code, report_right}
 use Rattle.tl_rules.proofs.Bursts.{next_rule}
 use Rattle.tl_client.specs.declared.verdict.Verdict.TheVariants.{Stalled}
 use Rattle.tl_client.specs.Send.{about, probe_ack}
@@ -40,7 +40,7 @@ use Rattle.tl_client.proofs.Grants.{good_grant}
 use Rattle.tl_client.proofs.HeldAfter.{IsIncoming, comes, held-probe_ack, kept_past}
 use Rattle.tl_client.proofs.Kept.{kept-c, kept-same}
 use Rattle.tl_client.proofs.Opens.{open_beat-b, acquire_of-b}
-use Rattle.tl_client.proofs.Sent.{held_unsaid}
+use Rattle.tl_rules.proofs.Sent.{held_unsaid}
 use Rattle.tl_client.proofs.KeptGranted.{IsGoodBeat, next_burst, kept_taken_d}
 
 -- ---- a Probe

@@ -15,13 +15,13 @@ use Rattle.tl_burst.specs.declared.message.MessageC.{MessageC}
 use Rattle.tl_burst.specs.declared.message.MessageE.{MessageE}
 use Rattle.tl_burst.specs.Burst.{a_beat_of, beat_of, beats_of, begun}
 use Rattle.tl_burst.specs.Messages.{History, unfinished, grown}
-use Rattle.tl_rules.specs.declared.key.Key.{Key}
-use Rattle.tl_rules.specs.declared.key.Key.TheVariants.{RequestSource, AcquireOf}
+use Rattle.tl_params.specs.declared.key.Key.{Key}
+use Rattle.tl_params.specs.declared.key.Key.TheVariants.{RequestSource, AcquireOf}
 use Rattle.tl_rules.specs.Agent.{sent}
 use Rattle.tl_rules.specs.History.{begins, ends, opens, closes, grants, is_acquire, is_release_ack, block_at, pending, request_of}
 use Rattle.tl_rules.proofs.Bursts.{has_beats}
 use Rattle.tl_client.specs.Requests.{open_beat}
-use Rattle.tl_client.proofs.Sent.{pending-sent, request_of-sent, request_closes_nothing, ClosesNothing, channel_in}
+use Rattle.tl_rules.proofs.Sent.{pending-sent, request_of-sent, request_closes_nothing, ClosesNothing, channel_in}
 
 -- a beat that neither opens nor closes the key
 pub pending-quiet : {w : ℕ} (k : Key) (x : Beat w) (t : History w) → opens k x t ≡ false → closes k x t ≡ false → pending k (x ∷ t) ≡ pending k t

@@ -28,7 +28,7 @@ use Rattle.tl_client.specs.KnowsPlain.{KnowsPlain, terms_of, answers_pending}
 use Rattle.tl_client.specs.Plain.{started_by}
 use Rattle.tl_client.specs.Requests.{request_at, fields_in, fields_of, open_beat, open_request}
 use Rattle.tl_client.proofs.Opens.{open_beat-a}
-use Rattle.tl_client.proofs.Sent.{unfinished-sent, unfinished-sent_other, pending-sent, request_closes_nothing, held-sent_unsaid}
+use Rattle.tl_rules.proofs.Sent.{unfinished-sent, unfinished-sent_other, pending-sent, request_closes_nothing, held-sent_unsaid}
 
 -- ---- the answer
 

@@ -1,16 +1,13 @@
 -- What the parts of a plain client's calls answer.
-use Rattle.std.proofs.Common.{◌≡◌, ℕ, zero, suc, ◌+◌, ◌*◌, ◌≤◌, Bool, true, false, cond, List, ◌∷◌, length, Option, Some, None, Ok, Err, refl, sym, ◌∙◌, ap, arith}
+use Rattle.std.proofs.Common.{◌≡◌, ℕ, zero, suc, ◌+◌, ◌≤◌, Bool, true, false, cond, List, ◌∷◌, length, Option, Some, None, Ok, Err, refl, sym, ◌∙◌, ap, arith}
 use Rattle.std.specs.Prelude.{Result, OnOk}
 use Rattle.std.proofs.Math.Bridge.{le_prop}
 use Rattle.tl_beat.specs.Width.{IsWidth}
 use Rattle.tl_beat.specs.declared.beat.Beat.{Beat}
 use Rattle.tl_beat.specs.declared.beat.Beat.TheVariants as beat
 use Rattle.tl_beat.specs.declared.beat.BeatD.{BeatD}
-use Rattle.tl_beat.specs.declared.opcode.Channel.{Channel}
-use Rattle.tl_beat.specs.declared.opcode.Channel.TheVariants as channel
 use Rattle.tl_beat.specs.declared.opcode.OpD.{OpD}
 use Rattle.tl_beat.specs.declared.opcode.OpD.TheVariants as d
-use Rattle.tl_beat.specs.Opcode.{d_carries_data}
 use Rattle.tl_burst.specs.declared.message.Message.{Message}
 use Rattle.tl_burst.specs.declared.message.Message.TheVariants as message
 use Rattle.tl_burst.specs.declared.message.MessageA.{MessageA}
@@ -18,7 +15,7 @@ use Rattle.tl_burst.specs.declared.message.MessageD.{MessageD}
 use Rattle.tl_burst.specs.declared.part.Broken.TheVariants as broken
 use Rattle.tl_burst.specs.declared.part.Part.{Part}
 use Rattle.tl_burst.specs.declared.part.Part.TheVariants.{First, Middle, Last, Only}
-use Rattle.tl_burst.specs.Burst.{beats_of, beat_of, begun, d_beat_of, IsBurst, IsZeroFrom}
+use Rattle.tl_burst.specs.Burst.{beats_of, beat_of, begun, d_beat_of, IsBurst}
 use Rattle.tl_burst.specs.Messages.{breaks_burst}
 use Rattle.tl_burst.specs.Part.{IsTakeable, is_empty, completes, place, part_of}
 use Rattle.tl_burst.proofs.Begun.{length-begun}
@@ -27,18 +24,15 @@ use Rattle.tl_params.specs.declared.rule.Rule.{Rule}
 use Rattle.tl_params.specs.declared.config.NewFault.{NewFault}
 use Rattle.tl_params.specs.Config.{config_verdict}
 use Rattle.tl_rules.specs.Agent.{payload_of}
-use Rattle.tl_rules.specs.Legality.{illegal, or_else, verdict}
-use Rattle.tl_rules.proofs.Checks.{beats_room}
+use Rattle.tl_rules.specs.Legality.{or_else, verdict}
 use Rattle.tl_client.specs.declared.operation.Op.{Op}
 use Rattle.tl_client.specs.declared.operation.Op.TheVariants.{Access}
 use Rattle.tl_client.specs.declared.requests.Request.{Request}
 use Rattle.tl_client.specs.declared.verdict.Verdict.TheVariants.{Done}
 use Rattle.tl_client.specs.Offer.{finish_of}
 use Rattle.tl_client.specs.Plain.{access_in, started_by, is_first, response_rule, order_rule, plain_verdict, ends_request, message_verdict, closes_request, IsWhole, address_in}
-use Rattle.tl_client.proofs.Sent.{is_last}
-use Rattle.tl_client.proofs.Payload.{payload_of-burst}
-use Rattle.tl_client.proofs.PlainRules.{legal_size}
-use Rattle.tl_client.proofs.Verdicts.{no_rule}
+use Rattle.tl_rules.proofs.Sent.{is_last}
+use Rattle.tl_rules.proofs.Payload.{payload-d}
 
 -- ---- what starts
 

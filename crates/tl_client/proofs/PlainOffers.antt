@@ -34,7 +34,7 @@ use Rattle.tl_client.specs.Requests.{request_at, fields_of, open_beat, open_requ
 use Rattle.tl_client.proofs.PlainRules.{IsAccessAnswer, legal_answer, judged}
 use Rattle.tl_client.proofs.Verdicts.{both_none, some_rule, no_rule}
 use Rattle.tl_client.proofs.Opens.{open_beat-d, pending-closed, unfinished-d}
-use Rattle.tl_client.proofs.Sent.{held_unsaid}
+use Rattle.tl_rules.proofs.Sent.{held_unsaid}
 
 -- ---- what is taken is a response
 

@@ -1,8 +1,7 @@
 -- A plain client judges by what it keeps as its end of the link is judged.
-use Rattle.std.proofs.Common.{◌≡◌, ℕ, ◌≤◌, ◌^◌, Bool, true, false, not, cond, leb, ◌&&◌, List, [], Option, Some, None, refl, arith, inl, inr}
+use Rattle.std.proofs.Common.{◌≡◌, ℕ, Bool, true, false, not, cond, ◌&&◌, List, [], Option, Some, None, refl, inl, inr}
 use Rattle.std.specs.Prelude.{◌==◌}
-use Rattle.std.proofs.lemmas.Bool.{not-false, leb-true, eqb-true, cases_lt, cases_Bool, both_ways, not_from_false}
-use Rattle.tl_beat.specs.Width.{IsWidth}
+use Rattle.std.proofs.lemmas.Bool.{not-false, cases_Bool, not_from_false}
 use Rattle.tl_beat.specs.declared.beat.Beat.{Beat}
 use Rattle.tl_beat.specs.declared.beat.Beat.TheVariants.{A, B, C, D, E}
 use Rattle.tl_beat.specs.declared.beat.BeatA.{BeatA}
@@ -18,12 +17,11 @@ use Rattle.tl_params.specs.declared.level.Level.TheVariants as level
 use Rattle.tl_params.specs.declared.key.Key.TheVariants.{RequestSource}
 use Rattle.tl_params.specs.declared.profile.Profile.{Profile}
 use Rattle.tl_params.specs.declared.rule.Rule.{Rule}
-use Rattle.tl_params.specs.declared.rule.Rule.TheVariants.{L1, L2, L3, L7, S1, H2, H3}
+use Rattle.tl_params.specs.declared.rule.Rule.TheVariants.{L1, S1, H2, H3}
 use Rattle.tl_rules.specs.Conformance.{broken_order, broken_in_order, broken_d, admits, size_of_request}
 use Rattle.tl_rules.specs.History.{is_grant, is_release_ack, pending, request_of}
-use Rattle.tl_rules.specs.Legality.{illegal, rule_if, has_transfers, d_of_level, d_has_size, access_has_size, breaks_l1, breaks_l2, breaks_l3, breaks_l7}
+use Rattle.tl_rules.specs.Legality.{illegal, rule_if, has_transfers, d_of_level, breaks_l1}
 use Rattle.tl_rules.proofs.Bursts.{next_rule}
-use Rattle.tl_rules.proofs.Widths.{size_above_width}
 use Rattle.tl_client.specs.declared.requests.Request.{Request}
 use Rattle.tl_client.specs.Requests.{fields_of, open_request}
 use Rattle.tl_client.specs.Plain.{response_rule, plain_rule}

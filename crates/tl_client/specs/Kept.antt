@@ -7,9 +7,9 @@ use Rattle.tl_beat.specs.declared.opcode.Channel.TheVariants as channel
 use Rattle.tl_beat.specs.declared.opcode.OpA.{OpA}
 use Rattle.tl_beat.specs.declared.opcode.OpA.TheVariants as a
 use Rattle.tl_burst.specs.Messages.{History, unfinished}
-use Rattle.tl_rules.specs.declared.key.Key.TheVariants.{AcquireOf}
-use Rattle.tl_rules.specs.declared.perm.Perm.{Perm}
-use Rattle.tl_rules.specs.declared.perm.Perm.TheVariants as perm
+use Rattle.tl_params.specs.declared.key.Key.TheVariants.{AcquireOf}
+use Rattle.tl_params.specs.declared.perm.Perm.{Perm}
+use Rattle.tl_params.specs.declared.perm.Perm.TheVariants as perm
 use Rattle.tl_rules.specs.Conformance.{is_grant_without_data}
 use Rattle.tl_rules.specs.History.{block_at, is_acquire, is_grant, capped, pending, held}
 use Rattle.tl_client.specs.End.{End}

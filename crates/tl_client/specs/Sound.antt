@@ -4,8 +4,8 @@ use Rattle.tl_burst.specs.declared.message.Message.{Message}
 use Rattle.tl_burst.specs.declared.message.Message.TheVariants.{A, B, C, D, E}
 use Rattle.tl_burst.specs.Burst.{beat_of}
 use Rattle.tl_burst.specs.Messages.{channel_of}
-use Rattle.tl_rules.specs.declared.level.Level.{Level}
-use Rattle.tl_rules.specs.declared.rule.Rule.{Rule}
+use Rattle.tl_params.specs.declared.level.Level.{Level}
+use Rattle.tl_params.specs.declared.rule.Rule.{Rule}
 use Rattle.tl_rules.specs.Legality.{illegal_message}
 use Rattle.tl_client.specs.declared.verdict.Verdict.{Verdict}
 

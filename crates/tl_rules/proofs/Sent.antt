@@ -10,6 +10,7 @@ use Rattle.tl_burst.specs.declared.message.Message.{Message}
 use Rattle.tl_burst.specs.declared.message.Message.TheVariants.{A, B, C, D, E}
 use Rattle.tl_burst.specs.declared.message.MessageA.{MessageA}
 use Rattle.tl_burst.specs.declared.message.MessageC.{MessageC}
+use Rattle.tl_burst.specs.declared.message.MessageD.{MessageD}
 use Rattle.tl_burst.specs.Burst.{a_beat_of, beats_of, beat_of, begun}
 use Rattle.tl_burst.specs.Messages.{History, channel_of, on, burst_length, grown, unfinished}
 use Rattle.tl_burst.proofs.Begun.{length-begun}

@@ -3,6 +3,7 @@ pub mod BitLemmas
 pub mod Continued
 pub mod Deeds
 pub mod Free
+pub mod Grants
 pub mod Handed
 pub mod Judged
 pub mod Keeping
@@ -14,6 +15,7 @@ pub mod Offers
 pub mod Requests
 pub mod Rows
 pub mod Sent
+pub mod Sinks
 pub mod Sound
 pub mod Stalls
 pub mod TableLemmas

@@ -36,6 +36,7 @@ use Rattle.tl_manager.proofs.Judged.{IsPassed, passed}
 use Rattle.tl_manager.proofs.Requests.{IsWhole, performable}
 use Rattle.tl_manager.specs.Holders.{recorded}
 use Rattle.tl_manager.specs.Record.{granted_by_all, recorded_after}
+use Rattle.tl_manager.proofs.Answered.{answered-deed}
 use Rattle.tl_manager.proofs.Grants.{deed_granted}
 use Rattle.tl_manager.proofs.Sinks.{is_request, tracked-taken, tracked-handed}
 use Rattle.tl_rules.specs.History.{pending}
@@ -154,7 +155,7 @@ pub are_served : {w : ℕ} (config : Config) (e : End w) → IsKept config e →
 are_served config e before = record { requests = before.requests; tracked = before.tracked; trackers_apart = before.trackers_apart; blocks_apart = before.blocks_apart }
 
 kept_as : {w : ℕ} (j : Judgement) (config : Config) (link : Link) (ch : Channel) (x : Beat w) (e : End w) → IsWidth w → IsTyped x → judged config link ch x e ≡ j → IsKept config e → IsKept config (offered_as j config link x e).1
-kept_as (Breaks r) config link ch x e width typed is before = record { sound = before.sound; whole = before.whole; bursts = before.bursts; requests = before.requests; tracked = before.tracked; trackers_apart = before.trackers_apart; blocks_apart = before.blocks_apart; sinks = before.sinks }
+kept_as (Breaks r) config link ch x e width typed is before = record { sound = before.sound; whole = before.whole; bursts = before.bursts; requests = before.requests; tracked = before.tracked; trackers_apart = before.trackers_apart; blocks_apart = before.blocks_apart; sinks = before.sinks; releases = before.releases }
 kept_as Waits config link ch x e width typed is before = before
 kept_as Passes config link ch x e width typed is before =
     let ok = passed config link ch x e typed is in
@@ -170,6 +171,7 @@ kept_as Passes config link ch x e width typed is before =
       trackers_apart = after.trackers_apart;
       blocks_apart = after.blocks_apart;
       sinks = tracked-handed config (deed config link x e).handed ((link, x) ∷ e.trace) width handable complete (deed_granted config link x e) (tracked-taken link x e.trace ok.theirs before.sinks);
+      releases = λ client. answered-deed config client link x e width ok.theirs ok.order handable (complete client) (before.releases client);
     }
 
 pub kept-offered : {w : ℕ} (config : Config) (link : Link) (ch : Channel) (x : Beat w) (e : End w) → IsWidth w → IsTyped x → IsKept config e → IsKept config (offered config link ch x e).1
@@ -178,7 +180,7 @@ kept-offered config link ch x e width typed ok = kept_as (judged config link ch 
 
 pub fresh-kept : {w : ℕ} (config : Config) → IsKept {w = w} config fresh
 unfolding services unfinished on_link pending
-fresh-kept config = record { sound = tt; whole = λ client. (refl, refl); bursts = λ client. tt; requests = tt; tracked = tt; trackers_apart = tt; blocks_apart = tt; sinks = λ client sink e. absurd cc }
+fresh-kept config = record { sound = tt; whole = λ client. (refl, refl); bursts = λ client. tt; requests = tt; tracked = tt; trackers_apart = tt; blocks_apart = tt; sinks = λ client sink e. absurd cc; releases = λ client. record { sources = λ s. refl; blocks = λ k. refl; named = tt } }
 
 -- ---- what is recorded
 

@@ -1,3 +1,4 @@
+pub mod Answered
 pub mod Assembled
 pub mod BitLemmas
 pub mod Continued
@@ -12,6 +13,7 @@ pub mod Lists
 pub mod Masks
 pub mod Memories
 pub mod Offers
+pub mod Releases
 pub mod Requests
 pub mod Rows
 pub mod Sent

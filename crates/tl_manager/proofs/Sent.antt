@@ -186,10 +186,15 @@ held-sent_d k m t none pos = held_last k m t (beats_of (D m)) none pos refl
 pub request-sent_d : {w : ℕ} (s : ℕ) (m : MessageD w) (t : History w) → request_of s (sent (D m) t) ≡ request_of s t
 request-sent_d s m t = request_begun-d s m t (beats_of (D m))
 
-release_begun-d : {w : ℕ} (s : ℕ) (m : MessageD w) (t : History w) (n : ℕ) → release_of s (begun (D m) n ++ t) ≡ release_of s t
+pub release_of-b : {w : ℕ} (s : ℕ) (m : MessageB w) (t : History w) (n : ℕ) → release_of s (begun (B m) n ++ t) ≡ release_of s t
 unfolding release_of
-release_begun-d s m t zero = refl
-release_begun-d s m t (suc i) = release_begun-d s m t i
+release_of-b s m t zero = refl
+release_of-b s m t (suc i) = release_of-b s m t i
+
+pub release_of-d : {w : ℕ} (s : ℕ) (m : MessageD w) (t : History w) (n : ℕ) → release_of s (begun (D m) n ++ t) ≡ release_of s t
+unfolding release_of
+release_of-d s m t zero = refl
+release_of-d s m t (suc i) = release_of-d s m t i
 
 -- ---- what is pending
 
@@ -260,7 +265,7 @@ steady-d : {w : ℕ} (k : Key) (m : MessageD w) (t : History w) → IsSteady k (
 steady-d (key.RequestSource s) m t = record { closes_same = λ i. refl; apart = refl }
 steady-d (key.ReleaseSource s) m t = record { closes_same = λ i. refl; apart = refl }
 steady-d (key.AcquireOf n) m t = record { closes_same = λ i. rw (request_begun-d m.source m t i) refl; apart = refl }
-steady-d (key.ReleaseOf n) m t = record { closes_same = λ i. rw (release_begun-d m.source m t i) refl; apart = refl }
+steady-d (key.ReleaseOf n) m t = record { closes_same = λ i. rw (release_of-d m.source m t i) refl; apart = refl }
 steady-d (key.GrantSink s) m t = record { closes_same = λ i. refl; apart = never_both (opens (key.GrantSink s) (beat_of (D m) 0) t) }
 steady-d (key.GrantAckOf n) m t = record { closes_same = λ i. refl; apart = never_both (opens (key.GrantAckOf n) (beat_of (D m) 0) t) }
 steady-d (key.ProbeOf n) m t = record { closes_same = λ i. refl; apart = refl }

@@ -19,6 +19,7 @@ use Rattle.tl_rules.specs.declared.key.Key.TheVariants.{GrantSink}
 use Rattle.tl_rules.specs.Conformance.{on_link}
 use Rattle.tl_rules.specs.Legality.{illegal, illegal_message, is_one_of}
 use Rattle.tl_manager.specs.Handing.{Handed}
+use Rattle.tl_manager.specs.Releases.{IsAnswered}
 use Rattle.tl_manager.specs.Service.{Service, services, trackers_of}
 use Rattle.tl_manager.specs.Slave.{End, Answer, Refused, Stalled, Sent, level_of}
 
@@ -114,3 +115,5 @@ pub record IsKept {w : ℕ} (config : Config) (e : End w) : Type 0 where
   pub blocks_apart : AreApart (blocks_of (services e.trace))
   -- a Grant whose GrantAck is missing is one of an Acquire in service
   pub sinks : (client sink : ℕ) → pending (GrantSink sink) (on_link client e.trace) ≡ true → is_granting client sink (services e.trace) ≡ true
+  -- a Release is pending only while its burst is unfinished
+  pub releases : (client : ℕ) → IsAnswered (on_link client e.trace)

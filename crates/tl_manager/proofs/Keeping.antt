@@ -38,6 +38,7 @@ use Rattle.tl_manager.specs.Holders.{recorded}
 use Rattle.tl_manager.specs.Record.{granted_by_all, recorded_after}
 use Rattle.tl_manager.proofs.Answered.{answered-deed}
 use Rattle.tl_manager.proofs.Grants.{deed_granted}
+use Rattle.tl_manager.proofs.Sent.{same_channel}
 use Rattle.tl_manager.proofs.Sinks.{is_request, tracked-taken, tracked-handed}
 use Rattle.tl_rules.specs.History.{pending}
 use Rattle.tl_manager.proofs.Lawful.{IsHandable}
@@ -60,13 +61,6 @@ served_filter config test ss ok = record {
 filtered : {w : ℕ} (config : Config) (test : Service w → Bool) (ss : List (Service w)) (b : Bool) → AreServed config ss → AreServed config (if b then filter test ss else ss)
 filtered config test ss true ok = served_filter config test ss ok
 filtered config test ss false ok = ok
-
-same_channel : {w : ℕ} (m : Message w) (i : ℕ) → channel_of (beat_of m i) ≡ channel_of (beat_of m 0)
-same_channel (A m) i = refl
-same_channel (B m) i = refl
-same_channel (C m) i = refl
-same_channel (D m) i = refl
-same_channel (E m) i = refl
 
 -- ---- a request that is taken
 

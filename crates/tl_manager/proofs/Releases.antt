@@ -27,6 +27,7 @@ use Rattle.tl_rules.specs.History.{begins, ends, pending, release_of, releases, 
 use Rattle.tl_rules.specs.Legality.{rule_if}
 use Rattle.tl_rules.proofs.Bursts.{next_rule}
 use Rattle.tl_manager.specs.Releases.{comes_with, comes_of, IsNamed, IsAnswered}
+use Rattle.tl_manager.proofs.Sinks.{unmoved}
 use Rattle.tl_manager.proofs.Sent.{unfinished-sent_other, pending-sent_b, pending-sent_d, release_of-b, release_of-d}
 
 -- the unfinished burst of a channel has its beats
@@ -49,12 +50,6 @@ all_c (beat.D x ∷ t) = all_c t
 all_c (beat.E x ∷ t) = all_c t
 
 -- ---- beats of other channels
-
-unmoved : (first last before : Bool) → (if first && false then true else if last && false then false else before) ≡ before
-unmoved true true before = refl
-unmoved true false before = refl
-unmoved false true before = refl
-unmoved false false before = refl
 
 named-same : {w : ℕ} (t u : History w) (burst : List (Beat w)) → ((s : ℕ) → release_of s u ≡ release_of s t) → IsNamed t burst → IsNamed u burst
 named-same t u [] same ok = tt

@@ -24,7 +24,7 @@ use Rattle.std.specs.Prelude.{if◌then◌else◌}
 abbrev pub channel_in : {w : ℕ} → Message w → Channel
 channel_in m = channel_of (beat_of m 0)
 
-same_channel : {w : ℕ} (m : Message w) (i : ℕ) → channel_of (beat_of m i) ≡ channel_in m
+pub same_channel : {w : ℕ} (m : Message w) (i : ℕ) → channel_of (beat_of m i) ≡ channel_in m
 same_channel (A m) i = refl
 same_channel (B m) i = refl
 same_channel (C m) i = refl
@@ -205,12 +205,6 @@ turned first opened last closed before = if first && opened then true else if la
 -- what is pending after a whole message, none of which may both open and close it
 abbrev pub after_whole : Bool → Bool → Bool → Bool
 after_whole opened closed before = if opened then true else if closed then false else before
-
-once : (opened closed before : Bool) → turned true opened true closed before ≡ after_whole opened closed before
-once opened closed before = refl
-
-not_yet : (opened closed before : Bool) → turned true opened false closed before ≡ (if opened then true else before)
-not_yet opened closed before = refl
 
 at_last : (opened closed before : Bool) → (opened && closed) ≡ false → turned false opened true closed (if opened then true else before) ≡ after_whole opened closed before
 at_last true true before e = absurd cc

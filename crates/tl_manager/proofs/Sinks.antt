@@ -110,7 +110,7 @@ ours_go_on client sink link (E m) (suc n) t ours e = absurd cc
 abbrev pub AreTracked : {w : ℕ} → Trace w → Type 0
 AreTracked t = (client sink : ℕ) → pending (GrantSink sink) (on_link client t) ≡ true → is_granting client sink (services t) ≡ true
 
-unmoved : (first last before : Bool) → (if first && false then true else if last && false then false else before) ≡ before
+pub unmoved : (first last before : Bool) → (if first && false then true else if last && false then false else before) ≡ before
 unmoved true true before = refl
 unmoved true false before = refl
 unmoved false true before = refl

@@ -36,6 +36,11 @@ use Rattle.tl_manager.proofs.Judged.{IsPassed, passed}
 use Rattle.tl_manager.proofs.Requests.{IsWhole, performable}
 use Rattle.tl_manager.specs.Holders.{recorded}
 use Rattle.tl_manager.specs.Record.{granted_by_all, recorded_after}
+use Rattle.tl_manager.proofs.Answered.{answered-deed}
+use Rattle.tl_manager.proofs.Grants.{deed_granted}
+use Rattle.tl_manager.proofs.Sent.{same_channel}
+use Rattle.tl_manager.proofs.Sinks.{is_request, tracked-taken, tracked-handed}
+use Rattle.tl_rules.specs.History.{pending}
 use Rattle.tl_manager.proofs.Lawful.{IsHandable}
 
 -- what holds of the requests in service
@@ -56,17 +61,6 @@ served_filter config test ss ok = record {
 filtered : {w : ℕ} (config : Config) (test : Service w → Bool) (ss : List (Service w)) (b : Bool) → AreServed config ss → AreServed config (if b then filter test ss else ss)
 filtered config test ss true ok = served_filter config test ss ok
 filtered config test ss false ok = ok
-
-abbrev is_request : {w : ℕ} → Beat w → Bool
-is_request (beat.A x) = true
-is_request _ = false
-
-same_channel : {w : ℕ} (m : Message w) (i : ℕ) → channel_of (beat_of m i) ≡ channel_of (beat_of m 0)
-same_channel (A m) i = refl
-same_channel (B m) i = refl
-same_channel (C m) i = refl
-same_channel (D m) i = refl
-same_channel (E m) i = refl
 
 -- ---- a request that is taken
 
@@ -155,20 +149,23 @@ pub are_served : {w : ℕ} (config : Config) (e : End w) → IsKept config e →
 are_served config e before = record { requests = before.requests; tracked = before.tracked; trackers_apart = before.trackers_apart; blocks_apart = before.blocks_apart }
 
 kept_as : {w : ℕ} (j : Judgement) (config : Config) (link : Link) (ch : Channel) (x : Beat w) (e : End w) → IsWidth w → IsTyped x → judged config link ch x e ≡ j → IsKept config e → IsKept config (offered_as j config link x e).1
-kept_as (Breaks r) config link ch x e width typed is before = record { sound = before.sound; whole = before.whole; bursts = before.bursts; requests = before.requests; tracked = before.tracked; trackers_apart = before.trackers_apart; blocks_apart = before.blocks_apart }
+kept_as (Breaks r) config link ch x e width typed is before = record { sound = before.sound; whole = before.whole; bursts = before.bursts; requests = before.requests; tracked = before.tracked; trackers_apart = before.trackers_apart; blocks_apart = before.blocks_apart; sinks = before.sinks; releases = before.releases }
 kept_as Waits config link ch x e width typed is before = before
 kept_as Passes config link ch x e width typed is before =
     let ok = passed config link ch x e typed is in
     let handable = deed_handable config link x e width ok.sound before.sound in
+    let complete = λ (client : ℕ). whole-taken client link x e.trace ok.theirs (before.whole client) in
     let after = handed_served config (deed config link x e).handed ((link, x) ∷ e.trace) handable (taken_beat config link x e width before ok (are_served config e before)) in
     record {
       sound = handed_sound config (deed config link x e).handed ((link, x) ∷ e.trace) handable (ok.sound, before.sound);
-      whole = λ client. whole-handed config client (deed config link x e).handed ((link, x) ∷ e.trace) width handable (whole-taken client link x e.trace ok.theirs (before.whole client));
+      whole = λ client. whole-handed config client (deed config link x e).handed ((link, x) ∷ e.trace) width handable (complete client);
       bursts = λ client. rw (requests-handed config client (deed config link x e).handed ((link, x) ∷ e.trace) handable) (of_one-taken config client link x e.trace ok.theirs ok.order before.bursts);
       requests = after.requests;
       tracked = after.tracked;
       trackers_apart = after.trackers_apart;
       blocks_apart = after.blocks_apart;
+      sinks = tracked-handed config (deed config link x e).handed ((link, x) ∷ e.trace) width handable complete (deed_granted config link x e) (tracked-taken link x e.trace ok.theirs before.sinks);
+      releases = λ client. answered-deed config client link x e width ok.theirs ok.order handable (complete client) (before.releases client);
     }
 
 pub kept-offered : {w : ℕ} (config : Config) (link : Link) (ch : Channel) (x : Beat w) (e : End w) → IsWidth w → IsTyped x → IsKept config e → IsKept config (offered config link ch x e).1
@@ -176,8 +173,8 @@ unfolding offered
 kept-offered config link ch x e width typed ok = kept_as (judged config link ch x e) config link ch x e width typed refl ok
 
 pub fresh-kept : {w : ℕ} (config : Config) → IsKept {w = w} config fresh
-unfolding services unfinished on_link
-fresh-kept config = record { sound = tt; whole = λ client. (refl, refl); bursts = λ client. tt; requests = tt; tracked = tt; trackers_apart = tt; blocks_apart = tt }
+unfolding services unfinished on_link pending
+fresh-kept config = record { sound = tt; whole = λ client. (refl, refl); bursts = λ client. tt; requests = tt; tracked = tt; trackers_apart = tt; blocks_apart = tt; sinks = λ client sink e. absurd cc; releases = λ client. record { sources = λ s. refl; blocks = λ k. refl; named = tt } }
 
 -- ---- what is recorded
 

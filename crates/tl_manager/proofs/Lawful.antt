@@ -1,6 +1,6 @@
 -- The messages that a manager hands out break no L rule.
 use Rattle.std.proofs.Common.{◌≡◌, ℕ, ◌*◌, ◌-◌, ◌/◌, ◌%◌, ◌^◌, ◌<◌, Bool, true, false, ◌&&◌, List, Some, None, refl, ◌∙◌, arith, inl, inr}
-use Rattle.std.specs.Prelude.{nat_le, is_some}
+use Rattle.std.specs.Prelude.{nat_le}
 use Rattle.std.proofs.Math.Nat.{zero-div}
 use Rattle.std.proofs.lemmas.Bool.{le-leb}
 use Rattle.tl_beat.specs.Width.{IsWidth}
@@ -24,7 +24,7 @@ use Rattle.tl_rules.specs.Control.{d_control, d_own, b_control}
 use Rattle.tl_rules.specs.Effect.{Memory, reply, answer_of}
 use Rattle.tl_rules.specs.History.{is_acquire}
 use Rattle.tl_rules.specs.Legality.{or_else, a_of_level, a_has_size, access_has_size, d_of_level, d_has_param, d_has_sink, d_has_size, is_full_mask, each_below}
-use Rattle.tl_params.specs.Param.{cap_code, cap_of}
+use Rattle.tl_rules.specs.Param.{cap_code}
 use Rattle.tl_rules.proofs.Verdicts.{illegal_b, illegal_d}
 use Rattle.tl_manager.specs.Handing.{answer_with, access_answer, release_ack, grant_opcode, grant_with, probe_of_block}
 use Rattle.tl_manager.specs.Kept.{IsSound, IsClean}
@@ -156,11 +156,6 @@ unfolding each_below
 full_mask w address (inl e) = rw e refl
 full_mask w address (inr (inl e)) = rw e refl
 full_mask w address (inr (inr e)) = rw e refl
-
-cap_named : (c : Cap) → is_some (cap_of (cap_code c)) ≡ true
-cap_named cap.ToT = refl
-cap_named cap.ToB = refl
-cap_named cap.ToN = refl
 
 probe_control : (c : Cap) (address : ℕ) → address % 64 ≡ 0 → b_control level.C b.ProbeBlock (cap_code c) 6 0 address ≡ None
 probe_control cap.ToT address e = rw e refl

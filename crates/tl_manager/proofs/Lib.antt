@@ -1,8 +1,10 @@
+pub mod Answered
 pub mod Assembled
 pub mod BitLemmas
 pub mod Continued
 pub mod Deeds
 pub mod Free
+pub mod Grants
 pub mod Handed
 pub mod Judged
 pub mod Keeping
@@ -11,8 +13,11 @@ pub mod Lists
 pub mod Masks
 pub mod Memories
 pub mod Offers
+pub mod Releases
 pub mod Requests
 pub mod Rows
+pub mod Sent
+pub mod Sinks
 pub mod Sound
 pub mod Stalls
 pub mod TableLemmas

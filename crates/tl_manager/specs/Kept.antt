@@ -1,7 +1,7 @@
 -- What holds of the manager's end after any beats that it is offered, from a fresh one on.
 use Rattle.tl_beat.specs.declared.beat.Beat.TheVariants as beat
 use Rattle.tl_beat.specs.declared.beat.BeatA.{BeatA}
-use Rattle.std.specs.Prelude.{nat_le, IfSome, length, ◌^◌, ℕ, Bool, true, false, List, [], ◌∷◌, ◌≡◌, ◌<◌, map, Option, Some, None}
+use Rattle.std.specs.Prelude.{◌==◌, ◌&&◌, ◌||◌, nat_le, IfSome, length, ◌^◌, ℕ, Bool, true, false, List, [], ◌∷◌, ◌≡◌, ◌<◌, map, Option, Some, None}
 use Rattle.tl_beat.specs.declared.beat.Beat.{Beat}
 use Rattle.tl_beat.specs.declared.beat.Link.{Link}
 use Rattle.tl_burst.specs.declared.message.Message.{Message}
@@ -14,10 +14,12 @@ use Rattle.tl_params.specs.declared.level.Level.{Level}
 use Rattle.tl_params.specs.declared.rule.Rule.{Rule}
 use Rattle.tl_params.specs.declared.rule.Rule.TheVariants.{L1}
 use Rattle.tl_rules.specs.Agent.{is_outside, is_spoiled}
-use Rattle.tl_rules.specs.History.{block_at}
+use Rattle.tl_rules.specs.History.{block_at, is_acquire, pending}
+use Rattle.tl_rules.specs.declared.key.Key.TheVariants.{GrantSink}
 use Rattle.tl_rules.specs.Conformance.{on_link}
 use Rattle.tl_rules.specs.Legality.{illegal, illegal_message, is_one_of}
 use Rattle.tl_manager.specs.Handing.{Handed}
+use Rattle.tl_manager.specs.Releases.{IsAnswered}
 use Rattle.tl_manager.specs.Service.{Service, services, trackers_of}
 use Rattle.tl_manager.specs.Slave.{End, Answer, Refused, Stalled, Sent, level_of}
 
@@ -94,6 +96,11 @@ pub record IsPerformable {w : ℕ} (config : Config) (s : Service w) : Type 0 wh
 abbrev pub blocks_of : {w : ℕ} → List (Service w) → List ℕ
 blocks_of services = map (λ s. block_at s.request.address) services
 
+-- an Acquire of this client that has this tracker is in service
+abbrev pub is_granting : {w : ℕ} → ℕ → ℕ → List (Service w) → Bool
+is_granting client sink [] = false
+is_granting client sink (s ∷ services) = (is_acquire s.request.opcode && ((s.link.0 == client) && (s.tracker == sink))) || is_granting client sink services
+
 pub record IsKept {w : ℕ} (config : Config) (e : End w) : Type 0 where
   -- each beat that was taken or handed out
   pub sound : Each (IsSound config) e.trace
@@ -106,3 +113,7 @@ pub record IsKept {w : ℕ} (config : Config) (e : End w) : Type 0 where
   pub tracked : Each (λ n. n < config.trackers) (trackers_of (services e.trace))
   pub trackers_apart : AreApart (trackers_of (services e.trace))
   pub blocks_apart : AreApart (blocks_of (services e.trace))
+  -- a Grant whose GrantAck is missing is one of an Acquire in service
+  pub sinks : (client sink : ℕ) → pending (GrantSink sink) (on_link client e.trace) ≡ true → is_granting client sink (services e.trace) ≡ true
+  -- a Release is pending only while its burst is unfinished
+  pub releases : (client : ℕ) → IsAnswered (on_link client e.trace)

@@ -4,6 +4,7 @@ pub mod Held
 pub mod Holders
 pub mod Kept
 pub mod Record
+pub mod Releases
 pub mod Request
 pub mod Service
 pub mod Slave

@@ -135,7 +135,7 @@ done_c config link x t memory =
     if is_probe_ack x.opcode then settled config (block_at x.address) t memory else nothing memory
 
 -- What is done as a message is complete with this beat, whose burst had these before it; `t` is the
--- trace up to the beat.
+-- trace before the beat.
 abbrev pub done : {w : ℕ} → Config → Link → Beat w → List (Beat w) → Trace w → Memory → Deed w
 done config link (A x) burst t memory = begun_if_any config (service_of link (A x ∷ burst) (services t)) ((link, A x) ∷ t) memory
 done config link (C x) burst t memory = done_c config link x ((link, C x) ∷ t) (written x (C x ∷ burst) memory)

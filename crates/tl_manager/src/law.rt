@@ -1,6 +1,6 @@
 //! What the definitions of a manager's answers amount to, as laws.
 
-ghost use Rattle.std.specs.Prelude.{◌≡◌, ℕ, List, false, length, Some};
+ghost use Rattle.std.specs.Prelude.{◌≡◌, ℕ, List, [], true, false, length, Some, if◌then◌else◌};
 ghost use Rattle.tl_beat.specs.declared.beat.Beat.{Beat};
 ghost use Rattle.tl_beat.specs.declared.beat.BeatC.{BeatC};
 ghost use Rattle.tl_beat.specs.declared.beat.BeatE.{BeatE};
@@ -10,11 +10,15 @@ ghost use Rattle.tl_beat.specs.Width.{IsWidth};
 ghost use Rattle.tl_params.specs.declared.config.Config.{Config};
 ghost use Rattle.tl_burst.specs.declared.message.Message.{Message};
 ghost use Rattle.tl_burst.specs.declared.message.MessageA.{MessageA};
+ghost use Rattle.tl_burst.specs.declared.message.MessageB.{MessageB};
 ghost use Rattle.tl_burst.specs.declared.message.MessageC.{MessageC};
-ghost use Rattle.tl_burst.specs.Burst.{IsBurst};
-ghost use Rattle.tl_params.specs.declared.rule.Rule.{Rule};
-ghost use Rattle.tl_rules.specs.Agent.{payload_of};
-ghost use Rattle.tl_rules.specs.History.{block_at};
+ghost use Rattle.tl_burst.specs.declared.message.MessageD.{MessageD};
+ghost use Rattle.tl_burst.specs.Burst.{IsBurst, beat_of};
+ghost use Rattle.tl_burst.specs.Messages.{History, unfinished};
+ghost use Rattle.tl_rules.specs.declared.key.Key.{Key};
+ghost use Rattle.tl_rules.specs.declared.rule.Rule.{Rule};
+ghost use Rattle.tl_rules.specs.Agent.{payload_of, sent};
+ghost use Rattle.tl_rules.specs.History.{block_at, pending, opens, closes, request_of};
 ghost use Rattle.tl_manager.specs.Holders.{recorded};
 ghost use Rattle.tl_manager.specs.Kept.{IsTyped, IsKept, IsAnswerLawful, is_stalled};
 ghost use Rattle.tl_manager.specs.Record.{recorded_after, is_of_block};
@@ -73,4 +77,19 @@ pub fn keeps_the_rest<const W: usize>()
         (offered config link ch x e).0 ≡ Refused rule → (offered config link ch x e).1 ≡ refused link e }
     ensures stall { (config : Config) (link : Link) (ch : Channel) (x : Beat W) (e : End W) →
         (offered config link ch x e).0 ≡ Stalled → (offered config link ch x e).1 ≡ e }
+{}
+
+/// What a link's history says after a Probe, an answer or a Grant was handed out, where none was
+/// unfinished: what the message opens is pending, what it closes isn't, and requests are as before.
+pub fn hands_out_whole<const W: usize>()
+    requires { IsWidth W }
+    ensures probe { (m : MessageB W) (key : Key) (t : History W) → unfinished Channel.B t ≡ [] →
+        pending key (sent (Message.B m) t)
+        ≡ (if opens key (beat_of (Message.B m) 0) t then true else pending key t) }
+    ensures answer { (m : MessageD W) (key : Key) (t : History W) → unfinished Channel.D t ≡ [] →
+        pending key (sent (Message.D m) t)
+        ≡ (if opens key (beat_of (Message.D m) 0) t then true
+        else if closes key (beat_of (Message.D m) 0) t then false else pending key t) }
+    ensures requests { (m : MessageD W) (source : ℕ) (t : History W) →
+        request_of source (sent (Message.D m) t) ≡ request_of source t }
 {}

@@ -38,7 +38,7 @@ use Rattle.tl_manager.specs.Holders.{recorded}
 use Rattle.tl_manager.specs.Record.{granted_by_all, recorded_after}
 use Rattle.tl_manager.proofs.Answered.{answered-deed}
 use Rattle.tl_manager.proofs.Grants.{deed_granted}
-use Rattle.tl_manager.proofs.Sent.{same_channel}
+use Rattle.tl_rules.proofs.Sent.{same_channel}
 use Rattle.tl_manager.proofs.Sinks.{is_request, tracked-taken, tracked-handed}
 use Rattle.tl_rules.specs.History.{pending}
 use Rattle.tl_manager.proofs.Lawful.{IsHandable}

@@ -24,7 +24,7 @@ use Rattle.tl_rules.specs.Control.{d_control, d_own, b_control}
 use Rattle.tl_rules.specs.Effect.{Memory, reply, answer_of}
 use Rattle.tl_rules.specs.History.{is_acquire}
 use Rattle.tl_rules.specs.Legality.{or_else, a_of_level, a_has_size, access_has_size, d_of_level, d_has_param, d_has_sink, d_has_size, is_full_mask, each_below}
-use Rattle.tl_rules.specs.Param.{cap_code}
+use Rattle.tl_params.specs.Param.{cap_code}
 use Rattle.tl_rules.proofs.Verdicts.{illegal_b, illegal_d}
 use Rattle.tl_manager.specs.Handing.{answer_with, access_answer, release_ack, grant_opcode, grant_with, probe_of_block}
 use Rattle.tl_manager.specs.Kept.{IsSound, IsClean}

@@ -16,7 +16,6 @@ pub mod Offers
 pub mod Releases
 pub mod Requests
 pub mod Rows
-pub mod Sent
 pub mod Sinks
 pub mod Sound
 pub mod Stalls

@@ -18,9 +18,9 @@ use Rattle.tl_burst.specs.Messages.{History, unfinished, breaks_burst, same_cont
 use Rattle.tl_burst.specs.Part.{is_empty}
 use Rattle.tl_burst.proofs.ControlFields.{control_c}
 use Rattle.tl_burst.proofs.Splitting.{beats-positive}
-use Rattle.tl_rules.specs.declared.key.Key.TheVariants.{ReleaseSource, ReleaseOf}
-use Rattle.tl_rules.specs.declared.profile.Profile.{Profile}
-use Rattle.tl_rules.specs.declared.rule.Rule.TheVariants.{S1}
+use Rattle.tl_params.specs.declared.key.Key.TheVariants.{ReleaseSource, ReleaseOf}
+use Rattle.tl_params.specs.declared.profile.Profile.{Profile}
+use Rattle.tl_params.specs.declared.rule.Rule.TheVariants.{S1}
 use Rattle.tl_rules.specs.Agent.{sent}
 use Rattle.tl_rules.specs.Conformance.{broken_in_order, broken_order}
 use Rattle.tl_rules.specs.History.{begins, ends, pending, release_of, releases, block_at, is_release, is_release_ack}
@@ -28,7 +28,8 @@ use Rattle.tl_rules.specs.Legality.{rule_if}
 use Rattle.tl_rules.proofs.Bursts.{next_rule}
 use Rattle.tl_manager.specs.Releases.{comes_with, comes_of, IsNamed, IsAnswered}
 use Rattle.tl_manager.proofs.Sinks.{unmoved}
-use Rattle.tl_manager.proofs.Sent.{unfinished-sent_other, pending-sent_b, pending-sent_d, release_of-b, release_of-d}
+use Rattle.tl_rules.proofs.Sent.{unfinished-sent_other, release_of-other}
+use Rattle.tl_rules.proofs.Handed.{pending-sent_b, pending-sent_d}
 
 -- the unfinished burst of a channel has its beats
 abbrev AreC : {w : ℕ} → List (Beat w) → Type 0
@@ -153,7 +154,7 @@ answered-b m t width none ok =
     record {
       sources = λ s. pending-sent_b (ReleaseSource s) m t none (beats-positive (B m) width) ∙ ok.sources s ∙ ap (comes_with s) (sym same);
       blocks = λ k. pending-sent_b (ReleaseOf k) m t none (beats-positive (B m) width) ∙ ok.blocks k ∙ ap (comes_of k) (sym same);
-      named = subst (IsNamed (sent (B m) t)) (sym same) (named-same t (sent (B m) t) (unfinished channel.C t) (λ s. release_of-b s m t (beats_of (B m))) ok.named);
+      named = subst (IsNamed (sent (B m) t)) (sym same) (named-same t (sent (B m) t) (unfinished channel.C t) (λ s. release_of-other s (B m) t (beats_of (B m)) refl) ok.named);
     }
 
 pub answered-d : {w : ℕ} (m : MessageD w) (t : History w) → IsWidth w → unfinished channel.D t ≡ [] → is_release_ack m.opcode ≡ false → IsAnswered t → IsAnswered (sent (D m) t)
@@ -162,7 +163,7 @@ answered-d m t width none other ok =
     record {
       sources = λ s. pending-sent_d (ReleaseSource s) m t none (beats-positive (D m) width) ∙ rw other refl ∙ ok.sources s ∙ ap (comes_with s) (sym same);
       blocks = λ k. pending-sent_d (ReleaseOf k) m t none (beats-positive (D m) width) ∙ rw other refl ∙ ok.blocks k ∙ ap (comes_of k) (sym same);
-      named = subst (IsNamed (sent (D m) t)) (sym same) (named-same t (sent (D m) t) (unfinished channel.C t) (λ s. release_of-d s m t (beats_of (D m))) ok.named);
+      named = subst (IsNamed (sent (D m) t)) (sym same) (named-same t (sent (D m) t) (unfinished channel.C t) (λ s. release_of-other s (D m) t (beats_of (D m)) refl) ok.named);
     }
 
 chosen : (mine answered before : Bool) → before ≡ mine → answered ≡ mine → (if false then true else if answered then false else before) ≡ false

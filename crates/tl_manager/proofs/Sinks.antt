@@ -15,8 +15,8 @@ use Rattle.tl_burst.specs.declared.message.MessageD.{MessageD}
 use Rattle.tl_burst.specs.Burst.{beats_of, beat_of, begun}
 use Rattle.tl_burst.specs.Messages.{History, channel_of, unfinished}
 use Rattle.tl_burst.proofs.Splitting.{beats-positive}
-use Rattle.tl_rules.specs.declared.config.Config.{Config}
-use Rattle.tl_rules.specs.declared.key.Key.TheVariants.{GrantSink}
+use Rattle.tl_params.specs.declared.config.Config.{Config}
+use Rattle.tl_params.specs.declared.key.Key.TheVariants.{GrantSink}
 use Rattle.tl_rules.specs.Agent.{sent}
 use Rattle.tl_rules.specs.Conformance.{Trace, on_link}
 use Rattle.tl_rules.specs.History.{begins, ends, pending, is_grant, is_acquire}
@@ -27,7 +27,7 @@ use Rattle.tl_manager.specs.Slave.{is_from_client}
 use Rattle.tl_manager.proofs.Handed.{IsWhole, after_sent, own_link, other_link, whole-after_sent}
 use Rattle.tl_manager.proofs.Lawful.{IsHandable}
 use Rattle.tl_manager.proofs.Lists.{each_weaker}
-use Rattle.tl_manager.proofs.Sent.{pending-sent_b, pending-sent_d}
+use Rattle.tl_rules.proofs.Handed.{pending-sent_b, pending-sent_d}
 
 -- the Acquire of this client that has this tracker
 abbrev pub grants_by : {w : ℕ} → ℕ → ℕ → Service w → Bool

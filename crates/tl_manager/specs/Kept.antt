@@ -15,7 +15,7 @@ use Rattle.tl_params.specs.declared.rule.Rule.{Rule}
 use Rattle.tl_params.specs.declared.rule.Rule.TheVariants.{L1}
 use Rattle.tl_rules.specs.Agent.{is_outside, is_spoiled}
 use Rattle.tl_rules.specs.History.{block_at, is_acquire, pending}
-use Rattle.tl_rules.specs.declared.key.Key.TheVariants.{GrantSink}
+use Rattle.tl_params.specs.declared.key.Key.TheVariants.{GrantSink}
 use Rattle.tl_rules.specs.Conformance.{on_link}
 use Rattle.tl_rules.specs.Legality.{illegal, illegal_message, is_one_of}
 use Rattle.tl_manager.specs.Handing.{Handed}

@@ -1,6 +1,7 @@
 pub mod Blocks
 pub mod Bursts
 pub mod Checks
+pub mod Handed
 pub mod Lanes
 pub mod Legal
 pub mod Masks

@@ -1,5 +1,6 @@
 -- What a history says after a message was handed out on a channel where nothing was unfinished.
-use Rattle.std.proofs.Common.{◌≡◌, ℕ, zero, suc, ◌+◌, ◌==◌, ◌<◌, Bool, true, false, cond, ◌&&◌, [], ◌∷◌, ◌++◌, Option, Some, None, refl, ◌∙◌, ap₂, arith}
+use Rattle.std.proofs.Common.{◌≡◌, ℕ, zero, suc, ◌+◌, ◌==◌, ◌<◌, ◌≤◌, Bool, true, false, cond, ◌&&◌, [], ◌∷◌, ◌++◌, Some, None, refl, ap₂, ◌∙◌, arith}
+use Rattle.std.specs.Prelude.{Option, if◌then◌else◌}
 use Rattle.std.proofs.lemmas.Bool.Decides.{nat_tests}
 use Rattle.tl_beat.specs.declared.beat.Beat.{Beat}
 use Rattle.tl_beat.specs.declared.beat.Beat.TheVariants as beat
@@ -13,8 +14,9 @@ use Rattle.tl_burst.specs.declared.message.MessageD.{MessageD}
 use Rattle.tl_burst.specs.Burst.{a_beat_of, beats_of, beat_of, begun}
 use Rattle.tl_burst.specs.Messages.{History, channel_of, on, burst_length, grown, unfinished}
 use Rattle.tl_burst.proofs.Begun.{length-begun}
-use Rattle.tl_rules.specs.declared.key.Key.{Key}
-use Rattle.tl_rules.specs.declared.key.Key.TheVariants as key
+use Rattle.tl_params.specs.declared.key.Key.{Key}
+use Rattle.tl_params.specs.declared.key.Key.TheVariants as key
+use Rattle.tl_params.specs.declared.perm.Perm.{Perm}
 use Rattle.tl_rules.specs.History.{begins, ends, opens, closes, pending, request_of, release_of, asks_for, is_grant, capped, says_held, or_perm, held}
 use Rattle.tl_rules.specs.Agent.{sent}
 
@@ -47,7 +49,7 @@ own_length (E m) i = refl
 
 -- ---- what is unfinished
 
-not_last : (i n : ℕ) → i + 1 < n → (i + 1 == n) ≡ false
+pub not_last : (i n : ℕ) → i + 1 < n → (i + 1 == n) ≡ false
 not_last i n lt = grind (arith, nat_tests)
 
 pub is_last : (i n : ℕ) → i + 1 ≡ n → (i + 1 == n) ≡ true
@@ -119,14 +121,102 @@ unfinished-sent_other ch m t off = other_at ch m t (beats_of m) off
 
 -- ---- where the message begins and ends
 
-begins-first : {w : ℕ} (m : Message w) (t : History w) → unfinished (channel_in m) t ≡ [] → begins (beat_of m 0) t ≡ true
+pub begins-first : {w : ℕ} (m : Message w) (t : History w) → unfinished (channel_in m) t ≡ [] → begins (beat_of m 0) t ≡ true
 begins-first m t none = rw none refl
 
-begins-later : {w : ℕ} (m : Message w) (t : History w) (i : ℕ) → unfinished (channel_in m) t ≡ [] → suc i < beats_of m → begins (beat_of m (suc i)) (begun m (suc i) ++ t) ≡ false
+pub begins-later : {w : ℕ} (m : Message w) (t : History w) (i : ℕ) → unfinished (channel_in m) t ≡ [] → suc i < beats_of m → begins (beat_of m (suc i)) (begun m (suc i) ++ t) ≡ false
 begins-later m t i none lt = rw (same_channel m (suc i), unfinished-begun m t (suc i) none lt) refl
 
-ends-at : {w : ℕ} (m : Message w) (t : History w) (i : ℕ) → unfinished (channel_in m) t ≡ [] → i < beats_of m → ends (beat_of m i) (begun m i ++ t) ≡ (i + 1 == beats_of m)
+pub ends-at : {w : ℕ} (m : Message w) (t : History w) (i : ℕ) → unfinished (channel_in m) t ≡ [] → i < beats_of m → ends (beat_of m i) (begun m i ++ t) ≡ (i + 1 == beats_of m)
 ends-at m t i none lt = rw (same_channel m i, unfinished-begun m t i none lt, length-begun m i, own_length m i) refl
+
+-- ---- what is pending
+
+-- the beats of the message close nothing of this key
+abbrev pub ClosesNothing : {w : ℕ} → Key → Message w → Type 0
+ClosesNothing {w} k m = (i : ℕ) (t : History w) → closes k (beat_of m i) t ≡ false
+
+opening : {w : ℕ} (k : Key) (x : Beat w) (t : History w) → begins x t ≡ true → closes k x t ≡ false → pending k (x ∷ t) ≡ cond (opens k x t) true (pending k t)
+unfolding pending
+opening k x t first none = go (ends x t)
+  where
+    go : (b : Bool) → cond (begins x t && opens k x t) true (cond (b && closes k x t) false (pending k t)) ≡ cond (opens k x t) true (pending k t)
+    go true = rw (first, none) refl
+    go false = rw first refl
+
+continuing : {w : ℕ} (k : Key) (x : Beat w) (t : History w) → begins x t ≡ false → closes k x t ≡ false → pending k (x ∷ t) ≡ pending k t
+unfolding pending
+continuing k x t later none = go (ends x t)
+  where
+    go : (b : Bool) → cond (begins x t && opens k x t) true (cond (b && closes k x t) false (pending k t)) ≡ pending k t
+    go true = rw (later, none) refl
+    go false = rw later refl
+
+opened_at : {w : ℕ} (k : Key) (m : Message w) (t : History w) (i : ℕ) → unfinished (channel_in m) t ≡ [] → ClosesNothing k m → i < beats_of m → pending k (begun m (suc i) ++ t) ≡ cond (opens k (beat_of m 0) t) true (pending k t)
+opened_at k m t zero none closes_none lt = opening k (beat_of m 0) t (begins-first m t none) (closes_none 0 t)
+opened_at k m t (suc i) none closes_none lt =
+    continuing k (beat_of m (suc i)) (begun m (suc i) ++ t) (begins-later m t i none lt) (closes_none (suc i) _) ∙ opened_at k m t i none closes_none (omega arith)
+
+opened_by : {w : ℕ} (k : Key) (m : Message w) (t : History w) (n : ℕ) → unfinished (channel_in m) t ≡ [] → ClosesNothing k m → 0 < n → n ≤ beats_of m → pending k (begun m n ++ t) ≡ cond (opens k (beat_of m 0) t) true (pending k t)
+opened_by k m t zero none closes_none pos le = absurd (omega arith)
+opened_by k m t (suc i) none closes_none pos le = opened_at k m t i none closes_none (omega arith)
+
+-- what a message opens is pending
+pub pending-sent : {w : ℕ} (k : Key) (m : Message w) (t : History w) → unfinished (channel_in m) t ≡ [] → ClosesNothing k m → 0 < beats_of m → pending k (sent m t) ≡ cond (opens k (beat_of m 0) t) true (pending k t)
+pending-sent k m t none closes_none pos = opened_by k m t (beats_of m) none closes_none pos (omega arith)
+
+-- ---- requests
+
+request_opened : {w : ℕ} (s : ℕ) (m : MessageA w) (t : History w) (i : ℕ) → unfinished channel.A t ≡ [] → i < beats_of (A m) → request_of s (begun (A m) (suc i) ++ t) ≡ cond (m.source == s) (Some (a_beat_of m 0)) (request_of s t)
+unfolding request_of
+request_opened s m t zero none lt = rw none refl
+request_opened s m t (suc i) none lt =
+    let later : begins (beat_of (A m) (suc i)) (begun (A m) (suc i) ++ t) ≡ false = begins-later (A m) t i none lt in
+    rw later (request_opened s m t i none (omega arith))
+
+request_by : {w : ℕ} (s : ℕ) (m : MessageA w) (t : History w) (n : ℕ) → unfinished channel.A t ≡ [] → 0 < n → n ≤ beats_of (A m) → request_of s (begun (A m) n ++ t) ≡ cond (m.source == s) (Some (a_beat_of m 0)) (request_of s t)
+request_by s m t zero none pos le = absurd (omega arith)
+request_by s m t (suc i) none pos le = request_opened s m t i none (omega arith)
+
+-- the request with a source is the one that was handed out with it last
+pub request_of-sent : {w : ℕ} (s : ℕ) (m : MessageA w) (t : History w) → unfinished channel.A t ≡ [] → 0 < beats_of (A m) → request_of s (sent (A m) t) ≡ cond (m.source == s) (Some (a_beat_of m 0)) (request_of s t)
+request_of-sent s m t none pos = request_by s m t (beats_of (A m)) none pos (omega arith)
+
+-- a request closes nothing
+pub request_closes_nothing : {w : ℕ} (k : Key) (m : MessageA w) → ClosesNothing k (A m)
+request_closes_nothing (key.RequestSource s) m i t = refl
+request_closes_nothing (key.ReleaseSource s) m i t = refl
+request_closes_nothing (key.AcquireOf b) m i t = refl
+request_closes_nothing (key.ReleaseOf b) m i t = refl
+request_closes_nothing (key.GrantSink s) m i t = refl
+request_closes_nothing (key.GrantAckOf b) m i t = refl
+request_closes_nothing (key.ProbeOf b) m i t = refl
+
+unasked : {w : ℕ} (s : ℕ) (x : Beat w) (t : History w) → on channel.A x ≡ false → request_of s (x ∷ t) ≡ request_of s t
+unfolding request_of
+unasked s (beat.A x) t off = absurd cc
+unasked s (beat.B x) t off = refl
+unasked s (beat.C x) t off = refl
+unasked s (beat.D x) t off = refl
+unasked s (beat.E x) t off = refl
+
+-- the first beats of a message of another channel are no request
+pub request_of-other : {w : ℕ} (s : ℕ) (m : Message w) (t : History w) (n : ℕ) → on channel.A (beat_of m 0) ≡ false → request_of s (begun m n ++ t) ≡ request_of s t
+request_of-other s m t zero off = refl
+request_of-other s m t (suc i) off = unasked s (beat_of m i) (begun m i ++ t) (off_other channel.A m i off) ∙ request_of-other s m t i off
+
+unreleased : {w : ℕ} (s : ℕ) (x : Beat w) (t : History w) → on channel.C x ≡ false → release_of s (x ∷ t) ≡ release_of s t
+unfolding release_of
+unreleased s (beat.A x) t off = refl
+unreleased s (beat.B x) t off = refl
+unreleased s (beat.C x) t off = absurd cc
+unreleased s (beat.D x) t off = refl
+unreleased s (beat.E x) t off = refl
+
+-- and those of another channel than C no Release
+pub release_of-other : {w : ℕ} (s : ℕ) (m : Message w) (t : History w) (n : ℕ) → on channel.C (beat_of m 0) ≡ false → release_of s (begun m n ++ t) ≡ release_of s t
+release_of-other s m t zero off = refl
+release_of-other s m t (suc i) off = unreleased s (beat_of m i) (begun m i ++ t) (off_other channel.C m i off) ∙ release_of-other s m t i off
 
 -- ---- what is held
 
@@ -184,103 +274,4 @@ says-at k m t i = rw (request_of-other m.source (D m) t i refl) refl
 
 -- a Grant makes what is held what its cap names
 pub held-sent_d : {w : ℕ} (k : ℕ) (m : MessageD w) (t : History w) → unfinished channel.D t ≡ [] → 0 < beats_of (D m) → held k (sent (D m) t) ≡ or_perm (says k m t) (held k t)
-held-sent_d k m t none pos = held_last k m t (beats_of (D m)) none pos refl
-
--- a message of channel D is no request
-pub request-sent_d : {w : ℕ} (s : ℕ) (m : MessageD w) (t : History w) → request_of s (sent (D m) t) ≡ request_of s t
-request-sent_d s m t = request_begun-d s m t (beats_of (D m))
-
-pub release_of-b : {w : ℕ} (s : ℕ) (m : MessageB w) (t : History w) (n : ℕ) → release_of s (begun (B m) n ++ t) ≡ release_of s t
-unfolding release_of
-release_of-b s m t zero = refl
-release_of-b s m t (suc i) = release_of-b s m t i
-
-pub release_of-d : {w : ℕ} (s : ℕ) (m : MessageD w) (t : History w) (n : ℕ) → release_of s (begun (D m) n ++ t) ≡ release_of s t
-unfolding release_of
-release_of-d s m t zero = refl
-release_of-d s m t (suc i) = release_of-d s m t i
-
--- ---- what is pending
-
--- what is pending once a beat opens and closes it, where that beat is the first, the last
-abbrev turned : Bool → Bool → Bool → Bool → Bool → Bool
-turned first opened last closed before = if first && opened then true else if last && closed then false else before
-
--- what is pending after a whole message, none of which may both open and close it
-abbrev pub after_whole : Bool → Bool → Bool → Bool
-after_whole opened closed before = if opened then true else if closed then false else before
-
-at_last : (opened closed before : Bool) → (opened && closed) ≡ false → turned false opened true closed (if opened then true else before) ≡ after_whole opened closed before
-at_last true true before e = absurd cc
-at_last true false before e = refl
-at_last false closed before e = refl
-
--- what the message closes doesn't change with its own beats, and it opens nothing else than it closes
-record IsSteady {w : ℕ} (k : Key) (m : Message w) (t : History w) : Type 0 where
-  closes_same : (i : ℕ) → closes k (beat_of m i) (begun m i ++ t) ≡ closes k (beat_of m 0) t
-  apart : (opens k (beat_of m 0) t && closes k (beat_of m 0) t) ≡ false
-
-begun_pending : {w : ℕ} (k : Key) (m : Message w) (t : History w) (n : ℕ) → unfinished (channel_in m) t ≡ [] → suc n < beats_of m → pending k (begun m (suc n) ++ t) ≡ (if opens k (beat_of m 0) t then true else pending k t)
-unfolding pending
-begun_pending k m t zero none lt =
-    let first = begins-first m t none in
-    let last : ends (beat_of m 0) t ≡ false = ends-at m t 0 none (omega arith) ∙ not_last 0 (beats_of m) (omega arith) in
-    rw (first, last) refl
-begun_pending k m t (suc n) none lt =
-    let later = begins-later m t n none (omega arith) in
-    let last : ends (beat_of m (suc n)) (begun m (suc n) ++ t) ≡ false = ends-at m t (suc n) none (omega arith) ∙ not_last (suc n) (beats_of m) (omega arith) in
-    rw (later, last) (begun_pending k m t n none (omega arith))
-
-whole_pending : {w : ℕ} (k : Key) (m : Message w) (t : History w) (n : ℕ) → IsSteady k m t → unfinished (channel_in m) t ≡ [] → suc n ≡ beats_of m → pending k (begun m (suc n) ++ t) ≡ after_whole (opens k (beat_of m 0) t) (closes k (beat_of m 0) t) (pending k t)
-unfolding pending
-whole_pending k m t zero steady none e =
-    let first = begins-first m t none in
-    let last : ends (beat_of m 0) t ≡ true = ends-at m t 0 none (omega arith) ∙ is_last 0 (beats_of m) (omega arith) in
-    rw (first, last) refl
-whole_pending k m t (suc n) steady none e =
-    let later = begins-later m t n none (omega arith) in
-    let last : ends (beat_of m (suc n)) (begun m (suc n) ++ t) ≡ true = ends-at m t (suc n) none (omega arith) ∙ is_last (suc n) (beats_of m) (omega arith) in
-    rw (later, last, steady.closes_same (suc n), begun_pending k m t n none (omega arith)) (at_last (opens k (beat_of m 0) t) (closes k (beat_of m 0) t) (pending k t) steady.apart)
-
-sent_pending : {w : ℕ} (k : Key) (m : Message w) (t : History w) (n : ℕ) → IsSteady k m t → unfinished (channel_in m) t ≡ [] → 0 < n → n ≡ beats_of m → pending k (begun m n ++ t) ≡ after_whole (opens k (beat_of m 0) t) (closes k (beat_of m 0) t) (pending k t)
-sent_pending k m t zero steady none pos e = absurd (omega arith)
-sent_pending k m t (suc n) steady none pos e = whole_pending k m t n steady none e
-
-never_both : (b : Bool) → (b && false) ≡ false
-never_both true = refl
-never_both false = refl
-
-steady-b : {w : ℕ} (k : Key) (m : MessageB w) (t : History w) → IsSteady k (B m) t
-steady-b (key.RequestSource s) m t = record { closes_same = λ i. refl; apart = refl }
-steady-b (key.ReleaseSource s) m t = record { closes_same = λ i. refl; apart = refl }
-steady-b (key.AcquireOf n) m t = record { closes_same = λ i. refl; apart = refl }
-steady-b (key.ReleaseOf n) m t = record { closes_same = λ i. refl; apart = refl }
-steady-b (key.GrantSink s) m t = record { closes_same = λ i. refl; apart = refl }
-steady-b (key.GrantAckOf n) m t = record { closes_same = λ i. refl; apart = refl }
-steady-b (key.ProbeOf n) m t = record { closes_same = λ i. refl; apart = never_both (opens (key.ProbeOf n) (beat_of (B m) 0) t) }
-
-steady-d : {w : ℕ} (k : Key) (m : MessageD w) (t : History w) → IsSteady k (D m) t
-steady-d (key.RequestSource s) m t = record { closes_same = λ i. refl; apart = refl }
-steady-d (key.ReleaseSource s) m t = record { closes_same = λ i. refl; apart = refl }
-steady-d (key.AcquireOf n) m t = record { closes_same = λ i. rw (request_begun-d m.source m t i) refl; apart = refl }
-steady-d (key.ReleaseOf n) m t = record { closes_same = λ i. rw (release_of-d m.source m t i) refl; apart = refl }
-steady-d (key.GrantSink s) m t = record { closes_same = λ i. refl; apart = never_both (opens (key.GrantSink s) (beat_of (D m) 0) t) }
-steady-d (key.GrantAckOf n) m t = record { closes_same = λ i. refl; apart = never_both (opens (key.GrantAckOf n) (beat_of (D m) 0) t) }
-steady-d (key.ProbeOf n) m t = record { closes_same = λ i. refl; apart = refl }
-
-closes_nothing-b : {w : ℕ} (k : Key) (m : MessageB w) (t : History w) → closes k (beat_of (B m) 0) t ≡ false
-closes_nothing-b (key.RequestSource s) m t = refl
-closes_nothing-b (key.ReleaseSource s) m t = refl
-closes_nothing-b (key.AcquireOf n) m t = refl
-closes_nothing-b (key.ReleaseOf n) m t = refl
-closes_nothing-b (key.GrantSink s) m t = refl
-closes_nothing-b (key.GrantAckOf n) m t = refl
-closes_nothing-b (key.ProbeOf n) m t = refl
-
--- what is pending after a Probe, and after an answer or a Grant
-pub pending-sent_b : {w : ℕ} (k : Key) (m : MessageB w) (t : History w) → unfinished channel.B t ≡ [] → 0 < beats_of (B m) → pending k (sent (B m) t) ≡ (if opens k (beat_of (B m) 0) t then true else pending k t)
-pending-sent_b k m t none pos =
-    sent_pending k (B m) t (beats_of (B m)) (steady-b k m t) none pos refl ∙ rw (closes_nothing-b k m t) refl
-
-pub pending-sent_d : {w : ℕ} (k : Key) (m : MessageD w) (t : History w) → unfinished channel.D t ≡ [] → 0 < beats_of (D m) → pending k (sent (D m) t) ≡ after_whole (opens k (beat_of (D m) 0) t) (closes k (beat_of (D m) 0) t) (pending k t)
-pending-sent_d k m t none pos = sent_pending k (D m) t (beats_of (D m)) (steady-d k m t) none pos refl
+held-sent_d k m t none pos = held_at_last k (D m) t (beats_of (D m)) (says k m t) none pos refl (says-at k m t)

@@ -41,22 +41,22 @@ use Rattle.tl_client.specs.Offer.{offered}
 
 -- ---- what happens to a client, and what it answers
 
-data Event : Type 0 where
-  Ask : Op 8 → Event
-  Offer : Channel → Beat 8 → Event
+data Event (w : ℕ) : Type 0 where
+  Ask : Op w → Event w
+  Offer : Channel → Beat w → Event w
 
 -- a reply, or the answer to a beat, with the message that is handed out
-data Answer : Type 0 where
-  Replied : Reply → Option (Message 8) → Answer
-  Judged : Verdict → Option (Message 8) → Answer
-  Refused : Rule → Answer
+data Answer (w : ℕ) : Type 0 where
+  Replied : Reply → Option (Message w) → Answer w
+  Judged : Verdict → Option (Message w) → Answer w
+  Refused : Rule → Answer w
 
-abbrev answer_to_beat : Result (Verdict × Option (Message 8)) Rule → Answer
+abbrev answer_to_beat : {w : ℕ} → Result (Verdict × Option (Message w)) Rule → Answer w
 answer_to_beat (Ok v) = Judged v.0 v.1
 answer_to_beat (Err rule) = Refused rule
 
 -- the answers to events, one after another
-unfoldable plays : Terms → End 8 → List Event → List Answer
+unfoldable plays : {w : ℕ} → Terms → End w → List (Event w) → List (Answer w)
 plays terms e [] = []
 plays terms e (Ask op ∷ events) = Replied (asked terms op e).reply (asked terms op e).message ∷ plays terms (asked terms op e).after events
 plays terms e (Offer ch x ∷ events) = answer_to_beat (offered terms ch x e).answer ∷ plays terms (offered terms ch x e).after events
@@ -109,54 +109,54 @@ get_from source size small = message.A (record { opcode = a.Get; param = 0; size
 
 -- ---- what is asked and what is offered
 
-abbrev load : Event
+abbrev load : Event 8
 load = Ask (Load 0 0)
 
-abbrev store : ℕ → Event
+abbrev store : ℕ → Event 8
 store byte = Ask (Store 0 0 byte)
 
 -- an access, the source of which is replaced
-abbrev get : (size : ℕ) → size ≤ 6 → Event
+abbrev get : (size : ℕ) → size ≤ 6 → Event 8
 get size small = Ask (Access (get_from 5 size small))
 
 -- a PutPartialData of two bytes at 7, of which one has a lane
-abbrev part : Event
+abbrev part : Event 8
 part = Ask (Access (message.A (record { opcode = a.PutPartialData; param = 0; size = 1; source = 0; address = 7; payload = replicate 7 0 ++ 17 ∷ replicate 56 0; mask = 128; corrupt = 0; small = lit≤ tt })))
 
 -- a ProbeBlock (0 toT, 1 toB, 2 toN)
-abbrev probe : ℕ → ℕ → Event
+abbrev probe : ℕ → ℕ → Event 8
 probe cap address = Offer channel.B (B (record { opcode = b.ProbeBlock; param = cap; size = 6; source = 0; address = address; mask = 255; lanes = None; corrupt = false; carries = refl }))
 
-abbrev forwarded_get : Event
+abbrev forwarded_get : Event 8
 forwarded_get = Offer channel.B (B (record { opcode = b.Get; param = 0; size = 3; source = 0; address = 0; mask = 255; lanes = None; corrupt = false; carries = refl }))
 
-abbrev release_ack : Event
+abbrev release_ack : Event 8
 release_ack = Offer channel.D (D (record { opcode = d.ReleaseAck; param = 0; size = 6; source = 0; sink = 0; denied = false; lanes = None; corrupt = false; carries = refl }))
 
 -- a Grant (0 toT, 1 toB)
-abbrev grant : ℕ → Event
+abbrev grant : ℕ → Event 8
 grant cap = Offer channel.D (D (record { opcode = d.Grant; param = cap; size = 6; source = 0; sink = 0; denied = false; lanes = None; corrupt = false; carries = refl }))
 
-abbrev grant_data : ℕ → ℕ → ℕ → Event
+abbrev grant_data : ℕ → ℕ → ℕ → Event 8
 grant_data cap source byte = Offer channel.D (D (record { opcode = d.GrantData; param = cap; size = 6; source = source; sink = 0; denied = false; lanes = Some (first_of 8 byte); corrupt = false; carries = refl }))
 
 -- the data of a Grant beat by beat
-abbrev grants : ℕ → ℕ → List Event
+abbrev grants : ℕ → ℕ → List (Event 8)
 grants cap byte = grant_data cap 0 byte ∷ replicate 7 (grant_data cap 0 0)
 
-abbrev access_data : ℕ → Event
+abbrev access_data : ℕ → Event 8
 access_data size = Offer channel.D (D (record { opcode = d.AccessAckData; param = 0; size = size; source = 0; sink = 0; denied = false; lanes = Some (first_of 8 0); corrupt = false; carries = refl }))
 
 -- ---- the answers
 
-abbrev started : Option (Message 8) → Answer
+abbrev started : Option (Message 8) → Answer 8
 started m = Replied (Started 0) m
 
-abbrev says : Reply → Answer
+abbrev says : Reply → Answer 8
 says reply = Replied reply None
 
 -- the answers to a burst of eight beats that grants this
-abbrev granted : Perm → List Answer
+abbrev granted : Perm → List (Answer 8)
 granted p = replicate 7 (Judged Taken None) ++ Judged (Done 0 (Granted p)) grant_ack ∷ []
 
 -- ---- a plain client
@@ -243,3 +243,34 @@ grant_of_another_source = refl
 answer_of_another_size : plays (caching 4) fresh (get 3 (lit≤ tt) ∷ access_data 2 ∷ []) ≡ started (Some (get_from 0 3 (lit≤ tt))) ∷ Refused H3 ∷ []
 unfolding plays asked busy offered least_free low_bytes bytes_carried number_from unfinished request_of release_of probe_of grant_sink pending held illegal first_illegal beats_from each_below broken_order
 answer_of_another_size = refl
+
+-- ---- the second profile
+
+-- Trunk for an NtoB, under both profiles
+trunk_refused : plays (caching 1) fresh (Ask (Acquire 0 NtoB) ∷ grant_data 0 0 0 ∷ []) ≡ started (acquire 0) ∷ Refused H6 ∷ []
+unfolding plays asked busy offered least_free low_bytes bytes_carried number_from unfinished request_of release_of probe_of grant_sink pending held illegal first_illegal beats_from each_below broken_order
+trunk_refused = refl
+
+trunk_granted : plays (record { level = level.C; profile = profile.Two; sources = 1; blocks = 1 }) fresh (Ask (Acquire 0 NtoB) ∷ (grants 0 0 ++ store 90 ∷ load ∷ []))
+    ≡ started (acquire 0) ∷ (granted Trunk ++ says Stored ∷ says (Value 90) ∷ [])
+unfolding plays asked busy offered least_free low_bytes bytes_carried number_from unfinished request_of release_of probe_of grant_sink pending held illegal first_illegal beats_from each_below broken_order
+trunk_granted = refl
+
+-- ---- other widths
+
+-- a beat of GrantData toT
+abbrev wide_grant : (w : ℕ) → Event w
+wide_grant w = Offer channel.D (D (record { opcode = d.GrantData; param = 0; size = 6; source = 0; sink = 0; denied = false; lanes = Some (replicate w 0); corrupt = false; carries = refl }))
+
+abbrev wide_acquire : (w mask : ℕ) → Option (Message w)
+wide_acquire w mask = Some (message.A (record { opcode = a.AcquireBlock; param = 1; size = 6; source = 0; address = 0; payload = replicate 64 0; mask = mask; corrupt = 0; small = lit≤ tt }))
+
+granted_in_sixteen_beats : plays {w = 4} (caching 1) fresh (Ask (Acquire 0 NtoT) ∷ replicate 16 (wide_grant 4))
+    ≡ Replied (Started 0) (wide_acquire 4 15) ∷ (replicate 15 (Judged Taken None) ++ Judged (Done 0 (Granted Trunk)) (Some (message.E (record { sink = 0 }))) ∷ [])
+unfolding plays asked busy offered least_free low_bytes bytes_carried number_from unfinished request_of release_of probe_of grant_sink pending held illegal first_illegal beats_from each_below broken_order
+granted_in_sixteen_beats = refl
+
+granted_in_four_beats : plays {w = 16} (caching 1) fresh (Ask (Acquire 0 NtoT) ∷ replicate 4 (wide_grant 16))
+    ≡ Replied (Started 0) (wide_acquire 16 65535) ∷ (replicate 3 (Judged Taken None) ++ Judged (Done 0 (Granted Trunk)) (Some (message.E (record { sink = 0 }))) ∷ [])
+unfolding plays asked busy offered least_free low_bytes bytes_carried number_from unfinished request_of release_of probe_of grant_sink pending held illegal first_illegal beats_from each_below broken_order
+granted_in_four_beats = refl

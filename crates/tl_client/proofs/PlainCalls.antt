@@ -30,9 +30,11 @@ use Rattle.tl_client.specs.declared.operation.Op.TheVariants.{Access}
 use Rattle.tl_client.specs.declared.requests.Request.{Request}
 use Rattle.tl_client.specs.declared.verdict.Verdict.TheVariants.{Done}
 use Rattle.tl_client.specs.Offer.{finish_of}
-use Rattle.tl_client.specs.Plain.{access_in, started_by, is_first, response_rule, order_rule, plain_verdict, ends_request, message_verdict, closes_request, IsWhole, address_in}
-use Rattle.tl_rules.proofs.Sent.{is_last}
-use Rattle.tl_rules.proofs.Payload.{payload-d}
+use Rattle.tl_client.specs.Plain.{access_in, started_by, is_first_part, response_rule, order_rule, plain_verdict, ends_request, message_verdict, closes_request, IsWhole, address_in}
+use Rattle.tl_client.proofs.Sent.{is_last}
+use Rattle.tl_client.proofs.Payload.{payload_of-burst}
+use Rattle.tl_client.proofs.PlainRules.{legal_size}
+use Rattle.tl_client.proofs.Verdicts.{no_rule}
 
 -- ---- what starts
 
@@ -44,7 +46,7 @@ access_started l blocks op free m x s small is good at_s =
 
 -- ---- what is refused
 
-parts_first : (b c d : Bool) (part : Part) → Ok part ≡ cond b (Err broken.S1) (Ok (place c d)) → (b ≡ false) × (is_first part ≡ c)
+parts_first : (b c d : Bool) (part : Part) → Ok part ≡ cond b (Err broken.S1) (Ok (place c d)) → (b ≡ false) × (is_first_part part ≡ c)
 parts_first true c d part e = absurd cc
 parts_first false true true part e = let is : part ≡ Only = cc in rw is (refl, refl)
 parts_first false true false part e = let is : part ≡ First = cc in rw is (refl, refl)
@@ -52,7 +54,7 @@ parts_first false false true part e = let is : part ≡ Last = cc in rw is (refl
 parts_first false false false part e = let is : part ≡ Middle = cc in rw is (refl, refl)
 
 -- what the beat is to its burst
-pub first_of_burst : {w : ℕ} (x : Beat w) (burst : List (Beat w)) (part : Part) → Ok part ≡ part_of x burst → (breaks_burst x burst ≡ false) × (is_first part ≡ is_empty burst)
+pub first_of_burst : {w : ℕ} (x : Beat w) (burst : List (Beat w)) (part : Part) → Ok part ≡ part_of x burst → (breaks_burst x burst ≡ false) × (is_first_part part ≡ is_empty burst)
 first_of_burst x burst part e = parts_first (breaks_burst x burst) (is_empty burst) (completes x burst) part e
 
 some_rule : (o rest : Option Rule) (r : Rule) → Err r ≡ verdict o → verdict (or_else o rest) ≡ Err r
@@ -60,7 +62,7 @@ some_rule None rest r e = absurd cc
 some_rule (Some s) rest r e = sym e
 
 -- the rule of a first beat
-pub judged_first : {w : ℕ} (x : BeatD w) (request : Option Request) (burst : List (Beat w)) (part : Part) (r : Rule) → Ok part ≡ part_of (beat.D x) burst → is_first part ≡ true → Err r ≡ verdict (response_rule x request) → verdict (order_rule x request burst) ≡ Err r
+pub judged_first : {w : ℕ} (x : BeatD w) (request : Option Request) (burst : List (Beat w)) (part : Part) (r : Rule) → Ok part ≡ part_of (beat.D x) burst → is_first_part part ≡ true → Err r ≡ verdict (response_rule x request) → verdict (order_rule x request burst) ≡ Err r
 judged_first x request burst part r is first broken =
     let empty : is_empty burst ≡ true = sym (first_of_burst (beat.D x) burst part is).1 ∙ first in
     rw empty (some_rule (response_rule x request) _ r broken)

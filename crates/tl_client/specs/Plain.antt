@@ -53,10 +53,10 @@ started_by l blocks free _ = Err B4
 -- ---- beats, given the asked requests and the unfinished burst of channel D
 
 -- a beat that is this to its burst is the first one
-abbrev pub is_first : Part → Bool
-is_first First = true
-is_first Only = true
-is_first _ = false
+abbrev pub is_first_part : Part → Bool
+is_first_part First = true
+is_first_part Only = true
+is_first_part _ = false
 
 -- the H rule that the first beat of a response to this request breaks
 abbrev pub response_rule : {w : ℕ} → BeatD w → Option Request → Option Rule

@@ -6,8 +6,7 @@ ghost use Rattle.tl_burst.specs.Messages.{breaks_burst, grown};
 ghost use Rattle.tl_burst.specs.Part.{IsTakeable};
 ghost use Rattle.tl_rules.specs.Legality.{verdict, has_transfers};
 ghost use Rattle.tl_client.specs.Ask.{least_free};
-ghost use Rattle.tl_client.specs.Plain.{started_by, order_rule, plain_rule, plain_verdict, ends_request, message_verdict, closes_request, IsWhole};
-ghost use Rattle.tl_client.specs.Plain as plain;
+ghost use Rattle.tl_client.specs.Plain.{started_by, is_first_part, order_rule, plain_rule, plain_verdict, ends_request, message_verdict, closes_request, IsWhole};
 ghost use Rattle.tl_client.specs.Requests.{request_at};
 ghost use Rattle.tl_client.specs.Width.{IsWidth-prop};
 
@@ -37,9 +36,12 @@ use tl_rules::rule::Rule;
 pub struct Plain<const W: usize> {
     config: ClientConfig,
     blocks: u16,
+    /// That of its link. Accesses are answered alike under each.
     profile: Profile,
     requests: Requests,
+    /// The beats of channel D.
     responses: Assembler<W>,
+    /// A beat was refused.
     closed: bool,
     ghost width: { IsWidth W } by { IsWidth-prop W },
     ghost accesses: { has_transfers config.level ≡ false },
@@ -48,7 +50,7 @@ pub struct Plain<const W: usize> {
 
 /// Whether a beat is the first of its burst.
 fn is_first(part: Part) -> bool
-    ensures { result ≡ plain.is_first part }
+    ensures { result ≡ is_first_part part }
 {
     matches!(part, Part::First | Part::Only)
 }

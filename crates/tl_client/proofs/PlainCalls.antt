@@ -31,10 +31,8 @@ use Rattle.tl_client.specs.declared.requests.Request.{Request}
 use Rattle.tl_client.specs.declared.verdict.Verdict.TheVariants.{Done}
 use Rattle.tl_client.specs.Offer.{finish_of}
 use Rattle.tl_client.specs.Plain.{access_in, started_by, is_first_part, response_rule, order_rule, plain_verdict, ends_request, message_verdict, closes_request, IsWhole, address_in}
-use Rattle.tl_client.proofs.Sent.{is_last}
-use Rattle.tl_client.proofs.Payload.{payload_of-burst}
-use Rattle.tl_client.proofs.PlainRules.{legal_size}
-use Rattle.tl_client.proofs.Verdicts.{no_rule}
+use Rattle.tl_rules.proofs.Sent.{is_last}
+use Rattle.tl_rules.proofs.Payload.{payload-d}
 
 -- ---- what starts
 

@@ -252,7 +252,7 @@ pub record SpelledData (w : ℕ) (p : List ℕ) (lanes : Option (List ℕ)) : Ty
   pub spelled : p ≡ lanes_text lanes
   pub are_lanes : AreLanes w lanes
 
-is_dash-true : (p : List ℕ) → is_dash p ≡ true → p ≡ 45 ∷ []
+pub is_dash-true : (p : List ℕ) → is_dash p ≡ true → p ≡ 45 ∷ []
 is_dash-true [] e = absurd cc
 is_dash-true (c ∷ []) e = rw (eqb-true c 45 e) refl
 is_dash-true (c ∷ d ∷ cs) e = absurd cc

@@ -7,6 +7,10 @@ pub mod Spaces
 pub mod LineAt
 pub mod Faults
 pub mod DigitLaws
+pub mod DigitTable
+pub mod AtPlaces
+pub mod VectorLanes
 pub mod SpelledLaws
 pub mod ReadLaws
+pub mod WellSpelled
 pub mod Written

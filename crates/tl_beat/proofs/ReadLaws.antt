@@ -26,14 +26,14 @@ use Rattle.tl_beat.proofs.DigitLaws.{number_in-ok, bit_in-ok, data_in-ok}
 use Rattle.tl_beat.specs.Names.{letter_of}
 use Rattle.tl_beat.proofs.SpelledLaws.{a_code-with, b_code-with, c_code-with, d_code-with, mask-below}
 
-abbrev ok_of : {A : Type 0} → A → Result A LineFault
+abbrev pub ok_of : {A : Type 0} → A → Result A LineFault
 ok_of x = Ok x
 
-ok_is : {A : Type 0} {x y : A} → ok_of x ≡ ok_of y → x ≡ y
+pub ok_is : {A : Type 0} {x y : A} → ok_of x ≡ ok_of y → x ≡ y
 ok_is e = cc
 
 -- a step that was read, and what was read after it
-ok_step : {A B : Type 0} (m : Result A LineFault) (more : A → Result B LineFault) (r : B) (P : Type 0) → (m >>= more) ≡ Ok r → ((v : A) → m ≡ Ok v → more v ≡ Ok r → P) → P
+pub ok_step : {A B : Type 0} (m : Result A LineFault) (more : A → Result B LineFault) (r : B) (P : Type 0) → (m >>= more) ≡ Ok r → ((v : A) → m ≡ Ok v → more v ≡ Ok r → P) → P
 ok_step (Ok v) more r P e then = then v refl e
 ok_step (Err f) more r P e then = absurd cc
 
@@ -404,7 +404,7 @@ reading_fields-are {w} fs link x width e = go (nat_lt (length fs) 2) e
     go true f = absurd cc
     go false f = reading_on-fields fs link x (channel_named (field fs 1)) width refl f
 
-two_true : (a b : Bool) → (a && b) ≡ true → (a ≡ true) × (b ≡ true)
+pub two_true : (a b : Bool) → (a && b) ≡ true → (a ≡ true) × (b ≡ true)
 two_true true b e = (refl, e)
 two_true false b e = absurd cc
 

@@ -17,6 +17,9 @@ use Rattle.tl_beat.specs.Reading.{◌>>=◌, made_a, made_b, made_c, made_d, lin
 abbrev pub digit_of : ℕ → Option ℕ
 digit_of c = if is_digit c then Some (digit_value c) else None
 
+abbrev pub value_or_16 : ℕ → ℕ
+value_or_16 c = if is_digit c then digit_value c else 16
+
 abbrev pub value_or_fault : Option ℕ → List ℕ → Result (ℕ × List ℕ) LineFault
 value_or_fault None rest = Err F3
 value_or_fault (Some d) rest = Ok (d, rest)

@@ -1,5 +1,5 @@
 -- A line written from left to right, as the code goes; only private clauses cite this.
-use Rattle.std.specs.Prelude.{ℕ, ◌/◌, Bool, List, [], ◌∷◌, ◌++◌, Option}
+use Rattle.std.specs.Prelude.{ℕ, Bool, List, ◌∷◌, ◌++◌, Option}
 use Rattle.tl_beat.specs.Digits.{digits, lanes_text, bit_text}
 
 -- a space, and a number of n digits

@@ -6,7 +6,7 @@ ghost use Rattle.tl_beat.specs.Opcode.{a_carries_data, b_carries_data, c_carries
 use crate::opcode::{OpA, OpB, OpC, OpD};
 
 /// The number of a link.
-#[derive(Clone, Copy, Debug, PartialEq, Eq)]
+#[derive(Clone, Copy, Debug, Default, PartialEq, Eq)]
 pub struct Link(pub u8);
 
 /// A beat of channel A. `size` is the base-2 logarithm of the number of bytes, lane `i` of `lanes`

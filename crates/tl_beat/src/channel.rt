@@ -1,13 +1,13 @@
 //! Reading the line of each channel.
 
-ghost use Rattle.std.specs.Prelude.{◌≡◌, ◌<◌, ◌/◌, ◌^◌, IfOk, drop};
+ghost use Rattle.std.specs.Prelude.{◌≡◌, ◌<◌, ◌/◌, ◌^◌, IfOk, IfSome, Ok, drop};
 ghost use Rattle.tl_beat.specs.FromLeft.{head_at, line_a_at, line_b_at, line_c_at, line_d_at, line_e_at, Gives};
 ghost use Rattle.tl_beat.specs.Reading.{made_a, made_b, made_c, made_d, at_most};
 ghost use Rattle.tl_beat.specs.Width.{IsWidth};
 
 use crate::beat::{Beat, BeatA, BeatB, BeatC, BeatD, BeatE, Link};
 use crate::fault::LineFault;
-use crate::field::{bit_field, byte, digits, mask, nibble, number, tail};
+use crate::field::{address, bit_field, byte, digits, mask, nibble, tail, value};
 use crate::opcode::{OpA, OpB, OpC, OpD};
 
 /// The fields that lines of channels A to D begin with, but for the letter.
@@ -27,8 +27,55 @@ fn without_letter(bytes: &[u8]) -> &[u8]
     if bytes.len() < 2 { &[] } else { &bytes[2..] }
 }
 
+/// The first fields of a line, each at its place.
+#[inline(always)]
+fn spelled_head(bytes: &[u8]) -> Option<(Head, &[u8])>
+    ensures { IfSome result (λ head. head_at bytes.now ≡ Ok (head.0, head.1.now)) }
+{
+    match bytes {
+        [
+            l1,
+            l0,
+            b' ',
+            _,
+            _,
+            o,
+            b' ',
+            p,
+            b' ',
+            z,
+            b' ',
+            s1,
+            s0,
+            b' ',
+            rest @ ..,
+        ] => {
+            let (l1, l0, s1, s0) = (value(*l1), value(*l0), value(*s1), value(*s0));
+            let (opcode, param, size) = (value(*o), value(*p), value(*z));
+            let link_is = (l1 < 16) & (l0 < 16);
+            let source_is = (s1 < 16) & (s0 < 16);
+            let rest_is = (opcode < 16) & (param < 16) & (size < 16);
+            if !(link_is & source_is & rest_is) {
+                return None;
+            }
+            let head = Head {
+                link: 16 * l1 + l0,
+                opcode,
+                param,
+                size,
+                source: 16 * s1 + s0,
+            };
+            Some((head, rest))
+        }
+        _ => None,
+    }
+}
+
+/// The first fields of a line, from left to right.
+#[cold]
+#[inline(never)]
 #[tactic(auto, unfolding(crate::specs::FromLeft::head_at))]
-fn read_head(bytes: &[u8]) -> Result<(Head, &[u8]), LineFault>
+fn any_head(bytes: &[u8]) -> Result<(Head, &[u8]), LineFault>
     ensures { Gives result (head_at bytes.now) }
 {
     let (link, rest) = byte(bytes)?;
@@ -46,6 +93,16 @@ fn read_head(bytes: &[u8]) -> Result<(Head, &[u8]), LineFault>
     Ok((head, rest))
 }
 
+#[inline(always)]
+fn read_head(bytes: &[u8]) -> Result<(Head, &[u8]), LineFault>
+    ensures { Gives result (head_at bytes.now) }
+{
+    match spelled_head(bytes) {
+        Some(read) => Ok(read),
+        None => any_head(bytes),
+    }
+}
+
 fn at_most(param: u8, greatest: u8) -> Result<u8, LineFault>
     ensures { result ≡ at_most greatest param }
 {
@@ -55,6 +112,7 @@ fn at_most(param: u8, greatest: u8) -> Result<u8, LineFault>
     Ok(param)
 }
 
+#[inline(always)]
 fn beat_a<const W: usize>(
     head: Head,
     address: u32,
@@ -81,6 +139,7 @@ fn beat_a<const W: usize>(
     })
 }
 
+#[inline(always)]
 fn beat_b<const W: usize>(
     head: Head,
     address: u32,
@@ -107,6 +166,7 @@ fn beat_b<const W: usize>(
     })
 }
 
+#[inline(always)]
 fn beat_c<const W: usize>(
     head: Head,
     address: u32,
@@ -131,6 +191,7 @@ fn beat_c<const W: usize>(
     })
 }
 
+#[inline(always)]
 fn beat_d<const W: usize>(
     head: Head,
     sink: u8,
@@ -159,12 +220,13 @@ fn beat_d<const W: usize>(
 
 /// The line of a beat of channel A, without its line feed.
 #[tactic(auto, unfolding(crate::specs::FromLeft::line_a_at))]
+#[inline(always)]
 pub(crate) fn line_a<const W: usize>(bytes: &[u8]) -> Result<(Link, Beat<W>), LineFault>
     requires { IsWidth W }
     ensures { result ≡ line_a_at bytes.now }
 {
     let (head, rest) = read_head(bytes)?;
-    let (address, rest) = number(rest, 8)?;
+    let (address, rest) = address(rest)?;
     let (mask, rest) = mask::<W>(rest)?;
     let tail = tail(rest)?;
     let beat = beat_a(head, address, mask, tail)?;
@@ -173,12 +235,13 @@ pub(crate) fn line_a<const W: usize>(bytes: &[u8]) -> Result<(Link, Beat<W>), Li
 
 /// The line of a beat of channel B, without its line feed.
 #[tactic(auto, unfolding(crate::specs::FromLeft::line_b_at))]
+#[inline(always)]
 pub(crate) fn line_b<const W: usize>(bytes: &[u8]) -> Result<(Link, Beat<W>), LineFault>
     requires { IsWidth W }
     ensures { result ≡ line_b_at bytes.now }
 {
     let (head, rest) = read_head(bytes)?;
-    let (address, rest) = number(rest, 8)?;
+    let (address, rest) = address(rest)?;
     let (mask, rest) = mask::<W>(rest)?;
     let tail = tail(rest)?;
     let beat = beat_b(head, address, mask, tail)?;
@@ -187,12 +250,13 @@ pub(crate) fn line_b<const W: usize>(bytes: &[u8]) -> Result<(Link, Beat<W>), Li
 
 /// The line of a beat of channel C, without its line feed.
 #[tactic(auto, unfolding(crate::specs::FromLeft::line_c_at))]
+#[inline(always)]
 pub(crate) fn line_c<const W: usize>(bytes: &[u8]) -> Result<(Link, Beat<W>), LineFault>
     requires { IsWidth W }
     ensures { result ≡ line_c_at bytes.now }
 {
     let (head, rest) = read_head(bytes)?;
-    let (address, rest) = number(rest, 8)?;
+    let (address, rest) = address(rest)?;
     let tail = tail(rest)?;
     let beat = beat_c(head, address, tail)?;
     Ok((Link(head.link), Beat::C(beat)))
@@ -200,6 +264,7 @@ pub(crate) fn line_c<const W: usize>(bytes: &[u8]) -> Result<(Link, Beat<W>), Li
 
 /// The line of a beat of channel D, without its line feed.
 #[tactic(auto, unfolding(crate::specs::FromLeft::line_d_at))]
+#[inline(always)]
 pub(crate) fn line_d<const W: usize>(bytes: &[u8]) -> Result<(Link, Beat<W>), LineFault>
     requires { IsWidth W }
     ensures { result ≡ line_d_at bytes.now }
@@ -214,6 +279,7 @@ pub(crate) fn line_d<const W: usize>(bytes: &[u8]) -> Result<(Link, Beat<W>), Li
 
 /// The line of a beat of channel E, without its line feed.
 #[tactic(auto, unfolding(crate::specs::FromLeft::line_e_at))]
+#[inline(always)]
 pub(crate) fn line_e<const W: usize>(bytes: &[u8]) -> Result<(Link, Beat<W>), LineFault>
     ensures { result ≡ line_e_at bytes.now }
 {

@@ -1,21 +1,44 @@
 //! Reading the fields of a line from left to right.
 
-ghost use Rattle.std.specs.Prelude.{◌≡◌, ◌≤◌, ◌<◌, ◌^◌, ◌*◌, ◌/◌, ℕ, [], IfOk};
-ghost use Rattle.tl_beat.specs.FromLeft.{digit_of, digit_at, digits_at, space_at, field_at, bit_of_byte, bit_field_at, pair_at, lanes_at, data_at, tail_at, Gives, GivesRest};
+ghost use Rattle.std.specs.Prelude.{◌≡◌, ◌≤◌, ◌<◌, ◌^◌, ◌*◌, ◌/◌, ℕ, [], IfOk, IfSome, Ok, ◌+◌, ◌++◌, length, take, drop};
+ghost use Rattle.tl_beat.specs.FromLeft.{digit_of, digit_at, digits_at, space_at, field_at, bit_of_byte, bit_field_at, pair_at, lanes_at, value_or_16, data_at, tail_at, Gives, GivesRest};
 ghost use Rattle.tl_beat.specs.Width.{IsWidth};
 
 use crate::fault::LineFault;
+use crate::lanes::eight_lanes;
 
+/// The value of each byte as a digit, or 16 where it is none.
+const VALUES: [u8; 256] = [
+    16, 16, 16, 16, 16, 16, 16, 16, 16, 16, 16, 16, 16, 16, 16, 16, 16, 16, 16, 16, 16, 16, 16, 16,
+    16, 16, 16, 16, 16, 16, 16, 16, 16, 16, 16, 16, 16, 16, 16, 16, 16, 16, 16, 16, 16, 16, 16, 16,
+    0, 1, 2, 3, 4, 5, 6, 7, 8, 9, 16, 16, 16, 16, 16, 16, 16, 16, 16, 16, 16, 16, 16, 16, 16, 16,
+    16, 16, 16, 16, 16, 16, 16, 16, 16, 16, 16, 16, 16, 16, 16, 16, 16, 16, 16, 16, 16, 16, 16, 10,
+    11, 12, 13, 14, 15, 16, 16, 16, 16, 16, 16, 16, 16, 16, 16, 16, 16, 16, 16, 16, 16, 16, 16, 16,
+    16, 16, 16, 16, 16, 16, 16, 16, 16, 16, 16, 16, 16, 16, 16, 16, 16, 16, 16, 16, 16, 16, 16, 16,
+    16, 16, 16, 16, 16, 16, 16, 16, 16, 16, 16, 16, 16, 16, 16, 16, 16, 16, 16, 16, 16, 16, 16, 16,
+    16, 16, 16, 16, 16, 16, 16, 16, 16, 16, 16, 16, 16, 16, 16, 16, 16, 16, 16, 16, 16, 16, 16, 16,
+    16, 16, 16, 16, 16, 16, 16, 16, 16, 16, 16, 16, 16, 16, 16, 16, 16, 16, 16, 16, 16, 16, 16, 16,
+    16, 16, 16, 16, 16, 16, 16, 16, 16, 16, 16, 16, 16, 16, 16, 16, 16, 16, 16, 16, 16, 16, 16, 16,
+    16, 16, 16, 16, 16, 16, 16, 16, 16, 16, 16, 16, 16, 16,
+];
+
+/// The value of a digit, or 16.
+#[inline(always)]
+pub(crate) fn value(byte: u8) -> u8
+    ensures { result ≡ value_or_16 byte }
+{
+    VALUES[usize::from(byte)]
+}
+
+#[inline(always)]
 fn digit(byte: u8) -> Option<u8>
     ensures { result ≡ digit_of byte }
 {
-    match byte {
-        b'0'..=b'9' => Some(byte - b'0'),
-        b'a'..=b'f' => Some(byte - b'a' + 10),
-        _ => None,
-    }
+    let value = value(byte);
+    if value < 16 { Some(value) } else { None }
 }
 
+#[inline(always)]
 fn digit_front(bytes: &[u8]) -> Result<(u8, &[u8]), LineFault>
     ensures gives { Gives result (digit_at bytes.now) }
     ensures below { IfOk result (λ x. x.0 < 16) }
@@ -30,6 +53,7 @@ fn digit_front(bytes: &[u8]) -> Result<(u8, &[u8]), LineFault>
 }
 
 /// A number of `count` digits at the front, and what stands behind it.
+#[inline(always)]
 pub(crate) fn digits(bytes: &[u8], count: u8) -> Result<(u32, &[u8]), LineFault>
     requires { count ≤ 8 }
     ensures gives { Gives result (digits_at 0 count bytes.now) }
@@ -45,6 +69,7 @@ pub(crate) fn digits(bytes: &[u8], count: u8) -> Result<(u32, &[u8]), LineFault>
     Ok((number, rest))
 }
 
+#[inline(always)]
 fn space(bytes: &[u8]) -> Result<&[u8], LineFault>
     ensures { GivesRest result (space_at bytes.now) }
 {
@@ -55,7 +80,8 @@ fn space(bytes: &[u8]) -> Result<&[u8], LineFault>
 }
 
 /// A number of `count` digits and a space at the front.
-pub(crate) fn number(bytes: &[u8], count: u8) -> Result<(u32, &[u8]), LineFault>
+#[inline(always)]
+fn number(bytes: &[u8], count: u8) -> Result<(u32, &[u8]), LineFault>
     requires { count ≤ 8 }
     ensures gives { Gives result (field_at count bytes.now) }
     ensures below { IfOk result (λ x. x.0 < 16 ^ count) }
@@ -75,6 +101,7 @@ pub(crate) fn nibble(bytes: &[u8]) -> Result<(u8, &[u8]), LineFault>
 }
 
 /// A number of two digits and a space.
+#[inline(always)]
 pub(crate) fn byte(bytes: &[u8]) -> Result<(u8, &[u8]), LineFault>
     ensures { Gives result (field_at 2 bytes.now) }
 {
@@ -82,7 +109,49 @@ pub(crate) fn byte(bytes: &[u8]) -> Result<(u8, &[u8]), LineFault>
     Ok((number as u8, rest))
 }
 
+/// Eight digits and a space, each at its place.
+#[inline(always)]
+fn eight_digits(bytes: &[u8]) -> Option<(u32, &[u8])>
+    ensures { IfSome result (λ read. field_at 8 bytes.now ≡ Ok (read.0, read.1.now)) }
+{
+    match bytes {
+        [a, b, c, d, e, f, g, h, b' ', rest @ ..] => {
+            let (a, b, c, d) = (value(*a), value(*b), value(*c), value(*d));
+            let (e, f, g, h) = (value(*e), value(*f), value(*g), value(*h));
+            let first_are = (a < 16) & (b < 16) & (c < 16) & (d < 16);
+            let last_are = (e < 16) & (f < 16) & (g < 16) & (h < 16);
+            if !(first_are & last_are) {
+                return None;
+            }
+            let bytes = [16 * a + b, 16 * c + d, 16 * e + f, 16 * g + h];
+            Some((u32::from_be_bytes(bytes), rest))
+        }
+        _ => None,
+    }
+}
+
+/// A number of eight digits and a space, from left to right.
+#[cold]
+#[inline(never)]
+fn any_eight_digits(bytes: &[u8]) -> Result<(u32, &[u8]), LineFault>
+    ensures { Gives result (field_at 8 bytes.now) }
+{
+    number(bytes, 8)
+}
+
+/// An address of eight digits and a space.
+#[inline(always)]
+pub(crate) fn address(bytes: &[u8]) -> Result<(u32, &[u8]), LineFault>
+    ensures { Gives result (field_at 8 bytes.now) }
+{
+    match eight_digits(bytes) {
+        Some(read) => Ok(read),
+        None => any_eight_digits(bytes),
+    }
+}
+
 /// A mask of `W` bits and a space.
+#[inline(always)]
 pub(crate) fn mask<const W: usize>(bytes: &[u8]) -> Result<(u16, &[u8]), LineFault>
     requires { IsWidth W }
     ensures gives { Gives result (field_at (W / 4) bytes.now) }
@@ -103,6 +172,7 @@ fn bit(byte: u8) -> Result<bool, LineFault>
 }
 
 /// A bit and a space.
+#[inline(always)]
 pub(crate) fn bit_field(bytes: &[u8]) -> Result<(bool, &[u8]), LineFault>
     ensures { Gives result (bit_field_at bytes.now) }
 {
@@ -116,19 +186,25 @@ pub(crate) fn bit_field(bytes: &[u8]) -> Result<(bool, &[u8]), LineFault>
     }
 }
 
+#[inline(always)]
 fn pair(bytes: &[u8]) -> Result<(u8, &[u8]), LineFault>
     ensures { Gives result (pair_at bytes.now) }
 {
     match bytes {
-        [high, low, rest @ ..] => match (digit(*high), digit(*low)) {
-            (Some(high), Some(low)) => Ok((16 * high + low, rest)),
-            _ => Err(LineFault::F3),
-        },
+        [high, low, rest @ ..] => {
+            let (high, low) = (value(*high), value(*low));
+            if high < 16 && low < 16 {
+                return Ok((16 * high + low, rest));
+            }
+            Err(LineFault::F3)
+        }
         _ => Err(LineFault::F3),
     }
 }
 
-fn lanes<const W: usize>(field: &[u8]) -> Result<[u8; W], LineFault>
+/// Lanes by pairs of digits.
+#[inline(never)]
+fn any_lanes<const W: usize>(field: &[u8]) -> Result<[u8; W], LineFault>
     ensures { result ≡ lanes_at [] W field.now }
 {
     let mut lanes = [0u8; W];
@@ -144,7 +220,45 @@ fn lanes<const W: usize>(field: &[u8]) -> Result<[u8; W], LineFault>
     Ok(lanes)
 }
 
+#[inline(always)]
+fn put_eight(lanes: &mut [u8], at: usize, eight: &[u8; 8])
+    requires { at + 8 ≤ length lanes.old }
+    ensures { lanes.new ≡ take at lanes.old ++ (eight.now ++ drop (at + 8) lanes.old) }
+{
+    lanes[at..at + 8].copy_from_slice(eight);
+}
+
+/// Eight lanes at a time.
+#[inline(always)]
+fn spelled_lanes<const W: usize>(field: &[u8]) -> Option<[u8; W]>
+    requires { IsWidth W }
+    ensures { IfSome result (λ lanes. lanes_at [] W field.now ≡ Ok lanes) }
+{
+    if W < 8 || field.len() != 2 * W {
+        return None;
+    }
+    let mut lanes = [0u8; W];
+    for i in 0..W / 8 {
+        let eight = eight_lanes(&field[16 * i..16 * i + 16])?;
+        put_eight(&mut lanes[..], W - 8 * (i + 1), &eight);
+    }
+    Some(lanes)
+}
+
+#[inline(always)]
+fn lanes<const W: usize>(field: &[u8]) -> Result<[u8; W], LineFault>
+    requires { IsWidth W }
+    ensures { result ≡ lanes_at [] W field.now }
+{
+    match spelled_lanes(field) {
+        Some(lanes) => Ok(lanes),
+        None => any_lanes(field),
+    }
+}
+
+#[inline(always)]
 fn data<const W: usize>(field: &[u8]) -> Result<Option<[u8; W]>, LineFault>
+    requires { IsWidth W }
     ensures { result ≡ data_at W field.now }
 {
     match field {
@@ -155,7 +269,9 @@ fn data<const W: usize>(field: &[u8]) -> Result<Option<[u8; W]>, LineFault>
 
 /// Data and the corrupt bit, the last two fields of a line.
 #[tactic(auto, unfolding(crate::specs::FromLeft::tail_at))]
+#[inline(always)]
 pub(crate) fn tail<const W: usize>(bytes: &[u8]) -> Result<(Option<[u8; W]>, bool), LineFault>
+    requires { IsWidth W }
     ensures { result ≡ tail_at W bytes.now }
 {
     match bytes {

@@ -5,6 +5,7 @@ pub mod beat;
 mod channel;
 pub mod fault;
 mod field;
+mod lanes;
 pub mod opcode;
 pub mod read;
 #[cfg(test)]

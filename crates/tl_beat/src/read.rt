@@ -1,6 +1,6 @@
 //! Reading a line of text as a beat.
 
-ghost use Rattle.std.specs.Prelude.{◌≡◌, ◌==◌, ◌^◌, ◌<◌, ℕ, List, Some, Ok, IfOk, position};
+ghost use Rattle.std.specs.Prelude.{◌≡◌, ◌==◌, ◌^◌, ◌<◌, ℕ, List, Some, Ok, IfOk, IfSome, position};
 ghost use Rattle.std.specs.List.{after_first};
 ghost use Rattle.std.specs.Result.{result_err};
 ghost use Rattle.tl_beat.specs.declared.beat.Link.{Link};
@@ -67,8 +67,10 @@ fn line_with<const W: usize>(
     }
 }
 
-/// A line without its line feed.
-fn body<const W: usize>(bytes: &[u8]) -> Result<(Link, Beat<W>), LineFault>
+/// A line without its line feed, by its letter and its spaces first.
+#[cold]
+#[inline(never)]
+fn any_body<const W: usize>(bytes: &[u8]) -> Result<(Link, Beat<W>), LineFault>
     requires { IsWidth W }
     ensures { result ≡ body_at bytes.now }
 {
@@ -79,7 +81,36 @@ fn body<const W: usize>(bytes: &[u8]) -> Result<(Link, Beat<W>), LineFault>
     line_with(letter(after_space(bytes)), spaces, bytes)
 }
 
+/// A line without its line feed that spells a beat, its letter at the fourth place.
+#[inline(always)]
+fn spelled_body<const W: usize>(bytes: &[u8]) -> Option<(Link, Beat<W>)>
+    requires { IsWidth W }
+    ensures { IfSome result (λ read. body_at bytes.now ≡ Ok read) }
+{
+    match bytes {
+        [_, _, _, b'A', b' ', ..] => line_a(bytes).ok(),
+        [_, _, _, b'B', b' ', ..] => line_b(bytes).ok(),
+        [_, _, _, b'C', b' ', ..] => line_c(bytes).ok(),
+        [_, _, _, b'D', b' ', ..] => line_d(bytes).ok(),
+        [_, _, _, b'E', b' ', ..] => line_e(bytes).ok(),
+        _ => None,
+    }
+}
+
+/// A line without its line feed. Where it spells no beat, its first fault is looked for.
+#[inline(always)]
+fn body<const W: usize>(bytes: &[u8]) -> Result<(Link, Beat<W>), LineFault>
+    requires { IsWidth W }
+    ensures { result ≡ body_at bytes.now }
+{
+    match spelled_body(bytes) {
+        Some(read) => Ok(read),
+        None => any_body(bytes),
+    }
+}
+
 /// A line, by its length and its line feed first.
+#[inline(always)]
 fn whole_line<const W: usize>(line: &[u8]) -> Result<(Link, Beat<W>), LineFault>
     requires { IsWidth W }
     ensures { result ≡ line_at line.now }

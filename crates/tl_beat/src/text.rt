@@ -1,4 +1,4 @@
-//! Text of up to 256 bytes, put together from digits, lanes and bits.
+//! Text of up to 64 bytes, put together from digits, lanes and bits.
 
 ghost use Rattle.std.specs.Prelude.{◌≡◌, ◌<◌, ◌≤◌, ◌+◌, ◌*◌, ◌++◌, ◌∷◌, [], length};
 ghost use Rattle.tl_beat.specs.Digits.{digit_char, digits, lane_digits, lanes_text, bit_text};
@@ -6,21 +6,21 @@ ghost use Rattle.tl_beat.specs.Width.{IsWidth};
 
 use arrayvec::ArrayVec;
 
+const DIGITS: [u8; 16] = *b"0123456789abcdef";
+
+#[inline(always)]
 fn digit_byte(digit: u8) -> u8
     requires { digit < 16 }
     ensures { result ≡ digit_char digit }
 {
-    if digit < 10 {
-        b'0' + digit
-    } else {
-        b'a' - 10 + digit
-    }
+    DIGITS[usize::from(digit)]
 }
 
 /// Appends the lowest `count` hexadecimal digits of a number, the highest of them first.
-pub fn put_digits(text: &mut ArrayVec<u8, 256>, number: u32, count: u8)
+#[inline(always)]
+pub fn put_digits(text: &mut ArrayVec<u8, 64>, number: u32, count: u8)
     requires count { count ≤ 8 }
-    requires room { length text.old.items + count ≤ 256 }
+    requires room { length text.old.items + count ≤ 64 }
     ensures text { text.new.items ≡ text.old.items ++ digits count number }
     ensures len { length text.new.items ≡ length text.old.items + count }
 {
@@ -31,9 +31,10 @@ pub fn put_digits(text: &mut ArrayVec<u8, 256>, number: u32, count: u8)
     }
 }
 
-fn put_lanes<const W: usize>(text: &mut ArrayVec<u8, 256>, lanes: &[u8; W])
+#[inline(always)]
+fn put_lanes<const W: usize>(text: &mut ArrayVec<u8, 64>, lanes: &[u8; W])
     requires width { IsWidth W }
-    requires room { length text.old.items ≤ 224 }
+    requires room { length text.old.items ≤ 32 }
     ensures text { text.new.items ≡ text.old.items ++ lane_digits lanes.now }
     ensures len { length text.new.items ≡ length text.old.items + 2 * W }
 {
@@ -43,9 +44,10 @@ fn put_lanes<const W: usize>(text: &mut ArrayVec<u8, 256>, lanes: &[u8; W])
 }
 
 /// Appends the data of a beat: the digits of its lanes, the last lane first, or a dash.
-pub fn put_data<const W: usize>(text: &mut ArrayVec<u8, 256>, lanes: &Option<[u8; W]>)
+#[inline(always)]
+pub fn put_data<const W: usize>(text: &mut ArrayVec<u8, 64>, lanes: &Option<[u8; W]>)
     requires width { IsWidth W }
-    requires room { length text.old.items ≤ 224 }
+    requires room { length text.old.items ≤ 32 }
     ensures text { text.new.items ≡ text.old.items ++ lanes_text lanes.now }
     ensures len { length text.new.items ≤ length text.old.items + 32 }
 {
@@ -56,8 +58,9 @@ pub fn put_data<const W: usize>(text: &mut ArrayVec<u8, 256>, lanes: &Option<[u8
 }
 
 /// Appends 0 or 1.
-pub fn put_bit(text: &mut ArrayVec<u8, 256>, bit: bool)
-    requires { length text.old.items < 256 }
+#[inline(always)]
+pub fn put_bit(text: &mut ArrayVec<u8, 64>, bit: bool)
+    requires { length text.old.items < 64 }
     ensures text { text.new.items ≡ text.old.items ++ bit_text bit }
     ensures len { length text.new.items ≡ length text.old.items + 1 }
 {

@@ -16,9 +16,10 @@ use arrayvec::ArrayVec;
 use std::alloc::AllocError;
 
 /// Appends a space and a number.
-fn put_number(text: &mut ArrayVec<u8, 256>, number: u32, count: u8)
+#[inline(always)]
+fn put_number(text: &mut ArrayVec<u8, 64>, number: u32, count: u8)
     requires count { count ≤ 8 }
-    requires room { length text.old.items + count < 256 }
+    requires room { length text.old.items + count < 64 }
     ensures text { text.new.items ≡ text.old.items ++ next_number count number }
     ensures len { length text.new.items ≡ length text.old.items + count + 1 }
 {
@@ -27,8 +28,9 @@ fn put_number(text: &mut ArrayVec<u8, 256>, number: u32, count: u8)
 }
 
 /// Appends a space and a bit.
-fn put_next_bit(text: &mut ArrayVec<u8, 256>, bit: bool)
-    requires { length text.old.items ≤ 254 }
+#[inline(always)]
+fn put_next_bit(text: &mut ArrayVec<u8, 64>, bit: bool)
+    requires { length text.old.items ≤ 62 }
     ensures text { text.new.items ≡ text.old.items ++ next_bit bit }
     ensures len { length text.new.items ≡ length text.old.items + 2 }
 {
@@ -47,7 +49,8 @@ struct Head {
     source: u8,
 }
 
-fn put_head(text: &mut ArrayVec<u8, 256>, head: Head)
+#[inline(always)]
+fn put_head(text: &mut ArrayVec<u8, 64>, head: Head)
     requires { text.old.items ≡ [] }
     ensures text { text.new.items ≡ head_text head.link.0 head.letter head.opcode head.param head.size head.source }
     ensures len { length text.new.items ≡ 13 }
@@ -61,9 +64,10 @@ fn put_head(text: &mut ArrayVec<u8, 256>, head: Head)
     put_number(text, u32::from(head.source), 2);
 }
 
-fn put_tail<const W: usize>(text: &mut ArrayVec<u8, 256>, lanes: &Option<[u8; W]>, corrupt: bool)
+#[inline(always)]
+fn put_tail<const W: usize>(text: &mut ArrayVec<u8, 64>, lanes: &Option<[u8; W]>, corrupt: bool)
     requires width { IsWidth W }
-    requires room { length text.old.items ≤ 200 }
+    requires room { length text.old.items ≤ 28 }
     ensures text { text.new.items ≡ text.old.items ++ tail_text lanes.now corrupt }
     ensures len { length text.new.items ≤ length text.old.items + 35 }
 {
@@ -72,11 +76,12 @@ fn put_tail<const W: usize>(text: &mut ArrayVec<u8, 256>, lanes: &Option<[u8; W]
     put_next_bit(text, corrupt);
 }
 
-fn put_a<const W: usize>(text: &mut ArrayVec<u8, 256>, link: Link, beat: &BeatA<W>)
+#[inline(always)]
+fn put_a<const W: usize>(text: &mut ArrayVec<u8, 64>, link: Link, beat: &BeatA<W>)
     requires width { IsWidth W }
     requires empty { text.old.items ≡ [] }
     ensures text { text.new.items ≡ spaced (fields_of link (beat_of.A beat.now)) }
-    ensures len { length text.new.items < 256 }
+    ensures len { length text.new.items < 64 }
 {
     let head = Head {
         link,
@@ -92,11 +97,12 @@ fn put_a<const W: usize>(text: &mut ArrayVec<u8, 256>, link: Link, beat: &BeatA<
     put_tail(text, &beat.lanes, beat.corrupt);
 }
 
-fn put_b<const W: usize>(text: &mut ArrayVec<u8, 256>, link: Link, beat: &BeatB<W>)
+#[inline(always)]
+fn put_b<const W: usize>(text: &mut ArrayVec<u8, 64>, link: Link, beat: &BeatB<W>)
     requires width { IsWidth W }
     requires empty { text.old.items ≡ [] }
     ensures text { text.new.items ≡ spaced (fields_of link (beat_of.B beat.now)) }
-    ensures len { length text.new.items < 256 }
+    ensures len { length text.new.items < 64 }
 {
     let head = Head {
         link,
@@ -112,11 +118,12 @@ fn put_b<const W: usize>(text: &mut ArrayVec<u8, 256>, link: Link, beat: &BeatB<
     put_tail(text, &beat.lanes, beat.corrupt);
 }
 
-fn put_c<const W: usize>(text: &mut ArrayVec<u8, 256>, link: Link, beat: &BeatC<W>)
+#[inline(always)]
+fn put_c<const W: usize>(text: &mut ArrayVec<u8, 64>, link: Link, beat: &BeatC<W>)
     requires width { IsWidth W }
     requires empty { text.old.items ≡ [] }
     ensures text { text.new.items ≡ spaced (fields_of link (beat_of.C beat.now)) }
-    ensures len { length text.new.items < 256 }
+    ensures len { length text.new.items < 64 }
 {
     let head = Head {
         link,
@@ -131,11 +138,12 @@ fn put_c<const W: usize>(text: &mut ArrayVec<u8, 256>, link: Link, beat: &BeatC<
     put_tail(text, &beat.lanes, beat.corrupt);
 }
 
-fn put_d<const W: usize>(text: &mut ArrayVec<u8, 256>, link: Link, beat: &BeatD<W>)
+#[inline(always)]
+fn put_d<const W: usize>(text: &mut ArrayVec<u8, 64>, link: Link, beat: &BeatD<W>)
     requires width { IsWidth W }
     requires empty { text.old.items ≡ [] }
     ensures text { text.new.items ≡ spaced (fields_of link (beat_of.D beat.now)) }
-    ensures len { length text.new.items < 256 }
+    ensures len { length text.new.items < 64 }
 {
     let head = Head {
         link,
@@ -151,10 +159,11 @@ fn put_d<const W: usize>(text: &mut ArrayVec<u8, 256>, link: Link, beat: &BeatD<
     put_tail(text, &beat.lanes, beat.corrupt);
 }
 
-fn put_e<const W: usize>(text: &mut ArrayVec<u8, 256>, link: Link, beat: BeatE)
+#[inline(always)]
+fn put_e<const W: usize>(text: &mut ArrayVec<u8, 64>, link: Link, beat: BeatE)
     requires { text.old.items ≡ [] }
     ensures text { text.new.items ≡ spaced (fields_of {w = W} link (beat_of.E beat)) }
-    ensures len { length text.new.items < 256 }
+    ensures len { length text.new.items < 64 }
 {
     put_digits(text, u32::from(link.0), 2);
     text.push(b' ');

@@ -2,7 +2,7 @@ use Rattle.std.proofs.Common.{ℕ, ◌≡◌, ◌∙◌, ◌-◌, ◌+◌, suc, 
 use Rattle.std.proofs.lemmas.List.{length-replicate, length-set}
 use Rattle.std.proofs.lemmas.Result.{err_from_is_err_and}
 use Rattle.tl_beat.proofs.LanesAt.{lanes-init, lanes-step, lanes-fail, lanes-done, lanes-left, drop_set_more}
-use Rattle.tl_beat.proofs.field.lanes.Goals as goal
+use Rattle.tl_beat.proofs.field.any_lanes.Goals as goal
 
 pub loop-i-init : goal.loop-i-init
 loop-i-init g c = record {

@@ -1,6 +1,6 @@
 use Rattle.std.proofs.Common.{◌≡◌, ◌-◌, [], drop, length}
 use Rattle.tl_beat.specs.FromLeft.{lanes_at}
-use Rattle.tl_beat.proofs.field.lanes.Given as goal
+use Rattle.tl_beat.proofs.field.any_lanes.Given as goal
 
 abbrev pub invariant-loop-i : goal.invariant-loop-i
 invariant-loop-i g l = record {

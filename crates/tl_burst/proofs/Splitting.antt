@@ -31,7 +31,7 @@ some_beats w n true width e = le-div 1 n w (positive w width) (omega (arith, ltb
     positive w (inr (inl e)) = omega arith
     positive w (inr (inr e)) = omega arith
 
-some_data_beats : (w size : ℕ) (carries : Bool) → IsWidth w → 0 < cond carries (data_beats w size) 1
+pub some_data_beats : (w size : ℕ) (carries : Bool) → IsWidth w → 0 < cond carries (data_beats w size) 1
 some_data_beats w size true width = some_beats w (2 ^ size) (nat_lt w (2 ^ size)) width refl
 some_data_beats w size false width = omega arith
 
@@ -150,7 +150,7 @@ split_closes beats ms rest m x width is_m s = record {
   rest_begins = (m, 0, beats-positive m width, refl);
 }
 
-control_own : {w : ℕ} (m : Message w) (i k : ℕ) → same_control (beat_of m i) (beat_of m k) ≡ true
+pub control_own : {w : ℕ} (m : Message w) (i k : ℕ) → same_control (beat_of m i) (beat_of m k) ≡ true
 control_own (A m) i k = rw (eq-eqb (a_code m.opcode) (a_code m.opcode) refl, eq-eqb m.param m.param refl, eq-eqb m.size m.size refl, eq-eqb m.source m.source refl, eq-eqb m.address m.address refl) refl
 control_own (B m) i k = rw (eq-eqb (b_code m.opcode) (b_code m.opcode) refl, eq-eqb m.param m.param refl, eq-eqb m.size m.size refl, eq-eqb m.source m.source refl, eq-eqb m.address m.address refl) refl
 control_own (C m) i k = rw (eq-eqb (c_code m.opcode) (c_code m.opcode) refl, eq-eqb m.param m.param refl, eq-eqb m.size m.size refl, eq-eqb m.source m.source refl, eq-eqb m.address m.address refl) refl

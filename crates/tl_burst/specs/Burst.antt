@@ -46,7 +46,7 @@ abbrev pub mask_at : ℕ → ℕ → ℕ → ℕ
 mask_at w mask i = mask / 2 ^ (w * i) % 2 ^ w
 
 -- a beat has lanes exactly where its message carries data
-pub some_lanes : (carries : Bool) (w : ℕ) (payload : List ℕ) (i : ℕ) → is_some (lanes_at carries w payload i) ≡ carries
+unfoldable pub some_lanes : (carries : Bool) (w : ℕ) (payload : List ℕ) (i : ℕ) → is_some (lanes_at carries w payload i) ≡ carries
 some_lanes true w payload i = refl
 some_lanes false w payload i = refl
 

@@ -5,7 +5,7 @@ use Rattle.tl_beat.specs.declared.opcode.Channel.{Channel}
 use Rattle.tl_beat.specs.declared.opcode.Channel.TheVariants as channel
 use Rattle.tl_beat.specs.Opcode.{a_code, b_code, c_code, d_code, a_carries_data, b_carries_data, c_carries_data, d_carries_data}
 use Rattle.tl_burst.specs.declared.message.Message.{Message}
-use Rattle.tl_burst.specs.Burst.{data_beats, beats_of, burst_of, begun, IsBurst}
+use Rattle.tl_burst.specs.Burst.{data_beats, beats_of, beat_of, burst_of, begun, IsBurst}
 
 -- what a link has carried, the newest beat first
 abbrev pub History : ℕ → Type 0
@@ -25,6 +25,10 @@ channel_of (B x) = channel.B
 channel_of (C x) = channel.C
 channel_of (D x) = channel.D
 channel_of (E x) = channel.E
+
+-- the channel of a message
+abbrev pub channel_in : {w : ℕ} → Message w → Channel
+channel_in m = channel_of (beat_of m 0)
 
 -- the beat is of the channel
 abbrev pub on : {w : ℕ} → Channel → Beat w → Bool

@@ -1,6 +1,6 @@
 //! Messages assembled from the beats of a channel.
 
-ghost use Rattle.std.specs.Prelude.{ℕ, Bool, List, [], ◌∷◌, not, IsTrue, OnErr, OnOk, IfOk, if◌then◌else◌, option_to_list, ◌++◌, ◌==◌, IfSome, is_some, is_err, ◌≡◌, ◌<◌, ◌+◌};
+ghost use Rattle.std.specs.Prelude.{slice_get, ℕ, Bool, List, [], ◌∷◌, not, IsTrue, OnErr, OnOk, IfOk, if◌then◌else◌, option_to_list, ◌++◌, ◌==◌, IfSome, is_some, is_err, ◌≡◌, ◌<◌, ◌+◌};
 ghost use Rattle.std.specs.Bool.{OnTrue, OnFalse};
 ghost use Rattle.tl_beat.specs.declared.beat.Beat.{Beat};
 ghost use Rattle.tl_beat.specs.Width.{IsWidth};
@@ -10,7 +10,7 @@ ghost use Rattle.tl_burst.specs.Burst.{begun, beat_of, IsBlankAfter, IsBurst};
 ghost use Rattle.tl_burst.specs.Messages.{breaks_burst, same_control, grown, Splits};
 ghost use Rattle.tl_burst.specs.Part.{IsTakeable, completes, part_of};
 
-use crate::burst::{beats_of, burst_length};
+use crate::burst::{beat_at, beats_of, burst_length};
 use crate::gather::{blank_for, continues, put_beat};
 use crate::message::{Message, MessageE};
 use crate::part::{Broken, Part};
@@ -66,6 +66,17 @@ impl<const W: usize> Assembler<W> {
             message: Message::E(MessageE { sink: 0 }),
             taken: 0,
         }
+    }
+
+    /// The newest beat of the burst that has begun and isn't complete.
+    pub fn newest(&self) -> Option<Beat<W>>
+        requires { IsWidth W }
+        ensures { result ≡ slice_get self.now 0 }
+    {
+        if self.taken == 0 {
+            return None;
+        }
+        Some(beat_at(&self.message, self.taken - 1))
     }
 
     /// What the beat would be to its burst, or S1 where it differs in a control field from the

@@ -75,3 +75,9 @@ pub enum Message<const W: usize> {
     D(MessageD<W>),
     E(MessageE),
 }
+
+impl<const W: usize> Default for Message<W> {
+    fn default() -> Self {
+        Message::E(MessageE { sink: 0 })
+    }
+}

@@ -1,5 +1,7 @@
 //! What can be pending on a link.
 
+ghost use Rattle.std.specs.Prelude.{◌≡◌, ◌/◌};
+
 /// A thing of which one at a time can be pending on a link. Blocks go by their number, which is the
 /// address over 64.
 #[derive(Clone, Copy, Debug, PartialEq, Eq)]
@@ -18,4 +20,11 @@ pub enum Key {
     GrantAckOf(u32),
     /// A Probe of this block.
     ProbeOf(u32),
+}
+
+/// The number of the block that an address is in.
+pub fn block_of(address: u32) -> u32
+    ensures { result ≡ address / 64 }
+{
+    address / 64
 }

@@ -1,11 +1,10 @@
 -- What was written to a block, as a memory that has the block sees it.
-use Rattle.std.proofs.Common.{◌≡◌, ℕ, zero, suc, ◌+◌, ◌-◌, ◌*◌, ◌/◌, ◌%◌, ◌^◌, ◌<◌, ◌≤◌, ◌⊎◌, ◌≢◌, ◌&&◌, eqb, leb, ltb, cond, true, false, Bool, List, [], ◌∷◌, ◌++◌, length, take, drop, get_or, replicate, Some, None, unwrap_or, refl, sym, ap, ◌∙◌, arith, inl, inr, zero-add, add-zero}
+use Rattle.std.proofs.Common.{◌≡◌, ℕ, zero, suc, ◌+◌, ◌-◌, ◌*◌, ◌/◌, ◌%◌, ◌^◌, ◌<◌, ◌≤◌, ◌⊎◌, ◌≢◌, eqb, leb, ltb, cond, true, false, Bool, List, [], ◌∷◌, ◌++◌, length, take, drop, get_or, replicate, Some, None, unwrap_or, refl, sym, ap, ◌∙◌, arith, inl, inr, zero-add, add-zero}
 use Rattle.std.specs.Int.{to_le_bytes, w64}
 use Rattle.std.proofs.lemmas.Bool.{cases_lt, lt-ltb, le-ltb, le-leb, lt-leb, and_right, cases_Bool, eqb-true}
 use Rattle.std.proofs.lemmas.List.{length-append, length-take-le, length-replicate, get_or_append_left, get_or-append_right, get_or-take, get_or-drop, drop_more}
 use Rattle.std.proofs.lemmas.Option.{slice_get-get_or}
-use Rattle.std.proofs.lemmas.Simd.{get_or-zip2}
-use Rattle.std.specs.Prelude.{slice_get, bit_xor, bit_or, bit_and}
+use Rattle.std.specs.Prelude.{slice_get}
 use Rattle.tl_beat.specs.declared.opcode.Channel.TheVariants as channel
 use Rattle.tl_beat.specs.declared.opcode.OpA.{OpA}
 use Rattle.tl_beat.specs.declared.opcode.OpA.TheVariants as a
@@ -17,19 +16,19 @@ use Rattle.tl_burst.specs.declared.message.Message.TheVariants.{A, B, C, D, E}
 use Rattle.tl_burst.specs.Burst.{bit, data_beats, beats_of, IsBlankAfter}
 use Rattle.tl_params.specs.declared.param.Arithmetic.{Arithmetic}
 use Rattle.tl_params.specs.declared.param.Logical.{Logical}
-use Rattle.tl_params.specs.declared.param.Logical.TheVariants as logical
 use Rattle.tl_params.specs.Param.{arithmetic_of, logical_of}
 use Rattle.tl_rules.specs.declared.answer.Answer.{Answer}
 use Rattle.tl_params.specs.declared.level.Level.TheVariants as level
 use Rattle.tl_rules.specs.Legality.{illegal_message}
 use Rattle.tl_rules.specs.Merge.{merged}
-use Rattle.tl_rules.specs.Place.{base_of, moved_up, logical_bytes}
+use Rattle.tl_rules.specs.Place.{base_of, moved_up}
 use Rattle.tl_rules.specs.Effect.{Memory, number_from, byte_of, arithmetic_result, logical_result, by_param, bytes_of, operand_of, stored, with_number, after, as_payload, bytes_from, IsBlock, block_of, effect, reply, answer_at, answer_of}
+use Rattle.std.proofs.Math.Nat.{mod-mod}
 use Rattle.std.proofs.lemmas.Nat.{div-add-mod'}
 use Rattle.std.proofs.lemmas.Nat.Bits.{bit_at_above}
 use Rattle.tl_rules.proofs.Bursts.{control_of_legal, control_aligned}
 use Rattle.tl_rules.proofs.Masks.{shifted_bit_below, shifted_bit_from}
-use Rattle.tl_rules.proofs.Numbers.{byte_of_number, byte_of_rest, byte_of_xor, byte_of_or, byte_of_and, written_byte}
+use Rattle.tl_rules.proofs.Numbers.{byte_of_rest, written_byte}
 use Rattle.tl_rules.proofs.Places.{number_same}
 use Rattle.tl_rules.proofs.Rooms.{base_in_memory, room_of_base, room_in_block}
 use Rattle.tl_rules.proofs.Widths.{width-bounds}
@@ -117,6 +116,22 @@ operand_value {w} m is =
     number_same (λ i. get_or m.payload i 0) (operand_of m) (m.address % w) m.address (2 ^ m.size)
     (λ i lt. let place : m.address % w + i ≡ m.address + i - w * (m.address / w) = omega (arith, bounds.0) in ap (λ k. get_or m.payload k 0) place)
 
+-- the number that was put is the one that an atomic stores, as far as its bytes go
+number_put : {w : ℕ} (m : MessageA w) (memory : Memory) (old new : List ℕ) (at count n number : ℕ) → at ≡ m.address % 64 → count ≡ 2 ^ m.size → count ≤ 8 → at + count ≤ 64 → length old ≡ 64
+    → n % 2 ^ (8 * count) ≡ number % 2 ^ (8 * count)
+    → new ≡ take at old ++ take count (to_le_bytes w64 n) ++ drop (at + count) old
+    → IsBlock memory (m.address / 64) old → IsBlock (with_number m number memory) (m.address / 64) new
+number_put m memory old new at count n number at_is count_is few room long n_is new_is is =
+    let room' : m.address % 64 + 2 ^ m.size ≤ 64 = omega arith in
+    let eight : length (to_le_bytes w64 n) ≡ 8 = refl in
+    let mid : length (take count (to_le_bytes w64 n)) ≡ count = length-take-le count (to_le_bytes w64 n) (omega arith) in
+    number_written m number memory old new room' is
+    (λ j lt.
+    let less : j < count = omega arith in
+    ap (λ k. get_or new (k + j) 0) (sym at_is) ∙ splice_inside at count old (take count (to_le_bytes w64 n)) new mid (omega arith) new_is j less
+    ∙ get_or-take count (to_le_bytes w64 n) j 0 less ∙ written_byte n j (omega arith) ∙ sym (byte_of_rest n count j less) ∙ ap (λ k. byte_of k j) n_is ∙ byte_of_rest number count j less)
+    (λ i lt out. splice_outside at count old (take count (to_le_bytes w64 n)) new mid (omega arith) new_is i (rw (← at_is, ← count_is) at out))
+
 pub arithmetic_done : {w : ℕ} (m : MessageA w) (operation : Arithmetic) (memory : Memory) (old new : List ℕ) (at first count v o n : ℕ) → IsWidth w → Some operation ≡ arithmetic_of m.param
     → at ≡ m.address % 64 → first ≡ m.address % w → count ≡ 2 ^ m.size → count ≤ 8 → at + count ≤ 64 → length old ≡ 64
     → v ≡ number_from (λ i. get_or old i 0) at count → o ≡ number_from (λ i. get_or m.payload i 0) first count
@@ -130,63 +145,22 @@ arithmetic_done {w} m operation memory old new at first count v o n is_width par
     let o_as : o ≡ number_from (operand_of m) m.address (2 ^ m.size) = o_is ∙ rw (first_is, count_is) (operand_value m is_width) in
     let number = stored m (by_param (λ o. arithmetic_result o (8 * bytes_of m)) (arithmetic_of m.param)) memory in
     let number_is : n % 2 ^ (8 * count) ≡ number = n_is ∙ rw (← param, ← v_as, ← o_as, count_is) refl in
-    let eight : length (to_le_bytes w64 n) ≡ 8 = refl in
-    let mid : length (take count (to_le_bytes w64 n)) ≡ count = length-take-le count (to_le_bytes w64 n) (omega arith) in
-    number_written m number memory old new room' is
-    (λ j lt.
-    let less : j < count = omega arith in
-    ap (λ k. get_or new (k + j) 0) (sym at_is) ∙ splice_inside at count old (take count (to_le_bytes w64 n)) new mid (omega arith) new_is j less
-    ∙ get_or-take count (to_le_bytes w64 n) j 0 less ∙ written_byte n j (omega arith) ∙ sym (byte_of_rest n count j less) ∙ ap (λ k. byte_of k j) number_is)
-    (λ i lt out. splice_outside at count old (take count (to_le_bytes w64 n)) new mid (omega arith) new_is i (rw (← at_is, ← count_is) at out))
+    number_put m memory old new at count n number at_is count_is few room long (sym (mod-mod n (2 ^ (8 * count))) ∙ ap (λ k. k % 2 ^ (8 * count)) number_is) new_is is
 
--- ---- logical operations
-
-byte_of_logical : (operation : Logical) (v o j : ℕ) → byte_of (logical_result operation v o) j ≡ logical_result operation (byte_of v j) (byte_of o j)
-byte_of_logical logical.Xor v o j = byte_of_xor v o j
-byte_of_logical logical.Or v o j = byte_of_or v o j
-byte_of_logical logical.And v o j = byte_of_and v o j
-byte_of_logical logical.Swap v o j = refl
-
-logical_byte : (operation : Logical) (old operand : List ℕ) (i : ℕ) → i < length old → i < length operand → get_or (logical_bytes operation old operand) i 0 ≡ logical_result operation (get_or old i 0) (get_or operand i 0)
-logical_byte logical.Xor old operand i lt lt' = get_or-zip2 {X = ℕ} {Y = ℕ} {Z = ℕ} bit_xor old operand i 0 0 0 lt lt'
-logical_byte logical.Or old operand i lt lt' = get_or-zip2 {X = ℕ} {Y = ℕ} {Z = ℕ} bit_or old operand i 0 0 0 lt lt'
-logical_byte logical.And old operand i lt lt' = get_or-zip2 {X = ℕ} {Y = ℕ} {Z = ℕ} bit_and old operand i 0 0 0 lt lt'
-logical_byte logical.Swap old operand i lt lt' = refl
-
-pub logical_done : {w : ℕ} (m : MessageA w) (operation : Logical) (memory : Memory) (old operand lanes new : List ℕ) (at count mask : ℕ) → IsWidth w → Some operation ≡ logical_of m.param
-    → at ≡ m.address % 64 → count ≡ 2 ^ m.size → at + count ≤ 64 → length old ≡ 64 → length operand ≡ 64 → ((i : ℕ) → get_or old i 0 < 256) → ((i : ℕ) → get_or operand i 0 < 256)
-    → operand ≡ moved_up (base_of w m.address) m.payload → lanes ≡ logical_bytes operation old operand → length lanes ≡ 64
-    → ((i : ℕ) → i < 64 → bit mask i ≡ (leb at i && ltb i (at + count)))
-    → new ≡ merged mask 0 old lanes
+pub logical_done : {w : ℕ} (m : MessageA w) (operation : Logical) (memory : Memory) (old new : List ℕ) (at first count v o n : ℕ) → IsWidth w → Some operation ≡ logical_of m.param
+    → at ≡ m.address % 64 → first ≡ m.address % w → count ≡ 2 ^ m.size → count ≤ 8 → at + count ≤ 64 → length old ≡ 64
+    → v ≡ number_from (λ i. get_or old i 0) at count → o ≡ number_from (λ i. get_or m.payload i 0) first count
+    → n ≡ logical_result operation v o
+    → new ≡ take at old ++ take count (to_le_bytes w64 n) ++ drop (at + count) old
     → IsBlock memory (m.address / 64) old
     → IsBlock (with_number m (stored m (by_param logical_result (logical_of m.param)) memory) memory) (m.address / 64) new
-logical_done {w} m operation memory old operand lanes new at count mask is_width param at_is count_is room long long_operand fits fits_operand operand_is lanes_is long_lanes mask_is new_is is =
-    let bounds = width-bounds w is_width in
+logical_done {w} m operation memory old new at first count v o n is_width param at_is first_is count_is few room long v_is o_is n_is new_is is =
     let room' : m.address % 64 + 2 ^ m.size ≤ 64 = omega arith in
-    let base = base_in_memory w m.address is_width in
-    let new_byte : (i : ℕ) → i < 64 → get_or new i 0 ≡ cond (leb at i && ltb i (at + count)) (get_or lanes i 0) (get_or old i 0) =
-    λ i lt. ap (λ xs. get_or xs i 0) new_is ∙ merged_byte mask 0 old lanes i (omega arith) (omega arith) ∙ rw (zero-add, mask_is i lt) refl in
-    let old_byte : (j : ℕ) → j < 2 ^ m.size → get_or old (at + j) 0 ≡ memory (m.address + j) =
-    λ j lt. let place : 64 * (m.address / 64) + (at + j) ≡ m.address + j = omega arith in sym (is (at + j) (omega arith)) ∙ ap memory place in
-    let operand_byte : (j : ℕ) → j < 2 ^ m.size → get_or operand (at + j) 0 ≡ operand_of m (m.address + j) =
-    λ j lt. let place : at + j - base_of w m.address ≡ m.address + j - w * (m.address / w) = omega (arith, bounds.0) in
-    ap (λ xs. get_or xs (at + j) 0) operand_is ∙ moved_byte (base_of w m.address) m.payload (at + j) (omega (arith, bounds.0)) (omega arith) ∙ ap (λ k. get_or m.payload k 0) place in
-    let v = number_from memory m.address (2 ^ m.size) in
-    let o = number_from (operand_of m) m.address (2 ^ m.size) in
+    let v_as : v ≡ number_from memory m.address (2 ^ m.size) = v_is ∙ rw (at_is, count_is) (old_value m memory old room' is) in
+    let o_as : o ≡ number_from (operand_of m) m.address (2 ^ m.size) = o_is ∙ rw (first_is, count_is) (operand_value m is_width) in
     let number = stored m (by_param logical_result (logical_of m.param)) memory in
-    let number_is : number ≡ logical_result operation v o = rw (← param) refl in
-    number_written m number memory old new room' is
-    (λ j lt.
-    let within : at + j < 64 = omega arith in
-    let v_byte : byte_of v j ≡ memory (m.address + j) = byte_of_number memory m.address (2 ^ m.size) j (λ i less. rw (← old_byte i less) (fits (at + i))) lt in
-    let o_byte : byte_of o j ≡ operand_of m (m.address + j) = byte_of_number (operand_of m) m.address (2 ^ m.size) j (λ i less. rw (← operand_byte i less) (fits_operand (at + i))) lt in
-    ap (λ k. get_or new (k + j) 0) (sym at_is) ∙ new_byte (at + j) within ∙ rw (le-leb at (at + j) (omega arith), lt-ltb (at + j) (at + count) (omega arith)) (ap (λ xs. get_or xs (at + j) 0) lanes_is)
-    ∙ logical_byte operation old operand (at + j) (omega arith) (omega arith)
-    ∙ rw (old_byte j lt, operand_byte j lt, ← v_byte, ← o_byte) (sym (byte_of_logical operation v o j)) ∙ sym (ap (λ k. byte_of k j) number_is))
-    (λ i lt out. new_byte i lt ∙ elim (rw (← at_is, ← count_is) at out) [
-      | inl below ↦ rw (lt-leb at i below) refl
-      | inr above ↦ rw (le-ltb i (at + count) above, and_right (leb at i) false refl) refl
-    ])
+    let number_is : n ≡ number = n_is ∙ rw (← param, ← v_as, ← o_as) refl in
+    number_put m memory old new at count n number at_is count_is few room long (ap (λ k. k % 2 ^ (8 * count)) number_is) new_is is
 
 -- ---- Puts
 

@@ -28,7 +28,7 @@ some_data_beats w size pos = go (cases_Bool (ltb w (2 ^ size)))
     go (inl less) = rw less (le-div 1 (2 ^ size) w pos (omega (arith, ltb-true w (2 ^ size) less)))
     go (inr more) = rw more (lit< tt)
 
-some_beats : (w size : ℕ) (carries : Bool) → 0 < w → 0 < cond carries (data_beats w size) 1
+pub some_beats : (w size : ℕ) (carries : Bool) → 0 < w → 0 < cond carries (data_beats w size) 1
 some_beats w size true pos = some_data_beats w size pos
 some_beats w size false pos = lit< tt
 

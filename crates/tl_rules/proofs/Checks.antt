@@ -223,7 +223,7 @@ c_single {w} l m e = passed_control l channel.C (C m) (c_control l m.opcode m.pa
 
 -- ---- room
 
-data_room : (w size : ℕ) (carries : Bool) → IsWidth w → size ≤ 6 → w * cond carries (data_beats w size) 1 ≤ 64
+pub data_room : (w size : ℕ) (carries : Bool) → IsWidth w → size ≤ 6 → w * cond carries (data_beats w size) 1 ≤ 64
 data_room w size false is le = omega (arith, (width-bounds w is).1)
 data_room w size true is le = go (cases_Bool (ltb w (2 ^ size)))
   where

@@ -12,7 +12,7 @@ use Rattle.tl_burst.specs.declared.message.MessageA.{MessageA}
 use Rattle.tl_burst.specs.declared.message.MessageC.{MessageC}
 use Rattle.tl_burst.specs.declared.message.MessageD.{MessageD}
 use Rattle.tl_burst.specs.Burst.{a_beat_of, beats_of, beat_of, begun}
-use Rattle.tl_burst.specs.Messages.{History, channel_of, on, burst_length, grown, unfinished}
+use Rattle.tl_burst.specs.Messages.{History, channel_of, channel_in, on, burst_length, grown, unfinished}
 use Rattle.tl_burst.proofs.Begun.{length-begun}
 use Rattle.tl_params.specs.declared.key.Key.{Key}
 use Rattle.tl_params.specs.declared.key.Key.TheVariants as key
@@ -21,10 +21,6 @@ use Rattle.tl_rules.specs.History.{begins, ends, opens, closes, pending, request
 use Rattle.tl_rules.specs.Agent.{sent}
 
 -- ---- beats of one message
-
--- the channel of a message
-abbrev pub channel_in : {w : ℕ} → Message w → Channel
-channel_in m = channel_of (beat_of m 0)
 
 pub same_channel : {w : ℕ} (m : Message w) (i : ℕ) → channel_of (beat_of m i) ≡ channel_in m
 same_channel (A m) i = refl
@@ -83,7 +79,7 @@ none_at m t (suc i) none pos e = grown_at_last m t i none (omega arith)
 pub unfinished-sent : {w : ℕ} (m : Message w) (t : History w) → unfinished (channel_in m) t ≡ [] → 0 < beats_of m → unfinished (channel_in m) (sent m t) ≡ []
 unfinished-sent m t none pos = none_at m t (beats_of m) none pos refl
 
-off_other : {w : ℕ} (ch : Channel) (m : Message w) (i : ℕ) → on ch (beat_of m 0) ≡ false → on ch (beat_of m i) ≡ false
+pub off_other : {w : ℕ} (ch : Channel) (m : Message w) (i : ℕ) → on ch (beat_of m 0) ≡ false → on ch (beat_of m i) ≡ false
 off_other channel.A (A m) i e = e
 off_other channel.B (A m) i e = e
 off_other channel.C (A m) i e = e
@@ -135,6 +131,26 @@ ends-at m t i none lt = rw (same_channel m i, unfinished-begun m t i none lt, le
 -- the beats of the message close nothing of this key
 abbrev pub ClosesNothing : {w : ℕ} → Key → Message w → Type 0
 ClosesNothing {w} k m = (i : ℕ) (t : History w) → closes k (beat_of m i) t ≡ false
+
+-- a beat that neither opens nor closes the key
+pub pending-quiet : {w : ℕ} (k : Key) (x : Beat w) (t : History w) → opens k x t ≡ false → closes k x t ≡ false → pending k (x ∷ t) ≡ pending k t
+unfolding pending
+pending-quiet k x t o c = rw (o, c) (go (begins x t) (ends x t))
+  where
+    go : (a b : Bool) → cond (a && false) true (cond (b && false) false (pending k t)) ≡ pending k t
+    go true true = refl
+    go true false = refl
+    go false true = refl
+    go false false = refl
+
+-- a beat that only closes it
+pub pending-closed : {w : ℕ} (k : Key) (x : Beat w) (t : History w) → opens k x t ≡ false → pending k (x ∷ t) ≡ cond (ends x t && closes k x t) false (pending k t)
+unfolding pending
+pending-closed k x t o = rw o (go (begins x t))
+  where
+    go : (a : Bool) → cond (a && false) true (cond (ends x t && closes k x t) false (pending k t)) ≡ cond (ends x t && closes k x t) false (pending k t)
+    go true = refl
+    go false = refl
 
 opening : {w : ℕ} (k : Key) (x : Beat w) (t : History w) → begins x t ≡ true → closes k x t ≡ false → pending k (x ∷ t) ≡ cond (opens k x t) true (pending k t)
 unfolding pending

@@ -106,6 +106,10 @@ effect _ memory = (memory, Hinted)
 abbrev pub IsBlock : Memory → ℕ → List ℕ → Type 0
 IsBlock memory block bytes = (i : ℕ) → i < 64 → memory (64 * block + i) ≡ slice_index bytes i
 
+-- two memories have the same bytes in the block
+abbrev pub SameBlock : ℕ → Memory → Memory → Type 0
+SameBlock block f g = (address : ℕ) → address / 64 ≡ block → f address ≡ g address
+
 -- the block of a request
 abbrev pub block_of : {w : ℕ} → Message w → ℕ
 block_of (A m) = m.address / 64

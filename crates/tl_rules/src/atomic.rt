@@ -1,10 +1,8 @@
-//! Atomic operations on the numbers and on the bytes of a block.
+//! Atomic operations on the numbers of a block.
 
-ghost use Rattle.std.specs.Prelude.{◌≡◌, ◌<◌, ◌≤◌, ◌*◌, ◌%◌, ◌^◌, int_lt, length};
-ghost use Rattle.tl_rules.specs.Effect.{arithmetic_result, signed};
-ghost use Rattle.tl_rules.specs.Place.{logical_bytes};
+ghost use Rattle.std.specs.Prelude.{◌≡◌, ◌<◌, ◌≤◌, ◌*◌, ◌%◌, ◌^◌, int_lt};
+ghost use Rattle.tl_rules.specs.Effect.{arithmetic_result, logical_result, signed};
 
-use std::simd::u8x64;
 use tl_params::param::{Arithmetic, Logical};
 
 /// Whether a number of `count` bytes is less than another, both with sign.
@@ -53,18 +51,14 @@ pub fn arithmetic(operation: Arithmetic, count: usize, old: u64, operand: u64) -
     }
 }
 
-/// What an operation of LogicalData makes of 64 bytes.
-pub fn logical(operation: Logical, old: &[u8; 64], operand: &[u8; 64]) -> [u8; 64]
-    ensures value { result ≡ logical_bytes operation old.now operand.now }
-    ensures len { length result ≡ 64 }
+/// What an operation of LogicalData makes of two numbers.
+pub fn logical(operation: Logical, old: u64, operand: u64) -> u64
+    ensures { result ≡ logical_result operation old operand }
 {
-    let old = u8x64::from_array(*old);
-    let operand = u8x64::from_array(*operand);
-    let lanes = match operation {
+    match operation {
         Logical::Xor => old ^ operand,
         Logical::Or => old | operand,
         Logical::And => old & operand,
         Logical::Swap => operand,
-    };
-    lanes.to_array()
+    }
 }

@@ -8,10 +8,15 @@ pub mod blank;
 mod channel;
 pub mod check;
 mod field;
+pub mod kind;
+pub mod law;
 pub mod legality;
 mod mask;
 pub mod merge;
+pub mod order;
+pub mod past;
 pub mod perform;
-mod place;
+pub mod place;
+pub mod table;
 
 pub use tl_params::{config, key, level, param, perm, profile, report, rule};

@@ -1,13 +1,13 @@
 //! What an access does to the block that it reaches (SiFive TileLink Specification 1.8, chapters on
 //! TL-UL and TL-UH).
 
-ghost use Rattle.std.specs.Prelude.{◌≡◌, ◌≤◌, ◌%◌, ◌*◌, ◌/◌, ◌^◌, ℕ, IsTrue, is_some, ◌≢◌};
+ghost use Rattle.std.specs.Prelude.{◌≡◌, ◌≤◌, ◌%◌, ◌*◌, ◌/◌, ◌^◌, ℕ, IsTrue, is_some, ◌≢◌, ◌<◌, slice_index};
 ghost use Rattle.tl_beat.specs.Width.{IsWidth};
 ghost use Rattle.tl_burst.specs.Burst.{beats_of, IsBlankAfter};
 ghost use Rattle.tl_rules.specs.Legality.{illegal_message, is_aligned};
 ghost use Rattle.tl_rules.specs.Control.{a_control};
 ghost use Rattle.tl_beat.specs.Opcode.{a_carries_data};
-ghost use Rattle.tl_rules.specs.Effect.{IsBlock, effect, block_of, answer_of, after, reply, answer_at, as_payload, bytes_from, bytes_of};
+ghost use Rattle.tl_rules.specs.Effect.{IsBlock, number_from, effect, block_of, answer_of, after, reply, answer_at, as_payload, bytes_from, bytes_of};
 ghost use Rattle.tl_params.specs.Param.{arithmetic_of, logical_of};
 
 use crate::answer::Answer;
@@ -41,6 +41,15 @@ fn put<const W: usize>(block: &mut [u8; 64], request: &MessageA<W>)
     merge_masked(block, &payload, request.mask << base);
 }
 
+/// The number that an atomic brings.
+fn operand<const W: usize>(request: &MessageA<W>, span: Span) -> u64
+    requires { span.count ≤ 8 }
+    ensures value { result ≡ number_from (λ i. slice_index request.now.payload i) span.in_payload span.count }
+    ensures below { result < 2 ^ (8 * span.count) }
+{
+    place::number_at(&request.payload, span.in_payload, span.count)
+}
+
 /// Performs ArithmeticData.
 fn arithmetic<const W: usize>(block: &mut [u8; 64], request: &MessageA<W>)
     requires width { IsWidth W }
@@ -55,7 +64,7 @@ fn arithmetic<const W: usize>(block: &mut [u8; 64], request: &MessageA<W>)
     };
     let span = Span::new::<W>(request.address, request.size);
     let old = place::number_at(block, span.in_block, span.count);
-    let operand = place::number_at(&request.payload, span.in_payload, span.count);
+    let operand = operand(request, span);
     let new = atomic::arithmetic(operation, span.count, old, operand);
     place::put_number(block, span.in_block, span.count, new);
 }
@@ -72,11 +81,11 @@ fn logical<const W: usize>(block: &mut [u8; 64], request: &MessageA<W>)
     let Some(operation) = Logical::from_param(request.param) else {
         unreachable!()
     };
-    let operand = place::move_up(&request.payload, place::base::<W>(request.address));
-    let lanes = atomic::logical(operation, block, &operand);
     let span = Span::new::<W>(request.address, request.size);
-    let mask = place::run(span.in_block, span.count);
-    merge_masked(block, &lanes, mask);
+    let old = place::number_at(block, span.in_block, span.count);
+    let operand = operand(request, span);
+    let new = atomic::logical(operation, old, operand);
+    place::put_number(block, span.in_block, span.count, new);
 }
 
 /// Performs an access on its block.

@@ -69,15 +69,6 @@ pub fn move_up(bytes: &[u8; 64], by: usize) -> [u8; 64]
     moved
 }
 
-/// A mask of `count` bytes from a place on.
-pub fn run(first: usize, count: usize) -> u64
-    requires some { 0 < count }
-    requires inside { first + count ≤ 64 }
-    ensures { (i : ℕ) → i < 64 → bit result i ≡ (nat_le first i && nat_lt i (first + count)) }
-{
-    (u64::MAX >> (64 - count)) << first
-}
-
 /// The bytes of a request in its block, as a payload.
 pub fn payload_at(block: &[u8; 64], span: Span) -> [u8; 64]
     ensures { result ≡ as_payload span.in_payload (take span.count (drop span.in_block block.now)) }

@@ -1,0 +1,78 @@
+//! What a history says after a message, and what a message does, as laws.
+
+ghost use Rattle.std.specs.Prelude.{ℕ, suc, true, [], ◌++◌, None, is_some, length, ◌≡◌, ◌<◌, ◌≤◌, ◌+◌, ◌*◌, ◌/◌, ◌%◌, ◌^◌, List};
+ghost use Rattle.tl_beat.specs.declared.beat.Beat.{Beat};
+ghost use Rattle.tl_beat.specs.declared.opcode.Channel.{Channel};
+ghost use Rattle.tl_beat.specs.Width.{IsWidth};
+ghost use Rattle.tl_burst.specs.declared.message.Message.{Message};
+ghost use Rattle.tl_burst.specs.declared.message.MessageA.{MessageA};
+ghost use Rattle.tl_burst.specs.Burst.{beats_of, beat_of, begun};
+ghost use Rattle.tl_burst.specs.Messages;
+ghost use Rattle.tl_burst.specs.Messages.{History, channel_in};
+ghost use Rattle.tl_params.specs.declared.key.Key.{Key};
+ghost use Rattle.tl_params.specs.declared.level.Level.{Level};
+ghost use Rattle.tl_params.specs.declared.profile.Profile.{Profile};
+ghost use Rattle.tl_rules.specs.Agent.{sent, payload_of};
+ghost use Rattle.tl_rules.specs.Conformance.{broken_in_order, broken_after};
+ghost use Rattle.tl_rules.specs.Legality.{illegal_message};
+ghost use Rattle.tl_rules.specs.Effect.{Memory, SameBlock};
+ghost use Rattle.tl_rules.specs.Effect;
+ghost use Rattle.tl_rules.specs.Handed.{pending_with, held_with, request_with, release_with, probe_with, sink_with};
+ghost use Rattle.tl_rules.specs.History;
+ghost use Rattle.tl_rules.specs.Typed.{IsTyped, AreTyped, HasBlock};
+
+/// After a message was handed out on a channel where none was unfinished, a history says of
+/// everything what the first beat of the message says alone.
+pub fn hands_out_whole<const W: usize>()
+    requires { IsWidth W }
+    ensures unfinished { (m : Message W) (ch : Channel) (t : History W) → Messages.unfinished (channel_in m) t ≡ [] →
+        Messages.unfinished ch (sent m t) ≡ Messages.unfinished ch t }
+    ensures pending { (m : Message W) (key : Key) (t : History W) → Messages.unfinished (channel_in m) t ≡ [] →
+        History.pending key (sent m t) ≡ pending_with key m t }
+    ensures held { (m : Message W) (block : ℕ) (t : History W) → Messages.unfinished (channel_in m) t ≡ [] →
+        History.held block (sent m t) ≡ held_with block m t }
+    ensures request { (m : Message W) (source : ℕ) (t : History W) → Messages.unfinished (channel_in m) t ≡ [] →
+        History.request_of source (sent m t) ≡ request_with source m (History.request_of source t) }
+    ensures release { (m : Message W) (source : ℕ) (t : History W) → Messages.unfinished (channel_in m) t ≡ [] →
+        History.release_of source (sent m t) ≡ release_with source m (History.release_of source t) }
+    ensures probe { (m : Message W) (block : ℕ) (t : History W) → Messages.unfinished (channel_in m) t ≡ [] →
+        History.probe_of block (sent m t) ≡ probe_with block m (History.probe_of block t) }
+    ensures sink { (m : Message W) (block : ℕ) (t : History W) → Messages.unfinished (channel_in m) t ≡ [] →
+        History.grant_sink block (sent m t) ≡ sink_with block m t }
+{}
+
+/// Where a request, a Release or a Probe is pending, there is one.
+pub fn names_what_is_pending<const W: usize>()
+    ensures request { (source : ℕ) (t : History W) →
+        History.pending (Key.RequestSource source) t ≡ true → is_some (History.request_of source t) ≡ true }
+    ensures release { (source : ℕ) (t : History W) →
+        History.pending (Key.ReleaseSource source) t ≡ true → is_some (History.release_of source t) ≡ true }
+    ensures probe { (block : ℕ) (t : History W) →
+        History.pending (Key.ProbeOf block) t ≡ true → is_some (History.probe_of block t) ≡ true }
+{}
+
+/// A beat that goes on with its message breaks no rule of order, and a message that breaks no rule by
+/// itself breaks none after a history where its first beat breaks none of order.
+pub fn goes_on_lawfully<const W: usize>()
+    ensures later { (profile : Profile) (m : Message W) (i : ℕ) (t : History W) →
+        Messages.unfinished (channel_in m) t ≡ begun m (suc i) → broken_in_order profile (beat_of m (suc i)) t ≡ None }
+    ensures message { (level : Level) (profile : Profile) (m : Message W) (i : ℕ) (t : History W) →
+        illegal_message level (channel_in m) m ≡ None → broken_in_order profile (beat_of m 0) t ≡ None →
+        Messages.unfinished (channel_in m) t ≡ [] → i < beats_of m → broken_after level profile (beat_of m i) (begun m i ++ t) ≡ None }
+{}
+
+/// Messages of 64 bytes have beats of the types, and beats of the types, no more than fit, a payload
+/// of 64 bytes.
+pub fn keeps_types<const W: usize>()
+    requires { IsWidth W }
+    ensures beats { (m : Message W) (i : ℕ) → HasBlock m → i < beats_of m → IsTyped (beat_of m i) }
+    ensures payload { (beats : List (Beat W)) → AreTyped beats → W * length beats ≤ 64 → length (payload_of beats) ≡ 64 }
+{}
+
+/// What an access does to its block, and what it is answered, depends on its block alone.
+pub fn acts_on_its_block<const W: usize>()
+    ensures after { (m : MessageA W) (f g : Memory) → m.address % 64 + 2 ^ m.size ≤ 64 → SameBlock (m.address / 64) f g →
+        SameBlock (m.address / 64) (Effect.after m.opcode m f) (Effect.after m.opcode m g) }
+    ensures reply { (m : MessageA W) (f g : Memory) → m.address % 64 + 2 ^ m.size ≤ 64 → SameBlock (m.address / 64) f g →
+        Effect.reply m.opcode m f ≡ Effect.reply m.opcode m g }
+{}

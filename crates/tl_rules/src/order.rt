@@ -1,0 +1,261 @@
+//! The order of messages on a link: the first rule that a message breaks at its first beat (SiFive
+//! TileLink Specification 1.8, "Operation flow and message ordering").
+
+ghost use Rattle.std.specs.Prelude.{true, false, not, Option, Some, ◌≡◌, ◌&&◌, ◌||◌};
+ghost use Rattle.tl_beat.specs.declared.beat.BeatA.{BeatA};
+ghost use Rattle.tl_beat.specs.Opcode.{c_carries_data};
+ghost use Rattle.tl_burst.specs.Messages.{History};
+ghost use Rattle.tl_params.specs.declared.profile.Profile.{Profile};
+ghost use Rattle.tl_params.specs.Param.{prune_of, cap_of};
+ghost use Rattle.tl_rules.specs.Conformance;
+ghost use Rattle.tl_rules.specs.History.{pending, is_release_ack};
+ghost use Rattle.tl_rules.specs.Open.{request_fields};
+
+use crate::kind::{
+    answers, is_acquire, is_grant, is_probe, is_probe_ack, is_release, is_release_ack,
+};
+use crate::past::{Past, Request};
+use tl_beat::beat::{Beat, BeatA, BeatB, BeatC, BeatD, BeatE};
+use tl_beat::opcode::{OpA, OpB, OpC, OpD};
+use tl_params::key::{Key, block_of};
+use tl_params::param::{Cap, Prune};
+use tl_params::perm::Perm;
+use tl_params::profile::Profile;
+use tl_params::report::report_of;
+use tl_params::rule::Rule;
+
+fn either_pending<const W: usize, P: Past<W>>(one: Key, other: Key, past: &P) -> bool
+    ensures { (t : History W) → P.knows past.now t → result ≡ (pending one t || pending other t) }
+{
+    past.is_pending(one) || past.is_pending(other)
+}
+
+/// Whether an Acquire of this number grows from what is held.
+fn grows_from(grow: u8, perm: Perm) -> bool
+    ensures { result ≡ Conformance.grows_from grow perm }
+{
+    if grow == 2 {
+        perm != Perm::Trunk
+    } else {
+        perm == Perm::None
+    }
+}
+
+fn broken_a<const W: usize, P: Past<W>>(x: &BeatA<W>, past: &P) -> Option<Rule>
+    ensures { (t : History W) → P.knows past.now t → result ≡ Conformance.broken_a x.now t }
+{
+    let block = block_of(x.address);
+    if past.is_pending(Key::RequestSource(x.source)) {
+        return Some(Rule::H1);
+    }
+    if !is_acquire(x.opcode) {
+        return None;
+    }
+    if either_pending(Key::AcquireOf(block), Key::ReleaseOf(block), past) {
+        return Some(Rule::H4);
+    }
+    if !grows_from(x.param, past.held(block)) {
+        return Some(Rule::H5);
+    }
+    None
+}
+
+fn broken_b<const W: usize, P: Past<W>>(x: &BeatB<W>, past: &P) -> Option<Rule>
+    ensures { (t : History W) → P.knows past.now t → result ≡ Conformance.broken_b x.now t }
+{
+    let block = block_of(x.address);
+    if !is_probe(x.opcode) {
+        return None;
+    }
+    if either_pending(Key::ProbeOf(block), Key::GrantAckOf(block), past) {
+        return Some(Rule::H9);
+    }
+    None
+}
+
+/// Whether a Release of this number gives up what is held.
+fn prunes_from(prune: u8, perm: Perm) -> bool
+    ensures { result ≡ Conformance.prunes_from (prune_of prune) perm }
+{
+    match Prune::from_param(prune) {
+        None => false,
+        Some(prune) => prune.left() == perm,
+    }
+}
+
+fn broken_release<const W: usize, P: Past<W>>(x: &BeatC<W>, past: &P) -> Option<Rule>
+    ensures { (t : History W) → P.knows past.now t → result ≡ Conformance.broken_release x.now t }
+{
+    let block = block_of(x.address);
+    if past.is_pending(Key::ReleaseSource(x.source)) {
+        return Some(Rule::H1);
+    }
+    if either_pending(Key::AcquireOf(block), Key::ReleaseOf(block), past) {
+        return Some(Rule::H13);
+    }
+    if !prunes_from(x.param, past.held(block)) {
+        return Some(Rule::H13);
+    }
+    None
+}
+
+/// Whether a param is the report of a Probe's cap and of what is held.
+fn is_report(param: u8, cap: u8, perm: Perm) -> bool
+    ensures { result ≡ Conformance.is_report_at param (cap_of cap) perm }
+{
+    match Cap::from_param(cap) {
+        None => false,
+        Some(cap) => param == report_of(cap, perm).param(),
+    }
+}
+
+/// Whether an answer with data answers a Probe that asks for none.
+fn answers_wrong_probe(answer: OpC, probe: OpB) -> bool
+    ensures { result ≡ (c_carries_data answer && not (Conformance.is_probe_block probe)) }
+{
+    answer.carries_data() && probe != OpB::ProbeBlock
+}
+
+fn broken_probe_ack<const W: usize, P: Past<W>>(x: &BeatC<W>, past: &P) -> Option<Rule>
+    ensures { (t : History W) → P.knows past.now t → result ≡ Conformance.broken_probe_ack x.now t }
+{
+    let block = block_of(x.address);
+    let Some(probe) = past.probe(block) else {
+        return Some(Rule::H10);
+    };
+    if answers_wrong_probe(x.opcode, probe.opcode) {
+        return Some(Rule::H10);
+    }
+    if past.is_pending(Key::ReleaseOf(block)) {
+        return Some(Rule::H11);
+    }
+    if !is_report(x.param, probe.param, past.held(block)) {
+        return Some(Rule::H12);
+    }
+    None
+}
+
+fn broken_c<const W: usize, P: Past<W>>(x: &BeatC<W>, past: &P) -> Option<Rule>
+    ensures { (t : History W) → P.knows past.now t → result ≡ Conformance.broken_c x.now t }
+{
+    if is_release(x.opcode) {
+        broken_release(x, past)
+    } else if is_probe_ack(x.opcode) {
+        broken_probe_ack(x, past)
+    } else {
+        None
+    }
+}
+
+/// Whether a cap answers an Acquire that asks for this grow.
+fn fits_grow(profile: Profile, opcode: OpA, grow: u8, cap: u8) -> bool
+    ensures { result ≡ Conformance.fits_grow profile opcode grow cap }
+{
+    match (profile, opcode) {
+        (Profile::Two, OpA::AcquireBlock) if grow == 0 => cap <= 1,
+        _ if grow == 0 => cap == 1,
+        _ => cap == 0,
+    }
+}
+
+/// Whether a Grant isn't one for the request that it answers.
+fn misgrants<const W: usize, P: Past<W>>(
+    profile: Profile,
+    x: &BeatD<W>,
+    request: &Request,
+    past: &P,
+) -> bool
+    ensures { (t : History W) → P.knows past.now t → (r : Option (BeatA W)) → request_fields r ≡ Some request.now →
+        result ≡ Conformance.misgrants profile x.now r t }
+{
+    if !fits_grow(profile, request.opcode, request.param, x.param) {
+        return true;
+    }
+    if x.opcode == OpD::Grant && request.opcode == OpA::AcquireBlock {
+        if past.held(request.block) != Perm::Branch {
+            return true;
+        }
+    }
+    past.is_pending(Key::ProbeOf(request.block))
+}
+
+fn broken_release_ack<const W: usize, P: Past<W>>(x: &BeatD<W>, past: &P) -> Option<Rule>
+    requires { is_release_ack x.now.opcode ≡ true }
+    ensures { (t : History W) → P.knows past.now t → (p : Profile) →
+        result ≡ Conformance.broken_d p x.now t }
+{
+    match past.release(x.source) {
+        None => Some(Rule::H2),
+        Some(size) => { if size == x.size { None } else { Some(Rule::H3) } }
+    }
+}
+
+fn broken_answer<const W: usize, P: Past<W>>(
+    profile: Profile,
+    x: &BeatD<W>,
+    past: &P,
+) -> Option<Rule>
+    requires { is_release_ack x.now.opcode ≡ false }
+    ensures { (t : History W) → P.knows past.now t →
+        result ≡ Conformance.broken_d profile x.now t }
+{
+    let Some(request) = past.request(x.source) else {
+        return Some(Rule::H2);
+    };
+    if !answers(x.opcode, request.opcode) {
+        return Some(Rule::H2);
+    }
+    if x.size != request.size {
+        return Some(Rule::H3);
+    }
+    if !is_grant(x.opcode) {
+        return None;
+    }
+    if misgrants(profile, x, &request, past) {
+        return Some(Rule::H6);
+    }
+    if past.is_pending(Key::GrantSink(x.sink)) {
+        return Some(Rule::H7);
+    }
+    None
+}
+
+fn broken_d<const W: usize, P: Past<W>>(profile: Profile, x: &BeatD<W>, past: &P) -> Option<Rule>
+    ensures { (t : History W) → P.knows past.now t →
+        result ≡ Conformance.broken_d profile x.now t }
+{
+    if is_release_ack(x.opcode) {
+        broken_release_ack(x, past)
+    } else {
+        broken_answer(profile, x, past)
+    }
+}
+
+fn broken_e<const W: usize, P: Past<W>>(x: &BeatE, past: &P) -> Option<Rule>
+    ensures { (t : History W) → P.knows past.now t → result ≡ Conformance.broken_e x.now t }
+{
+    if past.has_grant(x.sink) {
+        None
+    } else {
+        Some(Rule::H8)
+    }
+}
+
+/// The first rule of the order of messages that a message which begins with this beat breaks.
+#[tactic(auto, unfolding(crate::specs::Conformance::broken_order))]
+pub fn broken_order<const W: usize, P: Past<W>>(
+    profile: Profile,
+    beat: &Beat<W>,
+    past: &P,
+) -> Option<Rule>
+    ensures { (t : History W) → P.knows past.now t →
+        result ≡ Conformance.broken_order profile beat.now t }
+{
+    match beat {
+        Beat::A(x) => broken_a(x, past),
+        Beat::B(x) => broken_b(x, past),
+        Beat::C(x) => broken_c(x, past),
+        Beat::D(x) => broken_d(profile, x, past),
+        Beat::E(x) => broken_e(x, past),
+    }
+}

@@ -1,7 +1,6 @@
 -- A monitor that knows one more beat.
 use Rattle.std.proofs.Common.{◌≡◌, ℕ, zero, suc, Bool, false, List, [], ◌∷◌, ◌++◌, length, ◌<◌, ◌≤◌, ◌≢◌, refl, sym, ap, ◌∙◌, arith, inl, inr, ◌+◌, take, drop, reverse}
 use Rattle.std.specs.Prelude.{slice_index_or, slice_get, slice_set, Option, Some, None, Err}
-use Rattle.std.specs.Global.{Vec}
 use Rattle.std.proofs.lemmas.Bool.{cases_eq, eq-eqb, ne_eqb}
 use Rattle.std.proofs.lemmas.List.{get_or-set_same, get_or-set_other, length_push, get_or_push, get_or_append_left, drop_more, take_more, drop_all, reverse-append, length-reverse, length-take-le}
 use Rattle.tl_beat.specs.declared.beat.Beat.{Beat}
@@ -10,13 +9,14 @@ use Rattle.tl_params.specs.declared.level.Level.{Level}
 use Rattle.tl_params.specs.declared.profile.Profile.{Profile}
 use Rattle.tl_params.specs.declared.rule.Rule.{Rule}
 use Rattle.tl_rules.specs.Conformance.{Trace, on_link, broken_after, broken_on_link, fault_from}
-use Rattle.tl_monitor.specs.declared.recorded.Recorded.{Recorded}
+use Rattle.tl_monitor.specs.declared.kept.Kept.{Kept}
+use Rattle.tl_monitor.specs.Kept.{IsEmpty}
+use Rattle.tl_monitor.specs.Keeps.{Keeps}
+use Rattle.tl_monitor.proofs.Keepings.{keeps-none}
 use Rattle.tl_monitor.specs.declared.monitor.Monitor.{Monitor}
-use Rattle.tl_monitor.specs.Past.{past}
 use Rattle.tl_monitor.specs.Knows.{Knows, AllEmpty, Answers, AnswersTrace, IsCount, fault_of, broken, trace_fault_of}
 use Rattle.tl_monitor.specs.declared.fault.MonitorFault.{MonitorFault}
 use Rattle.tl_monitor.specs.declared.fault.MonitorFault.TheVariants as monitor
-use Rattle.tl_monitor.proofs.Pushes.{past-push, past-none}
 
 on_link-own : {w : ℕ} (n : ℕ) (link : Link) (x : Beat w) (t : Trace w) → link.0 ≡ n → on_link n ((link, x) ∷ t) ≡ x ∷ on_link n t
 unfolding on_link
@@ -26,53 +26,64 @@ on_link-other : {w : ℕ} (n : ℕ) (link : Link) (x : Beat w) (t : Trace w) →
 unfolding on_link
 on_link-other n link x t apart = rw (ne_eqb link.0 n apart) refl
 
--- the beat r was put at the end of the history of its link
-pub knows-more : {w : ℕ} (m m' : Monitor w) (levels : List Level) (p : Profile) (t : Trace w) (closed : Bool) (i : ℕ) (link : Link) (r : Recorded w) (old new : Vec (Recorded w))
-    → Knows m levels p t closed → m'.levels ≡ m.levels → m'.profile ≡ m.profile → m'.closed ≡ false → m'.histories.items ≡ slice_set m.histories.items i new
-    → i ≡ link.0 → i < length m.histories.items → old ≡ slice_index_or m.histories.items i old → new.items ≡ old.items ++ r ∷ []
-    → Knows m' levels p ((link, r.beat) ∷ t) false
-knows-more m m' levels p t closed i link r old new k levels_same profile_same open_still items i_is lt old_is new_is = record {
+-- what is kept of one link was put anew
+knows-at : {w : ℕ} (m m' : Monitor w) (levels : List Level) (p : Profile) (t s : Trace w) (closed : Bool) (i : ℕ) (kept : Kept)
+    → Knows m levels p t closed → m'.levels ≡ m.levels → m'.profile ≡ m.profile → m'.closed ≡ false → m'.links.items ≡ slice_set m.links.items i kept → i < length m.links.items
+    → Keeps kept (on_link i s) → ((n : ℕ) → n ≢ i → on_link n s ≡ on_link n t) → Knows m' levels p s false
+knows-at m m' levels p t s closed i kept k levels_same profile_same open_still links lt own other = record {
   levels_are = ap (λ v. v.items) levels_same ∙ k.levels_are;
   profile_is = profile_same ∙ k.profile_is;
   closed_is = open_still;
-  histories_are = λ n d below. elim (cases_eq n i) [
-    | inl here ↦
-        let at_i : i < length levels = omega (arith, here) in
-        let known : past old.items ≡ on_link i t = rw old_is (k.histories_are i old at_i) in
-        let own : link.0 ≡ i = sym i_is in
-        rw (items, here, get_or-set_same m.histories.items i new d lt, new_is, past-push old.items r, known, on_link-own i link r.beat t own) refl
-    | inr other ↦
-        let apart : link.0 ≢ n = λ e. other (sym e ∙ sym i_is) in
-        rw (items, get_or-set_other m.histories.items i n new d other, on_link-other n link r.beat t apart) (k.histories_are n d below)
+  links_are = λ n d below. elim (cases_eq n i) [
+    | inl here ↦ rw (links, here, get_or-set_same m.links.items i kept d lt) own
+    | inr apart ↦ rw (links, get_or-set_other m.links.items i n kept d apart, other n apart) (k.links_are n d below)
   ];
 }
+
+-- a link has one more beat
+pub knows-more : {w : ℕ} (m m' : Monitor w) (levels : List Level) (p : Profile) (t : Trace w) (closed : Bool) (i : ℕ) (link : Link) (x : Beat w) (kept : Kept)
+    → Knows m levels p t closed → m'.levels ≡ m.levels → m'.profile ≡ m.profile → m'.closed ≡ false → m'.links.items ≡ slice_set m.links.items i kept → i ≡ link.0 → i < length m.links.items
+    → Keeps kept (x ∷ on_link i t) → Knows m' levels p ((link, x) ∷ t) false
+knows-more m m' levels p t closed i link x kept k levels_same profile_same open_still links i_is lt own =
+    knows-at m m' levels p t ((link, x) ∷ t) closed i kept k levels_same profile_same open_still links lt
+    (rw (on_link-own i link x t (sym i_is)) own)
+    (λ n apart. on_link-other n link x t (λ e. apart (sym e ∙ sym i_is)))
+
+-- and all is as before
+pub knows-same : {w : ℕ} (m m' : Monitor w) (levels : List Level) (p : Profile) (t : Trace w) (closed : Bool) (i : ℕ) (kept : Kept)
+    → Knows m levels p t closed → m'.levels ≡ m.levels → m'.profile ≡ m.profile → m'.closed ≡ false → m'.links.items ≡ slice_set m.links.items i kept → i < length m.links.items
+    → Keeps kept (on_link i t) → Knows m' levels p t false
+knows-same m m' levels p t closed i kept k levels_same profile_same open_still links lt own =
+    knows-at m m' levels p t t closed i kept k levels_same profile_same open_still links lt own (λ n apart. refl)
 
 get_is : {X : Type 0} (xs : List X) (i : ℕ) (x : X) → i < length xs → x ≡ slice_index_or xs i x → slice_get xs i ≡ Some x
 get_is [] i x lt is = absurd (omega arith)
 get_is (y ∷ ys) zero x lt is = ap Some (sym is)
 get_is (y ∷ ys) (suc i) x lt is = get_is ys i x (omega arith) is
 
--- a beat that breaks no rule after what its link's history has
-pub no-fault : {w : ℕ} (m : Monitor w) (levels : List Level) (p : Profile) (t : Trace w) (closed : Bool) (i : ℕ) (link : Link) (x : Beat w) (l : Level) (history : Vec (Recorded w)) (beats : List (Recorded w))
-    → Knows m levels p t closed → m.closed ≡ false → i ≡ link.0 → i < length m.levels.items → l ≡ slice_index_or m.levels.items i l → history ≡ slice_index_or m.histories.items i history
-    → beats ≡ history.items → None ≡ broken_after l m.profile x (past beats) → fault_of levels p t closed (link, x) ≡ None
-no-fault m levels p t closed i link x l history beats k open_still i_is lt level_is history_is same_beats none =
+-- what is kept of the link of a beat
+pub kept-of : {w : ℕ} (m : Monitor w) (levels : List Level) (p : Profile) (t : Trace w) (closed : Bool) (i : ℕ) (kept : Kept) → Knows m levels p t closed → i < length m.levels.items → kept ≡ slice_index_or m.links.items i kept → Keeps kept (on_link i t)
+kept-of m levels p t closed i kept k lt is = let at_i : i < length levels = rw k.levels_are at lt in rw is (k.links_are i kept at_i)
+
+-- the fault of a beat is the rule that it breaks after what its link has carried
+pub fault-is : {w : ℕ} (m : Monitor w) (levels : List Level) (p : Profile) (t : Trace w) (closed : Bool) (i : ℕ) (link : Link) (x : Beat w) (l : Level) (o : Option Rule)
+    → Knows m levels p t closed → m.closed ≡ false → i ≡ link.0 → i < length m.levels.items → l ≡ slice_index_or m.levels.items i l
+    → o ≡ broken_after l m.profile x (on_link i t) → fault_of levels p t closed (link, x) ≡ broken o
+fault-is m levels p t closed i link x l o k open_still i_is lt level_is rule =
     let not_closed : closed ≡ false = sym k.closed_is ∙ open_still in
-    let at_i : i < length levels = rw k.levels_are at lt in
-    let known : past history.items ≡ on_link i t = rw history_is (k.histories_are i history at_i) in
     let got : slice_get levels link.0 ≡ Some l = rw (← i_is, ← k.levels_are) (get_is m.levels.items i l lt level_is) in
-    let same : broken_after l p x (on_link link.0 t) ≡ None = sym (none ∙ rw (k.profile_is, same_beats, known, i_is) refl) in
+    let same : broken_after l p x (on_link link.0 t) ≡ o = sym (rule ∙ rw (k.profile_is, i_is) refl) in
     rw (not_closed, got, same) refl
 
-pub empty-none : {w : ℕ} (histories : List (Vec (Recorded w))) → histories ≡ [] → AllEmpty 0 histories
-empty-none histories e = record { so_many = ap length e; all_empty = λ n d lt. absurd (omega arith) }
+pub empty-none : (links : List Kept) → links ≡ [] → AllEmpty 0 links
+empty-none links e = record { so_many = ap length e; all_empty = λ n d lt. absurd (omega arith) }
 
-pub empty-more : {w : ℕ} (count : ℕ) (histories : List (Vec (Recorded w))) (v : Vec (Recorded w)) → v.items ≡ [] → AllEmpty count histories → AllEmpty (count + 1) (histories ++ v ∷ [])
-empty-more count histories v e all = record {
-  so_many = omega (arith, length_push histories v, all.so_many);
+pub empty-more : (count : ℕ) (links : List Kept) (kept : Kept) → IsEmpty kept → AllEmpty count links → AllEmpty (count + 1) (links ++ kept ∷ [])
+empty-more count links kept e all = record {
+  so_many = omega (arith, length_push links kept, all.so_many);
   all_empty = λ n d lt. elim (cases_eq n count) [
-    | inl here ↦ rw (here, get_or_push histories v d count all.so_many) e
-    | inr other ↦ rw (get_or_append_left histories (v ∷ []) d n (omega (arith, all.so_many))) (all.all_empty n d (omega arith))
+    | inl here ↦ rw (here, get_or_push links kept d count all.so_many) e
+    | inr other ↦ rw (get_or_append_left links (kept ∷ []) d n (omega (arith, all.so_many))) (all.all_empty n d (omega arith))
   ];
 }
 
@@ -80,12 +91,12 @@ on_link-none : {w : ℕ} (n : ℕ) → on_link {w = w} n [] ≡ []
 unfolding on_link
 on_link-none n = refl
 
-pub knows-new : {w : ℕ} (m : Monitor w) (levels : List Level) (p : Profile) → m.levels.items ≡ levels → m.profile ≡ p → m.closed ≡ false → AllEmpty (length levels) m.histories.items → Knows m levels p [] false
+pub knows-new : {w : ℕ} (m : Monitor w) (levels : List Level) (p : Profile) → m.levels.items ≡ levels → m.profile ≡ p → m.closed ≡ false → AllEmpty (length levels) m.links.items → Knows m levels p [] false
 knows-new m levels p levels_are profile_is open_still all = record {
   levels_are = levels_are;
   profile_is = profile_is;
   closed_is = open_still;
-  histories_are = λ n d lt. rw (all.all_empty n d lt) (past-none [] (omega arith) ∙ sym (on_link-none n));
+  links_are = λ n d lt. rw (on_link-none n) (keeps-none (slice_index_or m.links.items n d) (all.all_empty n d lt));
 }
 
 -- the first fault of a trace of which a beginning was judged

@@ -1,31 +1,31 @@
 use Rattle.std.specs.Prelude.{ℕ, Bool, true, false, List, [], ◌∷◌, ◌≡◌, ◌<◌, ◌≤◌, length, slice_index_or, Option, Some, None, Result, Ok, Err}
-use Rattle.std.specs.Global.{Vec}
 use Rattle.tl_beat.specs.declared.beat.Beat.{Beat}
 use Rattle.tl_beat.specs.declared.beat.Link.{Link}
 use Rattle.tl_params.specs.declared.level.Level.{Level}
 use Rattle.tl_params.specs.declared.profile.Profile.{Profile}
 use Rattle.tl_params.specs.declared.rule.Rule.{Rule}
 use Rattle.tl_rules.specs.Conformance.{Trace, on_link, broken_on_link, first_fault}
-use Rattle.tl_monitor.specs.declared.recorded.Recorded.{Recorded}
+use Rattle.tl_monitor.specs.declared.kept.Kept.{Kept}
+use Rattle.tl_monitor.specs.Kept.{IsEmpty}
+use Rattle.tl_monitor.specs.Keeps.{Keeps}
 use Rattle.tl_monitor.specs.declared.monitor.Monitor.{Monitor}
 use Rattle.tl_monitor.specs.declared.fault.MonitorFault.{MonitorFault}
 use Rattle.tl_monitor.specs.declared.fault.MonitorFault.TheVariants as monitor
 use Rattle.tl_monitor.specs.declared.fault.TraceFault.{TraceFault}
 use Rattle.tl_monitor.specs.declared.fault.TraceFault.TheVariants as trace
-use Rattle.tl_monitor.specs.Past.{past}
 
--- The monitor has these levels and this profile, and knows what was recorded, the newest first. It
--- is closed where a beat was refused by a rule.
+-- The monitor has these levels and this profile, and keeps of each link what was recorded there, the
+-- newest first. It is closed where a beat was refused by a rule.
 pub record Knows {w : ℕ} (m : Monitor w) (levels : List Level) (p : Profile) (t : Trace w) (closed : Bool) : Type 0 where
   pub levels_are : m.levels.items ≡ levels
   pub profile_is : m.profile ≡ p
   pub closed_is : m.closed ≡ closed
-  pub histories_are : (n : ℕ) (d : Vec (Recorded w)) → n < length levels → past (slice_index_or m.histories.items n d).items ≡ on_link n t
+  pub links_are : (n : ℕ) (d : Kept) → n < length levels → Keeps (slice_index_or m.links.items n d) (on_link n t)
 
--- so many empty histories
-pub record AllEmpty {w : ℕ} (count : ℕ) (histories : List (Vec (Recorded w))) : Type 0 where
-  pub so_many : length histories ≡ count
-  pub all_empty : (n : ℕ) (d : Vec (Recorded w)) → n < count → (slice_index_or histories n d).items ≡ []
+-- so many links of which nothing is kept
+pub record AllEmpty (count : ℕ) (links : List Kept) : Type 0 where
+  pub so_many : length links ≡ count
+  pub all_empty : (n : ℕ) (d : Kept) → n < count → IsEmpty (slice_index_or links n d)
 
 -- how many levels a monitor may have
 abbrev pub IsCount : ℕ → Type 0

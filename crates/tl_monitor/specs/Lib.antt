@@ -1,2 +1,9 @@
+pub mod Blocks
+pub mod Bursts
+pub mod Control
+pub mod Count
+pub mod Kept
+pub mod Keeps
 pub mod Knows
-pub mod Past
+pub mod Lookups
+pub mod Numbers

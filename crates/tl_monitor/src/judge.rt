@@ -1,34 +1,30 @@
 //! The first rule that a beat breaks after what its link has carried.
 
-ghost use Rattle.std.specs.Prelude.{IsTrue, OnOk, IfNone, ◌≡◌};
+ghost use Rattle.std.specs.Prelude.{IsTrue, IfNone, ◌≡◌};
 ghost use Rattle.tl_beat.specs.Width.{IsWidth};
+ghost use Rattle.tl_burst.specs.Messages.{History};
 ghost use Rattle.tl_burst.specs.Part.{is_small};
 ghost use Rattle.tl_rules.specs.Conformance;
-ghost use Rattle.tl_monitor.specs.Past.{past};
+ghost use Rattle.tl_monitor.specs.Keeps.{Keeps};
 
-use crate::order::broken_order;
-use crate::past::{channel_of, newest_on};
-use crate::recorded::Recorded;
+use crate::bursts::channel_of;
+use crate::control::has_control;
+use crate::kept::Kept;
 use tl_beat::beat::Beat;
-use tl_burst::control::same_control;
 use tl_rules::legality::check_beat;
 use tl_rules::level::Level;
+use tl_rules::order::broken_order;
 use tl_rules::profile::Profile;
 use tl_rules::rule::Rule;
 
 /// The rule of bursts or of the order of messages that a beat breaks which breaks none by itself.
-fn broken_in_order<const W: usize>(
-    profile: Profile,
-    beat: &Beat<W>,
-    beats: &[Recorded<W>],
-) -> Option<Rule>
-    requires { IsWidth W }
-    ensures { result ≡ Conformance.broken_in_order profile beat.now (past beats.now) }
+fn broken_in_order<const W: usize>(profile: Profile, beat: &Beat<W>, kept: &Kept) -> Option<Rule>
+    ensures { (t : History W) → Keeps kept.now t → result ≡ Conformance.broken_in_order profile beat.now t }
 {
-    match newest_on(channel_of(beat), beats) {
-        None => broken_order(profile, beat, beats),
-        Some(newest) => {
-            if same_control(beat, &newest) {
+    match kept.bursts.on(channel_of(beat)) {
+        None => broken_order(profile, beat, kept),
+        Some(burst) => {
+            if has_control(beat, &burst.control) {
                 None
             } else {
                 Some(Rule::S1)
@@ -43,14 +39,14 @@ pub fn broken_after<const W: usize>(
     level: Level,
     profile: Profile,
     beat: &Beat<W>,
-    beats: &[Recorded<W>],
+    kept: &Kept,
 ) -> Option<Rule>
     requires { IsWidth W }
-    ensures rule { result ≡ Conformance.broken_after level profile beat.now (past beats.now) }
+    ensures rule { (t : History W) → Keeps kept.now t → result ≡ Conformance.broken_after level profile beat.now t }
     ensures small { IfNone result (IsTrue (is_small beat.now)) }
 {
     match check_beat(level, channel_of(beat), beat) {
         Err(rule) => Some(rule),
-        Ok(()) => broken_in_order(profile, beat, beats),
+        Ok(()) => broken_in_order(profile, beat, kept),
     }
 }

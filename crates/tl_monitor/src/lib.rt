@@ -1,11 +1,13 @@
 //! A monitor that judges recorded traces of TileLink's links.
 #![tactic(auto)]
 
+mod blocks;
+mod bursts;
+mod control;
 pub mod fault;
 mod judge;
-mod kind;
+mod kept;
+mod lookups;
 pub mod monitor;
-mod order;
-mod past;
-mod recorded;
+mod slots;
 pub mod watch;

@@ -5,31 +5,29 @@ ghost use Rattle.tl_beat.specs.declared.beat.Beat.{Beat};
 ghost use Rattle.tl_beat.specs.Width.{IsWidth};
 ghost use Rattle.tl_params.specs.declared.level.Level.{Level};
 ghost use Rattle.tl_params.specs.declared.profile.Profile.{Profile};
-ghost use Rattle.tl_rules.specs.Conformance.{Trace};
+ghost use Rattle.tl_rules.specs.Conformance.{Trace, on_link};
+ghost use Rattle.tl_monitor.specs.Numbers.{IsMoreWhereRefused, entries_of};
 ghost use Rattle.tl_monitor.specs.Knows.{Knows, IsNew, Answers, AnswersTrace, fault_of, recorded_after, closed_after, AllEmpty, trace_fault_of};
 
 use crate::fault::{MonitorFault, TraceFault};
 use crate::judge::broken_after;
+use crate::kept::Kept;
 use crate::monitor::Monitor;
-use crate::recorded::Recorded;
 use std::alloc::{AllocError, Global};
 use tl_beat::beat::{Beat, Link};
 use tl_rules::level::Level;
 use tl_rules::profile::Profile;
 use tl_rules::rule::Rule;
 
-/// An empty history for each link.
-fn empty_histories<const W: usize>(
-    alloc: Global,
-    count: usize,
-) -> Result<Vec<Vec<Recorded<W>>>, AllocError>
+/// What is kept of so many links that have carried nothing.
+fn empty_links(alloc: Global, count: usize) -> Result<Vec<Kept>, AllocError>
     ensures { IfOk result (λ v. AllEmpty count v.items) }
 {
-    let mut histories = Vec::new(alloc);
+    let mut links = Vec::new(alloc);
     for _ in 0..count {
-        histories.push(Vec::new(alloc))?;
+        links.push(Kept::new(alloc))?;
     }
-    Ok(histories)
+    Ok(links)
 }
 
 impl<const W: usize> Monitor<W> {
@@ -41,7 +39,7 @@ impl<const W: usize> Monitor<W> {
         if levels.is_empty() || levels.len() > 16 {
             return Err(MonitorFault::Levels);
         }
-        let Ok(histories) = empty_histories(alloc, levels.len()) else {
+        let Ok(links) = empty_links(alloc, levels.len()) else {
             return Err(MonitorFault::Memory);
         };
         let Ok(levels) = Vec::from_slice(alloc, levels) else {
@@ -50,13 +48,14 @@ impl<const W: usize> Monitor<W> {
         Ok(Monitor {
             levels,
             profile,
-            histories,
+            links,
             closed: false,
         })
     }
 
-    /// Judges a beat of a link, and records it where it breaks no rule. After a broken rule every
-    /// call is answered `Closed`; after `Memory` the monitor is as before.
+    /// Judges a beat of a link, and takes it where it breaks no rule. After a broken rule every call is
+    /// answered `Closed`. `Memory` is answered only where more keys of one kind are pending than
+    /// before, or more blocks held; then the monitor knows what it knew before.
     pub fn push(&mut self, link: Link, beat: &Beat<W>) -> Result<(), MonitorFault>
         requires { IsWidth W }
         ensures answer { (levels : List Level) (p : Profile) (t : Trace W) (closed : Bool) →
@@ -65,6 +64,9 @@ impl<const W: usize> Monitor<W> {
         ensures knows { (levels : List Level) (p : Profile) (t : Trace W) (closed : Bool) →
             Knows self.old levels p t closed →
             Knows self.new levels p (recorded_after result (link, beat.now) t) (closed_after result) }
+        ensures memory { (levels : List Level) (p : Profile) (t : Trace W) (closed : Bool) →
+            Knows self.old levels p t closed →
+            IsMoreWhereRefused (on_link link.0 t) beat.now result }
     {
         if self.closed {
             return Err(MonitorFault::Closed);
@@ -74,16 +76,30 @@ impl<const W: usize> Monitor<W> {
             self.closed = true;
             return Err(MonitorFault::Broken(Rule::L1));
         }
-        match broken_after(self.levels[n], self.profile, beat, &self.histories[n]) {
+        match broken_after(self.levels[n], self.profile, beat, &self.links[n]) {
             Some(rule) => {
                 self.closed = true;
                 Err(MonitorFault::Broken(rule))
             }
-            None => match self.histories[n].push(Recorded { beat: *beat }) {
+            None => match self.links[n].take(beat) {
                 Ok(()) => Ok(()),
                 Err(_) => Err(MonitorFault::Memory),
             },
         }
+    }
+
+    /// How many keys are pending on a link, and how many blocks aren't held as None; 0 for a link
+    /// without a level.
+    pub fn entries(&self, link: Link) -> usize
+        ensures { (levels : List Level) (p : Profile) (t : Trace W) (closed : Bool) →
+            Knows self.now levels p t closed →
+            result ≡ entries_of levels link t }
+    {
+        let n = usize::from(link.0);
+        if n >= self.levels.len() {
+            return 0;
+        }
+        self.links[n].entries()
     }
 }
 

@@ -339,3 +339,89 @@ fn a_monitor_closes(rt: HostRuntime) -> Result<(), Fail> {
     pushes(&rt, &mut monitor, &grant_data(1), Err(MonitorFault::Closed));
     Ok(())
 }
+
+/// A block granted toT and probed: AcquireBlock NtoT, GrantData toT, GrantAck, a Probe toN and a
+/// ProbeAck TtoN.
+fn lent() -> [(Link, Beat<8>); 12] {
+    let mut beats = granted(1);
+    beats[0] = on(
+        0,
+        Beat::A(BeatA {
+            opcode: OpA::AcquireBlock,
+            param: 1,
+            size: 6,
+            source: 0,
+            address: 0,
+            mask: 0xff,
+            lanes: None,
+            corrupt: false,
+        }),
+    );
+    for i in 1..9 {
+        beats[i] = grant_data(0);
+    }
+    beats
+}
+
+#[test]
+fn entries_after_each_beat(rt: HostRuntime) -> Result<(), Fail> {
+    let mut monitor = Monitor::<8>::new(rt.alloc(), &[Level::C], Profile::One)?;
+    let expected = [2, 4, 4, 4, 4, 4, 4, 4, 3, 1, 2, 0];
+    for (i, beat) in lent().iter().enumerate() {
+        pushes(&rt, &mut monitor, beat, Ok(()));
+        assert_eq!(rt; monitor.entries(Link(0)), expected[i]);
+        assert_eq!(rt; monitor.entries(Link(1)), 0);
+    }
+    Ok(())
+}
+
+/// A beat of a client that acquires many blocks.
+fn acquire_of(block: u8) -> (Link, Beat<8>) {
+    on(
+        0,
+        Beat::A(BeatA {
+            opcode: OpA::AcquireBlock,
+            param: 0,
+            size: 6,
+            source: block,
+            address: 64 * u32::from(block),
+            mask: 0xff,
+            lanes: None,
+            corrupt: false,
+        }),
+    )
+}
+
+/// Pushes a beat; where there is no memory for it nothing has changed, and it is pushed again.
+fn pushes_again(rt: &impl Abort, monitor: &mut Monitor<8>, beat: &(Link, Beat<8>)) {
+    let before = monitor.entries(Link(0));
+    match monitor.push(beat.0, &beat.1) {
+        Err(MonitorFault::Memory) => {
+            assert_eq!(rt; monitor.entries(Link(0)), before);
+            assert_eq!(rt; monitor.push(beat.0, &beat.1), Ok(()));
+        }
+        answer => assert_eq!(rt; answer, Ok(())),
+    }
+}
+
+/// For `rt try --test --fail-alloc N`.
+#[test]
+fn memory_that_is_refused_once(rt: HostRuntime) {
+    let monitor = match Monitor::<8>::new(rt.alloc(), &[Level::C], Profile::One) {
+        Ok(monitor) => Ok(monitor),
+        Err(fault) => {
+            assert_eq!(rt; fault, MonitorFault::Memory);
+            Monitor::<8>::new(rt.alloc(), &[Level::C], Profile::One)
+        }
+    };
+    let Ok(mut monitor) = monitor else {
+        return;
+    };
+    for beat in &lent() {
+        pushes_again(&rt, &mut monitor, beat);
+    }
+    for block in 0..=255u8 {
+        pushes_again(&rt, &mut monitor, &acquire_of(block));
+        assert_eq!(rt; monitor.entries(Link(0)), 2 * (usize::from(block) + 1));
+    }
+}

@@ -1,13 +1,29 @@
-use Rattle.std.proofs.Common.{arith, refl}
-use Rattle.tl_monitor.proofs.Knowing.{knows-more, no-fault}
+use Rattle.std.proofs.Common.{arith, refl, sym, length, ◌<◌}
+use Rattle.std.specs.Prelude.{None}
+use Rattle.tl_rules.specs.Conformance.{on_link}
+use Rattle.tl_monitor.proofs.Keepings.{keeps-more}
+use Rattle.tl_monitor.proofs.Knowing.{fault-is, kept-of, knows-more}
+use Rattle.tl_monitor.proofs.Numbered.{some-more}
 use Rattle.tl_monitor.proofs.monitor.Monitor.push.Goals as goal
 
 pub returns-in-Ok-clause-knows : goal.returns-in-Ok-clause-knows
 returns-in-Ok-clause-knows g c = λ levels p t closed k.
-    knows-more c.args.self.now _ levels p t closed c.from-n.result c.args.link (record { beat = c.args.beat.now; small = _ }) c.index_mut.result.now c.push.new.self
-    k refl refl c.if-self.false refl c.from-n.ensures (omega (arith, c.args.self.now.one_each, c.len.ensures)) c.index_mut.ensures.value c.in-Ok.ensures.items
+    let lt : c.from-n.result < length c.args.self.now.levels.items = omega (arith, c.len.ensures) in
+    let legal = c.in-None.ensures.rule (on_link c.from-n.result t) (kept-of c.args.self.now levels p t closed c.from-n.result c.index-2.result.now k lt c.index-2.ensures) in
+    let keeps = kept-of c.args.self.now levels p t closed c.from-n.result c.index_mut.result.now k lt c.index_mut.ensures.value in
+    knows-more c.args.self.now _ levels p t closed c.from-n.result c.args.link c.args.beat.now c.take.new.self k refl refl c.if-self.false refl c.from-n.ensures (omega (arith, c.args.self.now.one_each, c.len.ensures))
+    (keeps-more c.index.result.now c.args.self.now.profile c.index_mut.result.now c.take.new.self c.args.beat.now (on_link c.from-n.result t) c.requires keeps (sym legal) c.in-Ok.ensures.next)
 
 pub returns-in-Err-clause-answer : goal.returns-in-Err-clause-answer
 returns-in-Err-clause-answer g c = λ levels p t closed k.
-    no-fault c.args.self.now levels p t closed c.from-n.result c.args.link c.args.beat.now c.index.result.now c.index-2.result.now c.deref.result.now
-    k c.if-self.false c.from-n.ensures (omega (arith, c.len.ensures)) c.index.ensures c.index-2.ensures c.deref.ensures.value c.in-None.ensures.rule
+    let lt : c.from-n.result < length c.args.self.now.levels.items = omega (arith, c.len.ensures) in
+    fault-is c.args.self.now levels p t closed c.from-n.result c.args.link c.args.beat.now c.index.result.now None k c.if-self.false c.from-n.ensures lt c.index.ensures
+    (c.in-None.ensures.rule (on_link c.from-n.result t) (kept-of c.args.self.now levels p t closed c.from-n.result c.index-2.result.now k lt c.index-2.ensures))
+
+pub returns-in-Err-clause-memory : goal.returns-in-Err-clause-memory
+returns-in-Err-clause-memory g c = λ levels p t closed k.
+    let lt : c.from-n.result < length c.args.self.now.levels.items = omega (arith, c.len.ensures) in
+    let legal = c.in-None.ensures.rule (on_link c.from-n.result t) (kept-of c.args.self.now levels p t closed c.from-n.result c.index-2.result.now k lt c.index-2.ensures) in
+    let keeps = kept-of c.args.self.now levels p t closed c.from-n.result c.index_mut.result.now k lt c.index_mut.ensures.value in
+    let more = some-more c.index.result.now c.args.self.now.profile c.index_mut.result.now c.args.beat.now (on_link c.from-n.result t) c.in-Err.ensures.new.0 c.requires keeps (sym legal) c.in-Err.ensures.new.1 in
+    rw (← c.from-n.ensures) more

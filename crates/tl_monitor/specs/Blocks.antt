@@ -1,0 +1,34 @@
+-- What a table of blocks says of each.
+use Rattle.std.specs.Prelude.{ℕ, ◌+◌, ◌<◌, ◌≡◌, Bool, true, false, List, Option, Some, None, is_some}
+use Rattle.std.specs.BTreeMap.{is_at}
+use Rattle.std.specs.Map.{lookup}
+use Rattle.std.specs.Ordering.{nat_cmp}
+use Rattle.tl_params.specs.declared.perm.Perm.{Perm}
+use Rattle.tl_params.specs.declared.perm.Perm.TheVariants as perm
+use Rattle.tl_rules.specs.declared.table.Block.{Block}
+use Rattle.tl_rules.specs.Tables.{empty_block}
+use Rattle.tl_monitor.specs.Count.{one_if}
+
+-- what is stored under a number
+abbrev pub stored : List (ℕ × Block) → ℕ → Option Block
+stored entries k = lookup (is_at (nat_cmp k)) entries
+
+abbrev pub block_or_empty : Option Block → Block
+block_or_empty None = empty_block
+block_or_empty (Some b) = b
+
+abbrev pub block_in : List (ℕ × Block) → ℕ → Block
+block_in entries k = block_or_empty (stored entries k)
+
+abbrev pub is_held : Perm → Bool
+is_held perm.None = false
+is_held perm.Branch = true
+is_held perm.Trunk = true
+
+-- how many keys of a block are pending, and one more where it is held
+unfoldable pub open_of : Block → ℕ
+open_of b = one_if (is_held b.held) + one_if b.acquire + one_if b.release + one_if (is_some b.probe) + one_if (is_some b.grant)
+
+-- of each block that is stored something is open or held
+abbrev pub AreOpen : List (ℕ × Block) → Type 0
+AreOpen entries = (k : ℕ) (b : Block) → stored entries k ≡ Some b → 0 < open_of b

@@ -1,0 +1,133 @@
+//! The bursts of a link that have begun and aren't complete.
+
+ghost use Rattle.std.specs.Prelude.{IsTrue, None, is_none, ◌≡◌};
+ghost use Rattle.tl_beat.specs.Width.{IsWidth};
+ghost use Rattle.tl_beat.specs.declared.opcode.Channel.TheVariants as channel;
+ghost use Rattle.tl_burst.specs.Messages;
+ghost use Rattle.tl_burst.specs.Part.{is_small};
+ghost use Rattle.tl_monitor.specs.Bursts.{burst_on, is_last, burst_next, burst_with};
+
+use crate::control::{Control, control_of};
+use tl_beat::beat::Beat;
+use tl_beat::opcode::Channel;
+use tl_burst::burst::burst_length;
+
+/// A burst that has begun and isn't complete: the control fields of its beats, and how many of them
+/// are still to come.
+#[derive(Clone, Copy)]
+pub struct Unfinished {
+    pub control: Control,
+    pub left: u8,
+}
+
+/// What is unfinished on each channel.
+#[derive(Clone, Copy)]
+pub struct Bursts {
+    pub a: Option<Unfinished>,
+    pub b: Option<Unfinished>,
+    pub c: Option<Unfinished>,
+    pub d: Option<Unfinished>,
+    pub e: Option<Unfinished>,
+}
+
+/// The channel that carries a beat.
+pub fn channel_of<const W: usize>(beat: &Beat<W>) -> Channel
+    ensures { result ≡ Messages.channel_of beat.now }
+{
+    match beat {
+        Beat::A(_) => Channel::A,
+        Beat::B(_) => Channel::B,
+        Beat::C(_) => Channel::C,
+        Beat::D(_) => Channel::D,
+        Beat::E(_) => Channel::E,
+    }
+}
+
+/// A burst with its next beat, or nothing where that is the last.
+fn next<const W: usize>(beat: &Beat<W>, burst: Option<Unfinished>) -> Option<Unfinished>
+    requires width { IsWidth W }
+    requires small { IsTrue (is_small beat.now) }
+    ensures { result ≡ burst_next beat.now burst }
+{
+    let left = match burst {
+        None => burst_length(beat).saturating_sub(1),
+        Some(burst) => burst.left.saturating_sub(1),
+    };
+    if left == 0 {
+        return None;
+    }
+    Some(Unfinished {
+        control: control_of(beat),
+        left,
+    })
+}
+
+impl Bursts {
+    /// No burst on any channel.
+    pub fn new() -> Self
+        ensures a { result.a ≡ None }
+        ensures b { result.b ≡ None }
+        ensures c { result.c ≡ None }
+        ensures d { result.d ≡ None }
+        ensures e { result.e ≡ None }
+    {
+        Bursts {
+            a: None,
+            b: None,
+            c: None,
+            d: None,
+            e: None,
+        }
+    }
+
+    /// What is unfinished on a channel.
+    pub fn on(&self, channel: Channel) -> Option<Unfinished>
+        ensures { result ≡ burst_on self.now channel }
+    {
+        match channel {
+            Channel::A => self.a,
+            Channel::B => self.b,
+            Channel::C => self.c,
+            Channel::D => self.d,
+            Channel::E => self.e,
+        }
+    }
+
+    /// Whether a beat begins a message.
+    pub fn begins<const W: usize>(&self, beat: &Beat<W>) -> bool
+        ensures { result ≡ is_none (burst_on self.now (Messages.channel_of beat.now)) }
+    {
+        self.on(channel_of(beat)).is_none()
+    }
+
+    /// Whether a beat completes its message, where it breaks no rule.
+    pub fn completes<const W: usize>(&self, beat: &Beat<W>) -> bool
+        requires width { IsWidth W }
+        requires small { IsTrue (is_small beat.now) }
+        ensures { result ≡ is_last beat.now (burst_on self.now (Messages.channel_of beat.now)) }
+    {
+        match self.on(channel_of(beat)) {
+            None => burst_length(beat) <= 1,
+            Some(burst) => burst.left <= 1,
+        }
+    }
+
+    /// Takes a beat.
+    pub fn take<const W: usize>(&mut self, beat: &Beat<W>)
+        requires width { IsWidth W }
+        requires small { IsTrue (is_small beat.now) }
+        ensures a { self.new.a ≡ burst_with channel.A beat.now self.old.a }
+        ensures b { self.new.b ≡ burst_with channel.B beat.now self.old.b }
+        ensures c { self.new.c ≡ burst_with channel.C beat.now self.old.c }
+        ensures d { self.new.d ≡ burst_with channel.D beat.now self.old.d }
+        ensures e { self.new.e ≡ burst_with channel.E beat.now self.old.e }
+    {
+        match beat {
+            Beat::A(_) => self.a = next(beat, self.a),
+            Beat::B(_) => self.b = next(beat, self.b),
+            Beat::C(_) => self.c = next(beat, self.c),
+            Beat::D(_) => self.d = next(beat, self.d),
+            Beat::E(_) => self.e = next(beat, self.e),
+        }
+    }
+}

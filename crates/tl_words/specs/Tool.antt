@@ -22,9 +22,12 @@ monitor_of = with_rule (new_app (codes "monitor")) (new_rule (codes "FILE"))
 abbrev pub with_required_subcommand : App → App
 with_required_subcommand a = record a { top = record a.top { subcommand_required = true } }
 
--- `tltool`, which wants a subcommand
+abbrev pub with_version : App → App
+with_version a = record a { top = record a.top { has_version = true } }
+
+-- `tltool [--version]`, which wants a subcommand
 abbrev pub tool_of : App
-tool_of = with_subcommand (with_subcommand (with_required_subcommand (new_app (codes "tltool"))) decode_of.top) monitor_of.top
+tool_of = with_subcommand (with_subcommand (with_required_subcommand (with_version (new_app (codes "tltool")))) decode_of.top) monitor_of.top
 
 -- the width that a word stands for, 8 bytes where there is no word
 abbrev pub width_named : Option Text → Option Width

@@ -1,4 +1,5 @@
-//! Reads the program's words: `tltool decode [--width 4|8|16] [FILE]` and `tltool monitor [FILE]`.
+//! Reads the program's words: `tltool decode [--width 4|8|16] [FILE]`, `tltool monitor [FILE]`, and
+//! those that ask for help or the version.
 
 ghost use Rattle.std.specs.Prelude.{◌≡◌, IfOk, false, List, Some, map, option_map};
 ghost use Rattle.std.specs.String.{string_bytes};
@@ -30,6 +31,33 @@ impl From<clap::Error> for WordsFault {
     }
 }
 
+/// What help says of FILE.
+const FILE_HELP: &str =
+    "The file to read [default: standard input]; `-` is a file's name as any other";
+
+/// What help says of the text `line N X`, and of the exit status.
+const OUTCOMES: &str = "\
+At the first line at fault the text is `line N X`: N is its number, X what is wrong with it.
+  F1 to F6      the line spells no beat
+  F7            the first line is no header
+  L1 to L7      the beat is not a legal one by itself
+  S1            the beat does not continue its burst
+  H1 to H13     the beat breaks the order of messages
+
+Exit status:
+  0  clean, or help or the version was asked for
+  1  `line N X` was written
+  2  the words are not of the form above
+  3  no memory, or reading, writing or opening a file failed; a directory can be opened, but not
+     read, and a reader of the output that goes away makes writing fail
+
+Examples:
+  printf '00 A 4 0 3 00 00000040 ff - 0\\n' | tltool decode
+  tltool monitor recorded.trace
+  tail -n +2 recorded.trace | tltool decode";
+
+const VERSION: &str = "0.1.0";
+
 fn decode<'a>(alloc: Global) -> Result<clap::Command<'a>, AllocError>
     ensures app { IfOk result (λ c. app_of c ≡ decode_of) }
     ensures local { IfOk result (λ c. (out-Command c).has_globals ≡ false) }
@@ -38,9 +66,10 @@ fn decode<'a>(alloc: Global) -> Result<clap::Command<'a>, AllocError>
         .long("width")
         .value_name("BYTES")
         .help("Bytes of data that a beat carries: 4, 8 or 16 [default: 8]");
-    let file = Arg::new(alloc, "FILE").help("The file to read [default: standard input]");
+    let file = Arg::new(alloc, "FILE").help(FILE_HELP);
     clap::Command::new(alloc, "decode")
-        .about("Writes a readable line for each beat line")
+        .about("Writes a readable line for each beat line of FILE")
+        .after_help(OUTCOMES)
         .arg(width)?
         .arg(file)
 }
@@ -49,9 +78,10 @@ fn monitor<'a>(alloc: Global) -> Result<clap::Command<'a>, AllocError>
     ensures app { IfOk result (λ c. app_of c ≡ monitor_of) }
     ensures local { IfOk result (λ c. (out-Command c).has_globals ≡ false) }
 {
-    let file = Arg::new(alloc, "FILE").help("The trace to judge [default: standard input]");
+    let file = Arg::new(alloc, "FILE").help(FILE_HELP);
     clap::Command::new(alloc, "monitor")
-        .about("Judges a recorded trace, up to the first beat that breaks a rule")
+        .about("Judges a recorded trace: writes `clean N`, N its beats, or the first line at fault")
+        .after_help(OUTCOMES)
         .arg(file)
 }
 
@@ -61,7 +91,9 @@ fn tool<'a>(alloc: Global) -> Result<clap::Command<'a>, AllocError>
     let decode = decode(alloc)?;
     let monitor = monitor(alloc)?;
     clap::Command::new(alloc, "tltool")
-        .about("Reads, judges and runs TileLink traces")
+        .about("Reads and judges recorded TileLink traces")
+        .after_help(OUTCOMES)
+        .version(VERSION)
         .subcommand_required(true)
         .subcommand(decode)?
         .subcommand(monitor)
@@ -103,6 +135,16 @@ fn copied(alloc: Global, text: Option<&str>) -> Result<Option<String>, AllocErro
     }
 }
 
+/// The error of a word that names no width, with the usage of `decode`.
+fn wrong_width(alloc: Global, word: Option<&str>) -> Result<clap::Error, AllocError> {
+    let word = word.unwrap_or("");
+    let message = format!(in alloc;
+        "invalid value '{word}' for '--width <BYTES>': a beat carries 4, 8 or 16 bytes"
+    )?;
+    let mut decode = decode(alloc)?.bin_name("tltool decode")?;
+    decode.error(ErrorKind::InvalidValue, message.as_str())
+}
+
 /// The command and FILE that the program's words give, its own name first. Words of another form and
 /// a request for help are a `Usage`, whose text and status are `clap`'s.
 pub fn invocation(alloc: Global, words: &[String]) -> Result<(Command, Option<String>), WordsFault>
@@ -116,8 +158,7 @@ pub fn invocation(alloc: Global, words: &[String]) -> Result<(Command, Option<St
         return Err(WordsFault::Usage(error));
     };
     let Some(command) = command_named(name, found.get_str("width")) else {
-        let error = tool.error(ErrorKind::InvalidValue, "the width is 4, 8 or 16 bytes")?;
-        return Err(WordsFault::Usage(error));
+        return Err(WordsFault::Usage(wrong_width(alloc, found.get_str("width"))?));
     };
     let file = copied(alloc, found.get_str("FILE"))?;
     Ok((command, file))

@@ -18,11 +18,15 @@ fn gives_the_command_and_the_file(rt: HostRuntime) -> Result<(), Fail> {
     let sixteen = Command::Decode {
         width: Width::Sixteen,
     };
-    let rows: [(&[&str], Command, Option<&str>); 6] = [
+    let rows: [(&[&str], Command, Option<&str>); 10] = [
         (&["tltool", "decode"], eight, None),
         (&["tltool", "decode", "beats.txt"], eight, Some("beats.txt")),
         (&["tltool", "decode", "--width", "4"], four, None),
         (&["tltool", "decode", "--width=16", "-"], sixteen, Some("-")),
+        (&["tltool", "decode", "--width", "4", "a"], four, Some("a")),
+        (&["tltool", "decode", "--width", "8"], eight, None),
+        (&["tltool", "decode", "--width", "8", "a"], eight, Some("a")),
+        (&["tltool", "decode", "--width", "16"], sixteen, None),
         (&["tltool", "monitor"], Command::Monitor, None),
         (
             &["tltool", "monitor", "two_caches.trace"],
@@ -43,14 +47,16 @@ fn gives_the_command_and_the_file(rt: HostRuntime) -> Result<(), Fail> {
 
 #[test]
 fn refuses_other_words(rt: HostRuntime) -> Result<(), Fail> {
-    let rows: [(&[&str], i32); 9] = [
+    let rows: [(&[&str], i32); 11] = [
         (&["tltool"], 2),
         (&["tltool", "encode"], 2),
         (&["tltool", "decode", "--width", "5"], 2),
         (&["tltool", "decode", "a", "b"], 2),
         (&["tltool", "monitor", "--width", "4"], 2),
         (&["tltool", "monitor", "a", "b"], 2),
+        (&["tltool", "decode", "--version"], 2),
         (&["tltool", "--help"], 0),
+        (&["tltool", "--version"], 0),
         (&["tltool", "decode", "--help"], 0),
         (&["tltool", "monitor", "--help"], 0),
     ];

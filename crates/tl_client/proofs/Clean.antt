@@ -29,7 +29,7 @@ from_blank {w} m none blank =
     (rw blank.0 (same_self (replicate (64 - carried (A m)) 0)))
     (lt-ltb m.mask (2 ^ (w * beats_of (A m))) blank.1))
 
-to_blank : {w : ℕ} (m : MessageA w) → m.corrupt ≡ 0 → is_clean m ≡ true → IsBlankAfter (beats_of (A m)) (A m)
+pub to_blank : {w : ℕ} (m : MessageA w) → m.corrupt ≡ 0 → is_clean m ≡ true → IsBlankAfter (beats_of (A m)) (A m)
 to_blank {w} m none clean =
     let parts = and_parts (eqb m.corrupt 0) _ clean in
     let others = and_parts (same_bytes (drop (carried (A m)) m.payload) (replicate (64 - carried (A m)) 0)) _ parts.1 in

@@ -172,7 +172,7 @@ perm_past a.Intent block e = refl
 perm_past a.AcquireBlock block e = refl
 perm_past a.AcquirePerm block e = refl
 
-granted_past : {w : ℕ} (opcode : OpD) (r : Option (BeatA w)) (payload : List ℕ) (e : End w) → (granted opcode r payload e).past ≡ e.past
+pub granted_past : {w : ℕ} (opcode : OpD) (r : Option (BeatA w)) (payload : List ℕ) (e : End w) → (granted opcode r payload e).past ≡ e.past
 granted_past d.AccessAck r payload e = refl
 granted_past d.AccessAckData r payload e = refl
 granted_past d.HintAck r payload e = refl
@@ -241,7 +241,7 @@ comes l channel.D (beat.C x) e f = absurd cc
 comes l channel.D (beat.D x) e f = tt
 comes l channel.D (beat.E x) e f = absurd cc
 
-incoming : {w : ℕ} (terms : Terms) (ch : Channel) (x : Beat w) (e : End w) → broken_before terms ch x e ≡ None → IsIncoming x
+pub incoming : {w : ℕ} (terms : Terms) (ch : Channel) (x : Beat w) (e : End w) → broken_before terms ch x e ≡ None → IsIncoming x
 unfolding illegal
 incoming terms ch x e none =
     let live = next_rule e.closed A3 _ none in

@@ -20,18 +20,17 @@ use Rattle.tl_rules.specs.Conformance.{same_perm}
 use Rattle.tl_rules.specs.History.{block_at, is_acquire, pending, held}
 use Rattle.tl_params.specs.Param.{prune_left, prune_right}
 use Rattle.tl_client.specs.declared.busy.Busy.{Busy}
-use Rattle.tl_client.specs.declared.busy.Busy.TheVariants.{B1, B2, B3, B4, B5}
 use Rattle.tl_client.specs.declared.operation.Op.{Op}
 use Rattle.tl_client.specs.declared.operation.Op.TheVariants.{Load, Store, Acquire, AcquireWhole, Release, Access}
 use Rattle.tl_client.specs.declared.reply.Reply.TheVariants as reply
-use Rattle.tl_client.specs.Ask.{asked, asked_given, busy, breaks_b1, breaks_b2, breaks_b3, breaks_b4, breaks_b5, block_of, is_access_of, done, load, store, free_request, free_release, source_or_0, whole_grow}
+use Rattle.tl_client.specs.Ask.{asked, asked_given, busy, breaks_b1, breaks_b2, breaks_b3, breaks_b4, block_of, is_access_of, done, load, store, free_request, free_release, source_or_0, whole_grow}
 use Rattle.tl_client.specs.End.{Terms, End, copy_at, held_at, kept_for, sending, set_at, with_copy, with_waiting, zeros}
 use Rattle.tl_client.specs.Kept.{IsKept, holds, is_acquire_perm}
 use Rattle.tl_client.specs.Send.{about, sourced, acquisition, release}
+use Rattle.tl_client.proofs.Cases.{NotBusy, not_busy}
 use Rattle.tl_client.proofs.Free.{least_free-some}
 use Rattle.tl_client.proofs.HeldAfter.{same_block, held-release, kept_past}
 use Rattle.tl_client.proofs.Kept.{kept-a, kept-c}
-use Rattle.tl_client.proofs.Verdicts.{next_busy}
 
 -- ---- copies
 
@@ -92,7 +91,7 @@ kept_store address size value perm.Trunk e kept is = stored_copy e (block_at add
 
 -- ---- what starts
 
-no_acquire : (l : Level) (opcode : OpA) → is_access_of l opcode ≡ true → (is_acquire opcode ≡ false) × (is_acquire_perm opcode ≡ false)
+pub no_acquire : (l : Level) (opcode : OpA) → is_access_of l opcode ≡ true → (is_acquire opcode ≡ false) × (is_acquire_perm opcode ≡ false)
 no_acquire l a.PutFullData e = (refl, refl)
 no_acquire l a.PutPartialData e = (refl, refl)
 no_acquire l a.ArithmeticData e = (refl, refl)
@@ -102,14 +101,14 @@ no_acquire l a.Intent e = (refl, refl)
 no_acquire l a.AcquireBlock e = absurd (let bad = (and_parts _ false e).1 in cc)
 no_acquire l a.AcquirePerm e = absurd (let bad = (and_parts _ false e).1 in cc)
 
-falls_to : (p : Prune) (q : Perm) → same_perm (prune_left p) q ≡ true → holds q ≡ true
+pub falls_to : (p : Prune) (q : Perm) → same_perm (prune_left p) q ≡ true → holds q ≡ true
 falls_to prune.TtoB perm.None e = absurd cc
 falls_to prune.TtoN perm.None e = absurd cc
 falls_to prune.BtoN perm.None e = absurd cc
 falls_to p perm.Branch e = refl
 falls_to p perm.Trunk e = refl
 
-release_is : {w : ℕ} (p : Prune) (source block : ℕ) (copy : List ℕ) → (m : MessageC w) × (release p source block copy ≡ C m)
+pub release_is : {w : ℕ} (p : Prune) (source block : ℕ) (copy : List ℕ) → (m : MessageC w) × (release p source block copy ≡ C m)
 release_is prune.TtoB source block copy = (about c.ReleaseData 0 source block copy, refl)
 release_is prune.TtoN source block copy = (about c.ReleaseData 1 source block copy, refl)
 release_is prune.BtoN source block copy = (about c.Release 2 source block zeros, refl)
@@ -160,22 +159,6 @@ kept_done terms (Access (B m)) e is kept four two three one = kept
 kept_done terms (Access (C m)) e is kept four two three one = kept
 kept_done terms (Access (D m)) e is kept four two three one = kept
 kept_done terms (Access (E m)) e is kept four two three one = kept
-
-record NotBusy {w : ℕ} (terms : Terms) (op : Op w) (e : End w) : Type 0 where
-  b4 : breaks_b4 terms.level op ≡ false
-  b2 : breaks_b2 op e.past ≡ false
-  b3 : breaks_b3 op (held_at e (block_of op)) ≡ false
-  b1 : breaks_b1 terms op e.past ≡ false
-
-not_busy : {w : ℕ} (terms : Terms) (op : Op w) (e : End w) → busy terms op e ≡ None → NotBusy terms op e
-unfolding busy
-not_busy terms op e none =
-    let four = next_busy (breaks_b4 terms.level op) B4 _ none in
-    let five = next_busy (breaks_b5 terms op) B5 _ four.1 in
-    let two = next_busy (breaks_b2 op e.past) B2 _ five.1 in
-    let three = next_busy (breaks_b3 op (held_at e (block_of op))) B3 _ two.1 in
-    let one = next_busy (breaks_b1 terms op e.past) B1 None three.1 in
-    record { b4 = four.0; b2 = two.0; b3 = three.0; b1 = one.0 }
 
 no_start : {w : ℕ} (address size : ℕ) (p : Perm) (e : End w) (s : ℕ) → (load address size p e).reply ≡ reply.Started s → ⊥
 no_start address size perm.None e s is = absurd cc

@@ -33,7 +33,7 @@ use Rattle.tl_client.proofs.Opens.{open_beat-d, unfinished-d, closes_source, acq
 
 -- ---- a beat of channel D, whatever it does to copies and waiting bytes
 
-still_acquires : {w : ℕ} (k : ℕ) (b : Bool) (o : Option (BeatA w)) → acquires k (cond b None o) ≡ true → (b ≡ false) × (acquires k o ≡ true)
+pub still_acquires : {w : ℕ} (k : ℕ) (b : Bool) (o : Option (BeatA w)) → acquires k (cond b None o) ≡ true → (b ≡ false) × (acquires k o ≡ true)
 still_acquires k true o h = absurd cc
 still_acquires k false o h = (refl, h)
 
@@ -42,7 +42,7 @@ still_stores k true o h = absurd cc
 still_stores k false o h = (refl, h)
 
 -- the request that a Grant of the block answers is an Acquire of it
-acquires_granted : {w : ℕ} (x : BeatD w) (t : History w) (k : ℕ) → is_acquire_beat (open_beat x.source t) ≡ true → asks_for k (request_of x.source t) ≡ true → acquires k (open_beat x.source t) ≡ true
+pub acquires_granted : {w : ℕ} (x : BeatD w) (t : History w) (k : ℕ) → is_acquire_beat (open_beat x.source t) ≡ true → asks_for k (request_of x.source t) ≡ true → acquires k (open_beat x.source t) ≡ true
 acquires_granted {w} x t k acquire block = go (pending (RequestSource x.source) t) (request_of x.source t) acquire block
   where
     go : (b : Bool) (o : Option (BeatA w)) → is_acquire_beat (cond b o None) ≡ true → asks_for k o ≡ true → acquires k (cond b o None) ≡ true

@@ -60,7 +60,7 @@ kept_b e x bare kept =
     (others.0 ∙ kept.a_whole) (single_b x e.past bare kept.b_whole) (others.1 ∙ kept.c_whole) (others.3 ∙ kept.e_whole) others.2 (λ k. refl)
     (λ k. kept.copies_held k ∙ ap holds (sym (held_unsaid k (beat.B x) e.past refl)))
 
-probe_ack_is : {w : ℕ} (opcode : OpB) (p : Perm) (r : Report) (block : ℕ) (copy : List ℕ) → (m : MessageC w) × (probe_ack opcode p r block copy ≡ message.C m)
+pub probe_ack_is : {w : ℕ} (opcode : OpB) (p : Perm) (r : Report) (block : ℕ) (copy : List ℕ) → (m : MessageC w) × (probe_ack opcode p r block copy ≡ message.C m)
 probe_ack_is b.ProbeBlock perm.Trunk r block copy = (about c.ProbeAckData (report_code r) 0 block copy, refl)
 probe_ack_is b.ProbeBlock perm.Branch r block copy = (about c.ProbeAck (report_code r) 0 block zeros, refl)
 probe_ack_is b.ProbeBlock perm.None r block copy = (about c.ProbeAck (report_code r) 0 block zeros, refl)
@@ -72,7 +72,7 @@ probe_ack_is b.LogicalData p r block copy = (about c.ProbeAck (report_code r) 0 
 probe_ack_is b.Get p r block copy = (about c.ProbeAck (report_code r) 0 block zeros, refl)
 probe_ack_is b.Intent p r block copy = (about c.ProbeAck (report_code r) 0 block zeros, refl)
 
-reports_held : (k : Cap) (p : Perm) → holds (report_right (report_at k p)) ≡ true → holds p ≡ true
+pub reports_held : (k : Cap) (p : Perm) → holds (report_right (report_at k p)) ≡ true → holds p ≡ true
 reports_held k perm.Trunk e = refl
 reports_held k perm.Branch e = refl
 reports_held cap.ToT perm.None e = e
@@ -114,12 +114,12 @@ legal_probe l ch x e =
 
 -- ---- any beat
 
-good_beat : {w : ℕ} (p : Profile) (e : End w) (x : BeatD w) → IsKept e → broken_in_order p (beat.D x) e.past ≡ None → IsGoodBeat x e.past
+pub good_beat : {w : ℕ} (p : Profile) (e : End w) (x : BeatD w) → IsKept e → broken_in_order p (beat.D x) e.past ≡ None → IsGoodBeat x e.past
 good_beat p e x kept none =
     let good = λ (g : is_grant x.opcode ≡ true). good_grant p x e.past (unfinished channel.D e.past) refl kept.granting g none in
     record { good = λ g. (good g).0; next = next_burst x e.past (unfinished channel.D e.past) refl good }
 
-incoming_only : {w : ℕ} (l : Level) (ch : Channel) (x : Beat w) → is_sent_on ch ≡ false → illegal l ch x ≡ None → IsIncoming x
+pub incoming_only : {w : ℕ} (l : Level) (ch : Channel) (x : Beat w) → is_sent_on ch ≡ false → illegal l ch x ≡ None → IsIncoming x
 unfolding illegal
 incoming_only l ch x way legal = comes l ch x way (next_rule (breaks_l1 l ch x) L1 _ legal).0
 

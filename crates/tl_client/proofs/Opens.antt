@@ -2,7 +2,6 @@
 use Rattle.std.proofs.Common.{◌≡◌, ℕ, zero, suc, Bool, true, false, not, cond, ◌&&◌, [], ◌∷◌, ◌++◌, Option, Some, None, refl, ◌∙◌}
 use Rattle.std.specs.Prelude.{◌==◌}
 use Rattle.tl_beat.specs.Width.{IsWidth}
-use Rattle.tl_beat.specs.declared.beat.Beat.{Beat}
 use Rattle.tl_beat.specs.declared.beat.Beat.TheVariants as beat
 use Rattle.tl_beat.specs.declared.beat.BeatA.{BeatA}
 use Rattle.tl_beat.specs.declared.beat.BeatB.{BeatB}
@@ -14,34 +13,14 @@ use Rattle.tl_burst.specs.declared.message.MessageA.{MessageA}
 use Rattle.tl_burst.specs.declared.message.MessageC.{MessageC}
 use Rattle.tl_burst.specs.declared.message.MessageE.{MessageE}
 use Rattle.tl_burst.specs.Burst.{a_beat_of, beat_of, beats_of, begun}
-use Rattle.tl_burst.specs.Messages.{History, unfinished, grown}
+use Rattle.tl_burst.specs.Messages.{History, channel_in, unfinished, grown}
 use Rattle.tl_params.specs.declared.key.Key.{Key}
 use Rattle.tl_params.specs.declared.key.Key.TheVariants.{RequestSource, AcquireOf}
 use Rattle.tl_rules.specs.Agent.{sent}
-use Rattle.tl_rules.specs.History.{begins, ends, opens, closes, grants, is_acquire, is_release_ack, block_at, pending, request_of}
+use Rattle.tl_rules.specs.History.{ends, opens, grants, is_acquire, is_release_ack, block_at, pending, request_of}
 use Rattle.tl_rules.proofs.Bursts.{has_beats}
 use Rattle.tl_client.specs.Requests.{open_beat}
-use Rattle.tl_rules.proofs.Sent.{pending-sent, request_of-sent, request_closes_nothing, ClosesNothing, channel_in}
-
--- a beat that neither opens nor closes the key
-pub pending-quiet : {w : ℕ} (k : Key) (x : Beat w) (t : History w) → opens k x t ≡ false → closes k x t ≡ false → pending k (x ∷ t) ≡ pending k t
-unfolding pending
-pending-quiet k x t o c = rw (o, c) (go (begins x t) (ends x t))
-  where
-    go : (a b : Bool) → cond (a && false) true (cond (b && false) false (pending k t)) ≡ pending k t
-    go true true = refl
-    go true false = refl
-    go false true = refl
-    go false false = refl
-
--- a beat that only closes it
-pub pending-closed : {w : ℕ} (k : Key) (x : Beat w) (t : History w) → opens k x t ≡ false → pending k (x ∷ t) ≡ cond (ends x t && closes k x t) false (pending k t)
-unfolding pending
-pending-closed k x t o = rw o (go (begins x t))
-  where
-    go : (a : Bool) → cond (a && false) true (cond (ends x t && closes k x t) false (pending k t)) ≡ cond (ends x t && closes k x t) false (pending k t)
-    go true = refl
-    go false = refl
+use Rattle.tl_rules.proofs.Sent.{pending-sent, request_of-sent, request_closes_nothing, ClosesNothing, pending-quiet, pending-closed}
 
 -- a message that neither opens nor closes it
 pub pending-sent_quiet : {w : ℕ} (k : Key) (m : Message w) (t : History w) → IsWidth w → unfinished (channel_in m) t ≡ [] → ClosesNothing k m → opens k (beat_of m 0) t ≡ false → pending k (sent m t) ≡ pending k t
@@ -56,7 +35,7 @@ request_of-e : {w : ℕ} (s : ℕ) (m : MessageE) (t : History w) → request_of
 unfolding request_of
 request_of-e s m t = refl
 
-request_of-b : {w : ℕ} (s : ℕ) (x : BeatB w) (t : History w) → request_of s (beat.B x ∷ t) ≡ request_of s t
+pub request_of-b : {w : ℕ} (s : ℕ) (x : BeatB w) (t : History w) → request_of s (beat.B x ∷ t) ≡ request_of s t
 unfolding request_of
 request_of-b s x t = refl
 

@@ -1,6 +1,6 @@
 -- What a plain client answers to an operation, and what it knows afterwards.
-use Rattle.std.proofs.Common.{◌≡◌, ℕ, zero, suc, ◌+◌, Bool, true, false, not, cond, ◌&&◌, ◌||◌, List, [], ◌∷◌, Option, Some, None, Ok, Err, refl, sym, ◌∙◌}
-use Rattle.std.specs.Prelude.{Result, ◌==◌, is_some, nat_le}
+use Rattle.std.proofs.Common.{◌≡◌, ℕ, zero, suc, ◌+◌, Bool, true, false, not, cond, ◌&&◌, ◌||◌, List, [], ◌∷◌, Option, Some, None, refl, sym, ◌∙◌}
+use Rattle.std.specs.Prelude.{◌==◌, is_some, is_none, nat_le}
 use Rattle.tl_beat.specs.Width.{IsWidth}
 use Rattle.tl_beat.specs.declared.beat.Beat.{Beat}
 use Rattle.tl_beat.specs.declared.beat.Beat.TheVariants as beat
@@ -10,57 +10,79 @@ use Rattle.tl_burst.specs.declared.message.Message.TheVariants as message
 use Rattle.tl_burst.specs.declared.message.MessageA.{MessageA}
 use Rattle.tl_burst.specs.Burst.{a_beat_of}
 use Rattle.tl_burst.specs.Messages.{History, unfinished}
-use Rattle.tl_params.specs.declared.key.Key.TheVariants.{RequestSource}
+use Rattle.tl_params.specs.declared.key.Key.{Key}
+use Rattle.tl_params.specs.declared.key.Key.TheVariants.{RequestSource, ReleaseSource, AcquireOf, ReleaseOf, GrantSink, GrantAckOf, ProbeOf}
 use Rattle.tl_rules.specs.Agent.{sent}
-use Rattle.tl_rules.specs.History.{block_at, begins, ends, closes, pending, request_of, held}
+use Rattle.tl_rules.specs.History.{begins, ends, closes, opens, is_acquire, pending, request_of, held}
 use Rattle.tl_rules.specs.Legality.{has_transfers}
 use Rattle.tl_rules.proofs.Bursts.{has_beats}
 use Rattle.tl_client.specs.declared.busy.Busy.{Busy}
-use Rattle.tl_client.specs.declared.busy.Busy.TheVariants.{B4}
+use Rattle.tl_client.specs.declared.busy.Busy.TheVariants.{B1, B2, B3, B4, B5}
 use Rattle.tl_client.specs.declared.operation.Op.{Op}
 use Rattle.tl_client.specs.declared.operation.Op.TheVariants.{Load, Store, Acquire, AcquireWhole, Release, Access}
 use Rattle.tl_client.specs.declared.plain.Plain.{Plain}
-use Rattle.tl_client.specs.declared.requests.Request.{Request}
+use Rattle.tl_client.specs.declared.request.Request.{Request}
 use Rattle.tl_client.specs.declared.reply.Reply.TheVariants as reply
-use Rattle.tl_client.specs.Ask.{Asked, asked, breaks_b4, busy, only, started, free_request, least_free, is_access_of, is_sound}
-use Rattle.tl_client.specs.End.{Terms, End, fresh, sending}
-use Rattle.tl_client.specs.KnowsPlain.{KnowsPlain, terms_of, answers_pending}
-use Rattle.tl_client.specs.Plain.{started_by}
-use Rattle.tl_client.specs.Requests.{request_at, fields_in, fields_of, open_beat, open_request}
+use Rattle.tl_client.specs.Ask.{Asked, asked, block_of, breaks_b1, breaks_b2, breaks_b3, breaks_b4, busy, busy_if, is_formed, is_access_of, only, started, free_request, least_free}
+use Rattle.tl_client.specs.End.{Terms, End, fresh, held_at, sending}
+use Rattle.tl_client.specs.KnowsPlain.{KnowsPlain, terms_of, answers_pending, is_request}
+use Rattle.tl_client.specs.Plain.{access_in}
+use Rattle.tl_client.specs.Sources.{open_at}
+use Rattle.tl_client.specs.Send.{access, sourced}
+use Rattle.tl_client.specs.Requests.{opened_by, start_with, fields_in, fields_of, open_beat, open_request}
+use Rattle.tl_client.proofs.KeptAsked.{no_acquire}
 use Rattle.tl_client.proofs.Opens.{open_beat-a}
 use Rattle.tl_rules.proofs.Sent.{unfinished-sent, unfinished-sent_other, pending-sent, request_closes_nothing, held-sent_unsaid}
 
 -- ---- the answer
 
--- what is answered where this was started
-abbrev pub asked_by : {w : ℕ} → Result (MessageA w) Busy → End w → Asked w
-asked_by (Err b) e = only (reply.Busy b) e
-asked_by (Ok m) e = started m.source (message.A m) e
+-- what is answered where this source is free
+abbrev pub begun : {w : ℕ} → Option ℕ → MessageA w → End w → Asked w
+begun None m e = only (reply.Busy B1) e
+begun (Some s) m e = started s (access s m) e
 
-access_asked : {w : ℕ} (terms : Terms) (m : MessageA w) (e : End w) (access bad : Bool) (free : Option ℕ) → is_access_of terms.level m.opcode ≡ access → (nat_le terms.blocks (block_at m.address) || not (is_sound terms.level (message.A m))) ≡ bad → free_request terms e.past ≡ free
-    → asked terms (Access (message.A m)) e ≡ asked_by (started_by terms.level terms.blocks (free_request terms e.past) (Access (message.A m))) e
+abbrev pub busy_alone : {w : ℕ} → Terms → Op w → Option Busy
+busy_alone terms op = busy_if (breaks_b4 terms.level op) B4 (busy_if (nat_le terms.blocks (block_of op) || not (is_formed terms.level op)) B5 None)
+
+two : (p q : Bool) (rest : Option Busy) (b : Busy) → Some b ≡ busy_if p B4 (busy_if q B5 None) → busy_if p B4 (busy_if q B5 rest) ≡ Some b
+two true q rest b is = sym is
+two false true rest b is = sym is
+two false false rest b is = absurd cc
+
+neither : (p q : Bool) (rest : Option Busy) → busy_if p B4 (busy_if q B5 None) ≡ None → busy_if p B4 (busy_if q B5 rest) ≡ rest
+neither true q rest is = absurd cc
+neither false true rest is = absurd cc
+neither false false rest is = refl
+
+pub asked-alone : {w : ℕ} (terms : Terms) (op : Op w) (e : End w) (b : Busy) → Some b ≡ busy_alone terms op → asked terms op e ≡ only (reply.Busy b) e
 unfolding asked busy
-access_asked terms m e false bad free p q r = rw p refl
-access_asked terms m e true true free p q r = rw (p, q) refl
-access_asked terms m e true false None p q r = rw (p, q, r) refl
-access_asked terms m e true false (Some s) p q r = rw (p, q, r) (rw r refl)
+asked-alone terms op e b is = rw (two _ _ (busy_if (breaks_b2 op e.past) B2 (busy_if (breaks_b3 op (held_at e (block_of op))) B3 (busy_if (breaks_b1 terms op e.past) B1 None))) b is) refl
+
+begun_by : {w : ℕ} (terms : Terms) (m : MessageA w) (e : End w) (free : Option ℕ) → busy terms (Access (message.A m)) e ≡ busy_if (is_none free) B1 None → free_request terms e.past ≡ free → asked terms (Access (message.A m)) e ≡ begun free m e
+unfolding asked
+begun_by terms m e None is source = rw is refl
+begun_by terms m e (Some s) is source = rw is (rw source refl)
+
+pub asked-access : {w : ℕ} (terms : Terms) (m : MessageA w) (e : End w) → busy_alone terms (Access (message.A m)) ≡ None → asked terms (Access (message.A m)) e ≡ begun (free_request terms e.past) m e
+unfolding busy
+asked-access terms m e is = begun_by terms m e (free_request terms e.past) (neither _ _ (busy_if (is_none (free_request terms e.past)) B1 None) is) refl
 
 not_of_level : {w : ℕ} (terms : Terms) (op : Op w) (e : End w) → (has_transfers terms.level ≡ false → breaks_b4 terms.level op ≡ true) → has_transfers terms.level ≡ false → asked terms op e ≡ only (reply.Busy B4) e
 unfolding asked busy
 not_of_level terms op e broken low = rw (broken low) refl
 
--- a plain client answers as its end of the link says
-pub asked-plain : {w : ℕ} (terms : Terms) (op : Op w) (e : End w) → has_transfers terms.level ≡ false → asked terms op e ≡ asked_by (started_by terms.level terms.blocks (free_request terms e.past) op) e
-asked-plain terms (Load address size) e low = not_of_level terms (Load address size) e (λ h. rw h refl) low
-asked-plain terms (Store address size value) e low = not_of_level terms (Store address size value) e (λ h. rw h refl) low
-asked-plain terms (Acquire block grow) e low = not_of_level terms (Acquire block grow) e (λ h. rw h refl) low
-asked-plain terms (AcquireWhole block bytes) e low = not_of_level terms (AcquireWhole block bytes) e (λ h. rw h refl) low
-asked-plain terms (Release block prune) e low = not_of_level terms (Release block prune) e (λ h. rw h refl) low
-asked-plain terms (Access (message.A m)) e low = access_asked terms m e _ _ _ refl refl refl
-asked-plain terms (Access (message.B m)) e low = not_of_level terms (Access (message.B m)) e (λ h. refl) low
-asked-plain terms (Access (message.C m)) e low = not_of_level terms (Access (message.C m)) e (λ h. refl) low
-asked-plain terms (Access (message.D m)) e low = not_of_level terms (Access (message.D m)) e (λ h. refl) low
-asked-plain terms (Access (message.E m)) e low = not_of_level terms (Access (message.E m)) e (λ h. refl) low
+-- a client without transfers starts nothing but accesses
+pub asked-other : {w : ℕ} (terms : Terms) (op : Op w) (e : End w) → has_transfers terms.level ≡ false → access_in op ≡ None → asked terms op e ≡ only (reply.Busy B4) e
+asked-other terms (Load address size) e low none = not_of_level terms (Load address size) e (λ h. rw h refl) low
+asked-other terms (Store address size value) e low none = not_of_level terms (Store address size value) e (λ h. rw h refl) low
+asked-other terms (Acquire block grow) e low none = not_of_level terms (Acquire block grow) e (λ h. rw h refl) low
+asked-other terms (AcquireWhole block bytes) e low none = not_of_level terms (AcquireWhole block bytes) e (λ h. rw h refl) low
+asked-other terms (Release block prune) e low none = not_of_level terms (Release block prune) e (λ h. rw h refl) low
+asked-other terms (Access (message.A m)) e low none = absurd cc
+asked-other terms (Access (message.B m)) e low none = not_of_level terms (Access (message.B m)) e (λ h. refl) low
+asked-other terms (Access (message.C m)) e low none = not_of_level terms (Access (message.C m)) e (λ h. refl) low
+asked-other terms (Access (message.D m)) e low none = not_of_level terms (Access (message.D m)) e (λ h. refl) low
+asked-other terms (Access (message.E m)) e low none = not_of_level terms (Access (message.E m)) e (λ h. refl) low
 
 -- ---- what is known afterwards
 
@@ -84,10 +106,24 @@ still_pending (beat.D x ∷ burst) m t is none e =
     go true = refl
     go false = refl
 
+-- an access opens its source alone
+opens_source : {w : ℕ} (key : Key) (m : MessageA w) (t : History w) → is_acquire m.opcode ≡ false → is_request key ≡ false → opens key (beat.A (a_beat_of m 0)) t ≡ false
+opens_source (RequestSource s) m t plain other = absurd cc
+opens_source (ReleaseSource s) m t plain other = refl
+opens_source (AcquireOf k) m t plain other = rw plain refl
+opens_source (ReleaseOf k) m t plain other = refl
+opens_source (GrantSink s) m t plain other = refl
+opens_source (GrantAckOf k) m t plain other = refl
+opens_source (ProbeOf k) m t plain other = refl
+
+alone-sent : {w : ℕ} (key : Key) (m : MessageA w) (t : History w) → IsWidth w → unfinished channel.A t ≡ [] → is_acquire m.opcode ≡ false → is_request key ≡ false → pending key t ≡ false → pending key (sent (message.A m) t) ≡ false
+alone-sent key m t is none plain other e =
+    pending-sent key (message.A m) t none (request_closes_nothing key m) (has_beats (message.A m) is) ∙ rw (opens_source key m t plain other) e
+
 -- an access was handed out
-pub knows-started : {w : ℕ} (p q : Plain w) (e : End w) (m : MessageA w) → IsWidth w → KnowsPlain p e → q.closed ≡ p.closed → q.responses ≡ p.responses
-    → ((s : ℕ) → request_at q.requests s ≡ cond (m.source == s) (Some (fields_in m)) (request_at p.requests s)) → KnowsPlain q (sending (message.A m) e)
-knows-started p q e m is k closed responses requests =
+pub knows-started : {w : ℕ} (p q : Plain w) (e : End w) (m : MessageA w) → IsWidth w → is_acquire m.opcode ≡ false → KnowsPlain p e → q.closed ≡ p.closed → q.responses ≡ p.responses
+    → ((s : ℕ) → open_at q.requests s ≡ cond (m.source == s) (Some (fields_in m)) (open_at p.requests s)) → KnowsPlain q (sending (message.A m) e)
+knows-started p q e m is plain k closed responses requests =
     let burst = unfinished-sent_other channel.D (message.A m) e.past refl in
     record {
       closed_is = closed ∙ k.closed_is;
@@ -95,6 +131,7 @@ knows-started p q e m is k closed responses requests =
       response_is = responses ∙ k.response_is ∙ sym burst;
       sent_whole = unfinished-sent (message.A m) e.past k.sent_whole (has_beats (message.A m) is);
       answers_open = rw burst (still_pending (unfinished channel.D e.past) m e.past is k.sent_whole k.answers_open);
+      requests_alone = λ key other. alone-sent key m e.past is k.sent_whole plain other (k.requests_alone key other);
       holds_nothing = λ b. held-sent_unsaid b (message.A m) e.past (λ i t. refl) ∙ k.holds_nothing b;
       has_no_copy = k.has_no_copy;
     }
@@ -105,7 +142,11 @@ nothing_open : (w s : ℕ) → open_request {w = w} s [] ≡ None
 unfolding pending
 nothing_open w s = refl
 
-pub knows-fresh : {w : ℕ} (p : Plain w) → p.closed ≡ false → p.responses ≡ [] → ((s : ℕ) → request_at p.requests s ≡ None) → KnowsPlain p fresh
+nothing_pending : (w : ℕ) (key : Key) → pending {w = w} key [] ≡ false
+unfolding pending
+nothing_pending w key = refl
+
+pub knows-fresh : {w : ℕ} (p : Plain w) → p.closed ≡ false → p.responses ≡ [] → ((s : ℕ) → open_at p.requests s ≡ None) → KnowsPlain p fresh
 unfolding unfinished held
 knows-fresh {w} p closed responses requests = record {
   closed_is = closed;
@@ -113,6 +154,7 @@ knows-fresh {w} p closed responses requests = record {
   response_is = responses;
   sent_whole = refl;
   answers_open = refl;
+  requests_alone = λ key other. nothing_pending w key;
   holds_nothing = λ b. refl;
   has_no_copy = λ b. refl;
 }
@@ -140,7 +182,7 @@ requested s (beat.C x ∷ t) e = before_other (begins (beat.C x) t) (ends (beat.
 requested s (beat.D x ∷ t) e = before_other (begins (beat.D x) t) (ends (beat.D x) t && closes (RequestSource s) (beat.D x) t) (pending (RequestSource s) t) _ (requested s t) e
 requested s (beat.E x ∷ t) e = before_other (begins (beat.E x) t) (ends (beat.E x) t && false) (pending (RequestSource s) t) _ (requested s t) e
 
-is_some-open : {w : ℕ} (s : ℕ) (t : History w) → is_some (open_request s t) ≡ pending (RequestSource s) t
+pub is_some-open : {w : ℕ} (s : ℕ) (t : History w) → is_some (open_request s t) ≡ pending (RequestSource s) t
 is_some-open {w} s t = go (pending (RequestSource s) t) (request_of s t) (requested s t)
   where
     go : (b : Bool) (o : Option (BeatA w)) → (b ≡ true → is_some o ≡ true) → is_some (fields_of (cond b o None)) ≡ b
@@ -149,22 +191,57 @@ is_some-open {w} s t = go (pending (RequestSource s) t) (request_of s t) (reques
     go true (Some x) some = refl
 
 -- the source that is free is the one that the client finds
-free_found : {w : ℕ} (f : ℕ → Option Request) (t : History w) (s n : ℕ) → ((k : ℕ) → f k ≡ open_request k t) → least_free (λ k. is_some (f k)) s n ≡ least_free (λ k. pending (RequestSource k) t) s n
+pub free_found : {w : ℕ} (f : ℕ → Option Request) (t : History w) (s n : ℕ) → ((k : ℕ) → f k ≡ open_request k t) → least_free (λ k. is_some (f k)) s n ≡ least_free (λ k. pending (RequestSource k) t) s n
 unfolding least_free
 free_found f t s zero same = refl
 free_found f t s (suc n) same = rw (same s, is_some-open s t, free_found f t (s + 1) n same) refl
 
--- what the client starts
-abbrev pub starts : {w : ℕ} → Plain w → Op w → Result (MessageA w) Busy
-starts p op = started_by p.config.level p.blocks (least_free (λ s. is_some (request_at p.requests s)) 0 p.config.sources) op
+access_of : {w : ℕ} (op : Op w) (m : MessageA w) → Some m ≡ access_in op → op ≡ Access (message.A m)
+access_of (Access (message.A n)) m is = let same : m ≡ n = cc in rw same refl
+access_of (Access (message.B n)) m is = absurd cc
+access_of (Access (message.C n)) m is = absurd cc
+access_of (Access (message.D n)) m is = absurd cc
+access_of (Access (message.E n)) m is = absurd cc
+access_of (Load address size) m is = absurd cc
+access_of (Store address size value) m is = absurd cc
+access_of (Acquire block grow) m is = absurd cc
+access_of (AcquireWhole block bytes) m is = absurd cc
+access_of (Release block prune) m is = absurd cc
 
-asked_known : {w : ℕ} (p : Plain w) (e : End w) (op : Op w) → KnowsPlain p e → asked (terms_of p) op e ≡ asked_by (starts p op) e
-asked_known p e op k =
-    let free = free_found (request_at p.requests) e.past 0 p.config.sources k.requests_are in
-    rw free (asked-plain (terms_of p) op e p.accesses)
+pub asked-started : {w : ℕ} (p : Plain w) (e : End w) (op : Op w) (m : MessageA w) → KnowsPlain p e → None ≡ busy_alone (terms_of p) op → Some m ≡ access_in op → asked (terms_of p) op e ≡ begun (least_free (λ s. is_some (open_at p.requests s)) 0 p.config.sources) m e
+asked-started p e op m k alone is =
+    let own : op ≡ Access (message.A m) = access_of op m is in
+    let passes : busy_alone (terms_of p) op ≡ None = sym alone in
+    rw (own, free_found (open_at p.requests) e.past 0 p.config.sources k.requests_are) (asked-access (terms_of p) m e (rw own at passes))
 
-pub asked-refused : {w : ℕ} (p : Plain w) (e : End w) (op : Op w) (b : Busy) → KnowsPlain p e → Err b ≡ starts p op → asked (terms_of p) op e ≡ only (reply.Busy b) e
-asked-refused p e op b k is = asked_known p e op k ∙ rw (← is) refl
+allowed : (b c : Bool) → None ≡ busy_if (not b) B4 (busy_if c B5 None) → b ≡ true
+allowed true c is = refl
+allowed false c is = absurd cc
 
-pub asked-started : {w : ℕ} (p : Plain w) (e : End w) (op : Op w) (m : MessageA w) → KnowsPlain p e → Ok m ≡ starts p op → asked (terms_of p) op e ≡ started m.source (message.A m) e
-asked-started p e op m k is = asked_known p e op k ∙ rw (← is) refl
+-- what is asked for is no Acquire
+pub asks_access : {w : ℕ} (terms : Terms) (op : Op w) (m : MessageA w) → None ≡ busy_alone terms op → Some m ≡ access_in op → is_acquire m.opcode ≡ false
+asks_access terms op m alone is =
+    let own : op ≡ Access (message.A m) = access_of op m is in
+    (no_acquire terms.level m.opcode (allowed (is_access_of terms.level m.opcode) _ (rw own at alone))).0
+
+-- what was answered
+pub begun-answer : {w : ℕ} (free : Option ℕ) (m : MessageA w) (e : End w) → ((begun free m e).reply ≡ (start_with free m).0) × ((begun free m e).message ≡ (start_with free m).1)
+begun-answer None m e = (refl, refl)
+begun-answer (Some s) m e = (refl, refl)
+
+same_known : {w : ℕ} (p q : Plain w) (e : End w) → KnowsPlain p e → q.closed ≡ p.closed → q.responses ≡ p.responses → ((s : ℕ) → open_at q.requests s ≡ open_at p.requests s) → KnowsPlain q e
+same_known p q e k closed responses requests = record {
+  closed_is = closed ∙ k.closed_is;
+  requests_are = λ s. requests s ∙ k.requests_are s;
+  response_is = responses ∙ k.response_is;
+  sent_whole = k.sent_whole;
+  answers_open = k.answers_open;
+  requests_alone = k.requests_alone;
+  holds_nothing = k.holds_nothing;
+  has_no_copy = k.has_no_copy;
+}
+
+pub knows-begun : {w : ℕ} (p q : Plain w) (e : End w) (free : Option ℕ) (m : MessageA w) → IsWidth w → is_acquire m.opcode ≡ false → KnowsPlain p e → q.closed ≡ p.closed → q.responses ≡ p.responses
+    → ((s : ℕ) → open_at q.requests s ≡ opened_by s (start_with free m).1 (open_at p.requests s)) → KnowsPlain q (begun free m e).after
+knows-begun p q e None m is plain k closed responses requests = same_known p q e k closed responses requests
+knows-begun p q e (Some s) m is plain k closed responses requests = knows-started p q e (sourced s m) is plain k closed responses requests

@@ -15,26 +15,28 @@ use Rattle.tl_beat.specs.Opcode.{d_code}
 use Rattle.tl_burst.specs.Messages.{History, unfinished, grown, same_control, breaks_burst}
 use Rattle.tl_burst.specs.Part.{completes}
 use Rattle.tl_params.specs.declared.level.Level.{Level}
-use Rattle.tl_params.specs.declared.key.Key.TheVariants.{RequestSource}
+use Rattle.tl_params.specs.declared.key.Key.{Key}
+use Rattle.tl_params.specs.declared.key.Key.TheVariants.{RequestSource, ReleaseSource, AcquireOf, ReleaseOf, GrantSink, GrantAckOf, ProbeOf}
 use Rattle.tl_params.specs.declared.rule.Rule.{Rule}
 use Rattle.tl_params.specs.declared.rule.Rule.TheVariants.{L1, S1, A3}
 use Rattle.tl_rules.specs.Agent.{payload_of}
-use Rattle.tl_rules.specs.History.{ends, says_held, pending, request_of}
+use Rattle.tl_rules.specs.History.{ends, closes, opens, says_held, pending, request_of}
 use Rattle.tl_rules.specs.Legality.{illegal, rule_if, has_transfers, verdict}
 use Rattle.tl_rules.proofs.Bursts.{next_rule}
 use Rattle.tl_client.specs.declared.plain.Plain.{Plain}
-use Rattle.tl_client.specs.declared.requests.Request.{Request}
+use Rattle.tl_client.specs.declared.request.Request.{Request}
 use Rattle.tl_client.specs.declared.verdict.Finish.{Finish}
 use Rattle.tl_client.specs.declared.verdict.Verdict.TheVariants.{Done, Taken}
 use Rattle.tl_client.specs.End.{Terms, End, with_past}
 use Rattle.tl_client.specs.KnowsPlain.{KnowsPlain, terms_of, answers_pending}
 use Rattle.tl_client.specs.Offer.{offered, judged_later, refused, silent, taken, ended, granted, responded, finish_of, address_asked, stalls, is_sent_on}
 use Rattle.tl_client.specs.Plain.{response_rule, order_rule, plain_rule, address_in, plain_verdict, ends_request}
-use Rattle.tl_client.specs.Requests.{request_at, fields_of, open_beat, open_request}
+use Rattle.tl_client.specs.Sources.{open_at}
+use Rattle.tl_client.specs.Requests.{fields_of, open_beat, open_request}
 use Rattle.tl_client.proofs.PlainRules.{IsAccessAnswer, legal_answer, judged}
 use Rattle.tl_client.proofs.Verdicts.{both_none, some_rule, no_rule}
-use Rattle.tl_client.proofs.Opens.{open_beat-d, pending-closed, unfinished-d}
-use Rattle.tl_rules.proofs.Sent.{held_unsaid}
+use Rattle.tl_client.proofs.Opens.{open_beat-d, unfinished-d}
+use Rattle.tl_rules.proofs.Sent.{held_unsaid, pending-closed}
 
 -- ---- what is taken is a response
 
@@ -132,17 +134,35 @@ answers-response {w} x t answer live = go (completes (D x) (unfinished channel.D
     go true is = refl
     go false is = rw (pending-response x.source x t answer, is) live
 
+-- it opens nothing
+opens_none : {w : ℕ} (key : Key) (x : BeatD w) (t : History w) → IsAccessAnswer x.opcode → opens key (D x) t ≡ false
+opens_none (RequestSource s) x t answer = refl
+opens_none (ReleaseSource s) x t answer = refl
+opens_none (AcquireOf k) x t answer = refl
+opens_none (ReleaseOf k) x t answer = refl
+opens_none (GrantSink s) x t answer = rw answer.0 refl
+opens_none (GrantAckOf k) x t answer = rw answer.0 refl
+opens_none (ProbeOf k) x t answer = refl
+
+alone-response : {w : ℕ} (key : Key) (x : BeatD w) (t : History w) → IsAccessAnswer x.opcode → pending key t ≡ false → pending key (D x ∷ t) ≡ false
+alone-response {w} key x t answer e = pending-closed key (D x) t (opens_none key x t answer) ∙ rw e (go (ends (D x) t && closes key (D x) t))
+  where
+    go : (b : Bool) → cond b false false ≡ false
+    go true = refl
+    go false = refl
+
 grants_nothing : {w : ℕ} (k : ℕ) (x : BeatD w) (t : History w) → IsAccessAnswer x.opcode → says_held k (D x) t ≡ None
 grants_nothing k x t answer = rw answer.0 refl
 
 response_known : {w : ℕ} (p q : Plain w) (e : End w) (x : BeatD w) → KnowsPlain p e → IsAccessAnswer x.opcode → pending (RequestSource x.source) e.past ≡ true → q.closed ≡ p.closed → q.responses ≡ grown (D x) p.responses
-    → ((s : ℕ) → request_at q.requests s ≡ cond (ends_request p.responses (D x) s) None (request_at p.requests s)) → KnowsPlain q (with_past (D x ∷ e.past) e)
+    → ((s : ℕ) → open_at q.requests s ≡ cond (ends_request p.responses (D x) s) None (open_at p.requests s)) → KnowsPlain q (with_past (D x ∷ e.past) e)
 response_known p q e x k answer live closed responses requests = record {
   closed_is = closed ∙ k.closed_is;
   requests_are = λ s. requests s ∙ rw (k.requests_are s, k.response_is) (sym (open-response s x e.past answer));
   response_is = responses ∙ rw k.response_is (sym (unfinished-d x e.past).4);
   sent_whole = (unfinished-d x e.past).0 ∙ k.sent_whole;
   answers_open = rw (unfinished-d x e.past).4 (answers-response x e.past answer live);
+  requests_alone = λ key other. alone-response key x e.past answer (k.requests_alone key other);
   holds_nothing = λ b. held_unsaid b (D x) e.past (grants_nothing b x e.past answer) ∙ k.holds_nothing b;
   has_no_copy = k.has_no_copy;
 }
@@ -151,10 +171,10 @@ response_known p q e x k answer live closed responses requests = record {
 
 -- the rule that a plain client finds
 abbrev pub rule_at : {w : ℕ} → Plain w → Channel → Beat w → Option Rule
-rule_at p ch x = plain_rule p.config.level (request_at p.requests) p.responses p.closed ch x
+rule_at p ch x = plain_rule p.config.level (open_at p.requests) p.responses p.closed ch x
 
 offered-plain : {w : ℕ} (p : Plain w) (e : End w) (ch : Channel) (x : Beat w) → KnowsPlain p e → offered (terms_of p) ch x e ≡ judged_later (rule_at p ch x) x e
-offered-plain p e ch x k = rw k.closed_is (judged (terms_of p) ch x e (request_at p.requests) p.responses p.accesses k.sent_whole k.requests_are k.response_is)
+offered-plain p e ch x k = rw k.closed_is (judged (terms_of p) ch x e (open_at p.requests) p.responses p.accesses k.sent_whole k.requests_are k.response_is)
 
 -- a beat that breaks a rule
 pub offered-refused : {w : ℕ} (p : Plain w) (e : End w) (ch : Channel) (x : Beat w) (r : Rule) → KnowsPlain p e → Err r ≡ verdict (rule_at p ch x) → offered (terms_of p) ch x e ≡ refused r e
@@ -168,28 +188,29 @@ knows-refused p q e ch x r k broken closed requests responses = rw (offered-refu
   response_is = responses ∙ k.response_is;
   sent_whole = k.sent_whole;
   answers_open = k.answers_open;
+  requests_alone = k.requests_alone;
   holds_nothing = k.holds_nothing;
   has_no_copy = k.has_no_copy;
 })
 
 -- a beat that breaks none
-good_source : {w : ℕ} (p : Plain w) (e : End w) (x : BeatD w) → KnowsPlain p e → IsGoodResponse p.config.level x (request_at p.requests x.source) p.responses → pending (RequestSource x.source) e.past ≡ true
+good_source : {w : ℕ} (p : Plain w) (e : End w) (x : BeatD w) → KnowsPlain p e → IsGoodResponse p.config.level x (open_at p.requests x.source) p.responses → pending (RequestSource x.source) e.past ≡ true
 good_source p e x k good = pending_here x (unfinished channel.D e.past) e.past k.answers_open (rw (k.requests_are x.source, k.response_is) at good.in_order)
 
-good_answer : {w : ℕ} (p : Plain w) (x : BeatD w) → IsGoodResponse p.config.level x (request_at p.requests x.source) p.responses → IsAccessAnswer x.opcode
+good_answer : {w : ℕ} (p : Plain w) (x : BeatD w) → IsGoodResponse p.config.level x (open_at p.requests x.source) p.responses → IsAccessAnswer x.opcode
 good_answer p x good = legal_answer p.config.level x p.accesses good.is_legal
 
-pub offered-taken : {w : ℕ} (p : Plain w) (e : End w) (ch : Channel) (x : Beat w) → KnowsPlain p e → Ok tt ≡ verdict (rule_at p ch x) → offered (terms_of p) ch x e ≡ silent (plain_verdict (request_at p.requests) p.responses x) (with_past (x ∷ e.past) e)
-offered-taken {w} p e ch x k none = offered-plain p e ch x k ∙ rw (no_rule (rule_at p ch x) none) (go (good_response p.config.level (request_at p.requests) p.responses p.closed ch x (no_rule (rule_at p ch x) none)))
+pub offered-taken : {w : ℕ} (p : Plain w) (e : End w) (ch : Channel) (x : Beat w) → KnowsPlain p e → Ok tt ≡ verdict (rule_at p ch x) → offered (terms_of p) ch x e ≡ silent (plain_verdict (open_at p.requests) p.responses x) (with_past (x ∷ e.past) e)
+offered-taken {w} p e ch x k none = offered-plain p e ch x k ∙ rw (no_rule (rule_at p ch x) none) (go (good_response p.config.level (open_at p.requests) p.responses p.closed ch x (no_rule (rule_at p ch x) none)))
   where
-    go : (y : BeatD w) × (x ≡ D y) × IsGoodResponse p.config.level y (request_at p.requests y.source) p.responses → taken x e ≡ silent (plain_verdict (request_at p.requests) p.responses x) (with_past (x ∷ e.past) e)
-    go (y, is, good) = rw is (response_taken y e (request_at p.requests) p.responses (good_answer p y good) (good_source p e y k good) (k.requests_are y.source) k.response_is)
+    go : (y : BeatD w) × (x ≡ D y) × IsGoodResponse p.config.level y (open_at p.requests y.source) p.responses → taken x e ≡ silent (plain_verdict (open_at p.requests) p.responses x) (with_past (x ∷ e.past) e)
+    go (y, is, good) = rw is (response_taken y e (open_at p.requests) p.responses (good_answer p y good) (good_source p e y k good) (k.requests_are y.source) k.response_is)
 
 pub knows-taken : {w : ℕ} (p q : Plain w) (e : End w) (ch : Channel) (x : Beat w) → KnowsPlain p e → Ok tt ≡ verdict (rule_at p ch x) → q.closed ≡ p.closed → q.responses ≡ grown x p.responses
-    → ((s : ℕ) → request_at q.requests s ≡ cond (ends_request p.responses x s) None (request_at p.requests s)) → KnowsPlain q (offered (terms_of p) ch x e).after
-knows-taken {w} p q e ch x k none closed responses requests = rw (offered-taken p e ch x k none) (go (good_response p.config.level (request_at p.requests) p.responses p.closed ch x (no_rule (rule_at p ch x) none)))
+    → ((s : ℕ) → open_at q.requests s ≡ cond (ends_request p.responses x s) None (open_at p.requests s)) → KnowsPlain q (offered (terms_of p) ch x e).after
+knows-taken {w} p q e ch x k none closed responses requests = rw (offered-taken p e ch x k none) (go (good_response p.config.level (open_at p.requests) p.responses p.closed ch x (no_rule (rule_at p ch x) none)))
   where
-    go : (y : BeatD w) × (x ≡ D y) × IsGoodResponse p.config.level y (request_at p.requests y.source) p.responses → KnowsPlain q (with_past (x ∷ e.past) e)
+    go : (y : BeatD w) × (x ≡ D y) × IsGoodResponse p.config.level y (open_at p.requests y.source) p.responses → KnowsPlain q (with_past (x ∷ e.past) e)
     go (y, is, good) = rw is (response_known p q e y k (good_answer p y good) (good_source p e y k good) closed (rw is at responses) (λ s. rw is at requests s))
 
 -- ---- stalls

@@ -22,7 +22,7 @@ use Rattle.tl_rules.specs.Conformance.{broken_order, broken_in_order, broken_d, 
 use Rattle.tl_rules.specs.History.{is_grant, is_release_ack, pending, request_of}
 use Rattle.tl_rules.specs.Legality.{illegal, rule_if, has_transfers, d_of_level, breaks_l1}
 use Rattle.tl_rules.proofs.Bursts.{next_rule}
-use Rattle.tl_client.specs.declared.requests.Request.{Request}
+use Rattle.tl_client.specs.declared.request.Request.{Request}
 use Rattle.tl_client.specs.Requests.{fields_of, open_request}
 use Rattle.tl_client.specs.Plain.{response_rule, plain_rule}
 use Rattle.tl_client.specs.End.{Terms, End}
@@ -63,7 +63,7 @@ response_agrees {w} p x t answer sent =
     go true None = refl
     go true (Some r) = refl
 
-order_agrees : {w : ℕ} (p : Profile) (x : BeatD w) (t : History w) (request : Option Request) (burst : List (Beat w)) → IsAccessAnswer x.opcode → unfinished channel.A t ≡ [] → request ≡ open_request x.source t → burst ≡ unfinished channel.D t
+pub order_agrees : {w : ℕ} (p : Profile) (x : BeatD w) (t : History w) (request : Option Request) (burst : List (Beat w)) → IsAccessAnswer x.opcode → unfinished channel.A t ≡ [] → request ≡ open_request x.source t → burst ≡ unfinished channel.D t
     → broken_in_order p (D x) t ≡ cond (is_empty burst) (response_rule x request) (rule_if (breaks_burst (D x) burst) S1 None)
 unfolding broken_order
 order_agrees p x t request burst answer sent asked_is burst_is = rw (asked_is, burst_is, response_agrees p x t answer sent) refl

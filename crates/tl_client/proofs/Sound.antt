@@ -168,7 +168,7 @@ at_c level.C m e sound = sound
 at_c level.UL m e sound = absurd cc
 at_c level.UH m e sound = absurd cc
 
-formed_access : {w : ℕ} (terms : Terms) (m : Message w) → breaks_b5 terms (Access m) ≡ false → is_sound terms.level m ≡ true
+pub formed_access : {w : ℕ} (terms : Terms) (m : Message w) → breaks_b5 terms (Access m) ≡ false → is_sound terms.level m ≡ true
 formed_access terms m e =
     let parts = or_parts (leb terms.blocks (block_of (Access m))) _ e in
     not-false (is_sound terms.level m) parts.1

@@ -22,7 +22,7 @@ ended_now d.Grant x f e = refl
 ended_now d.GrantData x f e = refl
 ended_now d.ReleaseAck x f e = refl
 
-taken_now : {w : ℕ} (x : Beat w) (e : End w) → is_stalled (taken x e).answer ≡ false
+pub taken_now : {w : ℕ} (x : Beat w) (e : End w) → is_stalled (taken x e).answer ≡ false
 taken_now (A x) e = refl
 taken_now (B x) e = refl
 taken_now (C x) e = refl

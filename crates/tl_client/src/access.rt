@@ -3,9 +3,9 @@
 ghost use Rattle.std.specs.Prelude.{◌≡◌, not};
 ghost use Rattle.tl_beat.specs.Width.{IsWidth};
 ghost use Rattle.tl_client.specs.Ask;
-ghost use Rattle.tl_client.specs.Plain.{access_in};
+ghost use Rattle.tl_client.specs.Plain;
 
-use crate::busy::Busy;
+use crate::operation::Op;
 use tl_beat::opcode::{Channel, OpA};
 use tl_burst::message::{Message, MessageA};
 use tl_rules::blank::is_blank;
@@ -13,7 +13,7 @@ use tl_rules::check::check;
 use tl_rules::level::Level;
 
 /// Whether the level has the access.
-fn is_access(level: Level, opcode: OpA) -> bool
+fn is_access_of(level: Level, opcode: OpA) -> bool
     ensures { result ≡ Ask.is_access_of level opcode }
 {
     match opcode {
@@ -31,32 +31,33 @@ fn is_clean<const W: usize>(access: &MessageA<W>) -> bool
     access.corrupt == 0 && is_blank(&Message::A(*access))
 }
 
-/// Whether a message breaks no rule and is clean.
-fn is_sound<const W: usize>(level: Level, access: &MessageA<W>) -> bool
-    requires { IsWidth W }
-    ensures { result ≡ Ask.is_sound level (Message.A access.now) }
+/// Whether a message is an access of the level.
+pub fn is_access<const W: usize>(level: Level, message: &Message<W>) -> bool
+    ensures { result ≡ Ask.is_access level message.now }
 {
-    check(level, Channel::A, &Message::A(*access)).is_ok() && is_clean(access)
+    match message {
+        Message::A(access) => is_access_of(level, access.opcode),
+        _ => false,
+    }
 }
 
-/// The access that a message asks for, on a map of so many blocks: B4 where it isn't one of the
-/// level, B5 where it is outside the map or isn't sound.
-pub fn access_of<const W: usize>(
-    level: Level,
-    blocks: u16,
-    message: Message<W>,
-) -> Result<MessageA<W>, Busy>
+/// Whether a message breaks no rule and is clean.
+pub fn is_sound<const W: usize>(level: Level, message: &Message<W>) -> bool
     requires { IsWidth W }
-    ensures { result ≡ access_in level blocks message.entry }
+    ensures { result ≡ Ask.is_sound level message.now }
 {
-    let Message::A(access) = message else {
-        return Err(Busy::B4);
-    };
-    if !is_access(level, access.opcode) {
-        return Err(Busy::B4);
+    match message {
+        Message::A(access) => check(level, Channel::A, message).is_ok() && is_clean(access),
+        _ => false,
     }
-    if access.address / 64 >= u32::from(blocks) || !is_sound(level, &access) {
-        return Err(Busy::B5);
+}
+
+/// The access that an operation asks for.
+pub fn access_in<const W: usize>(operation: Op<W>) -> Option<MessageA<W>>
+    ensures { result ≡ Plain.access_in operation.entry }
+{
+    match operation {
+        Op::Access(Message::A(access)) => Some(access),
+        _ => None,
     }
-    Ok(access)
 }

@@ -1,20 +1,38 @@
 //! What a client may do, as laws.
 
-ghost use Rattle.std.specs.Prelude.{ℕ, ◌≡◌, ◌<◌, []};
+ghost use Rattle.std.specs.Prelude.{ℕ, if◌then◌else◌, ◌≡◌, ◌<◌, ◌≤◌, ◌+◌, ◌%◌, ◌^◌, ◌||◌, [], true, false, length, slice_index_or, List, Option, None, Some, Ok, Err};
 ghost use Rattle.tl_beat.specs.declared.beat.Beat.{Beat};
+ghost use Rattle.tl_beat.specs.declared.beat.BeatD.{BeatD};
 ghost use Rattle.tl_beat.specs.declared.opcode.Channel.{Channel};
 ghost use Rattle.tl_beat.specs.declared.opcode.Channel.TheVariants as channel;
 ghost use Rattle.tl_beat.specs.Width.{IsWidth};
+ghost use Rattle.tl_burst.specs.declared.message.Message.{Message};
 ghost use Rattle.tl_burst.specs.Messages.{unfinished};
-ghost use Rattle.tl_rules.specs.History.{held};
+ghost use Rattle.tl_params.specs.declared.key.Key.{Key};
+ghost use Rattle.tl_params.specs.declared.rule.Rule.{Rule};
+ghost use Rattle.tl_rules.specs.Agent.{sent_if_any};
+ghost use Rattle.tl_params.specs.declared.perm.Perm.TheVariants as perm;
+ghost use Rattle.tl_rules.specs.Conformance.{same_perm};
+ghost use Rattle.tl_rules.specs.Effect.{byte_of};
+ghost use Rattle.tl_rules.specs.Handed.{pending_if_any, request_if_any, release_if_any};
+ghost use Rattle.tl_rules.specs.History;
+ghost use Rattle.tl_rules.specs.History.{block_at, held};
+ghost use Rattle.tl_rules.specs.Typed.{IsTyped};
+ghost use Rattle.tl_client.specs.declared.busy.Busy.{Busy};
 ghost use Rattle.tl_client.specs.declared.operation.Op.{Op};
 ghost use Rattle.tl_client.specs.declared.reply.Reply.TheVariants as reply;
-ghost use Rattle.tl_client.specs.Ask.{asked, busy};
-ghost use Rattle.tl_client.specs.End.{Terms, End, fresh};
-ghost use Rattle.tl_client.specs.Kept.{IsKept};
+ghost use Rattle.tl_client.specs.declared.verdict.Verdict.TheVariants as verdict;
+ghost use Rattle.tl_client.specs.Accounted.{IsAccounted};
+ghost use Rattle.tl_client.specs.After.{heard, handed, is_refused, copy_left, copy_by, waiting_left, waiting_by, open_by, release_by, IsStarted};
+ghost use Rattle.tl_client.specs.Ask.{asked, busy, is_word, loaded, stored};
+ghost use Rattle.tl_client.specs.Bytes.{IsTypedOp, HasBytes};
+ghost use Rattle.tl_client.specs.End.{Terms, End, copy_at, fresh, shut};
+ghost use Rattle.tl_client.specs.Inside.{IsInside};
+ghost use Rattle.tl_client.specs.Kept.{IsKept, holds};
 ghost use Rattle.tl_client.specs.Held.{left_by, held_by};
-ghost use Rattle.tl_client.specs.Sound.{IsSoundIfAny, IsSoundAnswer};
-ghost use Rattle.tl_client.specs.Offer.{offered, stalls, is_stalled};
+ghost use Rattle.tl_client.specs.Requests.{open_beat, open_release};
+ghost use Rattle.tl_client.specs.Sound.{IsSoundIfAny, IsSoundAnswer, IsProperIfAny, IsProperAnswer, IsLegalAfter};
+ghost use Rattle.tl_client.specs.Offer.{offered, stalls, is_stalled, taken, waits, broken_before, broken_later};
 
 /// A beat is stalled exactly where that is what is answered.
 pub fn stalls_as_answered<const W: usize>()
@@ -58,4 +76,161 @@ pub fn keeps<const W: usize>()
 /// The source that an operation starts with is one of the client's.
 pub fn starts_with_own_sources<const W: usize>()
     ensures { (terms : Terms) (op : Op W) (e : End W) (s : ℕ) → (asked terms op e).reply ≡ reply.Started s → s < terms.sources }
+{}
+
+/// The history after a call is that before it, with the beat where it was taken, and then with all
+/// beats of the message that is handed out. The link is closed once a beat was refused.
+pub fn remembers_what_passes<const W: usize>()
+    ensures asked { (terms : Terms) (op : Op W) (e : End W) →
+        (asked terms op e).after.past ≡ sent_if_any (asked terms op e).message e.past }
+    ensures offered { (terms : Terms) (ch : Channel) (x : Beat W) (e : End W) →
+        (offered terms ch x e).after.past ≡ sent_if_any (handed (offered terms ch x e).answer) (heard (offered terms ch x e).answer x e.past) }
+    ensures asked_closed { (terms : Terms) (op : Op W) (e : End W) → (asked terms op e).after.closed ≡ e.closed }
+    ensures offered_closed { (terms : Terms) (ch : Channel) (x : Beat W) (e : End W) →
+        (offered terms ch x e).after.closed ≡ (e.closed || is_refused (offered terms ch x e).answer) }
+{}
+
+/// The copy of a block and the bytes that wait for its Grant, after an operation and after a beat.
+pub fn copies_after_calls<const W: usize>()
+    ensures asked { (terms : Terms) (op : Op W) (e : End W) (k : ℕ) →
+        (asked terms op e).after.copies k ≡ copy_left (busy terms op e) op k (held k e.past) (e.copies k) }
+    ensures offered { (terms : Terms) (ch : Channel) (x : Beat W) (e : End W) (k : ℕ) →
+        (offered terms ch x e).after.copies k ≡ copy_by (offered terms ch x e).answer x k e }
+    ensures asked_waiting { (terms : Terms) (op : Op W) (e : End W) (k : ℕ) →
+        (asked terms op e).after.waiting k ≡ waiting_left (busy terms op e) op k (e.waiting k) }
+    ensures offered_waiting { (terms : Terms) (ch : Channel) (x : Beat W) (e : End W) (k : ℕ) →
+        (offered terms ch x e).after.waiting k ≡ waiting_by (offered terms ch x e).answer x k e }
+{}
+
+/// What is unfinished and what is pending after an operation, and the last request and Release with a
+/// source, by the message that it hands out.
+pub fn pending_after_asked<const W: usize>()
+    requires { IsWidth W }
+    ensures unfinished { (terms : Terms) (op : Op W) (e : End W) (ch : Channel) → IsKept e →
+        unfinished ch (asked terms op e).after.past ≡ unfinished ch e.past }
+    ensures pending { (terms : Terms) (op : Op W) (e : End W) (key : Key) → IsKept e →
+        History.pending key (asked terms op e).after.past ≡ pending_if_any key (asked terms op e).message e.past }
+    ensures request { (terms : Terms) (op : Op W) (e : End W) (s : ℕ) → IsKept e →
+        History.request_of s (asked terms op e).after.past ≡ request_if_any s (asked terms op e).message (History.request_of s e.past) }
+    ensures release { (terms : Terms) (op : Op W) (e : End W) (s : ℕ) → IsKept e →
+        History.release_of s (asked terms op e).after.past ≡ release_if_any s (asked terms op e).message (History.release_of s e.past) }
+{}
+
+/// And after a beat, by its answer. Requests and Releases are as before.
+pub fn pending_after_offered<const W: usize>()
+    requires { IsWidth W }
+    ensures unfinished { (terms : Terms) (ch : Channel) (x : Beat W) (e : End W) (at : Channel) → IsKept e →
+        unfinished at (offered terms ch x e).after.past ≡ unfinished at (heard (offered terms ch x e).answer x e.past) }
+    ensures pending { (terms : Terms) (ch : Channel) (x : Beat W) (e : End W) (key : Key) → IsKept e →
+        History.pending key (offered terms ch x e).after.past
+        ≡ pending_if_any key (handed (offered terms ch x e).answer) (heard (offered terms ch x e).answer x e.past) }
+    ensures request { (terms : Terms) (ch : Channel) (x : Beat W) (e : End W) (s : ℕ) → IsKept e →
+        History.request_of s (offered terms ch x e).after.past ≡ History.request_of s e.past }
+    ensures release { (terms : Terms) (ch : Channel) (x : Beat W) (e : End W) (s : ℕ) → IsKept e →
+        History.release_of s (offered terms ch x e).after.past ≡ History.release_of s e.past }
+{}
+
+/// Which request and which Release with a source is open after an operation, and after a beat.
+pub fn open_after_calls<const W: usize>()
+    requires { IsWidth W }
+    ensures asked { (terms : Terms) (op : Op W) (e : End W) (s : ℕ) → IsKept e →
+        open_beat s (asked terms op e).after.past ≡ request_if_any s (asked terms op e).message (open_beat s e.past) }
+    ensures asked_release { (terms : Terms) (op : Op W) (e : End W) (s : ℕ) → IsKept e →
+        open_release s (asked terms op e).after.past ≡ release_if_any s (asked terms op e).message (open_release s e.past) }
+    ensures offered { (terms : Terms) (ch : Channel) (x : Beat W) (e : End W) (s : ℕ) → IsKept e →
+        open_beat s (offered terms ch x e).after.past ≡ open_by s (offered terms ch x e).answer x e.past }
+    ensures offered_release { (terms : Terms) (ch : Channel) (x : Beat W) (e : End W) (s : ℕ) → IsKept e →
+        open_release s (offered terms ch x e).after.past ≡ release_by s (offered terms ch x e).answer x e.past }
+{}
+
+/// A client keeps account of what is pending: each Acquire and each Release of a block is one open
+/// message, and there are never both; no ProbeAck is missing, and no GrantAck but of the Grant that is
+/// unfinished.
+pub fn keeps_account<const W: usize>()
+    requires { IsWidth W }
+    ensures fresh { IsAccounted {w = W} [] }
+    ensures asked { (terms : Terms) (op : Op W) (e : End W) → IsKept e → IsAccounted e.past → IsAccounted (asked terms op e).after.past }
+    ensures offered { (terms : Terms) (ch : Channel) (x : Beat W) (e : End W) → IsKept e → IsAccounted e.past → IsAccounted (offered terms ch x e).after.past }
+{}
+
+/// A client asks for and holds blocks of the map alone, none at TL-UL and TL-UH, and its sources are
+/// its own.
+pub fn keeps_inside<const W: usize>()
+    requires { IsWidth W }
+    ensures fresh { (terms : Terms) → IsInside {w = W} terms [] }
+    ensures asked { (terms : Terms) (op : Op W) (e : End W) → IsKept e → IsInside terms e.past → IsInside terms (asked terms op e).after.past }
+    ensures offered { (terms : Terms) (ch : Channel) (x : Beat W) (e : End W) → IsKept e → IsInside terms e.past → IsInside terms (offered terms ch x e).after.past }
+{}
+
+/// A message is handed out for an operation exactly where it started, with the source that the reply
+/// names, which was free.
+pub fn starts_with_a_message<const W: usize>()
+    ensures { (terms : Terms) (op : Op W) (e : End W) → IsStarted (asked terms op e).reply (asked terms op e).message e.past }
+{}
+
+/// A busy client, a miss, a Load and a stall change nothing, and a refusal closes the link and changes
+/// nothing else.
+pub fn changes_nothing<const W: usize>()
+    ensures busy { (terms : Terms) (op : Op W) (e : End W) (b : Busy) → (asked terms op e).reply ≡ reply.Busy b → (asked terms op e).after ≡ e }
+    ensures miss { (terms : Terms) (op : Op W) (e : End W) → (asked terms op e).reply ≡ reply.Miss → (asked terms op e).after ≡ e }
+    ensures load { (terms : Terms) (address size : ℕ) (e : End W) → (asked terms (Op.Load address size) e).after ≡ e }
+    ensures stall { (terms : Terms) (ch : Channel) (x : Beat W) (e : End W) (m : Option (Message W)) →
+        (offered terms ch x e).answer ≡ Ok (verdict.Stalled, m) → (offered terms ch x e).after ≡ e }
+    ensures refusal { (terms : Terms) (ch : Channel) (x : Beat W) (e : End W) (rule : Rule) →
+        (offered terms ch x e).answer ≡ Err rule → (offered terms ch x e).after ≡ shut e }
+{}
+
+/// A beat that breaks no rule and doesn't wait is taken, and one of channel D never waits.
+pub fn takes_what_is_lawful<const W: usize>()
+    ensures taken { (terms : Terms) (ch : Channel) (x : Beat W) (e : End W) →
+        broken_before terms ch x e ≡ None → waits x e.past ≡ false → broken_later terms x e ≡ None → offered terms ch x e ≡ taken x e }
+    ensures never_d { (terms : Terms) (ch : Channel) (x : BeatD W) (e : End W) → stalls terms ch (Beat.D x) e ≡ false }
+{}
+
+/// A client keeps blocks of 64 bytes, as copies and for its Grants.
+pub fn keeps_blocks<const W: usize>()
+    requires { IsWidth W }
+    ensures fresh { HasBytes (fresh {w = W}) }
+    ensures asked { (terms : Terms) (op : Op W) (e : End W) → IsKept e → IsTypedOp op → HasBytes e → HasBytes (asked terms op e).after }
+    ensures offered { (terms : Terms) (ch : Channel) (x : Beat W) (e : End W) → IsKept e → IsTyped x → HasBytes e → HasBytes (offered terms ch x e).after }
+{}
+
+/// A message that is handed out has 64 bytes, is zero where no beat carries it, and is of the map.
+pub fn hands_out_proper_messages<const W: usize>()
+    requires { IsWidth W }
+    ensures asked { (terms : Terms) (op : Op W) (e : End W) → IsTypedOp op → HasBytes e → IsProperIfAny terms.blocks (asked terms op e).message }
+    ensures offered { (terms : Terms) (ch : Channel) (x : Beat W) (e : End W) → HasBytes e → IsProperAnswer terms.blocks (offered terms ch x e).answer }
+{}
+
+/// No beat of a message that is handed out breaks a rule after the history of the client's end, to which
+/// a beat belongs that was taken.
+pub fn breaks_no_rule<const W: usize>()
+    requires { IsWidth W }
+    ensures asked { (terms : Terms) (op : Op W) (e : End W) → IsKept e →
+        IsLegalAfter terms.level terms.profile (asked terms op e).message e.past }
+    ensures offered { (terms : Terms) (ch : Channel) (x : Beat W) (e : End W) → IsKept e → IsAccounted e.past →
+        IsLegalAfter terms.level terms.profile (handed (offered terms ch x e).answer) (heard (offered terms ch x e).answer x e.past) }
+{}
+
+/// A Load reads the number of the copy's bytes, and a Store is done where Trunk is held; either misses
+/// where too little is held.
+pub fn reads_its_copy<const W: usize>()
+    ensures load { (terms : Terms) (address size : ℕ) (e : End W) → busy terms (Op.Load address size) e ≡ None →
+        (asked terms (Op.Load address size) e).reply
+        ≡ (if holds (held (block_at address) e.past) then reply.Value (loaded address size (copy_at e (block_at address))) else reply.Miss) }
+    ensures store { (terms : Terms) (address size value : ℕ) (e : End W) → busy terms (Op.Store address size value) e ≡ None →
+        (asked terms (Op.Store address size value) e).reply
+        ≡ (if same_perm perm.Trunk (held (block_at address) e.past) then reply.Stored else reply.Miss) }
+{}
+
+/// A Store writes the bytes of its value, the lowest first, and leaves the others of the block.
+pub fn stores_its_bytes()
+    ensures long { (address size value : ℕ) (copy : List ℕ) → is_word address size ≡ true → length copy ≡ 64 →
+        length (stored address size value copy) ≡ 64 }
+    ensures inside { (address size value j : ℕ) (copy : List ℕ) → is_word address size ≡ true → length copy ≡ 64 → j < 2 ^ size →
+        slice_index_or (stored address size value copy) (address % 64 + j) 0 ≡ byte_of value j }
+    ensures below { (address size value i : ℕ) (copy : List ℕ) → is_word address size ≡ true → length copy ≡ 64 → i < address % 64 →
+        slice_index_or (stored address size value copy) i 0 ≡ slice_index_or copy i 0 }
+    ensures above { (address size value i : ℕ) (copy : List ℕ) → is_word address size ≡ true → length copy ≡ 64 → address % 64 + 2 ^ size ≤ i →
+        slice_index_or (stored address size value copy) i 0 ≡ slice_index_or copy i 0 }
 {}

@@ -1,14 +1,21 @@
-//! The client's end of a TileLink link: what a client may do, and the client that keeps no copies.
+//! The client's end of a TileLink link: what a client may do, the client that
+//! keeps copies of blocks, and the one that keeps none.
 #![tactic(auto)]
 
 mod access;
 pub mod agent;
+pub mod any;
 pub mod busy;
-mod judge;
+pub mod caching;
+mod check;
 pub mod law;
 pub mod operation;
+mod order;
 pub mod plain;
+mod release;
 pub mod reply;
-mod requests;
+mod request;
 mod response;
+mod send;
+mod sources;
 pub mod verdict;

@@ -1,15 +1,21 @@
 //! How an operation ends, by the response to it.
 
-ghost use Rattle.std.specs.Prelude.{◌≡◌, ◌≤◌, length, take};
+ghost use Rattle.std.specs.Prelude.{ℕ, ◌≡◌, ◌≤◌, ◌==◌, false, length, take, IfSome, if◌then◌else◌};
 ghost use Rattle.tl_beat.specs.Width.{IsWidth};
-ghost use Rattle.tl_rules.specs.History;
+ghost use Rattle.tl_burst.specs.Messages.{breaks_burst, grown};
+ghost use Rattle.tl_burst.specs.Part.{IsTakeable};
+ghost use Rattle.tl_client.specs.Response.{Completes, d_of, done_with, in_message};
+ghost use Rattle.tl_client.specs.Sources.{open_at};
 ghost use Rattle.tl_client.specs.Offer;
 
-use crate::verdict::Finish;
+use crate::request::Request;
+use crate::sources::Sources;
+use crate::verdict::{Finish, Verdict};
+use tl_beat::beat::Beat;
 use tl_beat::opcode::OpD;
-use tl_burst::message::MessageD;
-use tl_rules::param::Cap;
-use tl_rules::perm::Perm;
+use tl_burst::assembler::Assembler;
+use tl_burst::message::{Message, MessageD};
+use tl_rules::kind::capped;
 
 /// The first `count` bytes, or all where there are fewer.
 fn first(bytes: &[u8], count: usize) -> &[u8]
@@ -44,16 +50,6 @@ fn bytes_at<const W: usize>(address: u32, size: u8, payload: &[u8; 64]) -> [u8; 
     padded(first(&payload[lane..], 1 << size))
 }
 
-/// What a Grant of this cap gives.
-fn capped(param: u8) -> Perm
-    ensures { result ≡ History.capped param }
-{
-    match Cap::from_param(param) {
-        Some(cap) => cap.right(),
-        None => Perm::None,
-    }
-}
-
 /// How the operation at this address ends, by its response.
 pub fn finish_of<const W: usize>(response: &MessageD<W>, address: u32) -> Finish
     requires { IsWidth W }
@@ -70,4 +66,51 @@ pub fn finish_of<const W: usize>(response: &MessageD<W>, address: u32) -> Finish
         OpD::Grant | OpD::GrantData => Finish::Granted(capped(response.param)),
         OpD::ReleaseAck => Finish::Released,
     }
+}
+
+/// The message, where it is one of channel D.
+fn response_in<const W: usize>(message: Message<W>) -> Option<MessageD<W>>
+    ensures value { result ≡ d_of message.entry }
+    ensures long { IfSome result (λ m. length m.payload ≡ 64) }
+{
+    match message {
+        Message::D(response) => Some(response),
+        _ => None,
+    }
+}
+
+/// Takes a beat of channel D, and answers the response that it completes.
+pub fn complete<const W: usize>(responses: &mut Assembler<W>, beat: &Beat<W>) -> Option<MessageD<W>>
+    requires width { IsWidth W }
+    requires takeable { IsTakeable beat.now }
+    requires continues { breaks_burst beat.now responses.old ≡ false }
+    ensures grows { responses.new ≡ grown beat.now responses.old }
+    ensures response { Completes result beat.now responses.old }
+{
+    let Ok(complete) = responses.take(beat) else {
+        unreachable!()
+    };
+    match complete {
+        Some(message) => response_in(message),
+        None => None,
+    }
+}
+
+/// Closes the request that a complete response answers.
+pub fn close<const W: usize>(
+    requests: &mut Sources<Request>,
+    response: &MessageD<W>,
+) -> (Option<Request>, Verdict)
+    requires { IsWidth W }
+    ensures request { result.0 ≡ open_at requests.old response.now.source }
+    ensures verdict { result.1 ≡ done_with (in_message response.now) W (open_at requests.old response.now.source) }
+    ensures closed { (s : ℕ) → open_at requests.new s ≡ (if response.now.source == s then None else open_at requests.old s) }
+{
+    let request = requests.close(response.source);
+    let address = match request {
+        Some(request) => request.address,
+        None => 0,
+    };
+    let finish = finish_of(response, address);
+    (request, Verdict::Done(response.source, finish))
 }

@@ -1,11 +1,15 @@
-use Rattle.std.proofs.Common.{Err, ap, sym, ◌∙◌}
-use Rattle.std.proofs.lemmas.Result.{err_from_is_err_and}
-use Rattle.tl_client.specs.Requests.{request_at}
-use Rattle.tl_client.proofs.PlainCalls.{judged_first}
+use Rattle.std.proofs.Common.{sym, ◌∙◌}
+use Rattle.tl_client.proofs.PlainPast.{refused_in_order, judged_by_bits}
 use Rattle.tl_client.proofs.plain.Plain.judge_order.Goals as goal
 
-pub returns-in_err-check_response : goal.returns-in_err-check_response
-returns-in_err-check_response g c =
-    let p = err_from_is_err_and c.from_residual.result c.from_residual.ensures.1 in
-    p.1 ∙ ap Err p.2 ∙ sym (judged_first c.args.response (request_at c.args.self.now.requests c.args.response.source) c.args.self.now.responses c.in-Ok.part _
-    (rw c.requires.response at c.in-Ok.ensures) (sym c.is_first.ensures ∙ c.if-is_first.true) (rw c.at.ensures at c.in_err-check_response.ensures))
+pub returns-in-Some-clause-rule : goal.returns-in-Some-clause-rule
+returns-in-Some-clause-rule g c = λ e k.
+    refused_in_order c.args.self.now e c.args.beat.now c.args.response _ c.in-Some.rule c.requires.response k c.requires.legal c.peek-part.ensures c.in-Some.ensures.rule
+
+pub returns-then-is_spoiled-clause-rule : goal.returns-then-is_spoiled-clause-rule
+returns-then-is_spoiled-clause-rule g c = λ e k.
+    judged_by_bits c.args.self.now e c.args.beat.now c.args.response _ _ c.requires.response k c.requires.legal c.peek-part.ensures c.in_default.ensures.rule (sym c.if-is_spoiled.true ∙ c.is_spoiled.ensures)
+
+pub returns-clause-rule : goal.returns-clause-rule
+returns-clause-rule g c = λ e k.
+    judged_by_bits c.args.self.now e c.args.beat.now c.args.response _ _ c.requires.response k c.requires.legal c.peek-part.ensures c.in_default.ensures.rule (sym c.if-is_spoiled.false ∙ c.is_spoiled.ensures)

@@ -1,7 +1,0 @@
-use Rattle.std.proofs.Common.{◌≡◌, ◌-◌, is_some}
-use Rattle.tl_client.specs.Ask.{least_free}
-use Rattle.tl_client.specs.Requests.{request_at}
-use Rattle.tl_client.proofs.requests.Requests.least_free.Given as goal
-
-abbrev pub invariant-loop-source : goal.invariant-loop-source
-invariant-loop-source l = least_free (λ s. is_some (request_at l.self s)) 0 l.sources ≡ least_free (λ s. is_some (request_at l.self s)) l.source (l.sources - l.source)

@@ -1,0 +1,122 @@
+//! A client of any level.
+
+ghost use Rattle.std.specs.Prelude.{◌≡◌};
+ghost use Rattle.tl_beat.specs.Width.{IsWidth};
+
+use crate::agent::Agent;
+use crate::caching::Caching;
+use crate::operation::Op;
+use crate::plain::Plain;
+use crate::reply::Reply;
+use crate::verdict::Verdict;
+use std::alloc::Global;
+use tl_beat::beat::Beat;
+use tl_beat::opcode::Channel;
+use tl_burst::message::Message;
+use tl_rules::config::{ClientConfig, NewFault};
+use tl_rules::level::Level;
+use tl_rules::perm::Perm;
+use tl_rules::profile::Profile;
+use tl_rules::rule::Rule;
+
+/// A client of any level: one of level C keeps copies.
+#[derive(Drop)]
+pub enum AnyClient<const W: usize> {
+    Caching(Caching<W>),
+    Plain(Plain<W>),
+}
+
+impl<const W: usize> AnyClient<W> {
+    ghost use Rattle.tl_client.specs.KnowsAny.{IsNewAny};
+
+    /// A client of the level of its configuration, on so many blocks, which has sent and taken
+    /// nothing: N2 where these are out of their limits, otherwise N4 where its sources are, or
+    /// `Memory`.
+    pub fn new(
+        alloc: Global,
+        config: ClientConfig,
+        blocks: u16,
+        profile: Profile,
+    ) -> Result<Self, NewFault>
+        requires { IsWidth W }
+        ensures { IsNewAny config blocks profile result }
+    {
+        match config.level {
+            Level::C => {
+                let client = Caching::new(alloc, config, blocks, profile)?;
+                Ok(AnyClient::Caching(client))
+            }
+            Level::UL | Level::UH => {
+                let client = Plain::new(alloc, config, blocks, profile)?;
+                Ok(AnyClient::Plain(client))
+            }
+        }
+    }
+}
+
+impl<const W: usize> Agent<W> for AnyClient<W> {
+    ghost use Rattle.tl_client.specs.KnowsAny.{KnowsAny, any_terms};
+    ghost use Rattle.tl_client.specs.Ask.{asked};
+    ghost use Rattle.tl_client.specs.End.{End};
+
+    ghost knows = { λ c e. KnowsAny c e };
+
+    ghost terms = { any_terms };
+
+    fn ask(&mut self, operation: Op<W>) -> (Reply, Option<Message<W>>)
+        ensures reply { (e : End W) → KnowsAny self.old e →
+            result.0 ≡ (asked (any_terms self.old) operation.entry e).reply }
+        ensures message { (e : End W) → KnowsAny self.old e →
+            result.1 ≡ (asked (any_terms self.old) operation.entry e).message }
+        ensures after { (e : End W) → KnowsAny self.old e →
+            KnowsAny self.new (asked (any_terms self.old) operation.entry e).after }
+        ensures terms { any_terms self.new ≡ any_terms self.old }
+    {
+        match self {
+            AnyClient::Caching(client) => client.ask(operation),
+            AnyClient::Plain(client) => client.ask(operation),
+        }
+    }
+
+    fn offer(
+        &mut self,
+        channel: Channel,
+        beat: &Beat<W>,
+    ) -> Result<(Verdict, Option<Message<W>>), Rule> {
+        match self {
+            AnyClient::Caching(client) => client.offer(channel, beat),
+            AnyClient::Plain(client) => client.offer(channel, beat),
+        }
+    }
+
+    fn stalls(&self, channel: Channel, beat: &Beat<W>) -> bool {
+        match self {
+            AnyClient::Caching(client) => client.stalls(channel, beat),
+            AnyClient::Plain(client) => client.stalls(channel, beat),
+        }
+    }
+
+    fn held(&self, block: u16) -> Perm {
+        match self {
+            AnyClient::Caching(client) => client.held(block),
+            AnyClient::Plain(client) => client.held(block),
+        }
+    }
+
+    fn copy(&self, block: u16) -> Option<[u8; 64]> {
+        match self {
+            AnyClient::Caching(client) => client.copy(block),
+            AnyClient::Plain(client) => client.copy(block),
+        }
+    }
+
+    fn closed(&self) -> bool {
+        match self {
+            AnyClient::Caching(client) => client.closed(),
+            AnyClient::Plain(client) => client.closed(),
+        }
+    }
+}
+
+#[cfg(test)]
+mod tests;

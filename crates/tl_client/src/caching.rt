@@ -1,0 +1,149 @@
+//! The client that keeps copies of blocks.
+
+ghost use Rattle.std.specs.Prelude.{ℕ, ◌≡◌, ◌≤◌, true, length, OnOk};
+ghost use Rattle.tl_beat.specs.Width.{IsWidth};
+ghost use Rattle.tl_client.specs.Width.{IsWidth-prop};
+ghost use Rattle.tl_rules.specs.Legality.{has_transfers};
+
+mod ask;
+mod offer;
+mod past;
+mod table;
+mod take;
+
+use crate::agent::Agent;
+use crate::operation::Op;
+use crate::order::check_alone;
+use crate::release::Release;
+use crate::reply::Reply;
+use crate::request::Request;
+use crate::sources::Sources;
+use crate::verdict::Verdict;
+use std::alloc::Global;
+use table::Table;
+use tl_beat::beat::Beat;
+use tl_beat::opcode::Channel;
+use tl_burst::assembler::Assembler;
+use tl_burst::message::Message;
+use tl_rules::config::{ClientConfig, NewFault};
+use tl_rules::perm::Perm;
+use tl_rules::profile::Profile;
+use tl_rules::rule::Rule;
+
+/// A Grant of which some beats have come.
+#[derive(Clone, Copy)]
+struct Granting {
+    block: u32,
+    sink: u8,
+}
+
+/// A client of level C. It sends accesses and transfers, and keeps copies of blocks.
+#[derive(Drop)]
+pub struct Caching<const W: usize> {
+    config: ClientConfig,
+    blocks: u16,
+    /// That of its link.
+    profile: Profile,
+    table: Table,
+    requests: Sources<Request>,
+    releases: Sources<Release>,
+    /// The beats of channel D.
+    responses: Assembler<W>,
+    /// The Grant that is unfinished on channel D.
+    granting: Option<Granting>,
+    /// A beat was refused.
+    closed: bool,
+    ghost width: { IsWidth W } by { IsWidth-prop W },
+    ghost transfers: { has_transfers config.level ≡ true },
+    ghost few: { config.sources ≤ 8 },
+    ghost sized: { length table.blocks.items ≡ blocks },
+}
+
+impl<const W: usize> Caching<W> {
+    ghost use Rattle.tl_client.specs.KnowsCaching.{IsNewCaching};
+
+    /// A client on so many blocks, which has sent and taken nothing: N2 where these are out of their
+    /// limits, otherwise N4 where its sources are, or `Memory`. No other call takes memory.
+    pub fn new(
+        alloc: Global,
+        config: ClientConfig,
+        blocks: u16,
+        profile: Profile,
+    ) -> Result<Self, NewFault>
+        requires width { IsWidth W }
+        requires transfers { has_transfers config.level ≡ true }
+        ensures { IsNewCaching config blocks profile result }
+    {
+        config.check(blocks)?;
+        Ok(Caching {
+            config,
+            blocks,
+            profile,
+            table: Table::new(alloc, blocks)?,
+            requests: Sources::new(),
+            releases: Sources::new(),
+            responses: Assembler::new(),
+            granting: None,
+            closed: false,
+        })
+    }
+}
+
+impl<const W: usize> Agent<W> for Caching<W> {
+    ghost use Rattle.tl_client.specs.KnowsCaching.{KnowsCaching, terms_of};
+    ghost use Rattle.tl_client.specs.Ask.{asked};
+    ghost use Rattle.tl_client.specs.End.{End};
+
+    ghost knows = { λ c e. KnowsCaching c e };
+
+    ghost terms = { terms_of };
+
+    fn ask(&mut self, operation: Op<W>) -> (Reply, Option<Message<W>>)
+        ensures reply { (e : End W) → KnowsCaching self.old e →
+            result.0 ≡ (asked (terms_of self.old) operation.entry e).reply }
+        ensures message { (e : End W) → KnowsCaching self.old e →
+            result.1 ≡ (asked (terms_of self.old) operation.entry e).message }
+        ensures after { (e : End W) → KnowsCaching self.old e →
+            KnowsCaching self.new (asked (terms_of self.old) operation.entry e).after }
+        ensures terms { terms_of self.new ≡ terms_of self.old }
+    {
+        match self.busy(&operation) {
+            Some(busy) => (Reply::Busy(busy), None),
+            None => self.begin(operation),
+        }
+    }
+
+    fn offer(
+        &mut self,
+        channel: Channel,
+        beat: &Beat<W>,
+    ) -> Result<(Verdict, Option<Message<W>>), Rule> {
+        match self.judge(channel, beat) {
+            Err(rule) => {
+                self.closed = true;
+                Err(rule)
+            }
+            Ok(true) => Ok((Verdict::Stalled, None)),
+            Ok(false) => Ok(self.take(beat)),
+        }
+    }
+
+    fn stalls(&self, channel: Channel, beat: &Beat<W>) -> bool {
+        check_alone(self.closed, self.config.level, channel, beat).is_ok() && self.waits(beat)
+    }
+
+    fn held(&self, block: u16) -> Perm {
+        self.table.held(u32::from(block))
+    }
+
+    fn copy(&self, block: u16) -> Option<[u8; 64]> {
+        self.table.copy(u32::from(block))
+    }
+
+    fn closed(&self) -> bool {
+        self.closed
+    }
+}
+
+#[cfg(test)]
+mod tests;

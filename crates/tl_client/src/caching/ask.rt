@@ -1,0 +1,167 @@
+//! What a caching client answers to an operation.
+
+ghost use Rattle.std.specs.Prelude.{◌≡◌, ◌<◌, ◌≤◌, ◌/◌, not, IsTrue, None};
+ghost use Rattle.tl_client.specs.Ask;
+ghost use Rattle.tl_client.specs.Ask.{breaks_b3};
+ghost use Rattle.tl_client.specs.Caching.{busy_by, bytes_in, free_in, load_reply, Does, Sends};
+ghost use Rattle.tl_client.specs.Requests.{start_with};
+ghost use Rattle.tl_rules.specs.Legality.{is_aligned};
+
+use super::Caching;
+use crate::busy::Busy;
+use crate::check::{block_of, check};
+use crate::operation::Op;
+use crate::release::{Release, is_releasing};
+use crate::reply::Reply;
+use crate::request::{is_acquiring, start};
+use crate::send::{acquisition, release};
+use tl_beat::opcode::OpA;
+use tl_burst::message::{Message, MessageA};
+use tl_rules::param::{Grow, Prune};
+use tl_rules::perm::Perm;
+use tl_rules::place::{Span, number_at, put_number};
+
+/// Whether an operation asks for permission or gives it up.
+fn is_transfer<const W: usize>(operation: &Op<W>) -> bool
+    ensures { result ≡ Ask.is_transfer operation.now }
+{
+    matches!(
+        operation,
+        Op::Acquire { .. } | Op::AcquireWhole { .. } | Op::Release { .. }
+    )
+}
+
+/// Whether an operation begins at what is held.
+fn begins_at<const W: usize>(operation: &Op<W>, held: Perm) -> bool
+    ensures { result ≡ not (breaks_b3 operation.now held) }
+{
+    match operation {
+        Op::Acquire { grow, .. } => grow.left() == held,
+        Op::AcquireWhole { .. } => held != Perm::Trunk,
+        Op::Release { prune, .. } => prune.left() == held,
+        _ => true,
+    }
+}
+
+impl<const W: usize> Caching<W> {
+    /// The bytes of the copy of a block, or zeros.
+    pub(super) fn bytes(&self, block: u32) -> [u8; 64]
+        ensures { result ≡ bytes_in self.now block }
+    {
+        match self.table.copy(block) {
+            Some(bytes) => bytes,
+            None => [0; 64],
+        }
+    }
+
+    /// Why an operation isn't started, but for want of a source.
+    pub(super) fn busy(&self, operation: &Op<W>) -> Option<Busy>
+        ensures { result ≡ busy_by self.now operation.now }
+    {
+        if let Some(busy) = check(self.config.level, self.blocks, operation) {
+            return Some(busy);
+        }
+        let block = block_of(operation);
+        if is_transfer(operation)
+            && (is_acquiring(&self.requests, block) || is_releasing(&self.releases, block))
+        {
+            return Some(Busy::B2);
+        }
+        if !begins_at(operation, self.table.held(block)) {
+            return Some(Busy::B3);
+        }
+        None
+    }
+
+    /// Reads a number of a block that is held.
+    fn load(&self, address: u32, size: u8) -> Reply
+        requires small { size ≤ 3 }
+        requires aligned { IsTrue (is_aligned address size) }
+        ensures { result ≡ load_reply self.now address size }
+    {
+        let block = address / 64;
+        if self.table.held(block) == Perm::None {
+            return Reply::Miss;
+        }
+        let span = Span::new::<W>(address, size);
+        Reply::Value(number_at(&self.bytes(block), span.in_block, span.count))
+    }
+
+    /// Writes a number to a block of which Trunk is held.
+    fn store(&mut self, address: u32, size: u8, value: u64) -> Reply
+        requires small { size ≤ 3 }
+        requires aligned { IsTrue (is_aligned address size) }
+        requires inside { address / 64 < self.old.blocks }
+        ensures { Does self.old self.new (Op.Store address size value) (result, None) }
+    {
+        let block = address / 64;
+        if self.table.held(block) != Perm::Trunk {
+            return Reply::Miss;
+        }
+        let mut bytes = self.bytes(block);
+        let span = Span::new::<W>(address, size);
+        put_number(&mut bytes, span.in_block, span.count, value);
+        self.table.put_copy(block, Some(bytes));
+        Reply::Stored
+    }
+
+    /// Hands out a request, where a source is free.
+    fn request(&mut self, request: MessageA<W>) -> (Reply, Option<Message<W>>)
+        ensures answer { result ≡ start_with (free_in self.old.requests self.old.config.sources) request.entry }
+        ensures left { Sends self.old self.new result.1 }
+    {
+        start(&mut self.requests, self.config.sources, request)
+    }
+
+    /// Asks to write a whole block.
+    fn acquire_whole(&mut self, block: u16, bytes: [u8; 64]) -> (Reply, Option<Message<W>>)
+        requires inside { block < self.old.blocks }
+        ensures { Does self.old self.new (Op.AcquireWhole block bytes) result }
+    {
+        let grow = match self.table.held(u32::from(block)) {
+            Perm::Branch => Grow::BtoT,
+            _ => Grow::NtoT,
+        };
+        let started = self.request(acquisition(OpA::AcquirePerm, grow, block));
+        if started.1.is_some() {
+            self.table.put_waiting(u32::from(block), Some(bytes));
+        }
+        started
+    }
+
+    /// Gives up permission on a block, where a source is free.
+    fn release(&mut self, block: u16, prune: Prune) -> (Reply, Option<Message<W>>)
+        requires inside { block < self.old.blocks }
+        ensures { Does self.old self.new (Op.Release block prune) result }
+    {
+        let Some(source) = self.releases.least_free(self.config.sources) else {
+            return (Reply::Busy(Busy::B1), None);
+        };
+        let message = release(prune, source, block, self.bytes(u32::from(block)));
+        self.releases.open(source, Release::of(&message));
+        self.table.lower(u32::from(block), prune.right());
+        (Reply::Started(source), Some(Message::C(message)))
+    }
+
+    /// Starts an operation, where a source is free.
+    pub(super) fn begin(&mut self, operation: Op<W>) -> (Reply, Option<Message<W>>)
+        requires { busy_by self.old operation ≡ None }
+        ensures { Does self.old self.new operation.entry result }
+    {
+        match operation {
+            Op::Load { address, size } => (self.load(address, size), None),
+            Op::Store {
+                address,
+                size,
+                value,
+            } => (self.store(address, size, value), None),
+            Op::Acquire { block, grow } => {
+                self.request(acquisition(OpA::AcquireBlock, grow, block))
+            }
+            Op::AcquireWhole { block, bytes } => self.acquire_whole(block, bytes),
+            Op::Release { block, prune } => self.release(block, prune),
+            Op::Access(Message::A(access)) => self.request(access),
+            Op::Access(_) => (Reply::Busy(Busy::B4), None),
+        }
+    }
+}

@@ -1,0 +1,101 @@
+//! What a caching client judges of a beat.
+
+ghost use Rattle.std.specs.Prelude.{◌≡◌, false, None, Ok, OnOk};
+ghost use Rattle.tl_beat.specs.declared.beat.BeatD.{BeatD};
+ghost use Rattle.tl_burst.specs.Messages.{breaks_burst};
+ghost use Rattle.tl_burst.specs.Part.{IsTakeable};
+ghost use Rattle.tl_client.specs.End.{End};
+ghost use Rattle.tl_client.specs.KnowsCaching.{KnowsCaching, terms_of};
+ghost use Rattle.tl_client.specs.Offer;
+ghost use Rattle.tl_client.specs.Takes.{IsJudged, Takes};
+ghost use Rattle.tl_rules.specs.Agent;
+ghost use Rattle.tl_rules.specs.Conformance;
+ghost use Rattle.tl_rules.specs.Legality.{verdict};
+
+use super::Caching;
+use crate::order::{broken_in_order, check_alone, is_outside, is_spoiled};
+use crate::release::is_releasing;
+use crate::verdict::Verdict;
+use tl_beat::beat::Beat;
+use tl_beat::opcode::Channel;
+use tl_burst::message::Message;
+use tl_rules::kind::is_probe;
+use tl_rules::order::broken_order;
+use tl_rules::rule::Rule;
+
+impl<const W: usize> Caching<W> {
+    /// Whether a Probe waits for the answer to a Release of its block.
+    pub(super) fn waits(&self, beat: &Beat<W>) -> bool
+        ensures { (e : End W) → KnowsCaching self.now e → result ≡ Offer.waits beat.now e.past }
+    {
+        match beat {
+            Beat::B(probe) => {
+                is_probe(probe.opcode) && is_releasing(&self.releases, probe.address / 64)
+            }
+            _ => false,
+        }
+    }
+
+    /// The S or H rule that a beat breaks.
+    fn broken_in_order(&self, beat: &Beat<W>) -> Option<Rule>
+        requires { IsTakeable beat.now }
+        ensures rule { (e : End W) → KnowsCaching self.now e →
+            result ≡ Conformance.broken_in_order self.now.profile beat.now e.past }
+        ensures continues { (x : BeatD W) → beat.now ≡ Beat.D x → result ≡ None → breaks_burst beat.now self.now.responses ≡ false }
+    {
+        match beat {
+            Beat::D(_) => broken_in_order(self.profile, beat, self.responses.peek(beat), self),
+            _ => broken_order(self.profile, beat, self),
+        }
+    }
+
+    /// The rule that a beat breaks which breaks none by itself and needn't wait.
+    pub(super) fn check_order(&self, beat: &Beat<W>) -> Result<(), Rule>
+        requires { IsTakeable beat.now }
+        ensures rule { (e : End W) → KnowsCaching self.now e →
+            result ≡ verdict (Offer.broken_later (terms_of self.now) beat.now e) }
+        ensures inside { OnOk result (Agent.is_outside self.now.blocks beat.now ≡ false) }
+        ensures continues { (x : BeatD W) → beat.now ≡ Beat.D x → OnOk result (breaks_burst beat.now self.now.responses ≡ false) }
+    {
+        if let Some(rule) = self.broken_in_order(beat) {
+            return Err(rule);
+        }
+        if is_outside(self.blocks, beat) {
+            return Err(Rule::A1);
+        }
+        if is_spoiled(beat) {
+            return Err(Rule::A2);
+        }
+        Ok(())
+    }
+
+    /// The rule that a beat breaks, or whether it has to wait.
+    pub(super) fn judge(&self, channel: Channel, beat: &Beat<W>) -> Result<bool, Rule>
+        ensures judged { (e : End W) → KnowsCaching self.now e → IsJudged (terms_of self.now) channel beat.now e result }
+        ensures takeable { result ≡ Ok false → IsTakeable beat.now }
+        ensures inside { result ≡ Ok false → Agent.is_outside self.now.blocks beat.now ≡ false }
+        ensures continues { result ≡ Ok false → (x : BeatD W) → beat.now ≡ Beat.D x → breaks_burst beat.now self.now.responses ≡ false }
+    {
+        check_alone(self.closed, self.config.level, channel, beat)?;
+        if self.waits(beat) {
+            return Ok(true);
+        }
+        self.check_order(beat)?;
+        Ok(false)
+    }
+
+    /// Takes a beat that breaks no rule.
+    pub(super) fn take(&mut self, beat: &Beat<W>) -> (Verdict, Option<Message<W>>)
+        requires takeable { IsTakeable beat.now }
+        requires inside { Agent.is_outside self.old.blocks beat.now ≡ false }
+        requires continues { (x : BeatD W) → beat.now ≡ Beat.D x → breaks_burst beat.now self.old.responses ≡ false }
+        ensures taken { Takes self.old self.new beat.now result }
+        ensures terms { terms_of self.new ≡ terms_of self.old }
+    {
+        match beat {
+            Beat::B(probe) => self.probe(probe),
+            Beat::D(response) => self.respond(beat, response),
+            _ => (Verdict::Taken, None),
+        }
+    }
+}

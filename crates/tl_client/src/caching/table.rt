@@ -1,0 +1,135 @@
+//! What a client keeps of each block.
+
+ghost use Rattle.std.specs.Prelude.{ℕ, ◌≡◌, ◌<◌, ◌==◌, ◌&&◌, not, if◌then◌else◌, length, IfOk, Option};
+ghost use Rattle.tl_client.specs.Kept.{holds};
+ghost use Rattle.tl_client.specs.Table.{held_in, copy_in, waiting_in};
+ghost use Rattle.tl_params.specs.declared.perm.Perm.TheVariants as perm;
+
+use std::alloc::{AllocError, Global};
+use tl_rules::perm::Perm;
+
+/// What a client keeps of a block.
+#[derive(Clone, Copy)]
+pub struct Block {
+    pub held: Perm,
+    /// The bytes of its copy, which there is where something is held.
+    pub copy: Option<[u8; 64]>,
+    /// The bytes that an Acquire to write the whole block will store.
+    pub waiting: Option<[u8; 64]>,
+}
+
+/// The blocks of a client.
+#[derive(Drop)]
+pub struct Table {
+    blocks: Vec<Block>,
+}
+
+impl Table {
+    /// So many blocks, of which nothing is held.
+    pub fn new(alloc: Global, count: u16) -> Result<Self, AllocError>
+        ensures count { IfOk result (λ t. length t.blocks.items ≡ count) }
+        ensures held { IfOk result (λ t. (k : ℕ) → held_in t k ≡ perm.None) }
+        ensures copies { IfOk result (λ t. (k : ℕ) → copy_in t k ≡ None) }
+        ensures waiting { IfOk result (λ t. (k : ℕ) → waiting_in t k ≡ None) }
+    {
+        let empty = Block {
+            held: Perm::None,
+            copy: None,
+            waiting: None,
+        };
+        let blocks = vec![in alloc; empty; usize::from(count)]?;
+        Ok(Table { blocks })
+    }
+
+    /// What is held of a block.
+    pub fn held(&self, block: u32) -> Perm
+        ensures { result ≡ held_in self.now block }
+    {
+        match self.blocks.get(block as usize) {
+            Some(block) => block.held,
+            None => Perm::None,
+        }
+    }
+
+    /// The bytes of the copy of a block.
+    pub fn copy(&self, block: u32) -> Option<[u8; 64]>
+        ensures { result ≡ copy_in self.now block }
+    {
+        match self.blocks.get(block as usize) {
+            Some(block) => block.copy,
+            None => None,
+        }
+    }
+
+    /// The bytes that wait for a Grant of a block.
+    pub fn waiting(&self, block: u32) -> Option<[u8; 64]>
+        ensures { result ≡ waiting_in self.now block }
+    {
+        match self.blocks.get(block as usize) {
+            Some(block) => block.waiting,
+            None => None,
+        }
+    }
+
+    /// Sets what is held of a block.
+    pub fn hold(&mut self, block: u32, perm: Perm)
+        ensures held { block < length self.old.blocks.items → (k : ℕ) → held_in self.new k ≡ (if k == block then perm else held_in self.old k) }
+        ensures copies { (k : ℕ) → copy_in self.new k ≡ copy_in self.old k }
+        ensures waiting { (k : ℕ) → waiting_in self.new k ≡ waiting_in self.old k }
+        ensures count { length self.new.blocks.items ≡ length self.old.blocks.items }
+    {
+        if let Some(block) = self.blocks.get_mut(block as usize) {
+            block.held = perm;
+        }
+    }
+
+    /// Sets the copy of a block.
+    pub fn put_copy(&mut self, block: u32, bytes: Option<[u8; 64]>)
+        ensures copies { block < length self.old.blocks.items → (k : ℕ) → copy_in self.new k ≡ (if k == block then bytes else copy_in self.old k) }
+        ensures held { (k : ℕ) → held_in self.new k ≡ held_in self.old k }
+        ensures waiting { (k : ℕ) → waiting_in self.new k ≡ waiting_in self.old k }
+        ensures count { length self.new.blocks.items ≡ length self.old.blocks.items }
+    {
+        if let Some(block) = self.blocks.get_mut(block as usize) {
+            block.copy = bytes;
+        }
+    }
+
+    /// Sets the bytes that wait for a Grant of a block.
+    pub fn put_waiting(&mut self, block: u32, bytes: Option<[u8; 64]>)
+        ensures waiting { block < length self.old.blocks.items → (k : ℕ) → waiting_in self.new k ≡ (if k == block then bytes else waiting_in self.old k) }
+        ensures held { (k : ℕ) → held_in self.new k ≡ held_in self.old k }
+        ensures copies { (k : ℕ) → copy_in self.new k ≡ copy_in self.old k }
+        ensures count { length self.new.blocks.items ≡ length self.old.blocks.items }
+    {
+        if let Some(block) = self.blocks.get_mut(block as usize) {
+            block.waiting = bytes;
+        }
+    }
+
+    /// Leaves this of a block, and drops its copy where that is nothing.
+    pub fn lower(&mut self, block: u32, perm: Perm)
+        requires { block < length self.old.blocks.items }
+        ensures held { (k : ℕ) → held_in self.new k ≡ (if k == block then perm else held_in self.old k) }
+        ensures copies { (k : ℕ) → copy_in self.new k ≡ (if (k == block) && not (holds perm) then None else copy_in self.old k) }
+        ensures waiting { (k : ℕ) → waiting_in self.new k ≡ waiting_in self.old k }
+        ensures count { length self.new.blocks.items ≡ length self.old.blocks.items }
+    {
+        self.hold(block, perm);
+        if perm == Perm::None {
+            self.put_copy(block, None);
+        }
+    }
+
+    /// Makes the bytes that wait the copy of a block.
+    pub fn store_waiting(&mut self, block: u32)
+        ensures copies { block < length self.old.blocks.items → (k : ℕ) → copy_in self.new k ≡ (if k == block then waiting_in self.old k else copy_in self.old k) }
+        ensures waiting { block < length self.old.blocks.items → (k : ℕ) → waiting_in self.new k ≡ (if k == block then None else waiting_in self.old k) }
+        ensures held { (k : ℕ) → held_in self.new k ≡ held_in self.old k }
+        ensures count { length self.new.blocks.items ≡ length self.old.blocks.items }
+    {
+        let bytes = self.waiting(block);
+        self.put_copy(block, bytes);
+        self.put_waiting(block, None);
+    }
+}

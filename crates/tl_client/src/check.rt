@@ -1,0 +1,72 @@
+//! Why an operation isn't started, whatever the client holds.
+
+ghost use Rattle.std.specs.Prelude.{◌≡◌, ◌||◌, None, not, nat_le};
+ghost use Rattle.tl_beat.specs.Width.{IsWidth};
+ghost use Rattle.tl_client.specs.Ask;
+ghost use Rattle.tl_client.specs.Ask.{busy_if, breaks_b4, block_of};
+ghost use Rattle.tl_client.specs.declared.busy.Busy.TheVariants.{B4, B5};
+
+use crate::access::{is_access, is_sound};
+use crate::busy::Busy;
+use crate::operation::Op;
+use tl_burst::message::Message;
+use tl_rules::level::Level;
+
+/// Whether an operation is one of the level.
+fn is_of_level<const W: usize>(level: Level, operation: &Op<W>) -> bool
+    ensures { result ≡ not (breaks_b4 level operation.now) }
+{
+    match operation {
+        Op::Access(message) => is_access(level, message),
+        _ => level == Level::C,
+    }
+}
+
+/// Whether a Load or Store of `2^size` bytes is one of at most 8, at a multiple of their number.
+fn is_word(address: u32, size: u8) -> bool
+    ensures { result ≡ Ask.is_word address size }
+{
+    size <= 3 && address % (1 << size) == 0
+}
+
+/// Whether an operation has the form of its kind.
+fn is_formed<const W: usize>(level: Level, operation: &Op<W>) -> bool
+    requires { IsWidth W }
+    ensures { result ≡ Ask.is_formed level operation.now }
+{
+    match operation {
+        Op::Load { address, size } | Op::Store { address, size, .. } => is_word(*address, *size),
+        Op::Access(message) => is_sound(level, message),
+        _ => true,
+    }
+}
+
+/// The block of an operation.
+pub fn block_of<const W: usize>(operation: &Op<W>) -> u32
+    ensures { result ≡ Ask.block_of operation.now }
+{
+    match operation {
+        Op::Load { address, .. } | Op::Store { address, .. } => *address / 64,
+        Op::Acquire { block, .. } | Op::AcquireWhole { block, .. } | Op::Release { block, .. } => {
+            u32::from(*block)
+        }
+        Op::Access(Message::A(access)) => access.address / 64,
+        Op::Access(_) => 0,
+    }
+}
+
+/// Why an operation isn't started on a map of so many blocks: B4 where it isn't one of the level,
+/// B5 where it is outside the map or isn't well formed.
+pub fn check<const W: usize>(level: Level, blocks: u16, operation: &Op<W>) -> Option<Busy>
+    requires { IsWidth W }
+    ensures { result ≡ busy_if (breaks_b4 level operation.now) B4
+        (busy_if (nat_le blocks (block_of operation.now) || not (Ask.is_formed level operation.now)) B5 None) }
+{
+    if !is_of_level(level, operation) {
+        return Some(Busy::B4);
+    }
+    if block_of(operation) >= u32::from(blocks) || !is_formed(level, operation) {
+        return Some(Busy::B5);
+    }
+    None
+}

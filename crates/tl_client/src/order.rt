@@ -1,0 +1,84 @@
+//! What a client judges of a beat.
+
+ghost use Rattle.std.specs.Prelude.{◌≡◌, false, is_err, None, OnOk, if◌then◌else◌};
+ghost use Rattle.tl_beat.specs.Width.{IsWidth};
+ghost use Rattle.tl_burst.specs.Messages.{History, channel_of, unfinished};
+ghost use Rattle.tl_burst.specs.Part.{IsTakeable, part_of};
+ghost use Rattle.tl_client.specs.Offer.{is_sent_on};
+ghost use Rattle.tl_params.specs.declared.rule.Rule.TheVariants.{A3, L1};
+ghost use Rattle.tl_rules.specs.Agent;
+ghost use Rattle.tl_rules.specs.Conformance;
+ghost use Rattle.tl_rules.specs.Legality.{illegal, rule_if, verdict};
+
+use tl_beat::beat::Beat;
+use tl_beat::opcode::Channel;
+use tl_burst::part::{Broken, Part};
+use tl_rules::legality::check_beat;
+use tl_rules::level::Level;
+use tl_rules::order::broken_order;
+use tl_rules::past::Past;
+use tl_rules::profile::Profile;
+use tl_rules::rule::Rule;
+
+/// The rule that a beat breaks whatever passed before: A3 where the link is closed, or an L rule.
+pub fn check_alone<const W: usize>(
+    closed: bool,
+    level: Level,
+    channel: Channel,
+    beat: &Beat<W>,
+) -> Result<(), Rule>
+    requires { IsWidth W }
+    ensures rule { result ≡ verdict (rule_if closed A3 (rule_if (is_sent_on channel) L1 (illegal level channel beat.now))) }
+    ensures takeable { OnOk result (IsTakeable beat.now) }
+{
+    if closed {
+        return Err(Rule::A3);
+    }
+    match channel {
+        Channel::A | Channel::C | Channel::E => Err(Rule::L1),
+        Channel::B | Channel::D => check_beat(level, channel, beat),
+    }
+}
+
+/// The S or H rule that a beat breaks, by what it is to its burst.
+pub fn broken_in_order<const W: usize, P: Past<W>>(
+    profile: Profile,
+    beat: &Beat<W>,
+    part: Result<Part, Broken>,
+    past: &P,
+) -> Option<Rule>
+    ensures rule { (t : History W) → P.knows past.now t → part ≡ part_of beat.now (unfinished (channel_of beat.now) t) →
+        result ≡ Conformance.broken_in_order profile beat.now t }
+    ensures continues { result ≡ None → is_err part ≡ false }
+{
+    match part {
+        Err(_) => Some(Rule::S1),
+        Ok(Part::First | Part::Only) => broken_order(profile, beat, past),
+        Ok(Part::Middle | Part::Last) => None,
+    }
+}
+
+/// Whether the address of a beat is outside a map of so many blocks.
+pub fn is_outside<const W: usize>(blocks: u16, beat: &Beat<W>) -> bool
+    ensures { result ≡ Agent.is_outside blocks beat.now }
+{
+    match beat {
+        Beat::A(beat) => beat.address / 64 >= u32::from(blocks),
+        Beat::B(beat) => beat.address / 64 >= u32::from(blocks),
+        Beat::C(beat) => beat.address / 64 >= u32::from(blocks),
+        Beat::D(_) | Beat::E(_) => false,
+    }
+}
+
+/// Whether corrupt or denied is set.
+pub fn is_spoiled<const W: usize>(beat: &Beat<W>) -> bool
+    ensures { result ≡ Agent.is_spoiled beat.now }
+{
+    match beat {
+        Beat::A(beat) => beat.corrupt,
+        Beat::B(beat) => beat.corrupt,
+        Beat::C(beat) => beat.corrupt,
+        Beat::D(beat) => beat.corrupt || beat.denied,
+        Beat::E(_) => false,
+    }
+}

@@ -1,0 +1,47 @@
+//! Releases: how one is handed out, and what the answer to it is judged by.
+
+ghost use Rattle.std.specs.List.{list_any};
+ghost use Rattle.std.specs.Prelude.{◌≡◌, ◌==◌};
+ghost use Rattle.tl_client.specs.Requests.{releases_block};
+
+use crate::sources::Sources;
+use tl_burst::message::MessageC;
+
+/// Fields of a Release.
+#[derive(Clone, Copy, Debug, PartialEq, Eq)]
+pub struct Release {
+    pub size: u8,
+    pub address: u32,
+}
+
+impl Release {
+    ghost use Rattle.tl_client.specs.Requests.{release_in};
+
+    /// What the answer to a Release is judged by.
+    pub fn of<const W: usize>(release: &MessageC<W>) -> Self
+        ensures { result ≡ release_in release.now }
+    {
+        Release {
+            size: release.size,
+            address: release.address,
+        }
+    }
+}
+
+/// Whether what is open is a Release of the block.
+pub fn is_release_of(release: Option<Release>, block: u32) -> bool
+    ensures { result ≡ releases_block block release }
+{
+    match release {
+        None => false,
+        Some(release) => release.address / 64 == block,
+    }
+}
+
+/// Whether a Release of the block is open.
+pub fn is_releasing(releases: &Sources<Release>, block: u32) -> bool
+    ensures { result ≡ list_any (releases_block block) releases.now.with_source }
+{
+    let all = releases.all();
+    all.iter().any(|release| is_release_of(*release, block))
+}

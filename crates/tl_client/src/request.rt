@@ -1,0 +1,89 @@
+//! Requests of channel A: how one is handed out, and what a response to it is judged by.
+
+ghost use Rattle.std.specs.Prelude.{ℕ, ◌≡◌, ◌≤◌, ◌==◌, ◌&&◌, if◌then◌else◌, is_some};
+ghost use Rattle.std.specs.List.{list_any};
+ghost use Rattle.tl_client.specs.Ask.{least_free};
+ghost use Rattle.tl_client.specs.Requests.{start_with, opened_by, acquires_block};
+ghost use Rattle.tl_client.specs.Sources.{open_at};
+
+use crate::busy::Busy;
+use crate::reply::Reply;
+use crate::sources::Sources;
+use tl_beat::opcode::OpA;
+use tl_burst::message::{Message, MessageA};
+use tl_rules::kind::is_acquire;
+use tl_rules::past;
+
+/// Fields of a request of channel A.
+#[derive(Clone, Copy, Debug, PartialEq, Eq)]
+pub struct Request {
+    pub opcode: OpA,
+    pub param: u8,
+    pub size: u8,
+    pub address: u32,
+}
+
+impl Request {
+    ghost use Rattle.tl_client.specs.Requests.{fields_in, judged_in};
+
+    /// What a response to a request is judged by.
+    pub fn of<const W: usize>(request: &MessageA<W>) -> Self
+        ensures { result ≡ fields_in request.now }
+    {
+        Request {
+            opcode: request.opcode,
+            param: request.param,
+            size: request.size,
+            address: request.address,
+        }
+    }
+
+    /// What the order of messages asks of a request.
+    pub fn judged(self) -> past::Request
+        ensures { result ≡ judged_in self }
+    {
+        past::Request {
+            opcode: self.opcode,
+            param: self.param,
+            size: self.size,
+            block: self.address / 64,
+        }
+    }
+}
+
+/// Whether what is open is an Acquire of the block.
+pub fn is_acquire_of(request: Option<Request>, block: u32) -> bool
+    ensures { result ≡ acquires_block block request }
+{
+    match request {
+        None => false,
+        Some(request) => is_acquire(request.opcode) && request.address / 64 == block,
+    }
+}
+
+/// Whether an Acquire of the block is open.
+pub fn is_acquiring(requests: &Sources<Request>, block: u32) -> bool
+    ensures { result ≡ list_any (acquires_block block) requests.now.with_source }
+{
+    let all = requests.all();
+    all.iter().any(|request| is_acquire_of(*request, block))
+}
+
+/// Hands a request out with the least source that is free, or answers B1.
+pub fn start<const W: usize>(
+    requests: &mut Sources<Request>,
+    sources: u8,
+    request: MessageA<W>,
+) -> (Reply, Option<Message<W>>)
+    requires { sources ≤ 8 }
+    ensures answer { result ≡ start_with (least_free (λ s. is_some (open_at requests.old s)) 0 sources) request.entry }
+    ensures opened { (s : ℕ) → open_at requests.new s ≡ opened_by s result.1 (open_at requests.old s) }
+{
+    let Some(source) = requests.least_free(sources) else {
+        return (Reply::Busy(Busy::B1), None);
+    };
+    let mut request = request;
+    request.source = source;
+    requests.open(source, Request::of(&request));
+    (Reply::Started(source), Some(Message::A(request)))
+}

@@ -1,0 +1,73 @@
+//! What is open with each source number: the messages that wait for their responses.
+
+ghost use Rattle.std.specs.Prelude.{ℕ, ◌≡◌, ◌<◌, ◌≤◌, ◌==◌, if◌then◌else◌, is_some, IfSome};
+ghost use Rattle.tl_client.specs.Ask;
+
+/// What is open with each source number of a pool.
+#[derive(Drop)]
+pub struct Sources<T: Copy> {
+    with_source: [Option<T>; 8],
+}
+
+impl<T: Copy> Sources<T> {
+    ghost use Rattle.tl_client.specs.Sources.{open_at};
+
+    /// Nothing is open.
+    pub fn new() -> Self
+        ensures { (s : ℕ) → open_at result s ≡ None }
+    {
+        Sources {
+            with_source: [None; 8],
+        }
+    }
+
+    /// What is open with this source.
+    pub fn at(&self, source: u8) -> Option<T>
+        ensures { result ≡ open_at self.now source }
+    {
+        match self.with_source.get(usize::from(source)) {
+            Some(message) => *message,
+            None => None,
+        }
+    }
+
+    /// What is open with each source.
+    pub fn all(&self) -> &[Option<T>; 8]
+        ensures { result.now ≡ self.now.with_source }
+    {
+        &self.with_source
+    }
+
+    /// The least source below this number with which nothing is open.
+    pub fn least_free(&self, sources: u8) -> Option<u8>
+        ensures least { result ≡ Ask.least_free (λ s. is_some (open_at self.now s)) 0 sources }
+        ensures below { IfSome result (λ s. s < sources) }
+    {
+        for source in 0..sources {
+            if self.at(source).is_none() {
+                return Some(source);
+            }
+        }
+        None
+    }
+
+    /// Opens a message with this source.
+    pub fn open(&mut self, source: u8, message: T)
+        requires { source < 8 }
+        ensures { (s : ℕ) → open_at self.new s ≡ (if source == s then Some message else open_at self.old s) }
+    {
+        self.with_source[usize::from(source)] = Some(message);
+    }
+
+    /// Closes what is open with this source, if anything is.
+    pub fn close(&mut self, source: u8) -> Option<T>
+        ensures message { result ≡ open_at self.old source }
+        ensures closed { (s : ℕ) → open_at self.new s ≡ (if source == s then None else open_at self.old s) }
+    {
+        let message = self.at(source);
+        if source < 8 {
+            self.with_source[usize::from(source)] = None;
+        }
+        message
+    }
+}

@@ -30,9 +30,11 @@ use Rattle.tl_manager.specs.Kept.{Each}
 use Rattle.tl_manager.specs.Releases.{IsAnswered}
 use Rattle.tl_manager.specs.Service.{Service, services, serving}
 use Rattle.tl_manager.specs.Slave.{End, is_from_client, probing_or, begun_with, begun_if_any, performed_if_any, settled, done_c, done, deed}
-use Rattle.tl_manager.proofs.Handed.{IsWhole, after_sent, own_link, other_link, whole-after_sent}
+use Rattle.tl_manager.proofs.Handed.{after_sent, own_link, other_link, whole-after_sent}
 use Rattle.tl_manager.proofs.Lawful.{IsHandable}
 use Rattle.tl_manager.proofs.Releases.{IsCarried, IsNoAck, answered-a, answered-b, answered-d, answered-e, carried, not_last, no_release, released}
+use Rattle.tl_manager.proofs.Links.{own_beat}
+use Rattle.tl_manager.specs.Ready.{IsWhole}
 
 -- ---- messages that answer no Release
 
@@ -115,10 +117,6 @@ answered-beat {w} client link x t here ok = go (link.0 == client) refl
     go : (b : Bool) → (link.0 == client) ≡ b → IsAnswered (if b then x ∷ on_link client t else on_link client t)
     go true e = here e ok
     go false e = ok
-
-own_beat : {w : ℕ} (client : ℕ) (link : Link) (x : Beat w) (t : Trace w) → (link.0 == client) ≡ true → on_link client ((link, x) ∷ t) ≡ x ∷ on_link client t
-unfolding on_link
-own_beat client link x t e = rw e refl
 
 -- ---- a beat of channel C
 

@@ -6,11 +6,12 @@ use Rattle.tl_beat.specs.declared.beat.Beat.{Beat}
 use Rattle.tl_beat.specs.declared.beat.Beat.TheVariants as beat
 use Rattle.tl_beat.specs.declared.beat.BeatA.{BeatA}
 use Rattle.tl_beat.specs.declared.beat.Link.{Link}
+use Rattle.tl_beat.specs.declared.opcode.Channel.{Channel}
 use Rattle.tl_beat.specs.declared.opcode.Channel.TheVariants as channel
 use Rattle.tl_burst.specs.declared.message.Message.{Message}
 use Rattle.tl_burst.specs.declared.message.Message.TheVariants.{A, B, C, D, E}
 use Rattle.tl_burst.specs.Burst.{beat_of}
-use Rattle.tl_burst.specs.Messages.{History, unfinished, breaks_burst, same_control, burst_length}
+use Rattle.tl_burst.specs.Messages.{History, on, unfinished, breaks_burst, same_control, burst_length}
 use Rattle.tl_burst.specs.Part.{is_empty}
 use Rattle.tl_burst.proofs.ControlFields.{control_a}
 use Rattle.tl_params.specs.declared.config.Config.{Config}
@@ -20,6 +21,7 @@ use Rattle.tl_rules.specs.Agent.{sent}
 use Rattle.tl_rules.specs.Conformance.{Trace, on_link, broken_in_order, broken_order}
 use Rattle.tl_rules.specs.Legality.{rule_if}
 use Rattle.tl_rules.proofs.Bursts.{next_rule}
+use Rattle.tl_manager.specs.After.{is_of_clients}
 use Rattle.tl_manager.specs.Handing.{Handed, with_handed}
 use Rattle.tl_manager.specs.Kept.{Each, IsSound, IsLike, AreOfOne}
 use Rattle.tl_manager.specs.Slave.{is_from_client}
@@ -89,22 +91,33 @@ of_one-taken {w} config client link x t theirs order ok = go (link.0 == client) 
     go true e = more_of_one config.profile x (on_link client t) theirs (ap (λ n. broken_in_order config.profile x (on_link n t)) (sym (eqb-true link.0 client e)) ∙ order) (ok client)
     go false e = ok client
 
-ours_elsewhere : {w : ℕ} (m : Message w) (t : History w) → is_from_client (beat_of m 0) ≡ false → unfinished channel.A (sent m t) ≡ unfinished channel.A t
-ours_elsewhere (A m) t ours = absurd cc
-ours_elsewhere (B m) t ours = unfinished-sent_other channel.A (B m) t refl
-ours_elsewhere (C m) t ours = absurd cc
-ours_elsewhere (D m) t ours = unfinished-sent_other channel.A (D m) t refl
-ours_elsewhere (E m) t ours = absurd cc
-
-one_handed : {w : ℕ} (client : ℕ) (link : Link) (m : Message w) (t : Trace w) → is_from_client (beat_of m 0) ≡ false → unfinished channel.A (on_link client (after_sent link m t)) ≡ unfinished channel.A (on_link client t)
-one_handed {w} client link m t ours = go (link.0 == client) refl
+ours_elsewhere : {w : ℕ} (ch : Channel) (m : Message w) (t : History w) → is_of_clients ch ≡ true → is_from_client (beat_of m 0) ≡ false → unfinished ch (sent m t) ≡ unfinished ch t
+ours_elsewhere {w} ch m t theirs ours = unfinished-sent_other ch m t (off ch m theirs ours)
   where
-    go : (b : Bool) → (link.0 == client) ≡ b → unfinished channel.A (on_link client (after_sent link m t)) ≡ unfinished channel.A (on_link client t)
-    go true e = rw (own_link client link m t e) (ours_elsewhere m (on_link client t) ours)
+    off : (ch : Channel) (m : Message w) → is_of_clients ch ≡ true → is_from_client (beat_of m 0) ≡ false → on ch (beat_of m 0) ≡ false
+    off ch (A m) theirs ours = absurd cc
+    off channel.A (B m) theirs ours = refl
+    off channel.B (B m) theirs ours = absurd cc
+    off channel.C (B m) theirs ours = refl
+    off channel.D (B m) theirs ours = absurd cc
+    off channel.E (B m) theirs ours = refl
+    off ch (C m) theirs ours = absurd cc
+    off channel.A (D m) theirs ours = refl
+    off channel.B (D m) theirs ours = absurd cc
+    off channel.C (D m) theirs ours = refl
+    off channel.D (D m) theirs ours = absurd cc
+    off channel.E (D m) theirs ours = refl
+    off ch (E m) theirs ours = absurd cc
+
+one_handed : {w : ℕ} (ch : Channel) (client : ℕ) (link : Link) (m : Message w) (t : Trace w) → is_of_clients ch ≡ true → is_from_client (beat_of m 0) ≡ false → unfinished ch (on_link client (after_sent link m t)) ≡ unfinished ch (on_link client t)
+one_handed {w} ch client link m t theirs ours = go (link.0 == client) refl
+  where
+    go : (b : Bool) → (link.0 == client) ≡ b → unfinished ch (on_link client (after_sent link m t)) ≡ unfinished ch (on_link client t)
+    go true e = rw (own_link client link m t e) (ours_elsewhere ch m (on_link client t) theirs ours)
     go false e = rw (other_link client link m t e) refl
 
--- messages that are handed out leave the requests that are unfinished
-pub requests-handed : {w : ℕ} (config : Config) (client : ℕ) (handed : Handed w) (t : Trace w) → Each (IsHandable config) handed → unfinished channel.A (on_link client (with_handed handed t)) ≡ unfinished channel.A (on_link client t)
+-- messages that are handed out leave the bursts of clients that are unfinished
+pub bursts-handed : {w : ℕ} (config : Config) (ch : Channel) (client : ℕ) (handed : Handed w) (t : Trace w) → is_of_clients ch ≡ true → Each (IsHandable config) handed → unfinished ch (on_link client (with_handed handed t)) ≡ unfinished ch (on_link client t)
 unfolding with_handed
-requests-handed config client [] t each = refl
-requests-handed config client (x ∷ handed) t each = requests-handed config client handed (after_sent x.0 x.1 t) each.1 ∙ one_handed client x.0 x.1 t each.0.ours
+bursts-handed config ch client [] t theirs each = refl
+bursts-handed config ch client (x ∷ handed) t theirs each = bursts-handed config ch client handed (after_sent x.0 x.1 t) theirs each.1 ∙ one_handed ch client x.0 x.1 t theirs each.0.ours

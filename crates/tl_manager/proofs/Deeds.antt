@@ -1,7 +1,7 @@
 -- What a manager does at a beat that it takes keeps what it took and handed out sound.
-use Rattle.std.proofs.Common.{◌≡◌, ℕ, zero, suc, ◌<◌, ◌≤◌, ◌==◌, Bool, true, false, not, cond, ◌&&◌, List, [], ◌∷◌, ◌++◌, length, map, Option, Some, None, refl, ap, ◌∙◌, arith}
+use Rattle.std.proofs.Common.{◌≡◌, ℕ, zero, suc, ◌%◌, ◌^◌, ◌<◌, ◌≤◌, ◌==◌, Bool, true, false, not, cond, ◌&&◌, List, [], ◌∷◌, ◌++◌, length, map, Option, Some, None, refl, ap, ◌∙◌, arith}
 use Rattle.std.specs.Prelude.{nat_le, option_map, if◌then◌else◌}
-use Rattle.std.proofs.lemmas.Bool.{and_parts, not-false}
+use Rattle.std.proofs.lemmas.Bool.{and_parts, eqb-true, not-false}
 use Rattle.tl_beat.specs.Width.{IsWidth}
 use Rattle.tl_beat.specs.declared.beat.Beat.{Beat}
 use Rattle.tl_beat.specs.declared.beat.Beat.TheVariants as beat
@@ -18,11 +18,11 @@ use Rattle.tl_params.specs.declared.param.Cap.{Cap}
 use Rattle.tl_params.specs.declared.param.Cap.TheVariants as cap
 use Rattle.tl_params.specs.declared.perm.Perm.{Perm}
 use Rattle.tl_params.specs.declared.perm.Perm.TheVariants as perm
-use Rattle.tl_params.specs.declared.rule.Rule.TheVariants.{L1, L2, L3}
+use Rattle.tl_params.specs.declared.rule.Rule.TheVariants.{L1, L2, L3, L4}
 use Rattle.tl_rules.specs.Conformance.{Trace, on_link}
 use Rattle.tl_rules.specs.Effect.{Memory, effect, answer_of}
 use Rattle.tl_rules.specs.History.{ends, block_at, is_acquire, is_probe_ack, is_release}
-use Rattle.tl_rules.specs.Legality.{a_of_level, a_has_param, a_has_size}
+use Rattle.tl_rules.specs.Legality.{a_of_level, a_has_param, a_has_size, is_aligned}
 use Rattle.tl_rules.proofs.Bursts.{next_rule}
 use Rattle.tl_manager.specs.Handing.{Handed, with_handed, nothing, release_ack, probe_of_block, access_answer, grant, Deed, performed}
 use Rattle.tl_manager.specs.Holders.{recorded, has_copy, is_above, is_spared, probed, is_settled}
@@ -40,27 +40,28 @@ AllHandable config d = Each (IsHandable config) d.handed
 
 -- ---- the answer to a request
 
-performed_handable : {w : ℕ} (config : Config) (s : Service w) (t : Trace w) (memory : Memory) → IsServable config s → AllHandable config (performed config s t memory)
+performed_handable : {w : ℕ} (config : Config) (s : Service w) (t : Trace w) (memory : Memory) → IsWidth w → IsServable config s → AllHandable config (performed config s t memory)
 unfolding effect
-performed_handable {w} config s t memory ok =
+performed_handable {w} config s t memory width ok =
     let one = next_rule (not (a_of_level ok.level s.request.opcode)) L1 _ ok.control in
     let two = next_rule (not (a_has_param s.request.opcode s.request.param)) L2 _ one.1 in
     let three = next_rule (not (a_has_size w ok.level s.request.opcode s.request.size)) L3 _ two.1 in
-    go (is_acquire s.request.opcode) refl (not-false _ one.0) (not-false _ three.0)
+    let four = next_rule (not (is_aligned s.request.address s.request.size)) L4 None three.1 in
+    go (is_acquire s.request.opcode) refl (not-false _ one.0) (not-false _ three.0) (eqb-true (s.request.address % 2 ^ s.request.size) 0 (not-false _ four.0))
   where
-    go : (b : Bool) → is_acquire s.request.opcode ≡ b → a_of_level ok.level s.request.opcode ≡ true → a_has_size w ok.level s.request.opcode s.request.size ≡ true
+    go : (b : Bool) → is_acquire s.request.opcode ≡ b → a_of_level ok.level s.request.opcode ≡ true → a_has_size w ok.level s.request.opcode s.request.size ≡ true → s.request.address % 2 ^ s.request.size ≡ 0
         → AllHandable config (if b
         then record { handed = (s.link, grant config s t memory) ∷ []; memory = memory }
         else record { handed = (s.link, access_answer s.request (answer_of (A s.request) (effect (A s.request) memory).1)) ∷ []; memory = (effect (A s.request) memory).0 })
-    go true e of_level sized = (grant_handable config s _ _ memory (ok.has_level ∙ ap Some (acquire_level ok.level s.request.opcode e of_level)), tt)
-    go false e of_level sized = (access_handable config s.link ok.level s.request.opcode s.request memory ok.has_level e of_level sized, tt)
+    go true e of_level sized aligned = (grant_handable config s _ _ memory width (ok.has_level ∙ ap Some (acquire_level ok.level s.request.opcode e of_level)), tt)
+    go false e of_level sized aligned = (access_handable config s.link ok.level s.request.opcode s.request memory width aligned ok.has_level e of_level sized, tt)
 
-performed_found : {w : ℕ} (config : Config) (block : ℕ) (ss : List (Service w)) (t : Trace w) (memory : Memory) → Each (IsServable config) ss → AllHandable config (performed_if_any config (serving block ss) t memory)
-performed_found config block [] t memory each = tt
-performed_found config block (s ∷ ss) t memory each = go (block_at s.request.address == block) (performed_found config block ss t memory each.1)
+performed_found : {w : ℕ} (config : Config) (block : ℕ) (ss : List (Service w)) (t : Trace w) (memory : Memory) → IsWidth w → Each (IsServable config) ss → AllHandable config (performed_if_any config (serving block ss) t memory)
+performed_found config block [] t memory width each = tt
+performed_found config block (s ∷ ss) t memory width each = go (block_at s.request.address == block) (performed_found config block ss t memory width each.1)
   where
     go : (b : Bool) → AllHandable config (performed_if_any config (serving block ss) t memory) → AllHandable config (performed_if_any config (cond b (Some s) (serving block ss)) t memory)
-    go true rest = performed_handable config s t memory each.0
+    go true rest = performed_handable config s t memory width each.0
     go false rest = rest
 
 -- ---- Probes
@@ -88,10 +89,10 @@ probing_handable {w} config d block c (client ∷ clients) memory width inside a
     (λ n e. probe_handable config n block c width e inside) each
 
 begun_handable : {w : ℕ} (config : Config) (o : Option Cap) (s : Service w) (t : Trace w) (memory : Memory) → IsWidth w → IsServable config s → Each (IsSound config) t → AllHandable config (begun_with config o s t memory)
-begun_handable config None s t memory width ok sound = performed_handable config s t memory ok
+begun_handable config None s t memory width ok sound = performed_handable config s t memory width ok
 begun_handable config (Some c) s t memory width ok sound =
     probing_handable config (performed config s t memory) (block_at s.request.address) c (probed config s c t) memory width ok.inside
-    (performed_handable config s t memory ok) (probed_level config s c t sound)
+    (performed_handable config s t memory width ok) (probed_level config s c t sound)
 
 -- ---- a message that is complete
 
@@ -101,21 +102,21 @@ begun_new config link x beats tracker t memory false e width ok sound = tt
 begun_new config link x beats tracker t memory true e width ok sound =
     begun_handable config _ _ t memory width (servable_new config link x beats tracker [] true e ok tt).0 sound
 
-settled_handable : {w : ℕ} (config : Config) (block : ℕ) (t : Trace w) (memory : Memory) → Each (IsSound config) t → AllHandable config (settled config block t memory)
-settled_handable {w} config block t memory sound = go (is_settled config block t)
+settled_handable : {w : ℕ} (config : Config) (block : ℕ) (t : Trace w) (memory : Memory) → IsWidth w → Each (IsSound config) t → AllHandable config (settled config block t memory)
+settled_handable {w} config block t memory width sound = go (is_settled config block t)
   where
     go : (b : Bool) → AllHandable config (if b then performed_if_any config (serving block (services t)) t memory else nothing memory)
-    go true = performed_found config block (services t) t memory (servable config t sound)
+    go true = performed_found config block (services t) t memory width (servable config t sound)
     go false = tt
 
-done_c_handable : {w : ℕ} (config : Config) (link : Link) (x : BeatC w) (t : Trace w) (memory : Memory) → IsSound config (link, beat.C x) → Each (IsSound config) t → AllHandable config (done_c config link x t memory)
-done_c_handable {w} config link x t memory ok sound =
+done_c_handable : {w : ℕ} (config : Config) (link : Link) (x : BeatC w) (t : Trace w) (memory : Memory) → IsWidth w → IsSound config (link, beat.C x) → Each (IsSound config) t → AllHandable config (done_c config link x t memory)
+done_c_handable {w} config link x t memory width ok sound =
     let l = leveled (level_of config link.0) (beat.C x) ok.lawful in
     go (is_release x.opcode) (is_probe_ack x.opcode) (l.1 ∙ ap Some (transfers_level l.0 (past_l1 l.0 (beat.C x) l.2)))
   where
     go : (r p : Bool) → level_of config link.0 ≡ Some level.C → AllHandable config (if r then record { handed = (link, release_ack x.source) ∷ []; memory = memory } else if p then settled config (block_at x.address) t memory else nothing memory)
     go true p has_level = (release_handable config link x.source has_level, tt)
-    go false true has_level = settled_handable config (block_at x.address) t memory sound
+    go false true has_level = settled_handable config (block_at x.address) t memory width sound
     go false false has_level = tt
 
 done_handable : {w : ℕ} (config : Config) (link : Link) (x : Beat w) (burst : List (Beat w)) (t : Trace w) (memory : Memory) → IsWidth w → IsSound config (link, x) → Each (IsSound config) t → AllHandable config (done config link x burst t memory)
@@ -123,7 +124,7 @@ unfolding request_carried
 done_handable config link (beat.A x) burst t memory width ok sound =
     begun_new config link x (beat.A x ∷ burst) (least_free (trackers_of (services t))) ((link, beat.A x) ∷ t) memory (nat_le x.size 6) refl width ok (ok, sound)
 done_handable config link (beat.B x) burst t memory width ok sound = tt
-done_handable config link (beat.C x) burst t memory width ok sound = done_c_handable config link x ((link, beat.C x) ∷ t) (written x (beat.C x ∷ burst) memory) ok (ok, sound)
+done_handable config link (beat.C x) burst t memory width ok sound = done_c_handable config link x ((link, beat.C x) ∷ t) (written x (beat.C x ∷ burst) memory) width ok (ok, sound)
 done_handable config link (beat.D x) burst t memory width ok sound = tt
 done_handable config link (beat.E x) burst t memory width ok sound = tt
 

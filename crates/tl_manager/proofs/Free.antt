@@ -36,7 +36,7 @@ each_map_filter {X} P f test (x ∷ xs) each = go (test x) each.0 (each_map_filt
 
 -- ---- as many numbers as are taken stand in the list
 
-without : ℕ → List ℕ → List ℕ
+unfoldable pub without : ℕ → List ℕ → List ℕ
 without k [] = []
 without k (n ∷ ns) = if n == k then without k ns else n ∷ without k ns
 
@@ -74,7 +74,7 @@ still_there k i (n ∷ ns) lt e = elim (cases_eq n k) [
     go true f rest = refl
     go false f rest = rest f
 
-as_many : (k : ℕ) (ns : List ℕ) → ((i : ℕ) → i < k → is_one_of i ns ≡ true) → k ≤ length ns
+pub as_many : (k : ℕ) (ns : List ℕ) → ((i : ℕ) → i < k → is_one_of i ns ≡ true) → k ≤ length ns
 as_many zero ns each = omega arith
 as_many (suc k) ns each =
     let le = as_many k (without k ns) (λ i lt. still_there k i ns lt (each i (omega arith))) in

@@ -23,6 +23,7 @@ use Rattle.tl_manager.specs.Record.{reported_by, granted_by, granted_by_all}
 use Rattle.tl_manager.specs.Slave.{is_from_client}
 use Rattle.tl_manager.proofs.Lawful.{IsHandable}
 use Rattle.tl_rules.proofs.Sent.{unfinished-sent, unfinished-sent_other, held_unsaid, held-sent_unsaid, held-sent_d, request_of-other}
+use Rattle.tl_manager.specs.Ready.{IsWhole}
 
 -- ---- one link of a trace
 
@@ -30,7 +31,8 @@ use Rattle.tl_rules.proofs.Sent.{unfinished-sent, unfinished-sent_other, held_un
 abbrev pub after_sent : {w : ℕ} → Link → Message w → Trace w → Trace w
 after_sent link m t = map (λ b. (link, b)) (burst_of m) ++ t
 
-beats_on_link : {w : ℕ} (client : ℕ) (link : Link) (beats : List (Beat w)) (t : Trace w) → on_link client (map (λ b. (link, b)) beats ++ t) ≡ (if link.0 == client then beats ++ on_link client t else on_link client t)
+-- the part that a link has of beats before a trace
+pub beats_on_link : {w : ℕ} (client : ℕ) (link : Link) (beats : List (Beat w)) (t : Trace w) → on_link client (map (λ b. (link, b)) beats ++ t) ≡ (if link.0 == client then beats ++ on_link client t else on_link client t)
 unfolding on_link
 beats_on_link client link [] t = go (link.0 == client)
   where
@@ -52,9 +54,6 @@ pub other_link : {w : ℕ} (client : ℕ) (link : Link) (m : Message w) (t : Tra
 other_link client link m t e = beats_on_link client link (burst_of m) t ∙ rw e refl
 
 -- ---- nothing handed out is unfinished
-
-abbrev pub IsWhole : {w : ℕ} → History w → Type 0
-IsWhole t = (unfinished channel.B t ≡ []) × (unfinished channel.D t ≡ [])
 
 whole-sent : {w : ℕ} (m : Message w) (t : History w) → IsWidth w → is_from_client (beat_of m 0) ≡ false → IsWhole t → IsWhole (sent m t)
 whole-sent (A m) t width ours ok = absurd cc
@@ -136,7 +135,7 @@ granted_elsewhere block (C m) link client t e = refl
 granted_elsewhere block (D m) link client t e = rw e refl
 granted_elsewhere block (E m) link client t e = refl
 
-recorded-sent : {w : ℕ} (client block : ℕ) (link : Link) (m : Message w) (t : Trace w) → IsWidth w → is_from_client (beat_of m 0) ≡ false → IsWhole (on_link client t) → recorded client block (after_sent link m t) ≡ or_perm (granted_by (link, m) t client block) (recorded client block t)
+pub recorded-sent : {w : ℕ} (client block : ℕ) (link : Link) (m : Message w) (t : Trace w) → IsWidth w → is_from_client (beat_of m 0) ≡ false → IsWhole (on_link client t) → recorded client block (after_sent link m t) ≡ or_perm (granted_by (link, m) t client block) (recorded client block t)
 recorded-sent {w} client block link m t width ours ok = go (link.0 == client) refl
   where
     go : (b : Bool) → (link.0 == client) ≡ b → recorded client block (after_sent link m t) ≡ or_perm (granted_by (link, m) t client block) (recorded client block t)

@@ -1,5 +1,5 @@
 -- What is known of a beat that the manager takes.
-use Rattle.std.proofs.Common.{◌≡◌, ℕ, Bool, true, false, Option, Some, None, refl}
+use Rattle.std.proofs.Common.{◌≡◌, ℕ, Bool, true, false, Option, Some, None, refl, ap}
 use Rattle.std.specs.Prelude.{if◌then◌else◌}
 use Rattle.tl_beat.specs.declared.beat.Beat.{Beat}
 use Rattle.tl_beat.specs.declared.beat.Beat.TheVariants.{A, B, C, D, E}
@@ -16,7 +16,8 @@ use Rattle.tl_rules.specs.Conformance.{Trace, on_link, broken_in_order}
 use Rattle.tl_rules.specs.Legality.{illegal, breaks_l1, is_one_of, rule_if}
 use Rattle.tl_rules.proofs.Bursts.{next_rule}
 use Rattle.tl_manager.specs.Kept.{IsTyped, IsSound}
-use Rattle.tl_manager.specs.Slave.{End, Judgement, Passes, breaks_or, waits_or, unlawful, is_from_client, before_stall, must_wait, judged_at, judged_on, judged, level_of, open_level}
+use Rattle.tl_manager.specs.Slave.{End, Sent, Judgement, Passes, breaks_or, waits_or, unlawful, is_from_client, before_stall, must_wait, judged_at, judged_on, judged, level_of, open_level, deed, taken, offered_as, offered}
+use Rattle.tl_manager.specs.Ready.{IsPassed}
 
 past_rule : (o : Option Rule) (rest : Judgement) → breaks_or o rest ≡ Passes → (o ≡ None) × (rest ≡ Passes)
 past_rule None rest e = (refl, e)
@@ -42,13 +43,6 @@ own_channel l ch x e = absurd cc
 legal_at_own : {w : ℕ} (l : Level) (ch : Channel) (x : Beat w) → illegal l ch x ≡ None → illegal l (channel_of x) x ≡ None
 unfolding illegal
 legal_at_own l ch x e = rw (← own_channel l ch x (next_rule (breaks_l1 l ch x) L1 _ e).0) e
-
--- a beat that passes is one of a client, breaks no rule, and needn't wait
-pub record IsPassed {w : ℕ} (config : Config) (link : Link) (x : Beat w) (t : Trace w) : Type 0 where
-  pub theirs : is_from_client x ≡ true
-  pub sound : IsSound config (link, x)
-  pub order : broken_in_order config.profile x (on_link link.0 t) ≡ None
-  pub waits : must_wait config link x t ≡ false
 
 passed_at : {w : ℕ} (config : Config) (l : Level) (link : Link) (ch : Channel) (x : Beat w) (t : Trace w) → IsTyped x → level_of config link.0 ≡ Some l → judged_at config l link ch x t ≡ Passes → IsPassed config link x t
 unfolding judged_at
@@ -78,3 +72,20 @@ passed config link ch x e typed passes = go (open_level config link e) refl pass
     go : (o : Option Level) → open_level config link e ≡ o → judged_on config o link ch x e.trace ≡ Passes → IsPassed config link x e.trace
     go None is f = absurd cc
     go (Some l) is f = passed_at config l link ch x e.trace typed (there_is (is_one_of link.0 e.closed) (level_of config link.0) l is) f
+
+-- ---- the other way: a beat that breaks no rule, and needn't wait, is taken
+
+passes_at : {w : ℕ} (config : Config) (l : Level) (link : Link) (ch : Channel) (x : Beat w) (e : End w) → unlawful l ch x ≡ None → broken_in_order config.profile x (on_link link.0 e.trace) ≡ None → must_wait config link x e.trace ≡ false
+    → is_outside config.blocks x ≡ false → is_spoiled x ≡ false → judged_at config l link ch x e.trace ≡ Passes
+unfolding judged_at
+passes_at config l link ch x e lawful order free inside clean = rw (lawful, order, free, inside, clean) refl
+
+pub judged-passes : {w : ℕ} (config : Config) (l : Level) (link : Link) (ch : Channel) (x : Beat w) (e : End w) → open_level config link e ≡ Some l → unlawful l ch x ≡ None → broken_in_order config.profile x (on_link link.0 e.trace) ≡ None
+    → must_wait config link x e.trace ≡ false → is_outside config.blocks x ≡ false → is_spoiled x ≡ false → judged config link ch x e ≡ Passes
+judged-passes config l link ch x e live lawful order free inside clean = rw live (passes_at config l link ch x e lawful order free inside clean)
+
+pub manager-takes : {w : ℕ} (config : Config) (l : Level) (link : Link) (ch : Channel) (x : Beat w) (e : End w) → open_level config link e ≡ Some l → unlawful l ch x ≡ None → broken_in_order config.profile x (on_link link.0 e.trace) ≡ None
+    → must_wait config link x e.trace ≡ false → is_outside config.blocks x ≡ false → is_spoiled x ≡ false → offered config link ch x e ≡ (Sent (deed config link x e).handed, taken link x (deed config link x e) e)
+unfolding offered
+manager-takes config l link ch x e live lawful order free inside clean =
+    ap (λ j. offered_as j config link x e) (judged-passes config l link ch x e live lawful order free inside clean)

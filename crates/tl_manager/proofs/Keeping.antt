@@ -1,5 +1,5 @@
 -- What holds of the manager's end holds after each beat that it is offered.
-use Rattle.std.proofs.Common.{ap, ◌∙◌, ◌≡◌, ℕ, zero, suc, ◌+◌, ◌<◌, ◌==◌, Bool, true, false, not, cond, ◌&&◌, ◌||◌, List, [], ◌∷◌, ◌++◌, length, map, Some, None, refl, sym, arith, inl, inr}
+use Rattle.std.proofs.Common.{ap, ◌∙◌, ◌≡◌, ℕ, zero, suc, ◌+◌, ◌<◌, ◌≤◌, ◌==◌, Bool, true, false, not, cond, ◌&&◌, ◌||◌, List, [], ◌∷◌, ◌++◌, length, map, Some, None, refl, sym, arith, inl, inr}
 use Rattle.std.specs.Prelude.{nat_le, filter, option_map, is_some, if◌then◌else◌}
 use Rattle.std.proofs.lemmas.Bool.{or_parts, leb-false, eqb-true, cases_eq, ne_eqb}
 use Rattle.std.proofs.lemmas.List.{length-map}
@@ -12,7 +12,7 @@ use Rattle.tl_beat.specs.declared.opcode.Channel.{Channel}
 use Rattle.tl_beat.specs.declared.opcode.Channel.TheVariants as channel
 use Rattle.tl_burst.specs.declared.message.Message.{Message}
 use Rattle.tl_burst.specs.declared.message.Message.TheVariants.{A, B, C, D, E}
-use Rattle.tl_burst.specs.Burst.{beats_of, beat_of, begun, burst_of}
+use Rattle.tl_burst.specs.Burst.{beats_of, beat_of, begun, burst_of, IsBlankAfter}
 use Rattle.tl_burst.specs.Messages.{channel_of, unfinished, burst_length}
 use Rattle.tl_params.specs.declared.config.Config.{Config}
 use Rattle.tl_rules.specs.Conformance.{Trace, on_link}
@@ -24,24 +24,26 @@ use Rattle.tl_burst.proofs.Splitting.{beats-positive}
 use Rattle.tl_manager.proofs.Lists.{each_filter, each_weaker}
 use Rattle.tl_manager.proofs.Sound.{leveled}
 use Rattle.tl_manager.specs.Handing.{Handed, with_handed}
-use Rattle.tl_manager.specs.Kept.{Each, AreApart, IsSound, IsTyped, IsClean, IsPerformable, illegal_at, illegal_message_at, blocks_of, IsKept, IsAnswerLawful}
+use Rattle.tl_manager.specs.Kept.{Each, AreApart, IsSound, IsTyped, IsClean, IsFilled, IsPerformable, illegal_at, illegal_message_at, blocks_of, IsKept, IsAnswerLawful}
 use Rattle.tl_manager.specs.Request.{request_if, request_carried}
 use Rattle.tl_manager.specs.Service.{Service, is_ended_by, least_free, trackers_of, with_service, served, services, serving, is_in_service}
-use Rattle.tl_manager.specs.Slave.{End, fresh, level_of, Judgement, Breaks, Waits, Passes, is_from_client, must_wait, judged, deed, offered_as, offered}
+use Rattle.tl_manager.specs.Slave.{End, fresh, level_of, Judgement, Breaks, Waits, Passes, is_from_client, must_wait, judged, deed, taken, offered_as, offered}
 use Rattle.tl_manager.proofs.Deeds.{deed_handable, handed_sound}
 use Rattle.tl_manager.proofs.Free.{apart_filter, each_map_filter, least_free-is_free, least_free-le}
 use Rattle.tl_manager.proofs.Handed.{whole-handed, whole-taken, recorded-taken, recorded-handed}
-use Rattle.tl_manager.proofs.Continued.{whole_request, of_one-taken, requests-handed}
-use Rattle.tl_manager.proofs.Judged.{IsPassed, passed}
+use Rattle.tl_manager.proofs.Continued.{whole_request, of_one-taken, bursts-handed}
+use Rattle.tl_manager.proofs.Judged.{passed}
 use Rattle.tl_manager.proofs.Requests.{IsWhole, performable}
 use Rattle.tl_manager.specs.Holders.{recorded}
 use Rattle.tl_manager.specs.Record.{granted_by_all, recorded_after}
 use Rattle.tl_manager.proofs.Answered.{answered-deed}
 use Rattle.tl_manager.proofs.Grants.{deed_granted}
 use Rattle.tl_rules.proofs.Sent.{same_channel}
+use Rattle.tl_manager.proofs.Steady.{steady-deed}
 use Rattle.tl_manager.proofs.Sinks.{is_request, tracked-taken, tracked-handed}
 use Rattle.tl_rules.specs.History.{pending}
 use Rattle.tl_manager.proofs.Lawful.{IsHandable}
+use Rattle.tl_manager.specs.Ready.{IsPassed, IsTaken}
 
 -- what holds of the requests in service
 pub record AreServed {w : ℕ} (config : Config) (ss : List (Service w)) : Type 0 where
@@ -49,6 +51,15 @@ pub record AreServed {w : ℕ} (config : Config) (ss : List (Service w)) : Type 
   pub tracked : Each (λ n. n < config.trackers) (trackers_of ss)
   pub trackers_apart : AreApart (trackers_of ss)
   pub blocks_apart : AreApart (blocks_of ss)
+  pub few : length ss ≤ config.trackers
+
+length_filter : {X : Type 0} (test : X → Bool) (xs : List X) → length (filter test xs) ≤ length xs
+length_filter test [] = omega arith
+length_filter {X} test (x ∷ xs) = go (test x) (length_filter test xs)
+  where
+    go : (b : Bool) → length (filter test xs) ≤ length xs → length (cond b (x ∷ filter test xs) (filter test xs)) ≤ length (x ∷ xs)
+    go true le = omega (arith, le)
+    go false le = omega (arith, le)
 
 served_filter : {w : ℕ} (config : Config) (test : Service w → Bool) (ss : List (Service w)) → AreServed config ss → AreServed config (filter test ss)
 served_filter config test ss ok = record {
@@ -56,6 +67,7 @@ served_filter config test ss ok = record {
   tracked = each_map_filter (λ n. n < config.trackers) (λ s. s.tracker) test ss ok.tracked;
   trackers_apart = apart_filter (λ s. s.tracker) test ss ok.trackers_apart;
   blocks_apart = apart_filter (λ s. block_at s.request.address) test ss ok.blocks_apart;
+  few = let le = length_filter test ss in let before = ok.few in omega (arith, le, before);
 }
 
 filtered : {w : ℕ} (config : Config) (test : Service w → Bool) (ss : List (Service w)) (b : Bool) → AreServed config ss → AreServed config (if b then filter test ss else ss)
@@ -90,6 +102,7 @@ served_new config link x beats ss true e width sound whole long unused room ok =
       tracked = (omega (arith, low, len), ok.tracked);
       trackers_apart = (least_free-is_free (trackers_of ss), ok.trackers_apart);
       blocks_apart = (unserved (block_at x.address) ss unused, ok.blocks_apart);
+      few = omega (arith, room);
     }
 
 taken_request : {w : ℕ} (config : Config) (link : Link) (x : BeatA w) (t : Trace w) → IsWidth w → IsSound config (link, beat.A x) → Each (IsWhole config link x) (beat.A x ∷ unfinished channel.A (on_link link.0 t)) → must_wait config link (beat.A x) t ≡ false → AreServed config (services t)
@@ -146,27 +159,38 @@ handed_served config (x ∷ handed) t each ok =
 -- ---- any beat that is offered
 
 pub are_served : {w : ℕ} (config : Config) (e : End w) → IsKept config e → AreServed config (services e.trace)
-are_served config e before = record { requests = before.requests; tracked = before.tracked; trackers_apart = before.trackers_apart; blocks_apart = before.blocks_apart }
+are_served config e before = record { requests = before.requests; tracked = before.tracked; trackers_apart = before.trackers_apart; blocks_apart = before.blocks_apart; few = before.few }
 
-kept_as : {w : ℕ} (j : Judgement) (config : Config) (link : Link) (ch : Channel) (x : Beat w) (e : End w) → IsWidth w → IsTyped x → judged config link ch x e ≡ j → IsKept config e → IsKept config (offered_as j config link x e).1
-kept_as (Breaks r) config link ch x e width typed is before = record { sound = before.sound; whole = before.whole; bursts = before.bursts; requests = before.requests; tracked = before.tracked; trackers_apart = before.trackers_apart; blocks_apart = before.blocks_apart; sinks = before.sinks; releases = before.releases }
-kept_as Waits config link ch x e width typed is before = before
-kept_as Passes config link ch x e width typed is before =
-    let ok = passed config link ch x e typed is in
+-- a beat that passes, as it is taken
+pub is_taken : {w : ℕ} (config : Config) (link : Link) (x : Beat w) (e : End w) → IsWidth w → IsPassed config link x e.trace → IsKept config e → IsTaken config link x e
+is_taken config link x e width ok before =
+    let after = taken_beat config link x e width before ok (are_served config e before) in
+    record { width = width; before = before; passes = ok; blocks_apart = after.blocks_apart; trackers_apart = after.trackers_apart }
+
+pub kept-taken : {w : ℕ} (config : Config) (link : Link) (x : Beat w) (e : End w) → IsWidth w → IsPassed config link x e.trace → IsKept config e → IsKept config (taken link x (deed config link x e) e)
+kept-taken config link x e width ok before =
     let handable = deed_handable config link x e width ok.sound before.sound in
     let complete = λ (client : ℕ). whole-taken client link x e.trace ok.theirs (before.whole client) in
-    let after = handed_served config (deed config link x e).handed ((link, x) ∷ e.trace) handable (taken_beat config link x e width before ok (are_served config e before)) in
+    let served_then = taken_beat config link x e width before ok (are_served config e before) in
+    let after = handed_served config (deed config link x e).handed ((link, x) ∷ e.trace) handable served_then in
     record {
       sound = handed_sound config (deed config link x e).handed ((link, x) ∷ e.trace) handable (ok.sound, before.sound);
       whole = λ client. whole-handed config client (deed config link x e).handed ((link, x) ∷ e.trace) width handable (complete client);
-      bursts = λ client. rw (requests-handed config client (deed config link x e).handed ((link, x) ∷ e.trace) handable) (of_one-taken config client link x e.trace ok.theirs ok.order before.bursts);
+      bursts = λ client. rw (bursts-handed config channel.A client (deed config link x e).handed ((link, x) ∷ e.trace) refl handable) (of_one-taken config client link x e.trace ok.theirs ok.order before.bursts);
       requests = after.requests;
       tracked = after.tracked;
       trackers_apart = after.trackers_apart;
       blocks_apart = after.blocks_apart;
       sinks = tracked-handed config (deed config link x e).handed ((link, x) ∷ e.trace) width handable complete (deed_granted config link x e) (tracked-taken link x e.trace ok.theirs before.sinks);
       releases = λ client. answered-deed config client link x e width ok.theirs ok.order handable (complete client) (before.releases client);
+      few = after.few;
+      steady = steady-deed config link x e (is_taken config link x e width ok before);
     }
+
+kept_as : {w : ℕ} (j : Judgement) (config : Config) (link : Link) (ch : Channel) (x : Beat w) (e : End w) → IsWidth w → IsTyped x → judged config link ch x e ≡ j → IsKept config e → IsKept config (offered_as j config link x e).1
+kept_as (Breaks r) config link ch x e width typed is before = record { sound = before.sound; whole = before.whole; bursts = before.bursts; requests = before.requests; tracked = before.tracked; trackers_apart = before.trackers_apart; blocks_apart = before.blocks_apart; sinks = before.sinks; releases = before.releases; few = before.few; steady = before.steady }
+kept_as Waits config link ch x e width typed is before = before
+kept_as Passes config link ch x e width typed is before = kept-taken config link x e width (passed config link ch x e typed is) before
 
 pub kept-offered : {w : ℕ} (config : Config) (link : Link) (ch : Channel) (x : Beat w) (e : End w) → IsWidth w → IsTyped x → IsKept config e → IsKept config (offered config link ch x e).1
 unfolding offered
@@ -174,7 +198,7 @@ kept-offered config link ch x e width typed ok = kept_as (judged config link ch 
 
 pub fresh-kept : {w : ℕ} (config : Config) → IsKept {w = w} config fresh
 unfolding services unfinished on_link pending
-fresh-kept config = record { sound = tt; whole = λ client. (refl, refl); bursts = λ client. tt; requests = tt; tracked = tt; trackers_apart = tt; blocks_apart = tt; sinks = λ client sink e. absurd cc; releases = λ client. record { sources = λ s. refl; blocks = λ k. refl; named = tt } }
+fresh-kept config = record { sound = tt; whole = λ client. (refl, refl); bursts = λ client. tt; requests = tt; tracked = tt; trackers_apart = tt; blocks_apart = tt; sinks = λ client sink e. absurd cc; releases = λ client. record { sources = λ s. refl; blocks = λ k. refl; named = tt }; few = omega arith; steady = record { accounted = record { sources = λ client source. refl; begun = λ client. tt; reports = λ client. tt; blocks = λ block. record { acquires = λ client. refl; grants = λ client. refl; named = tt; probes = λ client e. absurd cc } }; awaited = λ block. refl } }
 
 -- ---- what is recorded
 
@@ -195,10 +219,10 @@ recorded-offered config link ch x e client block width typed before = recorded_a
 
 -- ---- what is handed out is lawful
 
-lawful_message : {w : ℕ} (config : Config) (x : Link × Message w) → IsWidth w → IsHandable config x → (illegal_message_at (level_of config x.0.0) x.1 ≡ None) × IsClean x.1
+lawful_message : {w : ℕ} (config : Config) (x : Link × Message w) → IsWidth w → IsHandable config x → (illegal_message_at (level_of config x.0.0) x.1 ≡ None) × IsClean x.1 × IsFilled x.1 × IsBlankAfter (beats_of x.1) x.1
 lawful_message {w} config x width ok =
     let first = leveled (level_of config x.0.0) (beat_of x.1 0) (ok.beats 0 (beats-positive x.1 width)).lawful in
-    (rw first.1 (legal_from_beats first.0 (channel_of (beat_of x.1 0)) x.1 (λ i lt. legal_beat first.0 first.1 i (ok.beats i lt).lawful)), ok.clean)
+    (rw first.1 (legal_from_beats first.0 (channel_of (beat_of x.1 0)) x.1 (λ i lt. legal_beat first.0 first.1 i (ok.beats i lt).lawful)), ok.clean, ok.filled, ok.blank)
   where
     legal_beat : (l : Level) → level_of config x.0.0 ≡ Some l → (i : ℕ) → illegal_at (level_of config x.0.0) (beat_of x.1 i) ≡ None → illegal l (channel_of (beat_of x.1 0)) (beat_of x.1 i) ≡ None
     legal_beat l is i e = rw (← same_channel x.1 i) (rw is at e)
@@ -208,7 +232,7 @@ lawful_as (Breaks r) config link ch x e width typed is before = tt
 lawful_as Waits config link ch x e width typed is before = tt
 lawful_as Passes config link ch x e width typed is before =
     let ok = passed config link ch x e typed is in
-    each_weaker (IsHandable config) (λ y. (illegal_message_at (level_of config y.0.0) y.1 ≡ None) × IsClean y.1) (deed config link x e).handed (λ y h. lawful_message config y width h) (deed_handable config link x e width ok.sound before.sound)
+    each_weaker (IsHandable config) (λ y. (illegal_message_at (level_of config y.0.0) y.1 ≡ None) × IsClean y.1 × IsFilled y.1 × IsBlankAfter (beats_of y.1) y.1) (deed config link x e).handed (λ y h. lawful_message config y width h) (deed_handable config link x e width ok.sound before.sound)
 
 pub lawful : {w : ℕ} (config : Config) (link : Link) (ch : Channel) (x : Beat w) (e : End w) → IsWidth w → IsTyped x → IsKept config e → IsAnswerLawful config (offered config link ch x e).0
 unfolding offered

@@ -1,5 +1,5 @@
 -- Lists of which each element has a property.
-use Rattle.std.proofs.Common.{◌≡◌, ℕ, zero, suc, ◌+◌, Bool, true, false, cond, List, [], ◌∷◌, ◌++◌, map, refl}
+use Rattle.std.proofs.Common.{◌≡◌, ℕ, zero, suc, ◌+◌, Bool, true, false, cond, ◌&&◌, List, [], ◌∷◌, ◌++◌, map, refl}
 use Rattle.std.specs.Prelude.{filter}
 use Rattle.tl_manager.specs.Holders.{clients_from}
 use Rattle.tl_manager.specs.Kept.{Each}
@@ -33,3 +33,9 @@ each_client (suc n) first test = go (test first) refl (each_client n (first + 1)
 pub each_weaker : {X : Type 0} (P Q : X → Type 0) (xs : List X) → ((x : X) → P x → Q x) → Each P xs → Each Q xs
 each_weaker P Q [] step each = tt
 each_weaker P Q (x ∷ xs) step each = (step x each.0, each_weaker P Q xs step each.1)
+
+-- ---- tests
+
+pub never : (b : Bool) → (b && false) ≡ false
+never true = refl
+never false = refl

@@ -83,6 +83,14 @@ legal-narrow {w} l x width typed e =
     let five = next_rule (not (a_has_mask w x.opcode x.size x.address x.mask)) L5 _ p.1 in
     mask_narrow w x.size x.address x.mask x.opcode width (request_small w x.size l x.opcode width (not-false _ three.0)) typed (not-false _ four.0) (not-false _ five.0)
 
+pub legal-small : {w : ℕ} (l : Level) (x : BeatA w) → IsWidth w → illegal l channel.A (A x) ≡ None → x.size ≤ 6
+legal-small {w} l x width e =
+    let p = both_none (a_control w l x.opcode x.param x.size x.address) (a_own w x.opcode x.size x.address x.mask x.corrupt) (sym (illegal_a l x) ∙ e) in
+    let one = next_rule (not (a_of_level l x.opcode)) L1 _ p.0 in
+    let two = next_rule (not (a_has_param x.opcode x.param)) L2 _ one.1 in
+    let three = next_rule (not (a_has_size w l x.opcode x.size)) L3 _ two.1 in
+    request_small w x.size l x.opcode width (not-false _ three.0)
+
 more_masks : (w m b n : ℕ) → m < 2 ^ (w * n) → b < 2 ^ w → m + b * 2 ^ (w * n) < 2 ^ (w * suc n)
 more_masks w m b n low small =
     let turned : m + b * 2 ^ (w * n) ≡ b * 2 ^ (w * n) + m = omega arith in

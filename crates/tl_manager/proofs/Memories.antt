@@ -33,9 +33,10 @@ use Rattle.tl_manager.specs.Request.{request_if, request_carried}
 use Rattle.tl_manager.specs.Service.{Service, services, serving, least_free, trackers_of}
 use Rattle.tl_manager.specs.Slave.{End, Judgement, Breaks, Waits, Passes, level_of, with_block, written, probing_or, begun_with, begun_if_any, performed_if_any, settled, done_c, done, deed, judged, Refused, Stalled, refused, offered_as, offered}
 use Rattle.tl_manager.proofs.Continued.{whole_request}
-use Rattle.tl_manager.proofs.Judged.{IsPassed, passed}
+use Rattle.tl_manager.proofs.Judged.{passed}
 use Rattle.tl_manager.proofs.Keeping.{taken_beat, are_served}
 use Rattle.tl_manager.proofs.Requests.{IsWhole, performable}
+use Rattle.tl_manager.specs.Ready.{IsPassed}
 
 -- the memory has the same byte at the address
 abbrev pub Same : {w : ℕ} → Deed w → Memory → ℕ → Type 0

@@ -1,7 +1,7 @@
 -- A request that was taken whole breaks no L rule, and is zero where no beat carries anything.
 use Rattle.std.proofs.Common.{◌≡◌, ℕ, suc, ◌+◌, ◌-◌, ◌*◌, ◌^◌, ◌<◌, ◌≤◌, Bool, true, false, List, [], ◌∷◌, ◌++◌, length, Option, Some, None, refl, sym, ap, ◌∙◌, arith}
 use Rattle.std.specs.Prelude.{nat_le, is_some, IfSome, unwrap_or, replicate, if◌then◌else◌}
-use Rattle.std.proofs.lemmas.List.{drop_at, length-append}
+use Rattle.std.proofs.lemmas.List.{drop_at, length-append, length-replicate}
 use Rattle.std.proofs.lemmas.Nat.{pow_pos}
 use Rattle.std.proofs.lemmas.Bool.{leb-true}
 use Rattle.tl_beat.specs.Width.{IsWidth}
@@ -68,6 +68,19 @@ payload_blank {w} config link x beats n carries e long each =
     go : (b : Bool) → (if b then w else 0) * length beats ≡ (if b then w * n else 0)
     go true = ap (λ k. w * k) long
     go false = omega arith
+
+payload_filled : {w : ℕ} (config : Config) (link : Link) (x : BeatA w) (beats : List (Beat w)) (carries : Bool) → a_carries_data x.opcode ≡ carries → w * length beats ≤ 64 → Each (IsWhole config link x) beats → length (payload_of beats) ≡ 64
+payload_filled {w} config link x beats carries e room each =
+    let bytes = bytes_length beats (if carries then w else 0) (each_weaker (IsWhole config link x) (λ y. length (lanes_of y) ≡ (if carries then w else 0)) beats (λ y ok. lanes_length x y carries e ok.like ok.sound.typed) each) in
+    let few = below carries in
+    let none : ℕ = 0 in
+    let rest = length-replicate (64 - length (bytes_carried beats)) none in
+    let whole = length-append (bytes_carried beats) (replicate (64 - length (bytes_carried beats)) none) in
+    whole ∙ ap (λ i. length (bytes_carried beats) + i) rest ∙ omega (arith, bytes, few)
+  where
+    below : (b : Bool) → (if b then w else 0) * length beats ≤ 64
+    below true = room
+    below false = omega arith
 
 -- ---- masks and corrupt bits
 
@@ -137,5 +150,7 @@ performable {w} config link x beats tracker fits width ok each long =
     record {
       lawful = rw l.1 (legal_from_beats l.0 channel.A (A (made_of x beats fits)) (λ i lt. legal_beat config link l.0 x beats fits i width l.1 l.2 each long (rw long lt)));
       blank = (payload_blank config link x beats (beats_of (A (made_of x beats fits))) (a_carries_data x.opcode) refl long each, rw long at below, rw clean (pow_pos (beats_of (A (made_of x beats fits)))));
+      filled = payload_filled config link x beats (a_carries_data x.opcode) refl (rw long (beats_room (A (made_of x beats fits)) width)) each;
+      clean = clean;
       inside = ok.inside;
     }

@@ -24,10 +24,11 @@ use Rattle.tl_manager.specs.Handing.{Handed, with_handed}
 use Rattle.tl_manager.specs.Kept.{Each, is_granting}
 use Rattle.tl_manager.specs.Service.{Service, is_access_answer, is_ended_by, with_service, served, services}
 use Rattle.tl_manager.specs.Slave.{is_from_client}
-use Rattle.tl_manager.proofs.Handed.{IsWhole, after_sent, own_link, other_link, whole-after_sent}
+use Rattle.tl_manager.proofs.Handed.{after_sent, own_link, other_link, whole-after_sent}
 use Rattle.tl_manager.proofs.Lawful.{IsHandable}
 use Rattle.tl_manager.proofs.Lists.{each_weaker}
 use Rattle.tl_rules.proofs.Handed.{pending-sent_b, pending-sent_d}
+use Rattle.tl_manager.specs.Ready.{IsWhole}
 
 -- the Acquire of this client that has this tracker
 abbrev pub grants_by : {w : ℕ} → ℕ → ℕ → Service w → Bool

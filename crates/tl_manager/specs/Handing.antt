@@ -1,6 +1,7 @@
 -- The messages that a manager hands out.
 use Rattle.std.specs.Prelude.{ℕ, Bool, true, false, not, List, [], ◌∷◌, ◌++◌, ◌==◌, ◌&&◌, ◌-◌, ◌*◌, ◌^◌, if◌then◌else◌, map, replicate}
 use Rattle.std.proofs.Common.{lit≤}
+use Rattle.tl_beat.specs.declared.beat.BeatB.{BeatB}
 use Rattle.tl_beat.specs.declared.beat.Link.{Link}
 use Rattle.tl_beat.specs.declared.opcode.OpA.{OpA}
 use Rattle.tl_beat.specs.declared.opcode.OpA.TheVariants as a
@@ -10,7 +11,8 @@ use Rattle.tl_beat.specs.declared.opcode.OpD.TheVariants as d
 use Rattle.tl_burst.specs.declared.message.Message.{Message}
 use Rattle.tl_burst.specs.declared.message.Message.TheVariants.{A, B, D}
 use Rattle.tl_burst.specs.declared.message.MessageA.{MessageA}
-use Rattle.tl_burst.specs.Burst.{burst_of}
+use Rattle.tl_burst.specs.declared.message.MessageB.{MessageB}
+use Rattle.tl_burst.specs.Burst.{b_beat_of, burst_of}
 use Rattle.tl_rules.specs.declared.answer.Answer.{Answer}
 use Rattle.tl_rules.specs.declared.answer.Answer.TheVariants as answer
 use Rattle.tl_params.specs.declared.config.Config.{Config}
@@ -41,8 +43,8 @@ no_payload = replicate 64 0
 
 -- ---- Probes
 
-abbrev pub probe_of_block : {w : ℕ} → ℕ → Cap → Message w
-probe_of_block {w} block cap = B (record {
+abbrev pub probe_message : {w : ℕ} → ℕ → Cap → MessageB w
+probe_message {w} block cap = record {
   opcode = b.ProbeBlock;
   param = cap_code cap;
   size = 6;
@@ -52,7 +54,14 @@ probe_of_block {w} block cap = B (record {
   mask = 2 ^ w - 1;
   corrupt = 0;
   small = lit≤ tt;
-})
+}
+
+abbrev pub probe_of_block : {w : ℕ} → ℕ → Cap → Message w
+probe_of_block block cap = B (probe_message block cap)
+
+-- its one beat
+abbrev pub probe_beat : {w : ℕ} → ℕ → Cap → BeatB w
+probe_beat block cap = b_beat_of (probe_message block cap) 0
 
 abbrev pub probes : {w : ℕ} → ℕ → Cap → List ℕ → Handed w
 probes block cap clients = map (λ client. (record { 0 = client }, probe_of_block block cap)) clients

@@ -1,7 +1,7 @@
 -- What holds of the manager's end after any beats that it is offered, from a fresh one on.
 use Rattle.tl_beat.specs.declared.beat.Beat.TheVariants as beat
 use Rattle.tl_beat.specs.declared.beat.BeatA.{BeatA}
-use Rattle.std.specs.Prelude.{◌==◌, ◌&&◌, ◌||◌, nat_le, IfSome, length, ◌^◌, ℕ, Bool, true, false, List, [], ◌∷◌, ◌≡◌, ◌<◌, map, Option, Some, None}
+use Rattle.std.specs.Prelude.{◌==◌, ◌&&◌, ◌||◌, nat_le, IfSome, length, ◌^◌, ℕ, Bool, true, false, List, [], ◌∷◌, ◌≡◌, ◌<◌, ◌≤◌, map, Option, Some, None}
 use Rattle.tl_beat.specs.declared.beat.Beat.{Beat}
 use Rattle.tl_beat.specs.declared.beat.Link.{Link}
 use Rattle.tl_burst.specs.declared.message.Message.{Message}
@@ -19,6 +19,7 @@ use Rattle.tl_params.specs.declared.key.Key.TheVariants.{GrantSink}
 use Rattle.tl_rules.specs.Conformance.{on_link}
 use Rattle.tl_rules.specs.Legality.{illegal, illegal_message, is_one_of}
 use Rattle.tl_manager.specs.Handing.{Handed}
+use Rattle.tl_manager.specs.Pending.{IsSteady}
 use Rattle.tl_manager.specs.Releases.{IsAnswered}
 use Rattle.tl_manager.specs.Service.{Service, services, trackers_of}
 use Rattle.tl_manager.specs.Slave.{End, Answer, Refused, Stalled, Sent, level_of}
@@ -31,6 +32,11 @@ Each P (x ∷ xs) = P x × Each P xs
 abbrev pub AreApart : List ℕ → Type 0
 AreApart [] = Unit {0}
 AreApart (n ∷ ns) = (is_one_of n ns ≡ false) × AreApart ns
+
+-- each number is less than those behind it
+abbrev pub IsRising : List ℕ → Type 0
+IsRising [] = Unit {0}
+IsRising (n ∷ ns) = Each (λ k. n < k) ns × IsRising ns
 
 -- the L rule that a beat, or a message, breaks on a link of this level, or of none
 abbrev pub illegal_at : {w : ℕ} → Option Level → Beat w → Option Rule
@@ -61,9 +67,17 @@ IsClean (C m) = m.corrupt ≡ 0
 IsClean (D m) = (m.corrupt ≡ 0) × (m.denied ≡ false)
 IsClean (E m) = Unit {0}
 
--- messages that break no L rule at their links, and are clean
+-- its payload has 64 bytes
+abbrev pub IsFilled : {w : ℕ} → Message w → Type 0
+IsFilled (A m) = length m.payload ≡ 64
+IsFilled (B m) = length m.payload ≡ 64
+IsFilled (C m) = length m.payload ≡ 64
+IsFilled (D m) = length m.payload ≡ 64
+IsFilled (E m) = Unit {0}
+
+-- messages that break no L rule at their links and are clean, with 64 bytes that are zero where no beat carries them
 abbrev pub AreLawful : {w : ℕ} → Config → Handed w → Type 0
-AreLawful config handed = Each (λ x. (illegal_message_at (level_of config x.0.0) x.1 ≡ None) × IsClean x.1) handed
+AreLawful config handed = Each (λ x. (illegal_message_at (level_of config x.0.0) x.1 ≡ None) × IsClean x.1 × IsFilled x.1 × IsBlankAfter (beats_of x.1) x.1) handed
 
 -- what the manager hands out in this answer is so
 abbrev pub IsAnswerLawful : {w : ℕ} → Config → Answer w → Type 0
@@ -86,11 +100,13 @@ AreOfOne [] = Unit {0}
 AreOfOne (beat.A x ∷ beats) = Each (IsLike x) beats
 AreOfOne (_ ∷ beats) = ⊥
 
--- a request that breaks no L rule at its link, is zero where no beat carries anything, and is of a
--- block of the map
+-- a request that breaks no L rule at its link, has a payload of 64 bytes that is zero where no beat carries
+-- anything, isn't corrupt, and is of a block of the map
 pub record IsPerformable {w : ℕ} (config : Config) (s : Service w) : Type 0 where
   pub lawful : illegal_message_at (level_of config s.link.0) (A s.request) ≡ None
   pub blank : IsBlankAfter (beats_of (A s.request)) (A s.request)
+  pub filled : length s.request.payload ≡ 64
+  pub clean : s.request.corrupt ≡ 0
   pub inside : nat_le config.blocks (block_at s.request.address) ≡ false
 
 abbrev pub blocks_of : {w : ℕ} → List (Service w) → List ℕ
@@ -117,3 +133,7 @@ pub record IsKept {w : ℕ} (config : Config) (e : End w) : Type 0 where
   pub sinks : (client sink : ℕ) → pending (GrantSink sink) (on_link client e.trace) ≡ true → is_granting client sink (services e.trace) ≡ true
   -- a Release is pending only while its burst is unfinished
   pub releases : (client : ℕ) → IsAnswered (on_link client e.trace)
+  -- there is a tracker for each request in service
+  pub few : length (services e.trace) ≤ config.trackers
+  -- what else is pending, and what each request in service waits for
+  pub steady : IsSteady config e.trace

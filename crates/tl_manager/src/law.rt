@@ -1,6 +1,6 @@
 //! What the definitions of a manager's answers amount to, as laws.
 
-ghost use Rattle.std.specs.Prelude.{◌≡◌, ℕ, List, [], true, false, length, Some, if◌then◌else◌};
+ghost use Rattle.std.specs.Prelude.{◌≡◌, ◌<◌, ◌↔◌, ◌&&◌, ◌||◌, ℕ, Bool, List, [], true, false, nat_lt, length, Some, if◌then◌else◌};
 ghost use Rattle.tl_beat.specs.declared.beat.Beat.{Beat};
 ghost use Rattle.tl_beat.specs.declared.beat.BeatC.{BeatC};
 ghost use Rattle.tl_beat.specs.declared.beat.BeatE.{BeatE};
@@ -16,17 +16,25 @@ ghost use Rattle.tl_burst.specs.declared.message.MessageD.{MessageD};
 ghost use Rattle.tl_burst.specs.Burst.{IsBurst, beat_of};
 ghost use Rattle.tl_burst.specs.Messages.{History, unfinished};
 ghost use Rattle.tl_params.specs.declared.key.Key.{Key};
+ghost use Rattle.tl_params.specs.declared.key.Key.TheVariants.{RequestSource, AcquireOf, GrantSink, GrantAckOf};
+ghost use Rattle.tl_params.specs.declared.perm.Perm.TheVariants as perm;
 ghost use Rattle.tl_params.specs.declared.rule.Rule.{Rule};
 ghost use Rattle.tl_rules.specs.Agent.{payload_of, sent};
+ghost use Rattle.tl_rules.specs.Conformance.{Trace, on_link, comes_in_request};
 ghost use Rattle.tl_rules.specs.History.{block_at, pending, opens, closes, request_of};
-ghost use Rattle.tl_manager.specs.Holders.{recorded};
-ghost use Rattle.tl_manager.specs.Kept.{IsTyped, IsKept, IsAnswerLawful, is_stalled};
+ghost use Rattle.tl_rules.specs.Legality.{is_one_of};
+ghost use Rattle.tl_manager.specs.After.{services_after, history_after, taken_after, is_of_clients, missing_after};
+ghost use Rattle.tl_manager.specs.Holders.{recorded, is_missing, clients_where, is_settled, is_unheld};
+ghost use Rattle.tl_manager.specs.Kept.{IsTyped, IsKept, IsRising, IsAnswerLawful, is_stalled};
+ghost use Rattle.tl_manager.specs.Pending.{is_any, is_asking, is_acquiring, is_granted_to, is_granted_with, is_awaited, IsNamed, IsProbed};
 ghost use Rattle.tl_manager.specs.Record.{recorded_after, is_of_block};
 ghost use Rattle.tl_manager.specs.Request.{request_carried};
+ghost use Rattle.tl_manager.specs.Service.{services, serving};
 ghost use Rattle.tl_manager.specs.Slave.{End, Refused, Stalled, fresh, refused, offered, stalls};
 
 /// What holds of a manager's end from the first beat that it is offered on, and that every message
-/// which it hands out breaks no rule of legality at its link's level, isn't corrupt and isn't denied.
+/// which it hands out breaks no rule of legality at its link's level, isn't corrupt and isn't denied, and
+/// has 64 bytes that are zero where no beat carries them.
 pub fn sends_lawfully<const W: usize>()
     requires { IsWidth W }
     ensures fresh { (config : Config) → IsKept {w = W} config fresh }
@@ -54,6 +62,67 @@ pub fn records_reports<const W: usize>()
         IsTyped x → IsKept config e →
         recorded client block (offered config link ch x e).1.trace
         ≡ recorded_after (offered config link ch x e).0 (link, x) e.trace client block }
+{}
+
+/// The requests in service after any beat: the request that it completes is added, that of its GrantAck
+/// ends, and so do those of the accesses whose answers are handed out.
+pub fn serves_requests<const W: usize>()
+    requires { IsWidth W }
+    ensures { (config : Config) (link : Link) (ch : Channel) (x : Beat W) (e : End W) →
+        IsTyped x → IsKept config e →
+        services (offered config link ch x e).1.trace ≡ services_after (offered config link ch x e).0 (link, x) e.trace }
+{}
+
+/// The history of each link after any beat: with the beat where it is taken, and with the messages that
+/// are handed out, none of which is unfinished. A ProbeAck is missing from its Probe until its last beat is taken.
+pub fn extends_histories<const W: usize>()
+    requires { IsWidth W }
+    ensures history { (config : Config) (link : Link) (ch : Channel) (x : Beat W) (e : End W) (client : ℕ) →
+        on_link client (offered config link ch x e).1.trace
+        ≡ history_after (offered config link ch x e).0 (link, x) client (on_link client e.trace) }
+    ensures unfinished { (config : Config) (link : Link) (ch : Channel) (x : Beat W) (e : End W) (client : ℕ) (other : Channel) →
+        IsTyped x → IsKept config e → is_of_clients other ≡ true →
+        unfinished other (on_link client (offered config link ch x e).1.trace)
+        ≡ unfinished other (taken_after (offered config link ch x e).0 (link, x) client (on_link client e.trace)) }
+    ensures missing { (config : Config) (link : Link) (ch : Channel) (x : Beat W) (e : End W) (client block : ℕ) →
+        IsTyped x → IsKept config e →
+        is_missing client block (offered config link ch x e).1.trace
+        ≡ missing_after (offered config link ch x e).0 (link, x) e.trace client block }
+{}
+
+/// What is pending on each link follows from the requests in service: a source where one has it that isn't
+/// answered, or the unfinished one; an Acquire and a GrantAck of a block by its service, and a sink by the
+/// tracker of one that is granted; a ProbeAck only for a service that isn't answered, with its Probe. The
+/// request of a service and the sink of its Grant are those of its link. One that isn't granted misses a
+/// ProbeAck.
+pub fn accounts_for_pending<const W: usize>()
+    ensures source { (config : Config) (e : End W) (client source : ℕ) → IsKept config e →
+        pending (RequestSource source) (on_link client e.trace)
+        ≡ (comes_in_request source (unfinished Channel.A (on_link client e.trace)) || is_any (is_asking client source e.trace) (services e.trace)) }
+    ensures acquire { (config : Config) (e : End W) (client block : ℕ) → IsKept config e →
+        pending (AcquireOf block) (on_link client e.trace) ≡ is_acquiring client e.trace (serving block (services e.trace)) }
+    ensures grant { (config : Config) (e : End W) (client block : ℕ) → IsKept config e →
+        pending (GrantAckOf block) (on_link client e.trace) ≡ is_granted_to client e.trace (serving block (services e.trace)) }
+    ensures sink { (config : Config) (e : End W) (client sink : ℕ) → IsKept config e →
+        pending (GrantSink sink) (on_link client e.trace) ≡ is_any (is_granted_with client sink e.trace) (services e.trace) }
+    ensures named { (config : Config) (e : End W) (block : ℕ) → IsKept config e →
+        IsNamed block e.trace (serving block (services e.trace)) }
+    ensures probe { (config : Config) (e : End W) (client block : ℕ) → IsKept config e →
+        is_missing client block e.trace ≡ true → IsProbed client block e.trace }
+    ensures awaited { (config : Config) (e : End W) (block : ℕ) → IsKept config e →
+        is_awaited config block e.trace (serving block (services e.trace)) ≡ true }
+{}
+
+/// The clients that pass a test are found, each once and in rising order. Nothing is missing where no
+/// client's ProbeAck is, and a block is unheld where no client is recorded with it.
+pub fn finds_clients<const W: usize>()
+    ensures found { (config : Config) (test : ℕ → Bool) (client : ℕ) →
+        is_one_of client (clients_where config test) ≡ (nat_lt client (length config.clients.items) && test client) }
+    ensures rising { (config : Config) (test : ℕ → Bool) → IsRising (clients_where config test) }
+    ensures settled { (config : Config) (block : ℕ) (t : Trace W) →
+        (is_settled config block t ≡ true) ↔ ((client : ℕ) → client < length config.clients.items → is_missing client block t ≡ false) }
+    ensures unheld { (config : Config) (block : ℕ) (t : Trace W) →
+        (is_unheld config block t ≡ true) ↔ ((client : ℕ) → client < length config.clients.items → recorded client block t ≡ perm.None) }
 {}
 
 /// The request that is made of the beats of a message is that message, and so are the data of a

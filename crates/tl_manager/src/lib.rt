@@ -4,6 +4,7 @@
 pub mod bits;
 pub mod directory;
 pub mod law;
+pub mod manager;
 pub mod table;
 #[cfg(test)]
 mod tests;

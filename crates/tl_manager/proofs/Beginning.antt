@@ -1,0 +1,164 @@
+-- What is kept of the blocks after a request's Probes were handed out.
+use Rattle.std.proofs.Common.{◌≡◌, ◌≢◌, ℕ, ◌+◌, ◌<◌, ◌≤◌, ◌==◌, Bool, true, false, not, ◌&&◌, List, [], ◌∷◌, length, Option, Some, None, refl, sym, ap, subst, ◌∙◌, arith, inl, inr}
+use Rattle.std.specs.Prelude.{if◌then◌else◌}
+use Rattle.std.specs.Int.{bit_at}
+use Rattle.std.proofs.lemmas.Bool.{cases_lt, lt-ltb, eqb-true, eq-eqb, ne_eqb}
+use Rattle.tl_beat.specs.declared.beat.Beat.{Beat}
+use Rattle.tl_beat.specs.declared.beat.Beat.TheVariants as beat
+use Rattle.tl_beat.specs.declared.beat.Link.{Link}
+use Rattle.tl_burst.specs.declared.message.MessageA.{MessageA}
+use Rattle.tl_burst.specs.Messages.{History}
+use Rattle.tl_params.specs.declared.config.Config.{Config}
+use Rattle.tl_params.specs.declared.key.Key.TheVariants.{ProbeOf}
+use Rattle.tl_params.specs.declared.param.Cap.{Cap}
+use Rattle.tl_params.specs.declared.param.Cap.TheVariants as cap
+use Rattle.tl_params.specs.declared.perm.Perm.{Perm}
+use Rattle.tl_params.specs.declared.perm.Perm.TheVariants as perm
+use Rattle.tl_rules.specs.Agent.{sent}
+use Rattle.tl_rules.specs.Conformance.{Trace, on_link}
+use Rattle.tl_rules.specs.Effect.{Memory}
+use Rattle.tl_rules.specs.History.{block_at, is_acquire, pending, held, ends}
+use Rattle.tl_rules.specs.Legality.{is_one_of}
+use Rattle.tl_manager.specs.Bit.{bit_if}
+use Rattle.tl_manager.specs.Handing.{Deed, Handed, with_handed, probes, probe_of_block, probe_beat, performed}
+use Rattle.tl_manager.specs.Holders.{clients_from, clients_where, is_nobody, recorded, is_missing, is_above, is_spared, probed, has_copy}
+use Rattle.tl_manager.specs.Home.{IsHomeBut, IsHome, IsHomeWithout, IsDone, IsReadyAt}
+use Rattle.tl_manager.specs.Kept.{Each, IsSound}
+use Rattle.tl_manager.specs.Ready.{IsReady}
+use Rattle.tl_manager.specs.Service.{Service, services, serving, trackers_of}
+use Rattle.tl_manager.specs.Slave.{probing_or, begun_with}
+use Rattle.tl_manager.specs.Tracked.{service_with, IsTracked}
+use Rattle.tl_manager.specs.Trackers.{tracker_at}
+use Rattle.tl_manager.specs.declared.manager.home.Home.{Home}
+use Rattle.tl_manager.specs.declared.manager.tracker.Tracker.{Tracker}
+use Rattle.tl_manager.specs.declared.manager.tracker.Tracker.TheVariants.{Probing}
+use Rattle.tl_manager.proofs.Answering.{tracker-changed}
+use Rattle.tl_manager.proofs.Clients.{among-where}
+use Rattle.tl_manager.proofs.Probed.{probes-keep, granted-probes, missing-probed}
+use Rattle.tl_manager.proofs.Probes.{probes-within, probes-beyond, services-probes}
+use Rattle.tl_manager.proofs.Probing.{missing-else_b}
+use Rattle.tl_manager.proofs.Recording.{recorded-past}
+use Rattle.tl_manager.proofs.Trackers.{IsStill, tracked-still, other_block}
+use Rattle.tl_manager.proofs.Words.{IsWord, word-nobody, word-clients}
+
+-- whom a request probes with a cap
+abbrev pub is_probed : {w : ℕ} → Service w → Cap → Trace w → ℕ → Bool
+is_probed s c t client = is_above c (recorded client (block_at s.request.address) t) && not (is_spared s client)
+
+none-above : (c : Cap) (b : Bool) → (is_above c perm.None && b) ≡ false
+none-above cap.ToT b = refl
+none-above cap.ToB b = refl
+none-above cap.ToN b = refl
+
+pub probed-word : {w : ℕ} (config : Config) (number : ℕ) (link : Link) (request : MessageA w) (c : Cap) (word : ℕ) (perm_at : ℕ → Perm) (t : Trace w) → Each (IsSound config) t
+    → ((client : ℕ) → bit_at word client ≡ bit_if (is_above c (perm_at client) && not (is_acquire request.opcode && (link.0 == client)))) → ((client : ℕ) → perm_at client ≡ recorded client (block_at request.address) t)
+    → IsWord config word (is_probed (service_with number link request) c t)
+probed-word config number link request c word perm_at t sound bits records = record {
+  bits = λ client. bits client ∙ ap (λ p. bit_if (is_above c p && not (is_acquire request.opcode && (link.0 == client)))) (records client);
+  past = λ client past. ap (λ p. is_above c p && not (is_acquire request.opcode && (link.0 == client))) (recorded-past config (block_at request.address) client t sound past) ∙ none-above c (not (is_acquire request.opcode && (link.0 == client)));
+}
+
+-- ---- the deed
+
+pub probing-none : {w : ℕ} (deed : Deed w) (block : ℕ) (c : Cap) (clients : List ℕ) (memory : Memory) → is_nobody clients ≡ true → probing_or deed block c clients memory ≡ deed
+probing-none deed block c [] memory e = refl
+probing-none deed block c (d ∷ ds) memory e = absurd cc
+
+pub probing-some : {w : ℕ} (deed : Deed w) (block : ℕ) (c : Cap) (clients : List ℕ) (memory : Memory) → is_nobody clients ≡ false → probing_or deed block c clients memory ≡ record { handed = probes block c clients; memory = memory }
+probing-some deed block c [] memory e = absurd cc
+probing-some deed block c (d ∷ ds) memory e = refl
+
+-- ---- after the Probes
+
+unheld-b : {w : ℕ} (k block : ℕ) (c : Cap) (h : History w) → held k (beat.B (probe_beat block c) ∷ h) ≡ held k h
+unfolding held
+unheld-b {w} k block c h = go (ends {w = w} (beat.B (probe_beat block c)) h)
+  where
+    go : (b : Bool) → (if b then held k h else held k h) ≡ held k h
+    go true = refl
+    go false = refl
+
+missing-after : {w : ℕ} (config : Config) (s : Service w) (c : Cap) (t : Trace w) (client : ℕ) → IsReady config (block_at s.request.address) s t → ((d : ℕ) → length config.clients.items ≤ d → is_probed s c t d ≡ false)
+    → is_missing client (block_at s.request.address) (with_handed (probes (block_at s.request.address) c (probed config s c t)) t) ≡ is_probed s c t client
+missing-after {w} config s c t client is none = elim (cases_lt client (length config.clients.items)) [
+  | inl lt ↦ go (is_probed s c t client) refl lt
+  | inr le ↦
+      ap (pending (ProbeOf block)) (probes-beyond client block c 0 (length config.clients.items) (is_probed s c t) t (omega (arith, le)))
+      ∙ is.settled client ∙ sym (none client le)
+]
+  where
+    block : ℕ
+    block = block_at s.request.address
+
+    go : (b : Bool) → is_probed s c t client ≡ b → client < length config.clients.items → is_missing client block (with_handed (probes block c (probed config s c t)) t) ≡ is_probed s c t client
+    go true e lt =
+        let among : is_one_of client (probed config s c t) ≡ true = among-where config (is_probed s c t) client ∙ rw (lt-ltb client (length config.clients.items) lt, e) refl in
+        (missing-probed config block s c t client (is.whole client).0 among).1 ∙ sym e
+    go false e lt =
+        ap (pending (ProbeOf block)) (probes-within client block c 0 (length config.clients.items) (is_probed s c t) t (omega arith) (omega (arith, lt)) ∙ rw e refl)
+        ∙ is.settled client ∙ sym e
+
+pub home-probed : {w : ℕ} {D : Type 0} (perm_of : D → ℕ → ℕ → Perm) (config : Config) (old new : Home w D) (number : ℕ) (link : Link) (request : MessageA w) (c : Cap) (word : ℕ) (t : Trace w) (memory : Memory)
+    → new.profile ≡ old.profile → new.directory ≡ old.directory → new.blocks ≡ old.blocks → new.trackers.count ≡ old.trackers.count
+    → ((n : ℕ) → tracker_at new.trackers n ≡ (if number == n then Probing link request word else tracker_at old.trackers n))
+    → length config.clients.items ≤ 16 → IsWord config word (is_probed (service_with number link request) c t) → (word == 0) ≡ false
+    → IsReadyAt config number link request t → IsHomeWithout number perm_of config old t memory
+    → IsDone perm_of config new (probes (block_at request.address) c (clients_from 0 16 (λ d. bit_at word d == 1))) t
+    (probing_or (performed config (service_with number link request) t memory) (block_at request.address) c (probed config (service_with number link request) c t) memory)
+home-probed {w} {D} perm_of config old new number link request c word t memory profile directory blocks count trackers few is some at home =
+    let deed_is = probing-some (performed config s t memory) block c (probed config s c t) memory (sym (word-nobody config word (is_probed s c t) is) ∙ some) in
+    subst (λ (d : Deed w). IsDone perm_of config new (probes block c (clients_from 0 16 (λ d. bit_at word d == 1))) t d) (sym deed_is) (
+      ap (probes block c) (word-clients config word (is_probed s c t) few is),
+      record {
+        profile = profile ∙ home.profile;
+        count = count ∙ home.count;
+        tracked = λ i all. tracker-changed number i (Probing link request word) (tracker_at new.trackers) (tracker_at old.trackers) t u trackers probing still home.tracked;
+        records = λ b d. ap (λ m. perm_of m b d) directory ∙ home.records b d ∙ sym (probes-keep (held b) d block c (probed config s c t) t (unheld-b b block c));
+        bytes = rw blocks home.bytes;
+      },
+    )
+  where
+    s : Service w
+    s = service_with number link request
+
+    block : ℕ
+    block = block_at request.address
+
+    u : Trace w
+    u = with_handed (probes block c (probed config s c t)) t
+
+    same : services u ≡ services t
+    same = services-probes block c (probed config s c t) t
+
+    probing : IsTracked number (Probing link request word) u
+    probing = record {
+      serves = ap (serving block) same ∙ at.ready.serves;
+      unanswered = granted-probes block c (probed config s c t) t s ∙ at.ready.unanswered;
+      bits = λ d. is.bits d ∙ ap bit_if (sym (missing-after config s c t d at.ready is.past));
+    }
+
+    still : (n : ℕ) → n ≢ number → IsTracked n (tracker_at old.trackers n) t → IsTracked n (tracker_at old.trackers n) u
+    still n other ok =
+        tracked-still n (tracker_at old.trackers n) t u (λ free. ap (λ (ss : List (Service w)). is_one_of n (trackers_of ss)) same ∙ free)
+        (λ k v e f.
+        let apart = other_block block k s v (services t) at.ready.serves e (λ g. other (sym f ∙ g)) in
+        record {
+          serves = ap (serving k) same ∙ e;
+          granted = granted-probes block c (probed config s c t) t v;
+          missing = λ d. probes-keep (pending (ProbeOf k)) d block c (probed config s c t) t (λ h. missing-else_b k block c h apart);
+        }) ok
+
+-- ---- the deed of a request that probes
+
+begun-some : {w : ℕ} (config : Config) (s : Service w) (o : Option Cap) (c : Cap) (t : Trace w) (memory : Memory) → Some c ≡ o → begun_with config o s t memory ≡ probing_or (performed config s t memory) (block_at s.request.address) c (probed config s c t) memory
+begun-some config s o c t memory e = rw (← e) refl
+
+pub done-unprobed : {w : ℕ} {D : Type 0} (perm_of : D → ℕ → ℕ → Perm) (config : Config) (home : Home w D) (handed : Handed w) (s : Service w) (o : Option Cap) (c : Cap) (word : ℕ) (t : Trace w) (memory : Memory)
+    → Some c ≡ o → IsWord config word (is_probed s c t) → (word == 0) ≡ true → IsDone perm_of config home handed t (performed config s t memory) → IsDone perm_of config home handed t (begun_with config o s t memory)
+done-unprobed {w} perm_of config home handed s o c word t memory e is none done =
+    subst (λ (d : Deed w). IsDone perm_of config home handed t d)
+    (sym (begun-some config s o c t memory e ∙ probing-none (performed config s t memory) (block_at s.request.address) c (probed config s c t) memory (sym (word-nobody config word (is_probed s c t) is) ∙ none))) done
+
+pub done-probed : {w : ℕ} {D : Type 0} (perm_of : D → ℕ → ℕ → Perm) (config : Config) (home : Home w D) (handed : Handed w) (s : Service w) (o : Option Cap) (c : Cap) (t : Trace w) (memory : Memory)
+    → Some c ≡ o → IsDone perm_of config home handed t (probing_or (performed config s t memory) (block_at s.request.address) c (probed config s c t) memory) → IsDone perm_of config home handed t (begun_with config o s t memory)
+done-probed {w} perm_of config home handed s o c t memory e done = subst (λ (d : Deed w). IsDone perm_of config home handed t d) (sym (begun-some config s o c t memory e)) done

@@ -1,0 +1,252 @@
+-- The message of a client that is complete with a beat, and what is kept of the blocks after the beat.
+use Rattle.std.proofs.Common.{◌≡◌, ◌≢◌, ℕ, zero, suc, ◌<◌, ◌==◌, Bool, true, false, ◌&&◌, ◌||◌, List, [], ◌∷◌, length, Option, Some, None, refl, sym, ap, subst, ◌∙◌, arith}
+use Rattle.std.specs.Prelude.{if◌then◌else◌, nat_le}
+use Rattle.std.proofs.lemmas.Bool.{eqb-true, ne_eqb, le-leb, or_parts}
+use Rattle.tl_beat.specs.Width.{IsWidth}
+use Rattle.tl_beat.specs.declared.beat.Beat.{Beat}
+use Rattle.tl_beat.specs.declared.beat.Beat.TheVariants as beat
+use Rattle.tl_beat.specs.declared.beat.BeatA.{BeatA}
+use Rattle.tl_beat.specs.declared.beat.BeatC.{BeatC}
+use Rattle.tl_beat.specs.declared.beat.BeatE.{BeatE}
+use Rattle.tl_beat.specs.declared.beat.Link.{Link}
+use Rattle.tl_beat.specs.declared.opcode.Channel.TheVariants as channel
+use Rattle.tl_burst.specs.declared.message.Message.{Message}
+use Rattle.tl_burst.specs.declared.message.Message.TheVariants.{A, B, C, D, E}
+use Rattle.tl_burst.specs.declared.message.MessageA.{MessageA}
+use Rattle.tl_burst.specs.declared.message.MessageC.{MessageC}
+use Rattle.tl_burst.specs.declared.message.MessageE.{MessageE}
+use Rattle.tl_burst.specs.Burst.{a_beat_of, c_beat_of, begun, beats_of, beat_of, burst_of, IsBurst}
+use Rattle.tl_burst.specs.Messages.{on, unfinished}
+use Rattle.tl_params.specs.declared.config.Config.{Config}
+use Rattle.tl_params.specs.declared.key.Key.TheVariants.{ProbeOf}
+use Rattle.tl_params.specs.declared.perm.Perm.{Perm}
+use Rattle.tl_rules.specs.Conformance.{Trace, on_link}
+use Rattle.tl_rules.specs.Effect.{Memory}
+use Rattle.tl_rules.specs.History.{ends, block_at, pending, or_perm}
+use Rattle.tl_rules.specs.Legality.{is_one_of}
+use Rattle.tl_rules.proofs.Payload.{payload-c}
+use Rattle.tl_manager.specs.Complete.{IsComplete}
+use Rattle.tl_manager.specs.Handing.{Deed, Handed, with_handed, nothing}
+use Rattle.tl_manager.specs.Holders.{is_missing, recorded, cap_probed}
+use Rattle.tl_manager.specs.Home.{IsHomeBut, IsHome, IsHomeWithout, IsDone, IsReadyAt, IsMessage}
+use Rattle.tl_manager.specs.Kept.{AreApart, blocks_of}
+use Rattle.tl_manager.specs.Pending.{is_granted}
+use Rattle.tl_manager.specs.Ready.{IsReady, IsServed, IsTaken}
+use Rattle.tl_manager.specs.Record.{reported_by}
+use Rattle.tl_manager.specs.Service.{Service, services, serving, is_in_service, trackers_of, least_free}
+use Rattle.tl_manager.specs.Slave.{End, deed, begun_with, is_from_client}
+use Rattle.tl_manager.specs.Tracked.{service_with, IsTracked}
+use Rattle.tl_manager.specs.Trackers.{tracker_at}
+use Rattle.tl_manager.specs.Tracking.{is_free}
+use Rattle.tl_manager.specs.declared.manager.home.Home.{Home}
+use Rattle.tl_manager.specs.declared.manager.tracker.Tracker.{Tracker}
+use Rattle.tl_manager.proofs.Accepted.{granted_a}
+use Rattle.tl_manager.proofs.Assembled.{request-again}
+use Rattle.tl_manager.proofs.Busy.{least-tracker, all-taken}
+use Rattle.tl_manager.proofs.Ended.{services-part}
+use Rattle.tl_manager.proofs.Events.{services-request, deed-ack}
+use Rattle.tl_manager.proofs.Handed.{recorded-taken}
+use Rattle.tl_manager.proofs.Links.{own_beat, other_beat, beat-keeps, pending-quiet, whole-e}
+use Rattle.tl_manager.proofs.Probing.{missing-part}
+use Rattle.tl_manager.proofs.Requested.{service_made, made}
+use Rattle.tl_manager.proofs.Serving.{none_of_block, some_is}
+use Rattle.tl_manager.proofs.Steady.{request-ready}
+use Rattle.tl_manager.proofs.SteadyReports.{granted_c}
+use Rattle.tl_manager.proofs.Trackers.{tracked-still}
+
+-- ---- its newest beat is one of it
+
+pub newest-a : {w : ℕ} (m : MessageA w) (x : BeatA w) (burst : List (Beat w)) (n : ℕ) → beat.A x ∷ burst ≡ begun (A m) n → (k : ℕ) × (x ≡ a_beat_of m k)
+newest-a m x burst zero e = absurd cc
+newest-a m x burst (suc k) e = (k, cc)
+
+newest-e : {w : ℕ} (m : MessageE) (x : BeatE) (burst : List (Beat w)) → beat.E x ∷ burst ≡ burst_of (E m) → x.sink ≡ m.sink
+newest-e {w} m x burst e = let same : beat.E x ∷ burst ≡ beat.E (record { sink = m.sink }) ∷ [] = e in cc
+
+on-a : {w : ℕ} (m : MessageA w) (x : Beat w) (burst : List (Beat w)) (n : ℕ) → x ∷ burst ≡ begun (A m) n → on channel.A x ≡ true
+on-a m x burst zero e = absurd cc
+on-a m x burst (suc k) e = let newest : x ≡ beat.A (a_beat_of m k) = cc in ap (on channel.A) newest
+
+on-c : {w : ℕ} (m : MessageC w) (x : Beat w) (burst : List (Beat w)) (n : ℕ) → x ∷ burst ≡ begun (C m) n → on channel.C x ≡ true
+on-c m x burst zero e = absurd cc
+on-c m x burst (suc k) e = let newest : x ≡ beat.C (c_beat_of m k) = cc in ap (on channel.C) newest
+
+pub newest-c : {w : ℕ} (m : MessageC w) (x : BeatC w) (burst : List (Beat w)) (n : ℕ) → beat.C x ∷ burst ≡ begun (C m) n → (k : ℕ) × (x ≡ c_beat_of m k)
+newest-c m x burst zero e = absurd cc
+newest-c m x burst (suc k) e = (k, cc)
+
+-- ---- a request
+
+-- it is what its beats make up
+pub is_served : {w : ℕ} (number : ℕ) (link : Link) (x : BeatA w) (m : MessageA w) (t : Trace w) → IsWidth w → length m.payload ≡ 64 → ends (beat.A x) (on_link link.0 t) ≡ true → IsBurst (A m) (beat.A x ∷ unfinished channel.A (on_link link.0 t)) → number ≡ least_free (trackers_of (services t))
+    → IsServed link x (service_with number link m) t
+is_served number link x m t width long last burst same = record {
+  last = last;
+  made = rw (request-again m (beat.A x ∷ unfinished channel.A (on_link link.0 t)) width long burst, same) refl;
+}
+
+-- and may be performed, where it probes nobody
+pub ready-at : {w : ℕ} (config : Config) (number : ℕ) (link : Link) (x : BeatA w) (m : MessageA w) (e : End w) → nat_le x.size 6 ≡ true → IsTaken config link (beat.A x) e → IsServed link x (service_with number link m) e.trace
+    → IsReadyAt config number link m ((link, beat.A x) ∷ e.trace)
+ready-at {w} config number link x m e small is served =
+    let found = made link x e.trace served.last small in
+    let same = some_is (service_made link x e.trace found.0) (service_with number link m) (sym found.1.made ∙ served.made) in
+    record {
+      ready = subst (λ (s : Service w). IsReady config (block_at s.request.address) s ((link, beat.A x) ∷ e.trace)) same (request-ready config link x e found.0 is found.1);
+      sound = (is.passes.sound, is.before.sound);
+    }
+
+missing_a : {w : ℕ} (link : Link) (x : BeatA w) (t : Trace w) (k c : ℕ) → pending (ProbeOf k) (on_link c ((link, beat.A x) ∷ t)) ≡ pending (ProbeOf k) (on_link c t)
+missing_a link x t k c = beat-keeps (pending (ProbeOf k)) c link (beat.A x) t (λ h. pending-quiet (ProbeOf k) (beat.A x) h refl refl)
+
+pub home-requested : {w : ℕ} {D : Type 0} (perm_of : D → ℕ → ℕ → Perm) (config : Config) (home : Home w D) (number : ℕ) (link : Link) (x : BeatA w) (m : MessageA w) (e : End w) → IsTaken config link (beat.A x) e → IsServed link x (service_with number link m) e.trace
+    → IsHome perm_of config home e.trace e.memory → IsHomeWithout number perm_of config home ((link, beat.A x) ∷ e.trace) e.memory
+home-requested {w} perm_of config home number link x m e is served home_is = record {
+  profile = home_is.profile;
+  count = home_is.count;
+  tracked = λ n other. tracked-still n (tracker_at home.trackers n) e.trace u (λ free. ap (λ (ss : List (Service w)). is_one_of n (trackers_of ss)) more ∙ rw (ne_eqb n number other) free)
+      (λ k v f at. record {
+        serves = ap (serving k) more ∙ rw (away k v f) f;
+        granted = granted_a link x e.trace v;
+        missing = missing_a link x e.trace k;
+      }) (home_is.tracked n tt);
+  records = λ b c. home_is.records b c ∙ sym (recorded-taken c link b (beat.A x) e.trace refl);
+  bytes = home_is.bytes;
+}
+  where
+    u : Trace w
+    u = (link, beat.A x) ∷ e.trace
+
+    s : Service w
+    s = service_with number link m
+
+    more : services ((link, beat.A x) ∷ e.trace) ≡ service_with number link m ∷ services e.trace
+    more = services-request link x (service_with number link m) e.trace served
+
+    none : serving (block_at m.address) (services e.trace) ≡ None
+    none = none_of_block (block_at m.address) (services e.trace) (rw more at is.blocks_apart).0
+
+    away : (k : ℕ) (v : Service w) → serving k (services e.trace) ≡ Some v → (block_at m.address == k) ≡ false
+    away k v f = ne_eqb (block_at m.address) k (λ same. absurd (let no : serving k (services e.trace) ≡ None = rw same at none in cc))
+
+pub done-requested : {w : ℕ} {M : Type 0} (perm_of : M → ℕ → ℕ → Perm) (config : Config) (home : Home w M) (handed : Handed w) (number : ℕ) (link : Link) (x : BeatA w) (m : MessageA w) (e : End w) → IsServed link x (service_with number link m) e.trace
+    → IsDone perm_of config home handed ((link, beat.A x) ∷ e.trace) (begun_with config (cap_probed m.opcode m.param) (service_with number link m) ((link, beat.A x) ∷ e.trace) e.memory)
+    → IsDone perm_of config home handed ((link, beat.A x) ∷ e.trace) (deed config link (beat.A x) e)
+unfolding deed
+done-requested perm_of config home handed number link x m e served done = rw (served.last, served.made) done
+
+-- so its service is begun with the least free tracker
+pub done-served : {w : ℕ} {M : Type 0} (perm_of : M → ℕ → ℕ → Perm) (config : Config) (old new : Home w M) (handed : Handed w) (number : ℕ) (link : Link) (x : Beat w) (m : MessageA w) (e : End w) → length m.payload ≡ 64
+    → is_free (tracker_at old.trackers number) ≡ true → ((i : ℕ) → i < number → is_free (tracker_at old.trackers i) ≡ false)
+    → ((t : Trace w) (memory : Memory) → IsReadyAt config number link m t → IsHomeWithout number perm_of config old t memory → IsDone perm_of config new handed t (begun_with config (cap_probed m.opcode m.param) (service_with number link m) t memory))
+    → IsComplete config link x (A m) e → IsHome perm_of config old e.trace e.memory → IsDone perm_of config new handed ((link, x) ∷ e.trace) (deed config link x e)
+done-served perm_of config old new handed number link (beat.A x) m e long free taken begins is home =
+    let least = least-tracker number (tracker_at old.trackers) e.trace (λ n. home.tracked n tt) free taken in
+    let served = is_served number link x m e.trace is.taken.width long is.last is.burst least in
+    let newest = newest-a m x (unfinished channel.A (on_link link.0 e.trace)) (beats_of (A m)) is.burst.0 in
+    let small : nat_le x.size 6 ≡ true = ap (λ (y : BeatA _). nat_le y.size 6) newest.1 ∙ le-leb m.size 6 m.small in
+    done-requested perm_of config new handed number link x m e served (begins ((link, beat.A x) ∷ e.trace) e.memory (ready-at config number link x m e small is.taken served) (home-requested perm_of config old number link x m e is.taken served home))
+done-served perm_of config old new handed number link (beat.B x) m e long free taken begins is home = absurd (let no = is.taken.passes.theirs in cc)
+done-served perm_of config old new handed number link (beat.C x) m e long free taken begins is home = absurd (let no = on-a m (beat.C x) (unfinished channel.C (on_link link.0 e.trace)) (beats_of (A m)) is.burst.0 in cc)
+done-served perm_of config old new handed number link (beat.D x) m e long free taken begins is home = absurd (let no = is.taken.passes.theirs in cc)
+done-served perm_of config old new handed number link (beat.E x) m e long free taken begins is home = absurd (let no = on-a m (beat.E x) (unfinished channel.E (on_link link.0 e.trace)) (beats_of (A m)) is.burst.0 in cc)
+
+-- there is one
+pub has-room : {w : ℕ} (config : Config) (at : ℕ → Tracker w) (link : Link) (x : Beat w) (m : MessageA w) (e : End w) → ((n : ℕ) → IsTracked n (at n) e.trace) → ((i : ℕ) → i < config.trackers → is_free (at i) ≡ false) → IsComplete config link x (A m) e → ⊥
+has-room config at link (beat.A x) m e tracked taken is =
+    let full = all-taken config.trackers at e.trace tracked taken in
+    let room = (or_parts (is_in_service (block_at x.address) (services e.trace)) (nat_le config.trackers (length (services e.trace))) (rw is.last at is.taken.passes.waits)).1 in
+    absurd cc
+has-room config at link (beat.B x) m e tracked taken is = absurd (let no = is.taken.passes.theirs in cc)
+has-room config at link (beat.C x) m e tracked taken is = absurd (let no = on-a m (beat.C x) (unfinished channel.C (on_link link.0 e.trace)) (beats_of (A m)) is.burst.0 in cc)
+has-room config at link (beat.D x) m e tracked taken is = absurd (let no = is.taken.passes.theirs in cc)
+has-room config at link (beat.E x) m e tracked taken is = absurd (let no = on-a m (beat.E x) (unfinished channel.E (on_link link.0 e.trace)) (beats_of (A m)) is.burst.0 in cc)
+
+-- ---- a message of channel C
+
+pub is_message : {w : ℕ} (config : Config) (link : Link) (x : BeatC w) (m : MessageC w) (e : End w) → length m.payload ≡ 64 → IsTaken config link (beat.C x) e → ends (beat.C x) (on_link link.0 e.trace) ≡ true
+    → IsBurst (C m) (beat.C x ∷ unfinished channel.C (on_link link.0 e.trace)) → IsMessage config link x m e
+is_message {w} config link x m e long is last burst =
+    let newest = newest-c m x (unfinished channel.C (on_link link.0 e.trace)) (beats_of (C m)) burst.0 in
+    record {
+      taken = is;
+      last = last;
+      opcode = sym (ap (λ (y : BeatC w). y.opcode) newest.1);
+      param = sym (ap (λ (y : BeatC w). y.param) newest.1);
+      source = sym (ap (λ (y : BeatC w). y.source) newest.1);
+      address = sym (ap (λ (y : BeatC w). y.address) newest.1);
+      payload = sym (payload-c m (beat.C x ∷ unfinished channel.C (on_link link.0 e.trace)) is.width long burst);
+    }
+
+pub done-reported : {w : ℕ} {M : Type 0} (perm_of : M → ℕ → ℕ → Perm) (config : Config) (old new : Home w M) (handed : Handed w) (link : Link) (x : Beat w) (m : MessageC w) (e : End w)
+    → ((y : BeatC w) → IsMessage config link y m e → IsHome perm_of config old e.trace e.memory → IsDone perm_of config new handed ((link, beat.C y) ∷ e.trace) (deed config link (beat.C y) e))
+    → IsComplete config link x (C m) e → IsHome perm_of config old e.trace e.memory → IsDone perm_of config new handed ((link, x) ∷ e.trace) (deed config link x e)
+done-reported perm_of config old new handed link (beat.A x) m e takes is home = absurd (let no = on-c m (beat.A x) (unfinished channel.A (on_link link.0 e.trace)) (beats_of (C m)) is.burst.0 in cc)
+done-reported perm_of config old new handed link (beat.B x) m e takes is home = absurd (let no = is.taken.passes.theirs in cc)
+done-reported perm_of config old new handed link (beat.C x) m e takes is home = takes x (is_message config link x m e is.filled is.taken is.last is.burst) home
+done-reported perm_of config old new handed link (beat.D x) m e takes is home = absurd (let no = is.taken.passes.theirs in cc)
+done-reported perm_of config old new handed link (beat.E x) m e takes is home = absurd (let no = on-c m (beat.E x) (unfinished channel.E (on_link link.0 e.trace)) (beats_of (C m)) is.burst.0 in cc)
+
+-- ---- a GrantAck
+
+pub done-acked : {w : ℕ} {M : Type 0} (perm_of : M → ℕ → ℕ → Perm) (config : Config) (old new : Home w M) (link : Link) (x : Beat w) (m : MessageE) (e : End w)
+    → ((y : BeatE) → y.sink ≡ m.sink → IsTaken config link (beat.E y) e → IsHome perm_of config old e.trace e.memory → IsHome perm_of config new ((link, beat.E y) ∷ e.trace) e.memory)
+    → IsComplete config link x (E m) e → IsHome perm_of config old e.trace e.memory → IsDone perm_of config new [] ((link, x) ∷ e.trace) (deed config link x e)
+unfolding with_handed
+done-acked perm_of config old new link (beat.A x) m e takes is home = absurd (let no = is.burst.0 in cc)
+done-acked perm_of config old new link (beat.B x) m e takes is home = absurd (let no = is.taken.passes.theirs in cc)
+done-acked perm_of config old new link (beat.C x) m e takes is home = absurd (let no = is.burst.0 in cc)
+done-acked perm_of config old new link (beat.D x) m e takes is home = absurd (let no = is.taken.passes.theirs in cc)
+done-acked {w} perm_of config old new link (beat.E x) m e takes is home =
+    rw (deed-ack config link x e) (refl, takes x (newest-e m x (unfinished channel.E (on_link link.0 e.trace)) is.burst.0) is.taken home)
+
+-- ---- a beat that isn't the last of its burst
+
+part-granted : {w : ℕ} (link : Link) (x : Beat w) (t : Trace w) (s : Service w) → is_from_client x ≡ true → ends x (on_link link.0 t) ≡ false → is_granted ((link, x) ∷ t) s ≡ is_granted t s
+part-granted link (beat.A x) t s theirs part = granted_a link x t s
+part-granted link (beat.B x) t s theirs part = absurd cc
+part-granted link (beat.C x) t s theirs part = granted_c link x t s
+part-granted link (beat.D x) t s theirs part = absurd cc
+part-granted {w} link (beat.E x) t s theirs part = absurd (let whole : ends {w = w} (beat.E x) (on_link link.0 t) ≡ true = (whole-e x (on_link link.0 t)).1 in cc)
+
+part-missing : {w : ℕ} (link : Link) (x : Beat w) (t : Trace w) (k c : ℕ) → is_from_client x ≡ true → ends x (on_link link.0 t) ≡ false → pending (ProbeOf k) (on_link c ((link, x) ∷ t)) ≡ pending (ProbeOf k) (on_link c t)
+part-missing link (beat.A x) t k c theirs part = missing_a link x t k c
+part-missing link (beat.B x) t k c theirs part = absurd cc
+part-missing link (beat.C x) t k c theirs part = go (link.0 == c) refl
+  where
+    go : (b : Bool) → (link.0 == c) ≡ b → pending (ProbeOf k) (on_link c ((link, beat.C x) ∷ t)) ≡ pending (ProbeOf k) (on_link c t)
+    go true e = ap (pending (ProbeOf k)) (own_beat c link (beat.C x) t e) ∙ missing-part x (on_link c t) k (subst (λ i. ends (beat.C x) (on_link i t) ≡ false) (eqb-true link.0 c e) part)
+    go false e = ap (pending (ProbeOf k)) (other_beat c link (beat.C x) t e)
+part-missing link (beat.D x) t k c theirs part = absurd cc
+part-missing {w} link (beat.E x) t k c theirs part = absurd (let whole : ends {w = w} (beat.E x) (on_link link.0 t) ≡ true = (whole-e x (on_link link.0 t)).1 in cc)
+
+part-reports : {w : ℕ} (link : Link) (x : Beat w) (t : Trace w) (c b : ℕ) → is_from_client x ≡ true → ends x (on_link link.0 t) ≡ false → reported_by (link, x) t c b ≡ None
+part-reports link (beat.A x) t c b theirs part = refl
+part-reports link (beat.B x) t c b theirs part = refl
+part-reports {w} link (beat.C x) t c b theirs part = go (link.0 == c) refl
+  where
+    go : (here : Bool) → (link.0 == c) ≡ here → reported_by (link, beat.C x) t c b ≡ None
+    go true e = let there : ends (beat.C x) (on_link c t) ≡ false = subst (λ i. ends (beat.C x) (on_link i t) ≡ false) (eqb-true link.0 c e) part in rw (e, there) refl
+    go false e = rw e refl
+part-reports link (beat.D x) t c b theirs part = refl
+part-reports link (beat.E x) t c b theirs part = refl
+
+pub done-part : {w : ℕ} {M : Type 0} (perm_of : M → ℕ → ℕ → Perm) (config : Config) (home : Home w M) (link : Link) (x : Beat w) (e : End w) → is_from_client x ≡ true → ends x (on_link link.0 e.trace) ≡ false → IsHome perm_of config home e.trace e.memory
+    → IsDone perm_of config home [] ((link, x) ∷ e.trace) (deed config link x e)
+unfolding deed with_handed
+done-part {w} perm_of config home link x e theirs part is = rw part (
+  refl,
+  record {
+    profile = is.profile;
+    count = is.count;
+    tracked = λ n all. tracked-still n (tracker_at home.trackers n) e.trace ((link, x) ∷ e.trace)
+        (λ free. ap (λ (ss : List (Service w)). is_one_of n (trackers_of ss)) (services-part (link, x) e.trace part) ∙ free)
+        (λ k v f at. record {
+          serves = ap (serving k) (services-part (link, x) e.trace part) ∙ f;
+          granted = part-granted link x e.trace v theirs part;
+          missing = λ c. part-missing link x e.trace k c theirs part;
+        }) (is.tracked n tt);
+    records = λ b c. is.records b c ∙ sym (recorded-taken c link b x e.trace theirs ∙ ap (λ o. or_perm o (recorded c b e.trace)) (part-reports link x e.trace c b theirs part));
+    bytes = is.bytes;
+  },
+)

@@ -1,0 +1,63 @@
+-- How a beat is answered that was judged, and that a manager is one afterwards.
+use Rattle.std.proofs.Common.{◌≡◌, ℕ, ◌≤◌, length, Ok, Err, refl, sym, ap, ◌∙◌, arith}
+use Rattle.std.specs.Prelude.{Result}
+use Rattle.tl_beat.specs.declared.beat.Beat.{Beat}
+use Rattle.tl_beat.specs.declared.beat.Link.{Link}
+use Rattle.tl_beat.specs.declared.opcode.Channel.{Channel}
+use Rattle.tl_params.specs.declared.config.Config.{Config}
+use Rattle.tl_params.specs.declared.perm.Perm.{Perm}
+use Rattle.tl_params.specs.declared.rule.Rule.{Rule}
+use Rattle.tl_manager.specs.Admission.{admission_of}
+use Rattle.tl_manager.specs.Knows.{Knows, IsManager}
+use Rattle.tl_manager.specs.Slave.{End, Judgement, Breaks, Waits, Passes, Answer, Refused, Stalled, Sent, judged, deed, refused, taken, offered_as, offered}
+use Rattle.tl_manager.specs.declared.manager.admission.Admission.{Admission}
+use Rattle.tl_manager.specs.declared.manager.admission.Admission.TheVariants as admission
+use Rattle.tl_manager.specs.declared.manager.links.Links.{Links}
+
+pub offered-broken : {w : ℕ} (config : Config) (link : Link) (ch : Channel) (x : Beat w) (e : End w) (rule : Rule) → Err rule ≡ admission_of (judged config link ch x e) → offered config link ch x e ≡ (Refused rule, refused link e)
+unfolding offered
+offered-broken {w} config link ch x e rule is = go (judged config link ch x e) is
+  where
+    go : (j : Judgement) → Err rule ≡ admission_of j → offered_as j config link x e ≡ (Refused rule, refused link e)
+    go (Breaks r) f = let same : r ≡ rule = cc in rw same refl
+    go Waits f = absurd cc
+    go Passes f = absurd cc
+
+pub offered-waits : {w : ℕ} (config : Config) (link : Link) (ch : Channel) (x : Beat w) (e : End w) (a : Admission) → a ≡ admission.Waits → Ok a ≡ admission_of (judged config link ch x e) → offered config link ch x e ≡ (Stalled, e)
+unfolding offered
+offered-waits {w} config link ch x e a waits is = go (judged config link ch x e) (rw waits at is)
+  where
+    go : (j : Judgement) → Ok admission.Waits ≡ admission_of j → offered_as j config link x e ≡ (Stalled, e)
+    go (Breaks r) f = absurd cc
+    go Waits f = refl
+    go Passes f = absurd cc
+
+pub offered-passes : {w : ℕ} (config : Config) (link : Link) (ch : Channel) (x : Beat w) (e : End w) (a : Admission) → a ≡ admission.Passes → Ok a ≡ admission_of (judged config link ch x e) → offered config link ch x e ≡ (Sent (deed config link x e).handed, taken link x (deed config link x e) e)
+unfolding offered
+offered-passes {w} config link ch x e a passes is = go (judged config link ch x e) (rw passes at is)
+  where
+    go : (j : Judgement) → Ok admission.Passes ≡ admission_of j → offered_as j config link x e ≡ (Sent (deed config link x e).handed, taken link x (deed config link x e) e)
+    go (Breaks r) f = absurd cc
+    go Waits f = absurd cc
+    go Passes f = refl
+
+-- ---- it knows some end
+
+pub manager-after : {w : ℕ} {M : Type 0} (perm_of : M → ℕ → ℕ → Perm) (blocks_of clients_of : M → ℕ) (old new : Links w M) (e : End w) → (known : IsManager perm_of blocks_of clients_of old) → Knows perm_of new known.config e
+    → blocks_of new.home.directory ≡ blocks_of old.home.directory → clients_of new.home.directory ≡ clients_of old.home.directory → IsManager perm_of blocks_of clients_of new
+manager-after perm_of blocks_of clients_of old new e known k blocks clients =
+    let was = known.knows in
+    let size = k.size in
+    let size_was = was.size in
+    let count = k.count in
+    let count_was = was.count in
+    let covered = known.blocks in
+    let served = known.clients in
+    record {
+      width = known.width;
+      blocks = omega (arith, size, size_was, covered, blocks);
+      clients = omega (arith, count, count_was, served, clients);
+      config = known.config;
+      end = e;
+      knows = k;
+    }

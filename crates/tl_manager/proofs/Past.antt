@@ -1,0 +1,107 @@
+-- What a link's past says, from what a manager keeps.
+use Rattle.std.proofs.Common.{◌≡◌, ℕ, ◌≤◌, ◌==◌, Bool, true, false, not, ◌&&◌, ◌||◌, [], ◌∷◌, length, Option, Some, None, refl, sym, ap, ◌∙◌}
+use Rattle.std.specs.Prelude.{List, if◌then◌else◌, is_some}
+use Rattle.tl_beat.specs.declared.beat.Beat.{Beat}
+use Rattle.tl_beat.specs.declared.beat.Beat.TheVariants as beat
+use Rattle.tl_beat.specs.declared.beat.Link.{Link}
+use Rattle.tl_burst.specs.declared.message.MessageA.{MessageA}
+use Rattle.tl_beat.specs.declared.opcode.Channel.TheVariants as channel
+use Rattle.tl_burst.specs.Messages.{History, unfinished}
+use Rattle.tl_params.specs.declared.key.Key.{Key}
+use Rattle.tl_params.specs.declared.key.Key.TheVariants.{RequestSource, ReleaseSource, AcquireOf, GrantSink, GrantAckOf, ProbeOf}
+use Rattle.tl_params.specs.declared.perm.Perm.{Perm}
+use Rattle.tl_params.specs.declared.perm.Perm.TheVariants as perm
+use Rattle.tl_rules.specs.Conformance.{on_link, comes_in_request, comes_in_release}
+use Rattle.tl_rules.specs.History.{pending, held, release_of}
+use Rattle.tl_rules.specs.Open.{open_request, open_release, release_size, open_probe, has_open_grant}
+use Rattle.tl_manager.specs.Probed.{probe_in}
+use Rattle.tl_manager.specs.Releases.{comes_with}
+use Rattle.tl_manager.specs.Trackers.{tracker_at, IsOfBlock, IsAsked}
+use Rattle.tl_manager.specs.Tracking.{is_acquiring, is_granted_to, is_missing, request_in}
+use Rattle.tl_manager.specs.declared.manager.tracker.Tracker.{Tracker}
+use Rattle.tl_manager.specs.Wire.{IsLinkPast}
+use Rattle.tl_manager.specs.declared.manager.home.Home.{Home}
+use Rattle.tl_manager.specs.declared.manager.wire.Wire.{Wire}
+use Rattle.tl_manager.proofs.Looking.{AreLooked, source-looked, acquiring-looked, granted-looked, missing-looked, sink-looked, probe-looked}
+use Rattle.tl_manager.proofs.Outside.{recorded-outside}
+
+pub looked-past : {w : ℕ} {M : Type 0} (perm_of : M → ℕ → ℕ → Perm) (link : Link) (wire : Wire w) (home : Home w M) (t : History w) (p : IsLinkPast perm_of link wire home t) → AreLooked home.trackers p.end.trace
+looked-past perm_of link wire home t p = record {
+  tracked = λ n. p.home_is.tracked n tt;
+  accounted = p.kept.steady.accounted;
+  sinks = p.kept.sinks;
+  blocks_apart = p.kept.blocks_apart;
+  trackers_apart = p.kept.trackers_apart;
+}
+
+pub held-within : {w : ℕ} {M : Type 0} (perm_of : M → ℕ → ℕ → Perm) (link : Link) (wire : Wire w) (home : Home w M) (t : History w) (block : ℕ) → IsLinkPast perm_of link wire home t → perm_of home.directory block link.0 ≡ held block t
+held-within perm_of link wire home t block p = p.home_is.records block link.0 ∙ ap (held block) (sym p.past)
+
+pub held-outside : {w : ℕ} {M : Type 0} (perm_of : M → ℕ → ℕ → Perm) (link : Link) (wire : Wire w) (home : Home w M) (t : History w) (block : ℕ) → IsLinkPast perm_of link wire home t → length home.blocks.bytes.items ≤ block → perm.None ≡ held block t
+held-outside perm_of link wire home t block p past =
+    sym (ap (held block) p.past ∙ recorded-outside p.config link.0 block p.end.trace p.kept.sound (rw p.size at past))
+
+-- ---- bursts
+
+same-release : {w : ℕ} (s : ℕ) (burst : List (Beat w)) → comes_with s burst ≡ comes_in_release s burst
+same-release s [] = refl
+same-release s (beat.A x ∷ burst) = refl
+same-release s (beat.B x ∷ burst) = refl
+same-release s (beat.C x ∷ burst) = refl
+same-release s (beat.D x ∷ burst) = refl
+same-release s (beat.E x ∷ burst) = refl
+
+-- no Release is pending and complete
+pub none-released : {w : ℕ} {M : Type 0} (perm_of : M → ℕ → ℕ → Perm) (link : Link) (wire : Wire w) (home : Home w M) (t : History w) (source : ℕ) → IsLinkPast perm_of link wire home t → None ≡ open_release source t
+none-released {w} perm_of link wire home t source p =
+    rw p.past (go (pending (ReleaseSource source) u) (comes_in_release source (unfinished channel.C u)) ((p.kept.releases link.0).sources source ∙ same-release source (unfinished channel.C u)))
+  where
+    u : History w
+    u = on_link link.0 p.end.trace
+
+    go : (a b : Bool) → a ≡ b → None ≡ (if a && not b then release_size (release_of source u) else None)
+    go true true e = refl
+    go false true e = refl
+    go false false e = refl
+    go true false e = absurd cc
+
+-- no Grant is unfinished
+pub granted-whole : {w : ℕ} {M : Type 0} (perm_of : M → ℕ → ℕ → Perm) (link : Link) (wire : Wire w) (home : Home w M) (t : History w) (sink : ℕ) → (p : IsLinkPast perm_of link wire home t) → pending (GrantSink sink) (on_link link.0 p.end.trace) ≡ has_open_grant sink t
+granted-whole perm_of link wire home t sink p = rw (p.past, (p.kept.whole link.0).1) (go (pending (GrantSink sink) (on_link link.0 p.end.trace)))
+  where
+    go : (b : Bool) → b ≡ (b && true)
+    go true = refl
+    go false = refl
+
+-- ---- what is pending
+
+pub source-past : {w : ℕ} {M : Type 0} (perm_of : M → ℕ → ℕ → Perm) (link : Link) (wire : Wire w) (home : Home w M) (t : History w) (source : ℕ) (o : Option (MessageA w)) → IsLinkPast perm_of link wire home t → IsAsked home.trackers link.0 source o
+    → (comes_in_request source wire.requests || is_some o) ≡ pending (RequestSource source) t
+source-past perm_of link wire home t source o p asked =
+    ap (λ burst. comes_in_request source burst || is_some o) p.wire_is.carried.requests
+    ∙ source-looked home.trackers link.0 source o p.end.trace (looked-past perm_of link wire home t p) asked ∙ ap (pending (RequestSource source)) (sym p.past)
+
+pub acquire-past : {w : ℕ} {M : Type 0} (perm_of : M → ℕ → ℕ → Perm) (link : Link) (wire : Wire w) (home : Home w M) (t : History w) (block : ℕ) (tracker : Tracker w) → IsLinkPast perm_of link wire home t → IsOfBlock home.trackers block tracker
+    → is_acquiring link.0 tracker ≡ pending (AcquireOf block) t
+acquire-past perm_of link wire home t block tracker p of =
+    acquiring-looked home.trackers block link.0 tracker p.end.trace (looked-past perm_of link wire home t p) of ∙ ap (pending (AcquireOf block)) (sym p.past)
+
+pub grant-past : {w : ℕ} {M : Type 0} (perm_of : M → ℕ → ℕ → Perm) (link : Link) (wire : Wire w) (home : Home w M) (t : History w) (block : ℕ) (tracker : Tracker w) → IsLinkPast perm_of link wire home t → IsOfBlock home.trackers block tracker
+    → is_granted_to link.0 tracker ≡ pending (GrantAckOf block) t
+grant-past perm_of link wire home t block tracker p of =
+    granted-looked home.trackers block link.0 tracker p.end.trace (looked-past perm_of link wire home t p) of ∙ ap (pending (GrantAckOf block)) (sym p.past)
+
+pub probe-past : {w : ℕ} {M : Type 0} (perm_of : M → ℕ → ℕ → Perm) (link : Link) (wire : Wire w) (home : Home w M) (t : History w) (block : ℕ) (tracker : Tracker w) → IsLinkPast perm_of link wire home t → IsOfBlock home.trackers block tracker
+    → is_missing link.0 tracker ≡ pending (ProbeOf block) t
+probe-past perm_of link wire home t block tracker p of =
+    missing-looked home.trackers block link.0 tracker p.end.trace (looked-past perm_of link wire home t p) of ∙ ap (pending (ProbeOf block)) (sym p.past)
+
+pub sink-past : {w : ℕ} {M : Type 0} (perm_of : M → ℕ → ℕ → Perm) (link : Link) (wire : Wire w) (home : Home w M) (t : History w) (sink : ℕ) → IsLinkPast perm_of link wire home t → is_granted_to link.0 (tracker_at home.trackers sink) ≡ pending (GrantSink sink) t
+sink-past perm_of link wire home t sink p = sink-looked home.trackers sink link.0 p.end.trace (looked-past perm_of link wire home t p) ∙ ap (pending (GrantSink sink)) (sym p.past)
+
+-- the Probe that is open
+pub unprobed-past : {w : ℕ} {M : Type 0} (perm_of : M → ℕ → ℕ → Perm) (link : Link) (wire : Wire w) (home : Home w M) (t : History w) (block : ℕ) (tracker : Tracker w) → IsLinkPast perm_of link wire home t → IsOfBlock home.trackers block tracker → is_missing link.0 tracker ≡ false → None ≡ open_probe block t
+unprobed-past perm_of link wire home t block tracker p of e = rw (sym (probe-past perm_of link wire home t block tracker p of), e) refl
+
+pub probed-past : {w : ℕ} {M : Type 0} (perm_of : M → ℕ → ℕ → Perm) (link : Link) (wire : Wire w) (home : Home w M) (t : History w) (block : ℕ) (tracker : Tracker w) → IsLinkPast perm_of link wire home t → IsOfBlock home.trackers block tracker → is_missing link.0 tracker ≡ true → probe_in (request_in tracker) ≡ open_probe block t
+probed-past perm_of link wire home t block tracker p of e = probe-looked home.trackers block link.0 tracker p.end.trace (looked-past perm_of link wire home t p) of e ∙ ap (open_probe block) (sym p.past)

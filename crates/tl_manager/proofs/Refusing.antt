@@ -1,0 +1,102 @@
+-- What a manager knows after it refused a beat, and which links are closed.
+use Rattle.std.proofs.Common.{◌≡◌, ◌≢◌, ℕ, zero, suc, ◌<◌, ◌≤◌, ◌==◌, ◌⊎◌, Bool, true, false, ◌||◌, List, [], ◌∷◌, length, Option, Some, None, Ok, Err, refl, sym, ap, subst, ◌∙◌, arith, inl, inr}
+use Rattle.std.specs.Prelude.{slice_get, slice_set, is_none, if◌then◌else◌, option_map}
+use Rattle.std.proofs.lemmas.Bool.{cases_eq, eq-eqb, ne_eqb}
+use Rattle.std.proofs.lemmas.Option.{slice_get_past, slice_get_within, slice_get_read}
+use Rattle.std.proofs.lemmas.List.{length-set, get_or-set_same, get_or-set_other}
+use Rattle.tl_beat.specs.declared.beat.Beat.{Beat}
+use Rattle.tl_beat.specs.declared.beat.Link.{Link}
+use Rattle.tl_beat.specs.declared.opcode.Channel.{Channel}
+use Rattle.tl_params.specs.declared.config.Config.{Config}
+use Rattle.tl_params.specs.declared.level.Level.{Level}
+use Rattle.tl_params.specs.declared.perm.Perm.{Perm}
+use Rattle.tl_rules.specs.Legality.{is_one_of}
+use Rattle.tl_manager.specs.Admission.{admission_of, is_stall}
+use Rattle.tl_manager.specs.Kept.{IsKept}
+use Rattle.tl_manager.specs.Knows.{Knows}
+use Rattle.tl_manager.specs.Slave.{End, Judgement, Breaks, Waits, Passes, judged, is_waiting, stalls, level_of, open_level, refused}
+use Rattle.tl_manager.specs.Wire.{IsWire}
+use Rattle.tl_manager.specs.declared.manager.links.Links.{Links}
+use Rattle.tl_manager.specs.declared.manager.wire.Wire.{Wire}
+
+-- ---- stalls
+
+stall-is : (j : Judgement) → is_stall (admission_of j) ≡ is_waiting j
+stall-is (Breaks rule) = refl
+stall-is Waits = refl
+stall-is Passes = refl
+
+pub stalls-judged : {w : ℕ} (config : Config) (link : Link) (ch : Channel) (x : Beat w) (e : End w) → is_stall (admission_of (judged config link ch x e)) ≡ stalls config link ch x e
+unfolding stalls
+stalls-judged config link ch x e = stall-is (judged config link ch x e)
+
+-- ---- links that are closed
+
+pub closed-past : {w : ℕ} {M : Type 0} (perm_of : M → ℕ → ℕ → Perm) (links : Links w M) (config : Config) (link : Link) (e : End w) → Knows perm_of links config e → length links.wires.items ≤ link.0 → true ≡ is_none (open_level config link e)
+closed-past perm_of links config link e k past =
+    go (is_one_of link.0 e.closed) (level_of config link.0) (ap (option_map (λ client. client.level)) (slice_get_past config.clients.items link.0 (rw k.count at past)))
+  where
+    go : (b : Bool) (o : Option Level) → o ≡ None → true ≡ is_none (if b then None else o)
+    go true o none = refl
+    go false o none = rw none refl
+
+pub closed-wire : {w : ℕ} (config : Config) (link : Link) (wire : Wire w) (e : End w) → IsWire config wire link.0 e → wire.closed ≡ is_none (open_level config link e)
+closed-wire config link wire e is = rw is.level (is.closed ∙ go (is_one_of link.0 e.closed))
+  where
+    go : (b : Bool) → b ≡ is_none (if b then None else Some wire.level)
+    go true = refl
+    go false = refl
+
+-- ---- refusals
+
+kept-refused : {w : ℕ} (config : Config) (link : Link) (e : End w) → IsKept config e → IsKept config (refused link e)
+kept-refused config link e k = record { sound = k.sound; whole = k.whole; bursts = k.bursts; requests = k.requests; tracked = k.tracked; trackers_apart = k.trackers_apart; blocks_apart = k.blocks_apart; sinks = k.sinks; releases = k.releases; few = k.few; steady = k.steady }
+
+still-wire : {w : ℕ} (config : Config) (link : Link) (client : ℕ) (wire : Wire w) (e : End w) → (client == link.0) ≡ false → IsWire config wire client e → IsWire config wire client (refused link e)
+still-wire config link client wire e other is = record { level = is.level; closed = is.closed ∙ rw other refl; carried = is.carried }
+
+pub knows-absent : {w : ℕ} {M : Type 0} (perm_of : M → ℕ → ℕ → Perm) (links : Links w M) (config : Config) (link : Link) (e : End w) → Knows perm_of links config e → length links.wires.items ≤ link.0 → Knows perm_of links config (refused link e)
+knows-absent perm_of links config link e k past = record {
+  fits = k.fits;
+  kept = kept-refused config link e k.kept;
+  home = k.home;
+  size = k.size;
+  count = k.count;
+  wires = λ client wire found.
+      let within = slice_get_within links.wires.items client wire found in
+      still-wire config link client wire e (ne_eqb client link.0 (λ same. omega (arith, same, within, past))) (k.wires client wire found);
+}
+
+pub set-other : {X : Type 0} (xs : List X) (i j : ℕ) (x y : X) → j ≢ i → slice_get (slice_set xs i y) j ≡ Some x → slice_get xs j ≡ Some x
+set-other [] i j x y other e = e
+set-other (z ∷ xs) zero zero x y other e = absurd (other refl)
+set-other (z ∷ xs) zero (suc j) x y other e = e
+set-other (z ∷ xs) (suc i) zero x y other e = e
+set-other (z ∷ xs) (suc i) (suc j) x y other e = set-other xs i j x y (λ same. other (ap suc same)) e
+
+pub set-here : {X : Type 0} (xs : List X) (i : ℕ) (x y : X) → slice_get (slice_set xs i y) i ≡ Some x → x ≡ y
+set-here [] i x y e = absurd cc
+set-here (z ∷ xs) zero x y e = cc
+set-here (z ∷ xs) (suc i) x y e = set-here xs i x y e
+
+pub knows-refused : {w : ℕ} {M : Type 0} (perm_of : M → ℕ → ℕ → Perm) (old new : Links w M) (config : Config) (link : Link) (before after : Wire w) (e : End w) → new.home ≡ old.home → new.wires.items ≡ slice_set old.wires.items link.0 after
+    → slice_get old.wires.items link.0 ≡ Some before → after.level ≡ before.level → after.requests ≡ before.requests → after.reports ≡ before.reports → after.closed ≡ true
+    → Knows perm_of old config e → Knows perm_of new config (refused link e)
+knows-refused {w} perm_of old new config link before after e home wires found level requests reports closed k = record {
+  fits = k.fits;
+  kept = kept-refused config link e k.kept;
+  home = rw home k.home;
+  size = rw home k.size;
+  count = ap length wires ∙ length-set old.wires.items link.0 after ∙ k.count;
+  wires = λ client wire at. elim (cases_eq client link.0) [
+    | inl same ↦
+        let here = k.wires link.0 before found in
+        let is : wire ≡ after = set-here old.wires.items link.0 wire after (rw (same, wires) at at) in
+        rw (is, same) (record {
+          level = here.level ∙ ap Some (sym level);
+          closed = closed ∙ rw (eq-eqb link.0 link.0 refl) refl;
+          carried = record { requests = requests ∙ here.carried.requests; reports = reports ∙ here.carried.reports };
+        })
+    | inr other ↦ still-wire config link client wire e (ne_eqb client link.0 other) (k.wires client wire (set-other old.wires.items link.0 client wire after other (rw wires at at)))
+  ];
+}

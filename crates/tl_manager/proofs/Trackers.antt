@@ -1,0 +1,80 @@
+-- What trackers keep, where the trace grows.
+use Rattle.std.proofs.Common.{◌≡◌, ◌≢◌, ℕ, ◌<◌, ◌≤◌, ◌==◌, Bool, true, false, not, cond, ◌&&◌, ◌||◌, List, [], ◌∷◌, length, map, Option, Some, None, refl, sym, ap, subst, ◌∙◌, arith, inl, inr}
+use Rattle.std.specs.Prelude.{filter, if◌then◌else◌}
+use Rattle.std.proofs.lemmas.Bool.{cases_eq, eqb-true, eq-eqb, ne_eqb, or_parts, and_parts}
+use Rattle.tl_beat.specs.declared.beat.Link.{Link}
+use Rattle.tl_rules.specs.Conformance.{Trace}
+use Rattle.tl_rules.specs.History.{block_at}
+use Rattle.tl_rules.specs.Legality.{is_one_of}
+use Rattle.tl_manager.specs.Bit.{bit_if}
+use Rattle.tl_manager.specs.Holders.{is_missing}
+use Rattle.tl_manager.specs.Kept.{Each, AreApart, blocks_of}
+use Rattle.tl_manager.specs.Pending.{is_granted}
+use Rattle.tl_manager.specs.Service.{Service, services, serving, trackers_of}
+use Rattle.tl_manager.specs.Tracked.{service_with, IsTracked, IsProbing, IsGranting}
+use Rattle.tl_manager.specs.declared.manager.tracker.Tracker.{Tracker}
+use Rattle.tl_manager.specs.declared.manager.tracker.Tracker.TheVariants.{Free, Probing, Granted}
+use Rattle.tl_manager.proofs.Counts.{same_tracker}
+use Rattle.tl_manager.proofs.Replied.{block-of}
+use Rattle.tl_manager.proofs.Serving.{some_is}
+
+-- a service that is as it was
+pub record IsStill {w : ℕ} (k : ℕ) (s : Service w) (t u : Trace w) : Type 0 where
+  pub serves : serving k (services u) ≡ Some s
+  pub granted : is_granted u s ≡ is_granted t s
+  pub missing : (c : ℕ) → is_missing c k u ≡ is_missing c k t
+
+-- the trackers whose services are as they were keep what is true of them
+pub tracked-still : {w : ℕ} (n : ℕ) (tracker : Tracker w) (t u : Trace w) → (is_one_of n (trackers_of (services t)) ≡ false → is_one_of n (trackers_of (services u)) ≡ false)
+    → ((k : ℕ) (s : Service w) → serving k (services t) ≡ Some s → s.tracker ≡ n → IsStill k s t u) → IsTracked n tracker t → IsTracked n tracker u
+tracked-still n Free t u free still is = free is
+tracked-still n (Probing link request missing) t u free still is =
+    let s = still (block_at request.address) (service_with n link request) is.serves refl in
+    record { serves = s.serves; unanswered = s.granted ∙ is.unanswered; bits = λ c. is.bits c ∙ ap bit_if (sym (s.missing c)) }
+tracked-still n (Granted link block) t u free still is =
+    let s = still block (service_with n link is.request) is.serves refl in
+    record { request = is.request; block_is = is.block_is; serves = s.serves; granted = s.granted ∙ is.granted }
+
+-- the service of another tracker is of another block
+pub other_block : {w : ℕ} (n k : ℕ) (s v : Service w) (ss : List (Service w)) → serving n ss ≡ Some s → serving k ss ≡ Some v → v.tracker ≢ s.tracker → (n == k) ≡ false
+other_block n k s v ss e f apart = ne_eqb n k (λ same. apart (ap (λ (x : Service _). x.tracker) (some_is v s (sym f ∙ ap (λ i. serving i ss) (sym same) ∙ e))))
+
+-- a tracker that is among those of some services has one of them
+pub tracker-serves : {w : ℕ} (n : ℕ) (ss : List (Service w)) → AreApart (blocks_of ss) → is_one_of n (trackers_of ss) ≡ true → (s : Service w) × (serving (block_at s.request.address) ss ≡ Some s) × (s.tracker ≡ n)
+tracker-serves n [] apart e = absurd cc
+tracker-serves {w} n (s ∷ ss) apart e = go (n == s.tracker) refl (λ f. tracker-serves n ss apart.1 f) e
+  where
+    away : (k : ℕ) (vs : List (Service w)) (v : Service w) → serving k vs ≡ Some v → is_one_of (block_at s.request.address) (blocks_of vs) ≡ false → (block_at s.request.address == k) ≡ false
+    away k [] v f none = absurd cc
+    away k (u ∷ vs) v f none =
+        let parts = or_parts (block_at s.request.address == block_at u.request.address) (is_one_of (block_at s.request.address) (blocks_of vs)) none in
+        found (block_at u.request.address == k) refl f parts.0 (λ g. away k vs v g parts.1)
+      where
+        found : (b : Bool) → (block_at u.request.address == k) ≡ b → (if b then Some u else serving k vs) ≡ Some v → (block_at s.request.address == block_at u.request.address) ≡ false → (serving k vs ≡ Some v → (block_at s.request.address == k) ≡ false) → (block_at s.request.address == k) ≡ false
+        found true g h i rest = let same : block_at u.request.address ≡ k = eqb-true (block_at u.request.address) k g in rw same at i
+        found false g h i rest = rest h
+
+    go : (b : Bool) → (n == s.tracker) ≡ b → (is_one_of n (trackers_of ss) ≡ true → (v : Service w) × (serving (block_at v.request.address) ss ≡ Some v) × (v.tracker ≡ n)) → (b || is_one_of n (trackers_of ss)) ≡ true
+        → (v : Service w) × (serving (block_at v.request.address) (s ∷ ss) ≡ Some v) × (v.tracker ≡ n)
+    go true f rest g = (s, rw (eq-eqb (block_at s.request.address) (block_at s.request.address) refl) refl, sym (eqb-true n s.tracker f))
+    go false f rest g =
+        let r = rest g in
+        (r.0, rw (away (block_at r.0.request.address) ss r.0 r.1 apart.0) r.1, r.2)
+
+-- where the services of a block end, its tracker is free
+pub tracker-ended : {w : ℕ} (n : ℕ) (s : Service w) (ss : List (Service w)) → AreApart (trackers_of ss) → serving n ss ≡ Some s → is_one_of s.tracker (trackers_of (filter (λ v. not (block_at v.request.address == n)) ss)) ≡ false
+tracker-ended {w} n s ss apart e = none (block-of n ss s e) ss (same_tracker n ss s apart e)
+  where
+    none : (block_at s.request.address == n) ≡ true → (vs : List (Service w)) → Each (λ v. (v.tracker == s.tracker) ≡ true → v ≡ s) vs → is_one_of s.tracker (trackers_of (filter (λ v. not (block_at v.request.address == n)) vs)) ≡ false
+    none here [] each = refl
+    none here (v ∷ vs) each = go (block_at v.request.address == n) refl (s.tracker == v.tracker) refl (none here vs each.1)
+      where
+        go : (b : Bool) → (block_at v.request.address == n) ≡ b → (d : Bool) → (s.tracker == v.tracker) ≡ d → is_one_of s.tracker (trackers_of (filter (λ u. not (block_at u.request.address == n)) vs)) ≡ false
+            → is_one_of s.tracker (trackers_of (if not b then v ∷ filter (λ u. not (block_at u.request.address == n)) vs else filter (λ u. not (block_at u.request.address == n)) vs)) ≡ false
+        go true f d g rest = rest
+        go false f false g rest = rw g rest
+        go false f true g rest = absurd (
+            let turned : (v.tracker == s.tracker) ≡ true = eq-eqb v.tracker s.tracker (sym (eqb-true s.tracker v.tracker g)) in
+            let same : v ≡ s = each.0 turned in
+            let there : (block_at v.request.address == n) ≡ true = ap (λ (x : Service w). block_at x.request.address == n) same ∙ here in
+            cc)

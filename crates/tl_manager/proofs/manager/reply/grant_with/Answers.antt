@@ -1,0 +1,6 @@
+use Rattle.std.proofs.Common.{sym}
+use Rattle.tl_manager.proofs.Messages.{same-d}
+use Rattle.tl_manager.proofs.manager.reply.grant_with.Goals as goal
+
+pub returns : goal.returns
+returns g c = rw c.param.ensures.value (same-d _ _ _ _ _ _ _ _ _ _)

@@ -1,0 +1,5 @@
+use Rattle.tl_manager.proofs.Messages.{same-d}
+use Rattle.tl_manager.proofs.manager.reply.release_ack.Goals as goal
+
+pub returns : goal.returns
+returns g c = same-d _ _ _ _ _ _ _ _ _ _

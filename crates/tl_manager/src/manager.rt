@@ -1,0 +1,106 @@
+//! The manager: it takes the beats of its clients, stalls them, or refuses them.
+
+pub mod admission;
+pub mod blocks;
+pub mod home;
+pub mod links;
+pub mod reply;
+pub mod tracker;
+pub mod types;
+pub mod wire;
+
+ghost use Rattle.std.specs.Prelude.{ℕ, ◌≡◌, ◌≤◌, length, is_none};
+ghost use Rattle.tl_beat.specs.Width.{IsWidth};
+ghost use Rattle.tl_params.specs.declared.config.Config.{Config};
+ghost use Rattle.tl_params.specs.declared.perm.Perm.TheVariants as perm;
+ghost use Rattle.tl_manager.specs.Slave;
+ghost use Rattle.tl_manager.specs.Slave.{End, offered, open_level};
+
+use crate::directory::Directory;
+use crate::manager::admission::Admission;
+use crate::manager::links::Links;
+use crate::manager::reply::Handed;
+use std::alloc::Global;
+use std::marker::Model;
+use tl_beat::beat::{Beat, Link};
+use tl_beat::opcode::Channel;
+use tl_rules::config::{Config, NewFault};
+use tl_rules::rule::Rule;
+
+/// What comes of a beat that is offered and breaks no rule.
+pub enum Taken<const W: usize> {
+    /// It has to wait.
+    Stalled,
+    /// It was taken, and these messages are handed out, the first first.
+    Sent(Handed<W>),
+}
+
+/// The manager of up to sixteen links, with what its directory records of them. A contract sees what it
+/// keeps, and says what that tells of any end that it knows.
+#[derive(Drop)]
+pub struct Manager<const W: usize, D: Directory> {
+    links: Links<W, D>,
+}
+
+impl<const W: usize, D: Directory> Model for Manager<W, D> {
+    ghost use Rattle.tl_manager.specs.declared.manager.links.Links.{Links};
+    ghost use Rattle.tl_manager.specs.Knows.{IsManager};
+
+    ghost Value = { Links W D };
+
+    ghost view = { λ m. m.links };
+
+    ghost invariant = { λ m. IsManager D.perm_of D.blocks D.clients m.links };
+}
+
+impl<const W: usize, D: Directory> Manager<W, D> {
+    ghost use Rattle.tl_manager.specs.Answers.{IsAnswer};
+    ghost use Rattle.tl_manager.specs.Fresh.{IsNew};
+    ghost use Rattle.tl_manager.specs.Knows.{Knows};
+
+    /// A manager of a configuration, with a fresh directory that covers it: the first limit that is
+    /// broken, in the order N1 to N4, or want of memory.
+    pub fn new(alloc: Global, config: &Config, directory: D) -> Result<Self, NewFault>
+        requires width { IsWidth W }
+        requires fresh { (block client : ℕ) → D.perm_of directory block client ≡ perm.None }
+        requires blocks { config.now.blocks ≤ D.blocks directory }
+        requires clients { length config.now.clients.items ≤ D.clients directory }
+        ensures { IsNew D.perm_of config.now result }
+    {
+        let links = Links::new(alloc, config, directory)?;
+        Ok(Manager { links })
+    }
+
+    /// Takes a beat, stalls it, or refuses it by the first rule that it breaks, which closes the link.
+    pub fn offer(&mut self, link: Link, channel: Channel, beat: &Beat<W>) -> Result<Taken<W>, Rule>
+        ensures answer { (config : Config) (e : End W) → Knows D.perm_of self.old config e →
+            IsAnswer result (offered config link channel beat.now e).0 }
+        ensures after { (config : Config) (e : End W) → Knows D.perm_of self.old config e →
+            Knows D.perm_of self.new config (offered config link channel beat.now e).1 }
+    {
+        match self.links.judge(link, channel, beat) {
+            Err(rule) => {
+                self.links.refuse(link);
+                Err(rule)
+            }
+            Ok(Admission::Waits) => Ok(Taken::Stalled),
+            Ok(Admission::Passes) => Ok(Taken::Sent(self.links.take(link, beat))),
+        }
+    }
+
+    /// Whether a beat would be stalled.
+    pub fn stalls(&self, link: Link, channel: Channel, beat: &Beat<W>) -> bool
+        ensures { (config : Config) (e : End W) → Knows D.perm_of self.now config e →
+            result ≡ Slave.stalls config link channel beat.now e }
+    {
+        self.links.stalls(link, channel, beat)
+    }
+
+    /// Whether a link takes no beats: it was closed, or there is no such link.
+    pub fn closed(&self, link: Link) -> bool
+        ensures { (config : Config) (e : End W) → Knows D.perm_of self.now config e →
+            result ≡ is_none (open_level config link e) }
+    {
+        self.links.closed(link)
+    }
+}

@@ -1,0 +1,81 @@
+//! What becomes of a beat, by what is known of it.
+
+ghost use Rattle.std.specs.Prelude.{◌≡◌};
+ghost use Rattle.tl_beat.specs.Width.{IsWidth};
+ghost use Rattle.tl_rules.specs.Agent;
+ghost use Rattle.tl_manager.specs.Admission.{admission_of, judged_by};
+ghost use Rattle.tl_manager.specs.Slave;
+
+use tl_beat::beat::Beat;
+use tl_rules::rule::Rule;
+
+/// What becomes of a beat that breaks no rule.
+#[derive(Clone, Copy, Debug, PartialEq, Eq)]
+pub enum Admission {
+    /// It is stalled.
+    Waits,
+    /// It is taken.
+    Passes,
+}
+
+/// What becomes of a beat that breaks no L rule: by the rule of order that it breaks, whether it has to
+/// wait, is of no block of the map, and is corrupt or denied.
+pub fn admit(
+    broken: Option<Rule>,
+    waits: bool,
+    outside: bool,
+    spoiled: bool,
+) -> Result<Admission, Rule>
+    ensures { result ≡ admission_of (judged_by broken waits outside spoiled) }
+{
+    match broken {
+        Some(Rule::S1) => return Err(Rule::S1),
+        Some(Rule::H1) => return Err(Rule::H1),
+        _ => {}
+    }
+    if waits {
+        return Ok(Admission::Waits);
+    }
+    if let Some(rule) = broken {
+        return Err(rule);
+    }
+    if outside {
+        return Err(Rule::A1);
+    }
+    if spoiled {
+        return Err(Rule::A2);
+    }
+    Ok(Admission::Passes)
+}
+
+/// Whether a beat is of a channel on which clients send.
+pub fn is_from_client<const W: usize>(beat: &Beat<W>) -> bool
+    ensures { result ≡ Slave.is_from_client beat.now }
+{
+    matches!(beat, Beat::A(_) | Beat::C(_) | Beat::E(_))
+}
+
+/// Whether a beat's address is outside of so many blocks.
+pub fn is_outside<const W: usize>(blocks: usize, beat: &Beat<W>) -> bool
+    ensures { result ≡ Agent.is_outside blocks beat.now }
+{
+    match beat {
+        Beat::A(x) => blocks <= (x.address / 64) as usize,
+        Beat::B(x) => blocks <= (x.address / 64) as usize,
+        Beat::C(x) => blocks <= (x.address / 64) as usize,
+        Beat::D(_) | Beat::E(_) => false,
+    }
+}
+
+/// Whether a beat is corrupt or denied.
+pub fn is_spoiled<const W: usize>(beat: &Beat<W>) -> bool
+    ensures { result ≡ Agent.is_spoiled beat.now }
+{
+    match beat {
+        Beat::A(x) => x.corrupt,
+        Beat::B(x) => x.corrupt,
+        Beat::C(x) => x.corrupt,
+        Beat::D(x) => x.corrupt || x.denied,
+        Beat::E(_) => false,
+    }
+}

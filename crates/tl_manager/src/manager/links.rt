@@ -1,0 +1,246 @@
+//! The links of a manager, and its blocks.
+
+ghost use Rattle.std.specs.Prelude.{ℕ, ◌≡◌, ◌<◌, ◌≤◌, ◌||◌, nat_le, is_none, IfOk, map, OnOk, Ok, Err, true, false, length};
+ghost use Rattle.tl_beat.specs.Width.{IsWidth};
+ghost use Rattle.tl_burst.specs.Part.{IsTakeable};
+ghost use Rattle.tl_beat.specs.declared.beat.Link.{Link};
+ghost use Rattle.tl_params.specs.declared.config.Config.{Config};
+ghost use Rattle.tl_manager.specs.Admission.{admission_of, judged_in_order, is_stall};
+ghost use Rattle.tl_rules.specs.Conformance.{on_link, broken_in_order};
+ghost use Rattle.tl_params.specs.declared.perm.Perm.TheVariants as perm;
+ghost use Rattle.tl_manager.specs.Fresh.{fresh_wire};
+ghost use Rattle.tl_manager.specs.PartIs.{is_first_part, is_last_part};
+ghost use Rattle.tl_manager.specs.Service.{services, is_in_service};
+ghost use Rattle.tl_manager.specs.Slave;
+ghost use Rattle.tl_beat.specs.declared.opcode.Channel.{Channel};
+ghost use Rattle.tl_manager.specs.Slave.{End, deed, judged, open_level, refused, taken};
+
+use crate::directory::Directory;
+use crate::manager::admission::{Admission, admit, is_from_client, is_outside, is_spoiled};
+use crate::manager::blocks::Blocks;
+use crate::manager::home::Home;
+use crate::manager::reply::Handed;
+use crate::manager::tracker::Trackers;
+use crate::manager::types::{filled, typed};
+use crate::manager::wire::{LinkPast, Wire};
+use arrayvec::ArrayVec;
+use std::alloc::{AllocError, Global};
+use tl_beat::beat::{Beat, Link};
+use tl_beat::opcode::Channel;
+use tl_burst::part::Part;
+use tl_rules::config::{ClientConfig, Config, NewFault};
+use tl_rules::legality::check_beat;
+use tl_rules::order::broken_order;
+use tl_rules::rule::Rule;
+
+/// Whether a beat is the first of its burst.
+fn is_first(part: Part) -> bool
+    ensures { result ≡ is_first_part part }
+{
+    matches!(part, Part::First | Part::Only)
+}
+
+/// Whether a beat is the last of its burst.
+fn is_last(part: Part) -> bool
+    ensures { result ≡ is_last_part part }
+{
+    matches!(part, Part::Last | Part::Only)
+}
+
+/// Whether a beat that was judged so waits.
+fn is_waiting(judged: Result<Admission, Rule>) -> bool
+    ensures { result ≡ is_stall judged }
+{
+    match judged {
+        Ok(Admission::Waits) => true,
+        Ok(Admission::Passes) => false,
+        Err(_) => false,
+    }
+}
+
+/// What a manager keeps.
+#[derive(Drop)]
+pub struct Links<const W: usize, D: Directory> {
+    pub wires: Vec<Wire<W>>,
+    pub home: Home<W, D>,
+}
+
+/// The links of these clients, on which nothing came.
+fn wires_for<const W: usize>(
+    alloc: Global,
+    clients: &[ClientConfig],
+) -> Result<Vec<Wire<W>>, AllocError>
+    ensures { IfOk result (λ wires. wires.items ≡ map (λ client. fresh_wire client.level) clients.now) }
+{
+    let mut wires = Vec::new(alloc);
+    for client in clients {
+        wires.push(Wire::new(client.level))?;
+    }
+    Ok(wires)
+}
+
+impl<const W: usize, D: Directory> Links<W, D> {
+    ghost use Rattle.tl_manager.specs.Knows.{Knows, IsManager};
+    ghost use Rattle.tl_manager.specs.Wire.{IsWire};
+    ghost use Rattle.tl_manager.specs.PartIs.{IsPartOf};
+    ghost use Rattle.tl_manager.specs.Fresh.{IsNew};
+
+    /// The links and blocks of a configuration, with a fresh directory that covers it: the first limit
+    /// that is broken, in the order N1 to N4, or want of memory.
+    pub fn new(alloc: Global, config: &Config, directory: D) -> Result<Self, NewFault>
+        requires width { IsWidth W }
+        requires fresh { (block client : ℕ) → D.perm_of directory block client ≡ perm.None }
+        requires blocks { config.now.blocks ≤ D.blocks directory }
+        requires clients { length config.now.clients.items ≤ D.clients directory }
+        ensures new { IsNew D.perm_of config.now result }
+        ensures directory { IfOk result (λ l. l.home.directory ≡ directory) }
+    {
+        config.check()?;
+        let wires = wires_for(alloc, config.clients.as_slice())?;
+        let blocks = Blocks::new(alloc, config.blocks)?;
+        let home = Home {
+            profile: config.profile,
+            trackers: Trackers::new(config.trackers),
+            directory,
+            blocks,
+        };
+        Ok(Links { wires, home })
+    }
+
+    /// Whether a block is in service, or no tracker is free.
+    fn is_busy(&self, block: u32) -> bool
+        ensures { (config : Config) (e : End W) → Knows D.perm_of self.now config e →
+            result ≡ (is_in_service block (services e.trace) || nat_le config.trackers (length (services e.trace))) }
+    {
+        if self.home.trackers.serving(block).is_some() {
+            return true;
+        }
+        match self.home.trackers.least_free() {
+            None => true,
+            Some(_) => false,
+        }
+    }
+
+    /// Whether a beat is the last of a request that can't be served yet.
+    fn must_wait(&self, beat: &Beat<W>, part: Part) -> bool
+        ensures { (config : Config) (e : End W) (link : Link) → Knows D.perm_of self.now config e → IsPartOf beat.now part (on_link link.0 e.trace) →
+            result ≡ Slave.must_wait config link beat.now e.trace }
+    {
+        match beat {
+            Beat::A(x) => is_last(part) && self.is_busy(x.address / 64),
+            Beat::B(_) | Beat::C(_) | Beat::D(_) | Beat::E(_) => false,
+        }
+    }
+
+    /// The rule of the order of messages that a beat breaks which goes on with its burst.
+    fn broken(&self, link: Link, wire: &Wire<W>, beat: &Beat<W>, part: Part) -> Option<Rule>
+        requires known { IsManager D.perm_of D.blocks D.clients self.now }
+        requires link { link.0 < length self.now.wires.items }
+        ensures { (config : Config) (e : End W) → Knows D.perm_of self.now config e → IsWire config wire.now link.0 e →
+            IsPartOf beat.now part (on_link link.0 e.trace) → result ≡ broken_in_order config.profile beat.now (on_link link.0 e.trace) }
+    {
+        if !is_first(part) {
+            return None;
+        }
+        let past = LinkPast {
+            link,
+            wire,
+            home: &self.home,
+        };
+        broken_order(self.home.profile, beat, &past)
+    }
+
+    /// The rule that a beat breaks which breaks no L rule, or whether it waits or passes.
+    fn judge_order(&self, link: Link, wire: &Wire<W>, beat: &Beat<W>) -> Result<Admission, Rule>
+        requires known { IsManager D.perm_of D.blocks D.clients self.now }
+        requires link { link.0 < length self.now.wires.items }
+        requires takeable { IsTakeable beat.now }
+        requires theirs { Slave.is_from_client beat.now ≡ true }
+        ensures { (config : Config) (e : End W) → Knows D.perm_of self.now config e → IsWire config wire.now link.0 e →
+            result ≡ admission_of (judged_in_order config link beat.now e.trace) }
+    {
+        let Ok(part) = wire.part(beat) else {
+            return Err(Rule::S1);
+        };
+        let broken = self.broken(link, wire, beat, part);
+        let waits = self.must_wait(beat, part);
+        let outside = is_outside(self.home.blocks.count(), beat);
+        admit(broken, waits, outside, is_spoiled(beat))
+    }
+
+    /// The rule that a beat breaks, or whether it waits or passes.
+    pub fn judge(&self, link: Link, channel: Channel, beat: &Beat<W>) -> Result<Admission, Rule>
+        requires known { IsManager D.perm_of D.blocks D.clients self.now }
+        ensures judged { (config : Config) (e : End W) → Knows D.perm_of self.now config e →
+            result ≡ admission_of (judged config link channel beat.now e) }
+        ensures takeable { OnOk result (IsTakeable beat.now) }
+        ensures link { OnOk result (link.0 < length self.now.wires.items) }
+    {
+        let Some(wire) = self.wires.get(usize::from(link.0)) else {
+            return Err(Rule::A3);
+        };
+        if wire.closed {
+            return Err(Rule::A3);
+        }
+        if !is_from_client(beat) {
+            return Err(Rule::L1);
+        }
+        check_beat(wire.level, channel, beat)?;
+        self.judge_order(link, wire, beat)
+    }
+
+    /// Whether a beat would be stalled.
+    pub fn stalls(&self, link: Link, channel: Channel, beat: &Beat<W>) -> bool
+        requires known { IsManager D.perm_of D.blocks D.clients self.now }
+        ensures { (config : Config) (e : End W) → Knows D.perm_of self.now config e →
+            result ≡ Slave.stalls config link channel beat.now e }
+    {
+        is_waiting(self.judge(link, channel, beat))
+    }
+
+    /// Whether a link takes no beats: it was closed, or there is no such link.
+    pub fn closed(&self, link: Link) -> bool
+        ensures { (config : Config) (e : End W) → Knows D.perm_of self.now config e →
+            result ≡ is_none (open_level config link e) }
+    {
+        match self.wires.get(usize::from(link.0)) {
+            None => true,
+            Some(wire) => wire.closed,
+        }
+    }
+
+    /// Closes a link, by a beat that was refused.
+    pub fn refuse(&mut self, link: Link)
+        ensures knows { (config : Config) (e : End W) → Knows D.perm_of self.old config e →
+            Knows D.perm_of self.new config (refused link e) }
+        ensures home { self.new.home ≡ self.old.home }
+        ensures count { length self.new.wires.items ≡ length self.old.wires.items }
+    {
+        let number = usize::from(link.0);
+        if number < self.wires.len() {
+            self.wires[number].closed = true;
+        }
+    }
+
+    /// Takes a beat that passes: the messages that are handed out for it.
+    pub fn take(&mut self, link: Link, beat: &Beat<W>) -> Handed<W>
+        requires known { IsManager D.perm_of D.blocks D.clients self.old }
+        requires link { link.0 < length self.old.wires.items }
+        requires takeable { IsTakeable beat.now }
+        requires passes { (config : Config) (e : End W) → Knows D.perm_of self.old config e → (ch : Channel) × (judged config link ch beat.now e ≡ Slave.Passes) }
+        ensures handed { (config : Config) (e : End W) → Knows D.perm_of self.old config e →
+            result.items ≡ (deed config link beat.now e).handed }
+        ensures knows { (config : Config) (e : End W) → Knows D.perm_of self.old config e →
+            Knows D.perm_of self.new config (taken link beat.now (deed config link beat.now e) e) }
+        ensures blocks { D.blocks self.new.home.directory ≡ D.blocks self.old.home.directory }
+        ensures clients { D.clients self.new.home.directory ≡ D.clients self.old.home.directory }
+    {
+        typed(beat);
+        let number = usize::from(link.0);
+        let Some(message) = self.wires[number].take(beat) else {
+            return ArrayVec::new();
+        };
+        filled(&message);
+        self.home.complete(link, &message)
+    }
+}

@@ -1,0 +1,200 @@
+//! The trackers of the requests in service.
+
+ghost use Rattle.std.specs.Prelude.{ℕ, ◌≡◌, ◌<◌, ◌≤◌, ◌==◌, ◌&&◌, if◌then◌else◌, true, false, IfSome};
+
+use tl_beat::beat::Link;
+use tl_burst::message::MessageA;
+use tl_rules::kind::is_acquire;
+
+/// What a tracker keeps.
+#[derive(Clone, Copy)]
+pub enum Tracker<const W: usize> {
+    /// It has no request.
+    Free,
+    /// Its request waits for ProbeAcks: those of the clients whose bit is set.
+    Probing {
+        link: Link,
+        request: MessageA<W>,
+        missing: u16,
+    },
+    /// Its Grant was handed out, and the GrantAck is missing.
+    Granted {
+        link: Link,
+        block: u32,
+    },
+}
+
+impl<const W: usize> Tracker<W> {
+    ghost use Rattle.tl_manager.specs.Tracking;
+
+    /// Whether it has no request.
+    pub fn is_free(&self) -> bool
+        ensures { result ≡ Tracking.is_free self.now }
+    {
+        matches!(self, Tracker::Free)
+    }
+
+    /// Whether its request is of the block.
+    pub fn is_of(&self, block: u32) -> bool
+        ensures { result ≡ Tracking.is_of block self.now }
+    {
+        match self {
+            Tracker::Free => false,
+            Tracker::Probing { request, .. } => request.address / 64 == block,
+            Tracker::Granted { block: granted, .. } => *granted == block,
+        }
+    }
+
+    /// Whether its request came on the link with this source, and isn't answered.
+    pub fn is_asking(&self, link: Link, source: u8) -> bool
+        ensures { result ≡ Tracking.is_asking link.0 source self.now }
+    {
+        match self {
+            Tracker::Probing {
+                link: asking,
+                request,
+                ..
+            } => asking.0 == link.0 && request.source == source,
+            _ => false,
+        }
+    }
+}
+
+impl<const W: usize> Tracker<W> {
+    ghost use Rattle.tl_manager.specs.Tracking;
+
+    /// Its request, which isn't answered.
+    pub fn request(&self) -> Option<MessageA<W>>
+        ensures { result ≡ Tracking.request_in self.now }
+    {
+        match self {
+            Tracker::Probing { request, .. } => Some(*request),
+            _ => None,
+        }
+    }
+
+    /// Whether its request is an Acquire of this client, which isn't granted.
+    pub fn is_acquiring(&self, client: Link) -> bool
+        ensures { result ≡ Tracking.is_acquiring client.0 self.now }
+    {
+        match self {
+            Tracker::Probing { link, request, .. } => {
+                is_acquire(request.opcode) && link.0 == client.0
+            }
+            _ => false,
+        }
+    }
+
+    /// Whether it waits for the GrantAck of this client.
+    pub fn is_granted_to(&self, client: Link) -> bool
+        ensures { result ≡ Tracking.is_granted_to client.0 self.now }
+    {
+        match self {
+            Tracker::Granted { link, .. } => link.0 == client.0,
+            _ => false,
+        }
+    }
+
+    /// Whether it waits for the ProbeAck of this client.
+    pub fn is_missing(&self, client: Link) -> bool
+        requires { client.0 < 16 }
+        ensures { result ≡ Tracking.is_missing client.0 self.now }
+    {
+        match self {
+            Tracker::Probing { missing, .. } => (*missing >> client.0) % 2 == 1,
+            _ => false,
+        }
+    }
+}
+
+/// The trackers, of which so many are in use, at most eight.
+#[derive(Clone, Copy)]
+pub struct Trackers<const W: usize> {
+    pub all: [Tracker<W>; 8],
+    pub count: u8,
+}
+
+impl<const W: usize> Trackers<W> {
+    ghost use Rattle.tl_manager.specs.Tracking;
+    ghost use Rattle.tl_manager.specs.Trackers.{tracker_at, IsAsked, IsOfBlock};
+
+    /// So many free ones.
+    pub fn new(count: u8) -> Self
+        ensures free { (n : ℕ) → tracker_at result n ≡ Tracker.Free }
+        ensures count { result.count ≡ count }
+    {
+        Trackers {
+            all: [Tracker::Free; 8],
+            count,
+        }
+    }
+
+    /// The tracker with this number.
+    pub fn at(&self, number: u8) -> Tracker<W>
+        ensures { result ≡ tracker_at self.now number }
+    {
+        match self.all.get(usize::from(number)) {
+            Some(tracker) => *tracker,
+            None => Tracker::Free,
+        }
+    }
+
+    /// The least free one.
+    pub fn least_free(&self) -> Option<u8>
+        ensures free { IfSome result (λ n. (n < self.now.count) × (Tracking.is_free (tracker_at self.now n) ≡ true)
+            × ((i : ℕ) → i < n → Tracking.is_free (tracker_at self.now i) ≡ false)) }
+        ensures none { result ≡ None → (i : ℕ) → i < self.now.count → Tracking.is_free (tracker_at self.now i) ≡ false }
+    {
+        for number in 0..self.count {
+            if self.at(number).is_free() {
+                return Some(number);
+            }
+        }
+        None
+    }
+
+    /// The one whose request is of the block.
+    pub fn serving(&self, block: u32) -> Option<u8>
+        ensures found { IfSome result (λ n. (n < 8) × (Tracking.is_of block (tracker_at self.now n) ≡ true)) }
+        ensures none { result ≡ None → (i : ℕ) → Tracking.is_of block (tracker_at self.now i) ≡ false }
+    {
+        for number in 0..8 {
+            if self.at(number).is_of(block) {
+                return Some(number);
+            }
+        }
+        None
+    }
+
+    /// The request that came on the link with this source and isn't answered.
+    pub fn asked(&self, link: Link, source: u8) -> Option<MessageA<W>>
+        ensures { IsAsked self.now link.0 source result }
+    {
+        for number in 0..8 {
+            let tracker = self.at(number);
+            if tracker.is_asking(link, source) {
+                return tracker.request();
+            }
+        }
+        None
+    }
+
+    /// The one whose request is of the block, or a free one where there is none.
+    pub fn of_block(&self, block: u32) -> Tracker<W>
+        ensures { IsOfBlock self.now block result }
+    {
+        match self.serving(block) {
+            None => Tracker::Free,
+            Some(number) => self.at(number),
+        }
+    }
+
+    /// Changes what one tracker keeps.
+    pub fn set(&mut self, number: u8, tracker: Tracker<W>)
+        requires { number < 8 }
+        ensures trackers { (n : ℕ) → tracker_at self.new n ≡ (if number == n then tracker.entry else tracker_at self.old n) }
+        ensures count { self.new.count ≡ self.old.count }
+    {
+        self.all[usize::from(number)] = tracker;
+    }
+}

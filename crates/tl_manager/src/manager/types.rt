@@ -1,0 +1,45 @@
+//! What the types of beats and messages say.
+
+ghost use Rattle.std.specs.Prelude.{◌≡◌, length};
+ghost use Rattle.tl_beat.specs.Width.{IsWidth};
+ghost use Rattle.tl_burst.specs.Part.{IsTakeable};
+ghost use Rattle.tl_manager.specs.Kept.{IsFilled, IsTyped};
+
+use tl_beat::beat::Beat;
+use tl_burst::message::Message;
+
+/// A payload has 64 bytes.
+fn long(payload: &[u8; 64])
+    ensures { length payload.now ≡ 64 }
+{}
+
+/// There is a byte for each lane.
+fn wide<const W: usize>(lanes: &[u8; W])
+    ensures { length lanes.now ≡ W }
+{}
+
+/// The payload of a message has 64 bytes.
+pub fn filled<const W: usize>(message: &Message<W>)
+    ensures { IsFilled message.now }
+{
+    match message {
+        Message::A(x) => long(&x.payload),
+        Message::B(x) => long(&x.payload),
+        Message::C(x) => long(&x.payload),
+        Message::D(x) => long(&x.payload),
+        Message::E(_) => {}
+    }
+}
+
+/// The mask of a request's beat has 16 bits, and its lanes a byte each.
+pub fn typed<const W: usize>(beat: &Beat<W>)
+    requires width { IsWidth W }
+    requires takeable { IsTakeable beat.now }
+    ensures { IsTyped beat.now }
+{
+    if let Beat::A(x) = beat {
+        if let Some(lanes) = &x.lanes {
+            wide(lanes);
+        }
+    }
+}

@@ -1,3 +1,4 @@
+pub mod FirstLine
 pub mod LineLemmas
 pub mod PartLemmas
 pub mod ProgressLemmas

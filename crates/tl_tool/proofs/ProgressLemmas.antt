@@ -50,7 +50,7 @@ module _ {J : Type 0} (knows : J → List (List ℕ) → List ℕ → Type 0) (t
         unended = rw none lacks-nil;
         short = rw none (omega arith);
         ended = omega (arith, ended_lines-append read line, ended_lines-line line ends, p.ended, length-append p.lines ((old.begun.items ++ line) ∷ []));
-        rest = (read ++ line, rw (none, append-nil) refl);
+        rest = (read ++ line, rw (none, append-nil) refl, inr (read ++ ends.0, rw ends.2 (sym (append_assoc read ends.0 (10 ∷ [])))));
       }
   feeds_line old new line was is Broken ends none counts = λ read before p more.
       rw (cut_line old read (before ++ was) line more p ends) (counts p.lines before p.known p.counted (lines_of more))
@@ -92,7 +92,7 @@ module _ {J : Type 0} (knows : J → List (List ℕ) → List ℕ → Type 0) (t
     unended = rw begun (lacks-append old.begun.items piece p.unended lacks);
     short = short;
     ended = omega (arith, ended_lines-append read piece, ended_lines-lacks piece lacks, p.ended);
-    rest = (p.rest.0, ap (λ (xs : List ℕ). xs ++ piece) p.rest.1 ∙ append_assoc p.rest.0 old.begun.items piece ∙ ap (λ (xs : List ℕ). p.rest.0 ++ xs) (sym begun));
+    rest = (p.rest.0, ap (λ (xs : List ℕ). xs ++ piece) p.rest.1 ∙ append_assoc p.rest.0 old.begun.items piece ∙ ap (λ (xs : List ℕ). p.rest.0 ++ xs) (sym begun), p.rest.2);
   }
 
   -- a piece behind another
@@ -134,6 +134,7 @@ module _ {J : Type 0} (knows : J → List (List ℕ) → List ℕ → Type 0) (t
       front = read;
       rest = [];
       whole = sym (append-nil read);
+      ended = (let same : read ≡ p.rest.0 = p.rest.1 ∙ rw (none, append-nil) refl in rw same p.rest.2);
       unended = lacks-nil;
       short = omega arith;
       before = before ++ said;
@@ -153,6 +154,7 @@ module _ {J : Type 0} (knows : J → List (List ℕ) → List ℕ → Type 0) (t
       front = p.rest.0;
       rest = state.begun.items;
       whole = p.rest.1;
+      ended = p.rest.2;
       unended = p.unended;
       short = omega (arith, p.short);
       before = before ++ was;

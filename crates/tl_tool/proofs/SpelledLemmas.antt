@@ -1,16 +1,15 @@
 -- The text of a beat, from the line that spells it.
-use Rattle.std.proofs.Common.{◌≡◌, ℕ, ◌+◌, ◌≤◌, ◌/◌, List, [], ◌∷◌, ◌++◌, length, refl, ap, ◌∙◌, arith, length-append, inl, inr}
-use Rattle.std.specs.Prelude.{slice_get, Bool, true, false, Result, Ok, Err, OnOk}
+use Rattle.std.proofs.Common.{◌≡◌, ℕ, ◌+◌, ◌≤◌, ◌/◌, List, [], ◌∷◌, ◌++◌, length, refl, arith, length-append, inl, inr, ◌*◌}
+use Rattle.std.specs.Prelude.{slice_get, Bool, true, false, Option, None, Some}
 use Rattle.tl_beat.specs.declared.beat.Link.{Link}
-use Rattle.tl_beat.specs.declared.beat.Beat.{Beat}
 use Rattle.tl_beat.specs.declared.beat.BeatA.{BeatA}
 use Rattle.tl_beat.specs.declared.beat.BeatB.{BeatB}
 use Rattle.tl_beat.specs.declared.beat.BeatC.{BeatC}
 use Rattle.tl_beat.specs.declared.beat.BeatD.{BeatD}
 use Rattle.tl_beat.specs.declared.beat.BeatE.{BeatE}
 use Rattle.tl_beat.specs.declared.beat.Beat.TheVariants.{A, B, C, D, E}
-use Rattle.tl_beat.specs.Digits.{digits, lanes_text, bit_text}
-use Rattle.tl_beat.specs.Line.{Spells, spaced}
+use Rattle.tl_beat.specs.Digits.{digits, lane_digits, lanes_text, bit_text}
+use Rattle.tl_beat.specs.Line.{AreLanes, Spells, spaced}
 use Rattle.tl_beat.specs.Names.{a_name, b_name, c_name, d_name, a_param_names, b_param_names, c_param_names, d_param_names}
 use Rattle.tl_beat.specs.Opcode.{a_code, b_code, c_code, d_code}
 use Rattle.tl_beat.specs.Width.{IsWidth}
@@ -41,46 +40,58 @@ text_d {w} line link x s =
 pub text_e : {w : ℕ} (line : List ℕ) (link : Link) (x : BeatE) → Spells {w = w} line link (E x) → acknowledgement_text line ≡ text_of {w = w} link (E x)
 text_e {w} line link x s = rw s.is_line (acknowledgement_is link.0 x.sink)
 
--- ---- the lines are long enough
+-- ---- the lines are long enough, and short
 
 one_bit : (b : Bool) → length (bit_text b) ≡ 1
 one_bit false = refl
 one_bit true = refl
 
-end_long : (d : List ℕ) (corrupt : Bool) → 3 ≤ length ((d ++ 32 ∷ bit_text corrupt) ++ 10 ∷ [])
-end_long d corrupt = omega (arith, length-append (d ++ 32 ∷ bit_text corrupt) (10 ∷ []), length-append d (32 ∷ bit_text corrupt), one_bit corrupt)
+end_length : (d : List ℕ) (corrupt : Bool) → length ((d ++ 32 ∷ bit_text corrupt) ++ 10 ∷ []) ≡ length d + 3
+end_length d corrupt = omega (arith, length-append (d ++ 32 ∷ bit_text corrupt) (10 ∷ []), length-append d (32 ∷ bit_text corrupt), one_bit corrupt)
 
-request_long : (w : ℕ) → IsWidth w → (letter link opcode param size source address mask : ℕ) (d : List ℕ) (corrupt : Bool)
-    → 27 + w / 4 ≤ length (request_line (w / 4) letter link opcode param size source address mask d corrupt)
+lane_digits-length : (lanes : List ℕ) → length (lane_digits lanes) ≡ 2 * length lanes
+unfolding lane_digits digits
+lane_digits-length [] = refl
+lane_digits-length (x ∷ xs) = omega (arith, lane_digits-length xs, length-append (lane_digits xs) (digits 2 x))
+
+data_short : (w : ℕ) → IsWidth w → (lanes : Option (List ℕ)) → AreLanes w lanes → length (lanes_text lanes) ≤ 32
+data_short w width None are = omega arith
+data_short w (inl four) (Some lanes) are = omega (arith, lane_digits-length lanes, are.0, four)
+data_short w (inr (inl eight)) (Some lanes) are = omega (arith, lane_digits-length lanes, are.0, eight)
+data_short w (inr (inr sixteen)) (Some lanes) are = omega (arith, lane_digits-length lanes, are.0, sixteen)
+
+request_long : (w : ℕ) → IsWidth w → (letter link opcode param size source address mask : ℕ) (d : List ℕ) (corrupt : Bool) → length d ≤ 32
+    → (27 + w / 4 ≤ length (request_line (w / 4) letter link opcode param size source address mask d corrupt))
+    × (length (request_line (w / 4) letter link opcode param size source address mask d corrupt) ≤ 63)
 unfolding digits spaced
-request_long w (inl four) letter link opcode param size source address mask d corrupt = rw four (omega (arith, end_long d corrupt))
-request_long w (inr (inl eight)) letter link opcode param size source address mask d corrupt = rw eight (omega (arith, end_long d corrupt))
-request_long w (inr (inr sixteen)) letter link opcode param size source address mask d corrupt = rw sixteen (omega (arith, end_long d corrupt))
+request_long w (inl four) letter link opcode param size source address mask d corrupt few = rw four (omega (arith, end_length d corrupt, few), omega (arith, end_length d corrupt, few))
+request_long w (inr (inl eight)) letter link opcode param size source address mask d corrupt few = rw eight (omega (arith, end_length d corrupt, few), omega (arith, end_length d corrupt, few))
+request_long w (inr (inr sixteen)) letter link opcode param size source address mask d corrupt few = rw sixteen (omega (arith, end_length d corrupt, few), omega (arith, end_length d corrupt, few))
 
-pub long_a : {w : ℕ} (line : List ℕ) (link : Link) (x : BeatA w) → IsWidth w → Spells line link (A x) → 27 + w / 4 ≤ length line
-long_a {w} line link x width s = rw s.is_line (request_long w width 65 link.0 (a_code x.opcode) x.param x.size x.source x.address x.mask (lanes_text x.lanes) x.corrupt)
+pub long_a : {w : ℕ} (line : List ℕ) (link : Link) (x : BeatA w) → IsWidth w → Spells line link (A x) → (27 + w / 4 ≤ length line) × (length line ≤ 63)
+long_a {w} line link x width s = rw s.is_line (request_long w width 65 link.0 (a_code x.opcode) x.param x.size x.source x.address x.mask (lanes_text x.lanes) x.corrupt (data_short w width x.lanes s.in_range.2))
 
-pub long_b : {w : ℕ} (line : List ℕ) (link : Link) (x : BeatB w) → IsWidth w → Spells line link (B x) → 27 + w / 4 ≤ length line
-long_b {w} line link x width s = rw s.is_line (request_long w width 66 link.0 (b_code x.opcode) x.param x.size x.source x.address x.mask (lanes_text x.lanes) x.corrupt)
+pub long_b : {w : ℕ} (line : List ℕ) (link : Link) (x : BeatB w) → IsWidth w → Spells line link (B x) → (27 + w / 4 ≤ length line) × (length line ≤ 63)
+long_b {w} line link x width s = rw s.is_line (request_long w width 66 link.0 (b_code x.opcode) x.param x.size x.source x.address x.mask (lanes_text x.lanes) x.corrupt (data_short w width x.lanes s.in_range.2))
 
-pub long_c : {w : ℕ} (line : List ℕ) (link : Link) (x : BeatC w) → Spells line link (C x) → 26 ≤ length line
+pub long_c : {w : ℕ} (line : List ℕ) (link : Link) (x : BeatC w) → IsWidth w → Spells line link (C x) → (26 ≤ length line) × (length line ≤ 63)
 unfolding digits spaced
-long_c {w} line link x s = rw s.is_line (omega (arith, end_long (lanes_text x.lanes) x.corrupt))
+long_c {w} line link x width s =
+    let few = data_short w width x.lanes s.in_range.2 in
+    rw s.is_line (omega (arith, end_length (lanes_text x.lanes) x.corrupt, few), omega (arith, end_length (lanes_text x.lanes) x.corrupt, few))
 
-pub long_d : {w : ℕ} (line : List ℕ) (link : Link) (x : BeatD w) → Spells line link (D x) → 22 ≤ length line
+abbrev response_line : {w : ℕ} → Link → BeatD w → Bool → List ℕ
+response_line link x denied =
+    spaced (digits 2 link.0 ∷ (68 ∷ []) ∷ digits 1 (d_code x.opcode) ∷ digits 1 x.param ∷ digits 1 x.size ∷ digits 2 x.source ∷ digits 2 x.sink ∷ bit_text denied ∷ lanes_text x.lanes ∷ bit_text x.corrupt ∷ []) ++ 10 ∷ []
+
+response_long : {w : ℕ} (link : Link) (x : BeatD w) (denied : Bool) → length (lanes_text x.lanes) ≤ 32 → (22 ≤ length (response_line link x denied)) × (length (response_line link x denied) ≤ 63)
 unfolding digits spaced
-long_d {w} line link x s = rw s.is_line (go x.denied)
-  where
-    go : (denied : Bool) → 22 ≤ length (spaced (digits 2 link.0 ∷ (68 ∷ []) ∷ digits 1 (d_code x.opcode) ∷ digits 1 x.param ∷ digits 1 x.size ∷ digits 2 x.source ∷ digits 2 x.sink ∷ bit_text denied ∷ lanes_text x.lanes ∷ bit_text x.corrupt ∷ []) ++ 10 ∷ [])
-    go false = omega (arith, end_long (lanes_text x.lanes) x.corrupt)
-    go true = omega (arith, end_long (lanes_text x.lanes) x.corrupt)
+response_long link x false few = (omega (arith, end_length (lanes_text x.lanes) x.corrupt, few), omega (arith, end_length (lanes_text x.lanes) x.corrupt, few))
+response_long link x true few = (omega (arith, end_length (lanes_text x.lanes) x.corrupt, few), omega (arith, end_length (lanes_text x.lanes) x.corrupt, few))
 
-pub long_e : {w : ℕ} (line : List ℕ) (link : Link) (x : BeatE) → Spells {w = w} line link (E x) → 5 ≤ length line
+pub long_d : {w : ℕ} (line : List ℕ) (link : Link) (x : BeatD w) → IsWidth w → Spells line link (D x) → (22 ≤ length line) × (length line ≤ 63)
+long_d {w} line link x width s = rw s.is_line (response_long link x x.denied (data_short w width x.lanes s.in_range.2))
+
+pub long_e : {w : ℕ} (line : List ℕ) (link : Link) (x : BeatE) → Spells {w = w} line link (E x) → (5 ≤ length line) × (length line ≤ 63)
 unfolding digits spaced
-long_e {w} line link x s = rw s.is_line (omega arith)
-
--- what was appended is the text of the beat
-pub told : {w : ℕ} {X Y : Type 0} (r : Result X Y) (line old new text : List ℕ) (beat : Beat w) → ((link : Link) → Spells line link beat → text ≡ text_of link beat) → OnOk r (new ≡ old ++ text)
-    → OnOk r ((link : Link) → Spells line link beat → new ≡ old ++ text_of link beat)
-told (Ok x) line old new text beat is appended = λ link s. appended ∙ ap (λ (rest : List ℕ). old ++ rest) (is link s)
-told (Err e) line old new text beat is appended = tt
+long_e {w} line link x s = rw s.is_line (omega arith, omega arith)

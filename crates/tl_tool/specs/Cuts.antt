@@ -1,6 +1,11 @@
 -- The readable line, from the places of the fields in the beat line. A field before the data stands at
 -- a fixed place.
-use Rattle.std.specs.Prelude.{ℕ, ◌+◌, ◌-◌, List, [], ◌∷◌, ◌++◌, length, take, codes, unwrap_or, slice_index, slice_range, Option}
+use Rattle.std.specs.Prelude.{ℕ, ◌+◌, ◌-◌, List, [], ◌∷◌, ◌++◌, length, take, codes, unwrap_or, slice_index, slice_range, ◌≤◌, Option, None, Some}
+
+-- at most 13 bytes, where there are some
+abbrev pub IsShort : Option (List ℕ) → Type 0
+IsShort None = Unit {0}
+IsShort (Some name) = length name ≤ 13
 
 -- the link and the letter, a name and a param
 unfoldable pub head_text : List ℕ → List ℕ → Option (List ℕ) → List ℕ

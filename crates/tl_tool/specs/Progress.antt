@@ -1,10 +1,12 @@
 -- How far an input has been judged. `knows` and `tells` are those of the judge's trait, `was` and
 -- `is` the text appended before and after a call, behind a text `before` that has been written already.
-use Rattle.std.specs.Prelude.{◌≡◌, ◌≤◌, ℕ, ◌+◌, List, ◌∷◌, ◌++◌, length, count_by, ◌==◌}
+use Rattle.std.specs.Prelude.{◌≡◌, ◌≤◌, ◌<◌, ℕ, ◌+◌, List, [], ◌∷◌, ◌++◌, ◌-◌, ◌^◌, ◌⊎◌, length, count_by, ◌==◌}
 use Rattle.tl_tool.specs.declared.fault.Fault.{Fault}
 use Rattle.tl_tool.specs.declared.lines.Lines.{Lines}
 use Rattle.tl_tool.specs.declared.status.Status.{Status}
 use Rattle.tl_tool.specs.declared.status.Status.TheVariants.{Clean, Broken}
+use Rattle.tl_tool.specs.declared.status.ToolFault.{ToolFault}
+use Rattle.tl_tool.specs.declared.status.ToolFault.TheVariants.{Memory, Read}
 use Rattle.tl_tool.specs.Fault.{fault_text}
 use Rattle.tl_tool.specs.Judging.{GoesOn}
 use Rattle.tl_tool.specs.Lines.{lines_of, LacksLf}
@@ -12,6 +14,10 @@ use Rattle.tl_tool.specs.Lines.{lines_of, LacksLf}
 -- the number of lines that have ended
 abbrev pub ended_lines : List ℕ → ℕ
 ended_lines bytes = count_by (λ b. b == 10) bytes
+
+-- whole lines: nothing, or an LF at the end
+abbrev pub AreWhole : List ℕ → Type 0
+AreWhole bytes = (bytes ≡ []) ⊎ ((front : List ℕ) × (bytes ≡ front ++ 10 ∷ []))
 
 -- after these bytes, none of whose lines was at fault, this text has been appended
 pub record Progress {J : Type 0} (knows : J → List (List ℕ) → List ℕ → Type 0) (state : Lines J) (read text : List ℕ) : Type 0 where
@@ -23,7 +29,7 @@ pub record Progress {J : Type 0} (knows : J → List (List ℕ) → List ℕ →
   pub unended : LacksLf state.begun.items
   pub short : length state.begun.items ≤ 255
   pub ended : ended_lines read ≡ length lines
-  pub rest : (front : List ℕ) × (read ≡ front ++ state.begun.items)
+  pub rest : (front : List ℕ) × (read ≡ front ++ state.begun.items) × AreWhole front
 
 -- the line with this number is at fault, and the text is the last, whatever follows the line
 abbrev pub StopsAt : {J : Type 0} → (J → List (List ℕ) → List ℕ → Type 0) → (List (List ℕ) → List ℕ → Status → Type 0) → J → ℕ → List ℕ → List ℕ → List ℕ → Type 0
@@ -43,13 +49,15 @@ Feeds knows tells old new piece was is Clean =
 Feeds knows tells old new piece was is Broken =
     (read before : List ℕ) → Progress knows old read (before ++ was) → (more : List ℕ) → tells (lines_of ((read ++ piece) ++ more)) (before ++ is) Broken
 
--- the line at fault is the rest of the input behind its last LF, and has at most 256 bytes
+-- The line at fault is the rest behind the last LF of the input: it has no LF and fewer than 256 bytes,
+-- so that what follows could mend it, or it isn't there.
 pub record StopsAtRest (read text : List ℕ) : Type 0 where
   pub front : List ℕ
   pub rest : List ℕ
   pub whole : read ≡ front ++ rest
+  pub ended : AreWhole front
   pub unended : LacksLf rest
-  pub short : length rest ≤ 256
+  pub short : length rest < 256
   pub before : List ℕ
   pub fault : Fault
   pub says : text ≡ before ++ fault_text (ended_lines read + 1) fault
@@ -60,3 +68,7 @@ FinishesInput knows tells state was is Clean =
     (read before : List ℕ) → Progress knows state read (before ++ was) → tells (lines_of read) (before ++ is) Clean
 FinishesInput knows tells state was is Broken =
     (read before : List ℕ) → Progress knows state read (before ++ was) → tells (lines_of read) (before ++ is) Broken × StopsAtRest read (before ++ is)
+
+-- lines are given up for want of memory, or for want of a number after 2^64 - 1 lines
+abbrev pub GivesUp : ℕ → ToolFault → Type 0
+GivesUp count fault = (fault ≡ Memory) ⊎ ((fault ≡ Read) × (count ≡ 2 ^ 64 - 1))

@@ -35,6 +35,7 @@ fn next_piece<R: Read>(reader: &mut R, chunk: &mut Vec<u8>) -> Result<usize, Too
     ensures ok { IfOk result (λ count. Consumes (R.remaining reader.old) (R.remaining reader.new) (take count chunk.new.items)) }
     ensures end { result ≡ Ok 0 → IsAtEnd (R.remaining reader.new) }
     ensures err { OnErr result (Keeps (R.remaining reader.old) (R.remaining reader.new)) }
+    ensures fault { IfErr result (λ fault. fault ≡ ToolFault.Read) }
 {
     reader
         .read(chunk.as_mut_slice())

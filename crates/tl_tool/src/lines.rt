@@ -1,14 +1,15 @@
 //! Cuts an input that comes in pieces into its lines.
 
-ghost use Rattle.std.specs.Prelude.{◌≡◌, ◌+◌, ◌++◌, [], ◌≤◌, ◌<◌, ℕ, List, IfOk, MatchOption, length};
+ghost use Rattle.std.specs.Prelude.{◌≡◌, ◌+◌, ◌++◌, [], ◌≤◌, ◌<◌, ◌^◌, ◌-◌, ℕ, List, IfOk, IfErr, MatchOption, length};
 ghost use Rattle.tl_tool.specs.Fault.{fault_text};
 ghost use Rattle.tl_tool.specs.Lines.{IsLine, IsOpen, LacksLf};
-ghost use Rattle.tl_tool.specs.Progress.{CountsLine, Feeds, FinishesInput, Progress, StopsAt};
+ghost use Rattle.tl_tool.specs.Progress.{CountsLine, Feeds, FinishesInput, GivesUp, Progress, StopsAt};
 
 use crate::fault::{Fault, put_fault};
 use crate::judge::Judge;
 use crate::status::{Status, ToolFault};
 use arrayvec::ArrayVec;
+use memchr::memchr;
 use std::alloc::AllocError;
 
 /// A judge, with the number of lines that it has judged, and the beginning of a line whose end
@@ -21,6 +22,10 @@ pub struct Lines<J> {
 }
 
 impl From<AllocError> for ToolFault {
+    ghost use Rattle.tl_tool.specs.declared.status.ToolFault.{ToolFault};
+
+    ghost from_gives = { λ _ fault. fault ≡ ToolFault.Memory };
+
     fn from(_error: AllocError) -> ToolFault {
         ToolFault::Memory
     }
@@ -30,13 +35,14 @@ impl From<AllocError> for ToolFault {
 fn first_line(bytes: &[u8]) -> Option<(&[u8], &[u8])>
     ensures { MatchOption result (LacksLf bytes.now) (λ parts. IsLine parts.0.now × (parts.0.now ++ parts.1.now ≡ bytes.now)) }
 {
-    let end = bytes.iter().position(|b| *b == b'\n')?;
+    let end = memchr(b'\n', bytes)?;
     Some(bytes.split_at(end + 1))
 }
 
 /// The number of the line after these. There is none after line 2^64 - 1.
 fn number_after(count: u64) -> Result<u64, ToolFault>
-    ensures { IfOk result (λ number. number ≡ count + 1) }
+    ensures next { IfOk result (λ number. number ≡ count + 1) }
+    ensures fault { IfErr result (λ fault. (fault ≡ ToolFault.Read) × (count ≡ 2 ^ 64 - 1)) }
 {
     count.checked_add(1).ok_or(ToolFault::Read)
 }
@@ -48,7 +54,8 @@ fn judge_line<J: Judge>(
     line: &[u8],
     out: &mut Vec<u8>,
 ) -> Result<Status, ToolFault>
-    ensures { IfOk result (CountsLine J.knows J.tells judge.old judge.new count.old count.new line.now out.old.items out.new.items) }
+    ensures counts { IfOk result (CountsLine J.knows J.tells judge.old judge.new count.old count.new line.now out.old.items out.new.items) }
+    ensures fault { IfErr result (GivesUp count.new) }
 {
     let number = number_after(*count)?;
     match judge.judge(line, out)? {
@@ -80,6 +87,7 @@ impl<J: Judge> Lines<J> {
         ensures broken { IfOk result (λ status. status ≡ Status.Broken) }
         ensures stops { IfOk result (λ _. (line : List ℕ) → IsOpen line → StopsAt J.knows J.tells self.now.judge self.now.count line out.old.items out.new.items) }
         ensures says { IfOk result (λ _. (fault : Fault) × (out.new.items ≡ out.old.items ++ fault_text (self.now.count + 1) fault)) }
+        ensures fault { IfErr result (GivesUp self.now.count) }
     {
         let number = number_after(self.count)?;
         put_fault(number, self.judge.open_fault(), out)?;
@@ -89,7 +97,8 @@ impl<J: Judge> Lines<J> {
     /// Judges a line, of which a beginning may have come with earlier pieces.
     fn take_line(&mut self, line: &[u8], out: &mut Vec<u8>) -> Result<Status, ToolFault>
         requires { IsLine line.now }
-        ensures { IfOk result (Feeds J.knows J.tells self.old self.new line.now out.old.items out.new.items) }
+        ensures feeds { IfOk result (Feeds J.knows J.tells self.old self.new line.now out.old.items out.new.items) }
+        ensures fault { IfErr result (GivesUp self.new.count) }
     {
         if self.begun.is_empty() && line.len() <= 256 {
             return judge_line(&mut self.judge, &mut self.count, line, out);
@@ -105,7 +114,8 @@ impl<J: Judge> Lines<J> {
     /// Keeps the beginning of a line. A line that has 256 bytes and no LF is at fault at once.
     fn keep(&mut self, rest: &[u8], out: &mut Vec<u8>) -> Result<Status, ToolFault>
         requires { LacksLf rest.now }
-        ensures { IfOk result (Feeds J.knows J.tells self.old self.new rest.now out.old.items out.new.items) }
+        ensures feeds { IfOk result (Feeds J.knows J.tells self.old self.new rest.now out.old.items out.new.items) }
+        ensures fault { IfErr result (GivesUp self.new.count) }
     {
         if self.begun.try_extend_from_slice(rest).is_err() || self.begun.is_full() {
             return self.stop(out);
@@ -115,7 +125,8 @@ impl<J: Judge> Lines<J> {
 
     /// Judges the lines that end in a piece of the input, and keeps the beginning of the next.
     pub fn feed(&mut self, piece: &[u8], out: &mut Vec<u8>) -> Result<Status, ToolFault>
-        ensures { IfOk result (Feeds J.knows J.tells self.old self.new piece.now out.old.items out.new.items) }
+        ensures feeds { IfOk result (Feeds J.knows J.tells self.old self.new piece.now out.old.items out.new.items) }
+        ensures fault { IfErr result (GivesUp self.new.count) }
     {
         let mut rest = piece;
         while let Some((line, after)) = first_line(rest) {
@@ -129,7 +140,8 @@ impl<J: Judge> Lines<J> {
 
     /// Judges the end of the input. A rest without LF is a line too.
     pub fn finish(&mut self, out: &mut Vec<u8>) -> Result<Status, ToolFault>
-        ensures { IfOk result (FinishesInput J.knows J.tells self.old out.old.items out.new.items) }
+        ensures finishes { IfOk result (FinishesInput J.knows J.tells self.old out.old.items out.new.items) }
+        ensures fault { IfErr result (GivesUp self.new.count) }
     {
         if !self.begun.is_empty() {
             return self.stop(out);

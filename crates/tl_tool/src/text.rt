@@ -5,9 +5,10 @@ ghost use Rattle.tl_beat.specs.declared.beat.Link.{Link};
 ghost use Rattle.tl_beat.specs.Line.{Spells};
 ghost use Rattle.tl_beat.specs.Width.{IsWidth};
 ghost use Rattle.tl_tool.specs.Text.{text_of};
-ghost use Rattle.tl_tool.specs.Cuts.{acknowledgement_text, address_text, head_text, release_text, request_text, response_text, size_and_source, tail_text};
+ghost use Rattle.tl_tool.specs.Cuts.{IsShort, acknowledgement_text, address_text, head_text, release_text, request_text, response_text, size_and_source, tail_text};
 
 use crate::params::{name_on_a, name_on_b, name_on_c, name_on_d};
+use arrayvec::ArrayVec;
 use std::alloc::AllocError;
 use tl_beat::beat::Beat;
 
@@ -22,24 +23,34 @@ fn param_text<'a>(line: &'a [u8], param: Option<&'a str>) -> &'a [u8]
     }
 }
 
-#[tactic(auto, unfolding(crate::specs::Cuts::head_text))]
-fn put_head(
-    line: &[u8],
-    name: &str,
-    param: Option<&str>,
-    out: &mut Vec<u8>,
-) -> Result<(), AllocError>
-    requires { 13 ≤ length line.now }
-    ensures { OnOk result (out.new.items ≡ out.old.items ++ head_text line.now name.now (option_map (λ s. s.now) param.entry)) }
+/// Appends bytes that there is room for.
+#[inline(always)]
+fn put(text: &mut ArrayVec<u8, 128>, bytes: &[u8])
+    requires { length text.old.items + length bytes.now ≤ 128 }
+    ensures text { text.new.items ≡ text.old.items ++ bytes.now }
+    ensures len { length text.new.items ≡ length text.old.items + length bytes.now }
 {
-    out.extend_from_slice(&line[..5])?;
-    out.extend_from_slice(name.as_bytes())?;
-    out.push(b' ')?;
-    out.extend_from_slice(param_text(line, param))?;
-    Ok(())
+    let _ = text.try_extend_from_slice(bytes);
+}
+
+/// Link, channel, name and param.
+#[inline(always)]
+#[tactic(auto, unfolding(crate::specs::Cuts::head_text))]
+fn put_head(text: &mut ArrayVec<u8, 128>, line: &[u8], name: &str, param: Option<&str>)
+    requires line { 13 ≤ length line.now }
+    requires names { (length name.now ≤ 14) × IsShort (option_map (λ s. s.now) param) }
+    requires empty { text.old.items ≡ [] }
+    ensures text { text.new.items ≡ head_text line.now name.now (option_map (λ s. s.now) param.entry) }
+    ensures len { length text.new.items ≤ 33 }
+{
+    put(text, &line[..5]);
+    put(text, name.as_bytes());
+    text.push(b' ');
+    put(text, param_text(line, param));
 }
 
 /// Size, source and address of a line of channels A to C.
+#[inline(always)]
 #[tactic(auto, unfolding(crate::specs::Cuts::size_and_source, crate::specs::Cuts::address_text))]
 fn address_block(line: &[u8]) -> [u8; 34]
     requires { 22 ≤ length line.now }
@@ -61,6 +72,7 @@ fn address_block(line: &[u8]) -> [u8; 34]
 }
 
 /// Size, source, sink and denied of a line of channel D.
+#[inline(always)]
 #[tactic(auto, unfolding(crate::specs::Cuts::size_and_source))]
 fn sink_block(line: &[u8]) -> [u8; 34]
     requires { 18 ≤ length line.now }
@@ -76,83 +88,131 @@ fn sink_block(line: &[u8]) -> [u8; 34]
     block
 }
 
+/// Data and the corrupt bit.
+#[inline(always)]
 #[tactic(auto, unfolding(crate::specs::Cuts::tail_text))]
-fn put_tail(tail: &[u8], out: &mut Vec<u8>) -> Result<(), AllocError>
-    requires { 3 ≤ length tail.now }
-    ensures { OnOk result (out.new.items ≡ out.old.items ++ tail_text tail.now) }
+fn put_tail<const W: usize>(text: &mut ArrayVec<u8, 128>, tail: &[u8])
+    requires width { IsWidth W }
+    requires tail { 3 ≤ length tail.now }
+    requires room { length text.old.items + length tail.now + 14 ≤ 128 }
+    ensures { text.new.items ≡ text.old.items ++ tail_text tail.now }
 {
     let mut end = *b" corrupt=0\n";
     end[9] = tail[tail.len() - 2];
-    out.extend_from_slice(b" data=")?;
-    out.extend_from_slice(&tail[..tail.len() - 3])?;
-    out.extend_from_slice(&end)?;
-    Ok(())
+    let data = &tail[..tail.len() - 3];
+    put(text, b" data=");
+    // A number of bytes that the compiler knows is copied without a call.
+    if data.len() == 2 * W {
+        put(text, &data[..2 * W]);
+    } else {
+        put(text, data);
+    }
+    put(text, &end);
 }
 
-/// A line of channels A and B.
+/// Size, source, address and mask of a line of channels A and B.
+#[inline(always)]
 #[tactic(auto, unfolding(crate::specs::Cuts::request_text))]
 fn put_request<const W: usize>(
+    text: &mut ArrayVec<u8, 128>,
     line: &[u8],
     name: &str,
     param: Option<&str>,
-    out: &mut Vec<u8>,
-) -> Result<(), AllocError>
-    requires { 27 + W / 4 ≤ length line.now }
-    ensures { OnOk result (out.new.items ≡ out.old.items ++ request_text (W / 4) line.now name.now (option_map (λ s. s.now) param.entry)) }
+)
+    requires width { IsWidth W }
+    requires line { (27 + W / 4 ≤ length line.now) × (length line.now ≤ 63) }
+    requires names { (length name.now ≤ 14) × IsShort (option_map (λ s. s.now) param) }
+    requires empty { text.old.items ≡ [] }
+    ensures { text.new.items ≡ request_text (W / 4) line.now name.now (option_map (λ s. s.now) param.entry) }
 {
     let mask = W / 4;
-    put_head(line, name, param, out)?;
-    out.extend_from_slice(&address_block(line))?;
-    out.extend_from_slice(b" mask=")?;
-    out.extend_from_slice(&line[23..23 + mask])?;
-    put_tail(&line[24 + mask..], out)?;
-    Ok(())
+    put_head(text, line, name, param);
+    put(text, &address_block(line));
+    put(text, b" mask=");
+    put(text, &line[23..23 + mask]);
+    put_tail::<W>(text, &line[24 + mask..]);
 }
 
 /// A line of channel C.
+#[inline(always)]
 #[tactic(auto, unfolding(crate::specs::Cuts::release_text))]
-fn put_release(
+fn put_release<const W: usize>(
+    text: &mut ArrayVec<u8, 128>,
     line: &[u8],
     name: &str,
     param: Option<&str>,
-    out: &mut Vec<u8>,
-) -> Result<(), AllocError>
-    requires { 26 ≤ length line.now }
-    ensures { OnOk result (out.new.items ≡ out.old.items ++ release_text line.now name.now (option_map (λ s. s.now) param.entry)) }
+)
+    requires width { IsWidth W }
+    requires line { (26 ≤ length line.now) × (length line.now ≤ 63) }
+    requires names { (length name.now ≤ 14) × IsShort (option_map (λ s. s.now) param) }
+    requires empty { text.old.items ≡ [] }
+    ensures { text.new.items ≡ release_text line.now name.now (option_map (λ s. s.now) param.entry) }
 {
-    put_head(line, name, param, out)?;
-    out.extend_from_slice(&address_block(line))?;
-    put_tail(&line[23..], out)?;
-    Ok(())
+    put_head(text, line, name, param);
+    put(text, &address_block(line));
+    put_tail::<W>(text, &line[23..]);
 }
 
 /// A line of channel D.
+#[inline(always)]
 #[tactic(auto, unfolding(crate::specs::Cuts::response_text))]
-fn put_response(
+fn put_response<const W: usize>(
+    text: &mut ArrayVec<u8, 128>,
     line: &[u8],
     name: &str,
     param: Option<&str>,
-    out: &mut Vec<u8>,
-) -> Result<(), AllocError>
-    requires { 22 ≤ length line.now }
-    ensures { OnOk result (out.new.items ≡ out.old.items ++ response_text line.now name.now (option_map (λ s. s.now) param.entry)) }
+)
+    requires width { IsWidth W }
+    requires line { (22 ≤ length line.now) × (length line.now ≤ 63) }
+    requires names { (length name.now ≤ 14) × IsShort (option_map (λ s. s.now) param) }
+    requires empty { text.old.items ≡ [] }
+    ensures { text.new.items ≡ response_text line.now name.now (option_map (λ s. s.now) param.entry) }
 {
-    put_head(line, name, param, out)?;
-    out.extend_from_slice(&sink_block(line))?;
-    put_tail(&line[19..], out)?;
-    Ok(())
+    put_head(text, line, name, param);
+    put(text, &sink_block(line));
+    put_tail::<W>(text, &line[19..]);
 }
 
 /// A line of channel E.
+#[inline(always)]
 #[tactic(auto, unfolding(crate::specs::Cuts::acknowledgement_text))]
-fn put_acknowledgement(line: &[u8], out: &mut Vec<u8>) -> Result<(), AllocError>
-    requires { 5 ≤ length line.now }
-    ensures { OnOk result (out.new.items ≡ out.old.items ++ acknowledgement_text line.now) }
+fn put_acknowledgement(text: &mut ArrayVec<u8, 128>, line: &[u8])
+    requires line { (5 ≤ length line.now) × (length line.now ≤ 63) }
+    requires empty { text.old.items ≡ [] }
+    ensures { text.new.items ≡ acknowledgement_text line.now }
 {
-    out.extend_from_slice(&line[..5])?;
-    out.extend_from_slice(b"GrantAck sink=")?;
-    out.extend_from_slice(&line[5..])?;
-    Ok(())
+    put(text, &line[..5]);
+    put(text, b"GrantAck sink=");
+    put(text, &line[5..]);
+}
+
+/// The readable line of the beat that a line spells.
+#[inline(always)]
+fn put_beat<const W: usize>(text: &mut ArrayVec<u8, 128>, line: &[u8], beat: &Beat<W>)
+    requires width { IsWidth W }
+    requires spelled { (link : Link) × Spells line.now link beat.now }
+    requires empty { text.old.items ≡ [] }
+    ensures { (link : Link) → Spells line.now link beat.now → text.new.items ≡ text_of link beat.now }
+{
+    match beat {
+        Beat::A(beat) => {
+            let param = name_on_a(beat.opcode, beat.param);
+            put_request::<W>(text, line, beat.opcode.name(), param);
+        }
+        Beat::B(beat) => {
+            let param = name_on_b(beat.opcode, beat.param);
+            put_request::<W>(text, line, beat.opcode.name(), param);
+        }
+        Beat::C(beat) => {
+            let param = name_on_c(beat.opcode, beat.param);
+            put_release::<W>(text, line, beat.opcode.name(), param);
+        }
+        Beat::D(beat) => {
+            let param = name_on_d(beat.opcode, beat.param);
+            put_response::<W>(text, line, beat.opcode.name(), param);
+        }
+        Beat::E(_) => put_acknowledgement(text, line),
+    }
 }
 
 /// Appends the readable line of the beat that a line spells.
@@ -165,23 +225,7 @@ pub fn put_text<const W: usize>(
     requires spelled { (link : Link) × Spells line.now link beat.now }
     ensures { OnOk result ((link : Link) → Spells line.now link beat.now → out.new.items ≡ out.old.items ++ text_of link beat.now) }
 {
-    match beat {
-        Beat::A(beat) => {
-            let param = name_on_a(beat.opcode, beat.param);
-            put_request::<W>(line, beat.opcode.name(), param, out)
-        }
-        Beat::B(beat) => {
-            let param = name_on_b(beat.opcode, beat.param);
-            put_request::<W>(line, beat.opcode.name(), param, out)
-        }
-        Beat::C(beat) => {
-            let param = name_on_c(beat.opcode, beat.param);
-            put_release(line, beat.opcode.name(), param, out)
-        }
-        Beat::D(beat) => {
-            let param = name_on_d(beat.opcode, beat.param);
-            put_response(line, beat.opcode.name(), param, out)
-        }
-        Beat::E(_) => put_acknowledgement(line, out),
-    }
+    let mut text = ArrayVec::new();
+    put_beat(&mut text, line, beat);
+    out.extend_from_slice(text.as_slice())
 }

@@ -16,10 +16,10 @@ use tl_words::command::{Command, Width};
 /// text of it. `decode` takes memory that doesn't grow with the input, `monitor` keeps the beats besides.
 ///
 /// `Broken` says that a `line N X` was written, and that it stands whatever follows the input, unless
-/// line N is a rest of at most 256 bytes without LF at the end of the input. `Clean` comes at the end of
-/// the input alone. At a fault of memory or of a device a beginning of the text of what was read has
-/// been written. Any error of the reader is a `Read` fault, and so is a line after line 2^64 - 1; a
-/// writer that fails or takes none of the bytes is a `Write` fault.
+/// line N is what stands behind the last LF at the end of the input: fewer than 256 bytes, or nothing.
+/// `Clean` comes at the end of the input alone. At a fault of memory or of a device a beginning of the
+/// text of what was read has been written. Any error of the reader is a `Read` fault, and so is a line
+/// after line 2^64 - 1; a writer that fails or takes none of the bytes is a `Write` fault.
 pub fn run_tool<R: Read, W: Write>(
     alloc: Global,
     command: Command,

@@ -7,6 +7,7 @@ use std::io;
 use std::test::Fail;
 
 mod beats;
+mod large;
 mod legality;
 mod order;
 mod traces;

@@ -10,4 +10,4 @@ returns-in_err-status-clause-err g c =
 pub returns-in_err-put-clause-err : goal.returns-in_err-put-clause-err
 returns-in_err-put-clause-err g c =
     let p = err_from_is_err_and c.from_residual-in_err-put.result c.from_residual-in_err-put.ensures.1 in
-    rw p.1 (fails_closing g.J.Judge.knows g.J.Judge.tells _ _ c.finish.new.out.items _ _ (rw c.requires.empty at c.in_ok-status.ensures) (rw c.deref.ensures.value at c.in_err-put.ensures.err))
+    rw p.1 (fails_closing g.J.Judge.knows g.J.Judge.tells _ _ c.finish.new.out.items _ _ (rw c.requires.empty at c.in_ok-status.ensures.finishes) (rw c.deref.ensures.value at c.in_err-put.ensures.err))

@@ -2,8 +2,8 @@
 //! beside it one that doesn't.
 
 use super::beats::{
-    ACK, ACQUIRE, ATOMIC, BURST_ACK, DATA, GET, GRANT, NO_COPY, PROBE, PUT, PUT_BURST, RELEASE,
-    RELEASE_ACK, WIDE_GET,
+    ACK, ACQUIRE, ACQUIRE_BLOCK_TO_READ, ATOMIC, BURST_ACK, DATA, GET, GRANT, NO_COPY, PROBE, PUT,
+    PUT_BURST, RELEASE, RELEASE_ACK, WIDE_GET,
 };
 use super::traces::{Trace, judges_all};
 use super::*;
@@ -193,4 +193,31 @@ fn judges_legality(rt: HostRuntime) -> Result<(), Fail> {
 #[test]
 fn judges_bursts_and_requests(rt: HostRuntime) -> Result<(), Fail> {
     judges_all(&rt, rt.alloc(), &REQUESTS)
+}
+
+/// An address that isn't a multiple of the size, a source that is pending, and a block that is.
+const ONE_OF_A_KIND: [Trace; 3] = [
+    (
+        "tltrace 1 UH",
+        &[(1, "00 A 4 0 6 00 00000020 ff - 0")],
+        "line 2 L4\n",
+    ),
+    (
+        "tltrace 1 C",
+        &[(1, ACQUIRE_BLOCK_TO_READ), (1, ACQUIRE_BLOCK_TO_READ)],
+        "line 3 H1\n",
+    ),
+    (
+        "tltrace 1 C",
+        &[
+            (1, ACQUIRE_BLOCK_TO_READ),
+            (1, "00 A 6 0 6 01 00000000 ff - 0"),
+        ],
+        "line 3 H4\n",
+    ),
+];
+
+#[test]
+fn judges_what_is_one_of_a_kind(rt: HostRuntime) -> Result<(), Fail> {
+    judges_all(&rt, rt.alloc(), &ONE_OF_A_KIND)
 }

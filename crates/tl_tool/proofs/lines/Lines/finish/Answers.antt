@@ -3,13 +3,13 @@ use Rattle.tl_tool.specs.Fault.{fault_text}
 use Rattle.tl_tool.proofs.ProgressLemmas.{empty_is, finishes_clean, finishes_broken, finishes_stopped}
 use Rattle.tl_tool.proofs.lines.Lines.finish.Goals as goal
 
-pub returns-then-not-is_empty : goal.returns-then-not-is_empty
-returns-then-not-is_empty g c = finishes_stopped g.J.Judge.knows g.J.Judge.tells _ _ _ _ (search rules) c.stop.ensures.broken c.stop.ensures.stops c.stop.ensures.says
+pub returns-then-not-is_empty-clause-finishes : goal.returns-then-not-is_empty-clause-finishes
+returns-then-not-is_empty-clause-finishes g c = finishes_stopped g.J.Judge.knows g.J.Judge.tells _ _ _ _ (search rules) c.stop.ensures.broken c.stop.ensures.stops c.stop.ensures.says
 
-pub returns-in-None : goal.returns-in-None
-returns-in-None g c = finishes_clean g.J.Judge.knows g.J.Judge.tells _ _ _ (empty_is _ (search rules)) (rw c.in-None.is at c.in_ok-finish.ensures)
+pub returns-in-None-clause-finishes : goal.returns-in-None-clause-finishes
+returns-in-None-clause-finishes g c = finishes_clean g.J.Judge.knows g.J.Judge.tells _ _ _ (empty_is _ (search rules)) (rw c.in-None.is at c.in_ok-finish.ensures)
 
-pub returns-in_ok-put_fault-in-Some : goal.returns-in_ok-put_fault-in-Some
-returns-in_ok-put_fault-in-Some g c =
+pub returns-in_ok-put_fault-in-Some-clause-finishes : goal.returns-in_ok-put_fault-in-Some-clause-finishes
+returns-in_ok-put_fault-in-Some-clause-finishes g c =
     let says : c.put_fault.new.out.items ≡ c.finish.new.out.items ++ fault_text (c.args.self.now.count + 1) c.in-Some.fault = search rules in
     finishes_broken g.J.Judge.knows g.J.Judge.tells _ _ c.finish.new.out.items _ c.in-Some.fault (empty_is _ (search rules)) (rw c.in-Some.is at c.in_ok-finish.ensures) says

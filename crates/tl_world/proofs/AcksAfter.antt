@@ -1,0 +1,115 @@
+-- A GrantAck that is delivered to the manager: the channels and the one memory afterwards.
+use Rattle.std.proofs.Common.{◌≡◌, ℕ, Bool, true, false, ◌&&◌, List, [], ◌∷◌, Some, None, refl, sym, ◌∙◌, ap, subst}
+use Rattle.std.specs.Prelude.{◌==◌, if◌then◌else◌}
+use Rattle.std.proofs.lemmas.Bool.{eqb-true}
+use Rattle.tl_beat.specs.Width.{IsWidth}
+use Rattle.tl_beat.specs.declared.beat.Beat.{Beat}
+use Rattle.tl_beat.specs.declared.beat.BeatE.{BeatE}
+use Rattle.tl_beat.specs.declared.beat.Link.{Link}
+use Rattle.tl_beat.specs.declared.opcode.Channel.{Channel}
+use Rattle.tl_beat.specs.declared.opcode.Channel.TheVariants as channel
+use Rattle.tl_burst.specs.Burst.{beat_of}
+use Rattle.tl_burst.specs.Messages.{unfinished}
+use Rattle.tl_burst.specs.Part.{completes}
+use Rattle.tl_params.specs.declared.config.Config.{Config}
+use Rattle.tl_rules.specs.Conformance.{on_link}
+use Rattle.tl_client.specs.End as client
+use Rattle.tl_manager.specs.Slave.{deed}
+use Rattle.tl_manager.proofs.Events.{deed-ack}
+use Rattle.tl_world.specs.declared.event.Event.TheVariants.{Deliver}
+use Rattle.tl_world.specs.Draining.{is_moving}
+use Rattle.tl_world.specs.Follow.{Shadow, kind_taken}
+use Rattle.tl_world.specs.Log.{Log, after}
+use Rattle.tl_world.specs.Matched.{AreCarried}
+use Rattle.tl_world.specs.Beside.{IsBeside}
+use Rattle.tl_world.specs.Phase.{Own, Other, Granting, Acknowledging, GrantedOther}
+use Rattle.tl_world.specs.Protocol.{Service, Free, Waits, GrantSent, GrantTaken, token, is_on, is_acknowledging, shown, view, freed_block, grant_ack_taken}
+use Rattle.tl_world.specs.Remembered.{remembered, performing, accesses_answered}
+use Rattle.tl_world.specs.Render.{rendered, message_of_kind}
+use Rattle.tl_world.specs.Step.{stepped}
+use Rattle.tl_world.specs.System.{System, terms_at, with_channel, with_messages}
+use Rattle.tl_world.specs.Token.{Kind, Request, Acquire, Probe, ProbeAck, Release, Answer, Grant, ReleaseAck, GrantAck}
+use Rattle.tl_world.specs.Whole.{IsMatched, is_caching}
+use Rattle.tl_world.proofs.BesideKinds.{beside_block}
+use Rattle.tl_world.proofs.CarriedEvents.{grant_ack_taken-carried}
+use Rattle.tl_world.proofs.HeardAll.{IsDelivered}
+use Rattle.tl_world.proofs.ManagersAfter.{IsAtManager, at-manager, after_taken, delivered-last, delivered-part}
+use Rattle.tl_world.proofs.RequestsTaken.{next_tracker, invariant-taken}
+use Rattle.tl_world.proofs.Tokens.{holds-first}
+
+-- whose GrantAck is under way
+acknowledging_is : (s : Service) (c : ℕ) → is_acknowledging (view s c) ≡ true → s ≡ GrantTaken c
+acknowledging_is Free c e = absurd cc
+acknowledging_is (Waits q o source k) c e = absurd (never (o && (c == q)) e)
+  where
+    never : (x : Bool) → is_acknowledging (if x then Own else Other k) ≡ true → ⊥
+    never true f = cc
+    never false f = cc
+acknowledging_is (GrantSent q d k) c e = absurd (never (c == q) e)
+  where
+    never : (x : Bool) → is_acknowledging (if x then Granting d k else GrantedOther) ≡ true → ⊥
+    never true f = cc
+    never false f = cc
+acknowledging_is (GrantTaken q) c e = let same = eqb-true c q (own (c == q) e) in ap GrantTaken (sym same)
+  where
+    own : (x : Bool) → is_acknowledging (if x then Acknowledging else GrantedOther) ≡ true → x ≡ true
+    own true f = refl
+    own false f = absurd cc
+
+ack_kind : (k : Kind) → is_on channel.E k ≡ true → k ≡ GrantAck
+ack_kind GrantAck e = refl
+ack_kind Request e = absurd cc
+ack_kind Acquire e = absurd cc
+ack_kind Probe e = absurd cc
+ack_kind ProbeAck e = absurd cc
+ack_kind Release e = absurd cc
+ack_kind Answer e = absurd cc
+ack_kind Grant e = absurd cc
+ack_kind ReleaseAck e = absurd cc
+
+pub delivered-e : {w : ℕ} (config : Config) (log : Log w) (link : Link) (h : Shadow w) (terms : client.Terms) (x : Beat w) (queue : List (Beat w)) → IsWidth w → IsMatched config log h.mail h.request h.state (after config log)
+    → terms_at config link.0 ≡ Some terms → (after config log).channels link.0 channel.E ≡ x ∷ queue → is_moving (stepped config (Deliver link channel.E) (after config log)).outcome ≡ true → IsDelivered config log link channel.E h
+unfolding rendered with_messages performing accesses_answered
+delivered-e {w} config log link h terms x queue width matched known beats moving = go (completes x (unfinished channel.E (on_link link.0 sys.manager.trace))) refl
+  where
+    sys : System w
+    sys = after config log
+
+    is : IsAtManager config log link channel.E h x queue
+    is = at-manager config log link channel.E h terms x queue width matched known refl beats moving
+
+    n : ℕ
+    n = is.first.number
+
+    kind : is.first.kind ≡ GrantAck
+    kind = ack_kind is.first.kind is.first.own
+
+    tokens : (h.state.link link.0).e ≡ token GrantAck n ∷ is.first.rest
+    tokens = is.first.tokens ∙ ap (λ (k : Kind). token k n ∷ is.first.rest) kind
+
+    x_is : x ≡ beat_of (rendered GrantAck link.0 n (h.state.block n)) is.first.next.k
+    x_is = is.first.next.beat_is ∙ ap (λ (k : Kind). beat_of (message_of_kind k h.mail h.state link.0 n) is.first.next.k) kind
+
+    y : BeatE
+    y = record { sink = (h.state.block n).tracker }
+
+    gives : (deed config link x sys.manager).handed ≡ []
+    gives = ap (λ (z : Beat w). (deed config link z sys.manager).handed) x_is ∙ ap (λ d. d.handed) (deed-ack config link y sys.manager)
+
+    sent : (h.state.block n).service ≡ GrantTaken link.0
+    sent = acknowledging_is (h.state.block n).service link.0 (holds-first GrantAck (h.state.link link.0).e is.first.rest (token GrantAck n) (λ i. shown GrantAck link.0 (h.state.block i)) tokens refl (matched.invariant.transfers link.0 GrantAck refl))
+
+    go : (b : Bool) → completes x (unfinished channel.E (on_link link.0 sys.manager.trace)) ≡ b → IsDelivered config log link channel.E h
+    go false part = delivered-part config log link channel.E h x queue width matched refl is part
+    go true last =
+        delivered-last config log link channel.E h x queue [] (λ d at. None) refl is last gives (λ d at. unpushed d at)
+        (λ taken. subst (λ (k : Kind). AreCarried (kind_taken config (next_tracker sys) link.0 k n is.first.rest h).mail (kind_taken config (next_tracker sys) link.0 k n is.first.rest h).state (after_taken config link channel.E x queue sys [])) (sym kind)
+        (grant_ack_taken-carried (is_caching config) link.0 n is.first.rest h.mail h.state sys (after_taken config link channel.E x queue sys []) x queue width matched.invariant
+        (invariant-taken config log h sys link.0 GrantAck n is.first.rest matched tokens tt) tokens sent taken matched.carried))
+        (subst (λ (k : Kind). IsBeside (kind_taken config (next_tracker sys) link.0 k n is.first.rest h).mail (kind_taken config (next_tracker sys) link.0 k n is.first.rest h).state (performing [] (remembered config log))) (sym kind) quiet)
+      where
+        unpushed : (d : ℕ) (at : Channel) → (after_taken config link channel.E x queue sys []).channels d at ≡ (with_channel link.0 channel.E queue sys).channels d at
+        unpushed d at = refl
+
+        quiet : IsBeside h.mail (grant_ack_taken link.0 n is.first.rest h.state) (performing [] (remembered config log))
+        quiet = beside_block n (freed_block (h.state.block n)) h.mail h.state (grant_ack_taken link.0 n is.first.rest h.state) (remembered config log) (λ i. refl) (λ d i. refl) (λ d i. refl) refl (λ d. refl) (λ d. refl) matched.beside

@@ -1,0 +1,187 @@
+-- What the manager hands out at the last beat of a request: the messages of the tokens that the protocol pushes.
+use Rattle.std.proofs.Common.{◌≡◌, ℕ, suc, ◌==◌, ◌*◌, Bool, true, false, not, ◌&&◌, List, [], ◌∷◌, refl, sym, ◌∙◌, ap, ap₂, inl, inr}
+use Rattle.std.specs.Prelude.{if◌then◌else◌, length}
+use Rattle.std.proofs.lemmas.Bool.{cases_eq}
+use Rattle.tl_beat.specs.declared.beat.Beat.TheVariants as beat
+use Rattle.tl_burst.specs.declared.message.Message.{Message}
+use Rattle.tl_burst.specs.declared.message.Message.TheVariants as message
+use Rattle.tl_burst.specs.declared.message.MessageA.{MessageA}
+use Rattle.tl_burst.specs.Burst.{a_beat_of, beats_of}
+use Rattle.tl_params.specs.declared.config.Config.{Config}
+use Rattle.tl_params.specs.declared.param.Cap.{Cap}
+use Rattle.tl_params.specs.declared.param.Grow.{Grow}
+use Rattle.tl_params.specs.declared.param.Grow.TheVariants as grow
+use Rattle.tl_params.specs.declared.perm.Perm.{Perm}
+use Rattle.tl_params.specs.declared.perm.Perm.TheVariants as perm
+use Rattle.tl_params.specs.declared.profile.Profile.{Profile}
+use Rattle.tl_params.specs.declared.profile.Profile.TheVariants as profile
+use Rattle.tl_params.specs.Param.{cap_right, grow_code}
+use Rattle.tl_rules.specs.Effect.{Memory, bytes_from, effect, answer_of}
+use Rattle.tl_rules.specs.Effect as memory
+use Rattle.tl_rules.specs.History.{block_at}
+use Rattle.tl_manager.specs.Handing as handing
+use Rattle.tl_manager.specs.Handing.{Handed, Deed, probes, probe_of_block, performed, grant_with, access_answer, cap_granted, grant_payload}
+use Rattle.tl_manager.specs.Holders as holders
+use Rattle.tl_manager.specs.Holders.{recorded, probed, cap_probed}
+use Rattle.tl_rules.specs.Conformance.{Trace}
+use Rattle.tl_manager.specs.Service as manager
+use Rattle.tl_manager.specs.Slave.{End, level_of, deed}
+use Rattle.tl_manager.proofs.Events.{performed-access, performed-acquire}
+use Rattle.tl_world.specs.Follow.{acquire_opcode, answers, gift, is_unheld, probes_some}
+use Rattle.tl_world.specs.Invariant.{IsWell, is_out}
+use Rattle.tl_world.specs.Log.{Log}
+use Rattle.tl_world.specs.Phase.{Pair, same_perm}
+use Rattle.tl_world.specs.PhaseSteps.{after_served, after_grant_sent, is_above, is_granted_data}
+use Rattle.tl_world.specs.Protocol.{GrantSent, Block, State, view, is_granting, is_probed, served_block, granted_at_once}
+use Rattle.tl_world.specs.Render.{Mail, cap_sent, grant_of, rendered}
+use Rattle.tl_world.specs.System.{System}
+use Rattle.tl_world.specs.Token.{Probe, Grant}
+use Rattle.tl_world.specs.Whole.{IsMatched}
+use Rattle.tl_world.proofs.Arrivals.{link_of, with_beat, IsComing, service_for}
+use Rattle.tl_world.proofs.Fronts.{IsAsked, IsWanted, acquires-so}
+use Rattle.tl_world.proofs.Memories.{performed-reply}
+use Rattle.tl_world.proofs.Requests.{recorded-beat}
+use Rattle.tl_world.proofs.RequestsTaken.{next_tracker, deed-performed, acquire_wanted, acquire_block, unheld-same}
+use Rattle.tl_world.proofs.Tokens.{same_number, set-same}
+
+-- ---- an access that is answered
+
+pub handed-answered : {w : ℕ} (config : Config) (log : Log w) (mail : Mail w) (request : ℕ → MessageA w) (s : State (List ℕ)) (sys : System w) (c source k : ℕ) → IsMatched config log mail request s sys → (asked : IsAsked config c source mail s)
+    → IsComing config c k asked.request sys.manager → beats_of (message.A asked.request) ≡ suc k
+    → probes_some (length config.clients.items) c false (cap_probed asked.request.opcode asked.request.param) (s.block (block_at asked.request.address)).pair ≡ false
+    → (deed config (link_of c) (beat.A (a_beat_of asked.request k)) sys.manager).handed ≡ (link_of c, answers asked.request (s.block (block_at asked.request.address)).memory) ∷ []
+handed-answered {w} config log mail request s sys c source k is asked comes last none =
+    let m : MessageA w = asked.request in
+    let n : ℕ = block_at m.address in
+    let e : End w = sys.manager in
+    let bytes_are : bytes_from e.memory (64 * n) 64 ≡ (s.block n).memory = is.memory n in
+    ap (λ (d : Deed w). d.handed) (deed-performed config log mail request s sys c k n false m is comes last asked.access refl none ∙ performed-access config (service_for c m e.trace) (with_beat c m k e.trace) e.memory asked.access)
+    ∙ ap (λ (i : Message w). (link_of c, i) ∷ [])
+    (ap (λ (r : memory.Reply). access_answer m (answer_of (message.A m) r)) (performed-reply (level_of config c) m e.memory comes.width asked.lawful) ∙ ap (answers m) bytes_are)
+
+-- ---- a Probe
+
+-- the Probe that goes to a client is that of its token
+pub probe-rendered : {w : ℕ} (r n source tracker : ℕ) (own : Bool) (j : Cap) (b : Block (List ℕ)) (d : ℕ) → is_probed r own j (b.pair d).recorded d ≡ true → rendered Probe d n (served_block r own source tracker j b) ≡ probe_of_block {w = w} n j
+unfolding rendered
+probe-rendered {w} r n source tracker own j b d above = go (own && (d == r)) (is_above j (b.pair d).recorded) refl above
+  where
+    go : (x y : Bool) → is_above j (b.pair d).recorded ≡ y → (not x && y) ≡ true → probe_of_block n (cap_sent (if x then b.pair d else after_served j (b.pair d)).probing) ≡ probe_of_block {w = w} n j
+    go true y e f = absurd cc
+    go false false e f = absurd cc
+    go false true e f = rw e refl
+
+-- ---- a Grant
+
+-- who is granted a block is recorded with what it is given, so that nobody else has it to write: the memory is its truth
+pub memory-granted : (caching : ℕ → Bool) (q : ℕ) (d : Bool) (k : Cap) (new : Block (List ℕ)) → IsWell caching new → new.service ≡ GrantSent q d k → (new.pair q).recorded ≡ cap_right k → same_perm (cap_right k) perm.None ≡ false
+    → new.memory ≡ new.truth
+memory-granted caching q d k new well granted given some = well.memory nobody
+  where
+    never : (x : Bool) → (x && false) ≡ false
+    never true = refl
+    never false = refl
+
+    falls : (x : Bool) → (x ≡ true → ⊥) → x ≡ false
+    falls true f = absurd (f refl)
+    falls false f = refl
+
+    not_trunk : (i : ℕ) → (i ≡ q → ⊥) → same_perm (new.pair i).recorded perm.Trunk ≡ false
+    not_trunk i other = falls (same_perm (new.pair i).recorded perm.Trunk) (λ top.
+        let alone : same_perm (new.pair q).recorded perm.None ≡ true = well.one_owner i q top (λ f. other (sym f)) in
+        let none : same_perm (cap_right k) perm.None ≡ true = rw given at alone in
+        let differ : false ≡ true = sym some ∙ none in
+        cc)
+
+    own_view : is_granting (view new.service q) ≡ true
+    own_view = rw (granted, same_number q) refl
+
+    nobody : (i : ℕ) → is_out (new.pair i) (view new.service i) ≡ false
+    nobody i = elim (cases_eq i q) [
+      | inl same ↦ rw same (ap (λ x. same_perm (new.pair q).recorded perm.Trunk && not x) own_view ∙ never (same_perm (new.pair q).recorded perm.Trunk))
+      | inr other ↦ ap (λ x. x && not (is_granting (view new.service i))) (not_trunk i other)
+    ]
+
+-- a Grant gives something
+pub gives-some : (p : Profile) (whole : Bool) (g : Grow) (unheld : Bool) → same_perm (cap_right (gift p whole g unheld)) perm.None ≡ false
+gives-some profile.One true grow.NtoB unheld = refl
+gives-some profile.One true grow.NtoT unheld = refl
+gives-some profile.One true grow.BtoT unheld = refl
+gives-some profile.One false grow.NtoB unheld = refl
+gives-some profile.One false grow.NtoT unheld = refl
+gives-some profile.One false grow.BtoT unheld = refl
+gives-some profile.Two true grow.NtoB unheld = refl
+gives-some profile.Two true grow.NtoT unheld = refl
+gives-some profile.Two true grow.BtoT unheld = refl
+gives-some profile.Two false grow.NtoB true = refl
+gives-some profile.Two false grow.NtoB false = refl
+gives-some profile.Two false grow.NtoT unheld = refl
+gives-some profile.Two false grow.BtoT unheld = refl
+
+-- it carries the block where the protocol says so
+data-same : (whole : Bool) (g : Grow) (p : Perm) → handing.is_granted_data (acquire_opcode whole) (grow_code g) p ≡ is_granted_data whole g p
+data-same true grow.NtoB p = refl
+data-same true grow.NtoT p = refl
+data-same true grow.BtoT p = refl
+data-same false grow.NtoB p = refl
+data-same false grow.NtoT p = refl
+data-same false grow.BtoT perm.None = refl
+data-same false grow.BtoT perm.Branch = refl
+data-same false grow.BtoT perm.Trunk = refl
+
+payload-same : (d : Bool) (f : Memory) (n : ℕ) (truth : List ℕ) → bytes_from f (64 * n) 64 ≡ truth → grant_payload d f n ≡ (if d then truth else handing.no_payload)
+payload-same true f n truth e = e
+payload-same false f n truth e = refl
+
+grant-is : {w : ℕ} (v : manager.Service w) (q n source tracker : ℕ) (d : Bool) (k : Cap) (f : Memory) (truth : List ℕ) → v.request.source ≡ source → v.tracker ≡ tracker → block_at v.request.address ≡ n → bytes_from f (64 * n) 64 ≡ truth
+    → grant_with v k d f ≡ grant_of (GrantSent q d k) source tracker truth
+grant-is v q n source tracker d k f truth sourced tracked block bytes = rw (sourced, tracked, block, payload-same d f n truth bytes) refl
+
+-- the Grant is that of the token, where the block is well afterwards
+pub handed-granted : {w : ℕ} (config : Config) (log : Log w) (mail : Mail w) (request : ℕ → MessageA w) (s : State (List ℕ)) (sys : System w) (caching : ℕ → Bool) (c n k : ℕ) → IsMatched config log mail request s sys → (asked : IsWanted w c n s)
+    → IsComing config c k (acquire_wanted c n s asked) sys.manager → beats_of (message.A (acquire_wanted c n s asked)) ≡ suc k
+    → probes_some (length config.clients.items) c true (cap_probed (acquire_wanted {w = w} c n s asked).opcode (acquire_wanted {w = w} c n s asked).param) (s.block n).pair ≡ false
+    → IsWell caching (granted_at_once c (next_tracker sys) (is_granted_data asked.whole asked.grow ((s.block n).pair c).recorded) (gift config.profile asked.whole asked.grow (is_unheld (length config.clients.items) (s.block n).pair)) (s.block n))
+    → (deed config (link_of c) (beat.A (a_beat_of (acquire_wanted c n s asked) k)) sys.manager).handed
+    ≡ (link_of c, rendered Grant c n (granted_at_once c (next_tracker sys) (is_granted_data asked.whole asked.grow ((s.block n).pair c).recorded) (gift config.profile asked.whole asked.grow (is_unheld (length config.clients.items) (s.block n).pair)) (s.block n))) ∷ []
+unfolding rendered
+handed-granted {w} config log mail request s sys caching c n k is asked comes last none well =
+    ap (λ (d : Deed w). d.handed) (deed-performed config log mail request s sys c k n true m is comes last (acquires-so asked.whole) (acquire_block n) none ∙ performed-acquire config (service_for c m e.trace) u e.memory (acquires-so asked.whole))
+    ∙ ap (λ (i : Message w). (link_of c, i) ∷ [])
+    (ap₂ (λ (j : Cap) (d : Bool). grant_with (service_for c m e.trace) j d e.memory) given carried
+    ∙ grant-is (service_for c m e.trace) c n (b.source c) (next_tracker sys) data_too gift_is e.memory b.truth refl refl (acquire_block n) (is.memory n ∙ memory-granted caching c data_too gift_is new well refl recorded_now (gives-some config.profile asked.whole asked.grow unheld)))
+  where
+    b : Block (List ℕ)
+    b = s.block n
+
+    m : MessageA w
+    m = acquire_wanted c n s asked
+
+    e : End w
+    e = sys.manager
+
+    u : Trace w
+    u = with_beat c m k e.trace
+
+    unheld : Bool
+    unheld = is_unheld (length config.clients.items) b.pair
+
+    gift_is : Cap
+    gift_is = gift config.profile asked.whole asked.grow unheld
+
+    data_too : Bool
+    data_too = is_granted_data asked.whole asked.grow (b.pair c).recorded
+
+    new : Block (List ℕ)
+    new = granted_at_once c (next_tracker sys) data_too gift_is b
+
+    recorded_now : (new.pair c).recorded ≡ cap_right gift_is
+    recorded_now = ap (λ (p : Pair). p.recorded) (set-same c (after_grant_sent gift_is (b.pair c)) b.pair)
+
+    given : cap_granted config.profile m.opcode m.param (holders.is_unheld config (block_at m.address) u) ≡ gift_is
+    given = ap (λ i. cap_granted config.profile m.opcode m.param (holders.is_unheld config i u)) (acquire_block n) ∙ ap (cap_granted config.profile m.opcode m.param) (unheld-same config log mail request s sys c k n m is)
+
+    carried : handing.is_granted_data m.opcode m.param (recorded c (block_at m.address) u) ≡ data_too
+    carried =
+        ap (λ i. handing.is_granted_data m.opcode m.param (recorded c i u)) (acquire_block n) ∙ ap (handing.is_granted_data m.opcode m.param) (recorded-beat c k m e.trace c n ∙ is.managed.recorded_is c n)
+        ∙ data-same asked.whole asked.grow (b.pair c).recorded

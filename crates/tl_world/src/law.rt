@@ -1,0 +1,56 @@
+//! What keeps a world coherent, as laws.
+
+ghost use Rattle.std.specs.Prelude.{◌≡◌, true};
+ghost use Rattle.tl_beat.specs.Width.{IsWidth};
+ghost use Rattle.tl_world.specs.Phase.{Pair, View, ok};
+ghost use Rattle.tl_world.specs.Delivery.{Carries, Channels, Stalls};
+ghost use Rattle.tl_world.specs.Draining.{Grants};
+ghost use Rattle.tl_world.specs.Headline.{Unrefused, Coherent, Moving};
+ghost use Rattle.tl_world.specs.Facts.{IsBelow};
+
+/// In no phase does a client hold more than is recorded.
+pub fn holds_at_most_what_is_recorded<const W: usize>()
+    ensures { (p : Pair) (v : View) → ok p v ≡ true → IsBelow p v }
+{}
+
+/// Whatever happens to a manager and its clients, no beat between them is refused.
+pub fn refuses_no_beat<const W: usize>()
+    requires { IsWidth W }
+    ensures { Unrefused W }
+{}
+
+/// No channel ever holds more beats than it is made for.
+pub fn fills_no_channel<const W: usize>()
+    requires { IsWidth W }
+    ensures { Channels W }
+{}
+
+/// Where one client may write a block, no other has a copy; each copy has the bytes of the one memory.
+pub fn keeps_copies_coherent<const W: usize>()
+    requires { IsWidth W }
+    ensures { Coherent W }
+{}
+
+/// Which deliveries find nothing, which are stalled, and which move a beat.
+pub fn stalls_exactly<const W: usize>()
+    requires { IsWidth W }
+    ensures { Stalls W }
+{}
+
+/// Channels lose nothing and keep order.
+pub fn loses_nothing<const W: usize>()
+    requires { IsWidth W }
+    ensures { Carries W }
+{}
+
+/// At a Grant the client holds what it is granted.
+pub fn holds_what_it_is_granted<const W: usize>()
+    requires { IsWidth W }
+    ensures { Grants W }
+{}
+
+/// A delivery can move exactly while something is outstanding: nothing gets stuck.
+pub fn moves_while_outstanding<const W: usize>()
+    requires { IsWidth W }
+    ensures { Moving W }
+{}

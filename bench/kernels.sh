@@ -7,13 +7,20 @@ work=$(mktemp -d)
 trap 'rm -rf "$work"' EXIT
 
 mkdir -p "$work/crates/kernels/src"
-cp -r "$root"/crates/tl_beat "$root"/crates/tl_burst "$root"/crates/tl_rules "$work/crates/"
+for crate in tl_beat tl_burst tl_params tl_rules; do
+    cp -r "$root/crates/$crate" "$work/crates/"
+done
 cp "$root/bench/kernels.rt.txt" "$work/crates/kernels/src/main.rt"
 cp "$root/HANDLES" "$work/"
 {
-    grep -E '^(tl_beat|tl_burst|tl_rules):' "$root/crates.txt"
+    grep -E '^(tl_beat|tl_burst|tl_params|tl_rules):' "$root/crates.txt"
     echo 'kernels: tl_rules tl_burst tl_beat'
 } >"$work/crates.txt"
 
 cd "$work/crates/kernels"
-rt run 2>&1 | grep ' ns'
+if ! rt run >"$work/log" 2>&1; then
+    cat "$work/log" >&2
+    echo 'kernels.sh: the program was not built, or it failed' >&2
+    exit 1
+fi
+grep ' ns' "$work/log"

@@ -6,7 +6,6 @@ ghost use Rattle.tl_burst.specs.Messages.{History, channel_of, unfinished};
 ghost use Rattle.tl_burst.specs.Part.{IsTakeable, part_of};
 ghost use Rattle.tl_client.specs.Offer.{is_sent_on};
 ghost use Rattle.tl_params.specs.declared.rule.Rule.TheVariants.{A3, L1};
-ghost use Rattle.tl_rules.specs.Agent;
 ghost use Rattle.tl_rules.specs.Conformance;
 ghost use Rattle.tl_rules.specs.Legality.{illegal, rule_if, verdict};
 
@@ -55,30 +54,5 @@ pub fn broken_in_order<const W: usize, P: Past<W>>(
         Err(_) => Some(Rule::S1),
         Ok(Part::First | Part::Only) => broken_order(profile, beat, past),
         Ok(Part::Middle | Part::Last) => None,
-    }
-}
-
-/// Whether the address of a beat is outside a map of so many blocks.
-pub fn is_outside<const W: usize>(blocks: u16, beat: &Beat<W>) -> bool
-    ensures { result ≡ Agent.is_outside blocks beat.now }
-{
-    match beat {
-        Beat::A(beat) => beat.address / 64 >= u32::from(blocks),
-        Beat::B(beat) => beat.address / 64 >= u32::from(blocks),
-        Beat::C(beat) => beat.address / 64 >= u32::from(blocks),
-        Beat::D(_) | Beat::E(_) => false,
-    }
-}
-
-/// Whether corrupt or denied is set.
-pub fn is_spoiled<const W: usize>(beat: &Beat<W>) -> bool
-    ensures { result ≡ Agent.is_spoiled beat.now }
-{
-    match beat {
-        Beat::A(beat) => beat.corrupt,
-        Beat::B(beat) => beat.corrupt,
-        Beat::C(beat) => beat.corrupt,
-        Beat::D(beat) => beat.corrupt || beat.denied,
-        Beat::E(_) => false,
     }
 }

@@ -1,9 +1,16 @@
 //! Judges each trace of examples/, and writes what it is judged.
 #![tactic(auto)]
 
+ghost use Rattle.std.specs.Prelude.{IfOk};
+ghost use Rattle.tl_examples.specs.Told.{Tells};
+
+use std::alloc::Global;
+use std::io::{Read, Write};
 use std::process::ExitCode;
 use std::{fs, io};
 use tl_tool::command::Command;
+use tl_tool::put::put;
+use tl_tool::status::{Status, ToolFault};
 use tl_tool::tool::run_tool;
 
 /// The traces, by their names in examples/.
@@ -54,19 +61,32 @@ const TRACES: [&str; 44] = [
     "rules/H13_right.trace",
 ];
 
-/// Writes the name of a trace and what it is judged. Answers whether it could be read.
-fn judge(rt: &HostRuntime, name: &str) -> bool {
+/// Writes the name of a trace, a colon and a space, and what the trace is judged. Its faults are those
+/// of `run_tool`.
+fn judge<R: Read, W: Write>(
+    alloc: Global,
+    name: &str,
+    trace: &mut R,
+    output: &mut W,
+) -> Result<Status, ToolFault>
+    ensures { IfOk result (Tells name.now (R.remaining trace.old) (R.remaining trace.new) (W.contents output.old) (W.contents output.new)) }
+{
+    put(output, name.as_bytes())?;
+    put(output, b": ")?;
+    run_tool(alloc, Command::Monitor, trace, output)
+}
+
+/// Judges the trace with this name. Answers whether it could be read and told.
+fn judge_file(rt: &HostRuntime, name: &str) -> bool {
     let Ok(mut trace) = fs::open(rt, name) else {
         return false;
     };
-    let mut output = io::writer(rt);
-    print!(rt; "{name}: ").is_ok()
-        && run_tool(rt.alloc(), Command::Monitor, &mut trace, &mut output).is_ok()
+    judge(rt.alloc(), name, &mut trace, &mut io::writer(rt)).is_ok()
 }
 
 fn main(rt: HostRuntime) -> ExitCode {
     for name in TRACES {
-        if !judge(&rt, name) {
+        if !judge_file(&rt, name) {
             return ExitCode::FAILURE;
         }
     }

@@ -2,6 +2,7 @@
 //! operations.
 #![tactic(auto)]
 
+pub mod agent;
 pub mod answer;
 mod atomic;
 pub mod blank;

@@ -13,7 +13,8 @@ use std::io::{Read, Write};
 use tl_words::command::{Command, Width};
 
 /// Runs a command: reads the input to its end or to the first line at fault, and writes the command's
-/// text of it. `decode` takes memory that doesn't grow with the input, `monitor` keeps the beats besides.
+/// text of it. `decode` takes memory that doesn't grow with the input; `monitor` keeps what is unfinished,
+/// pending and held on each link besides.
 ///
 /// `Broken` says that a `line N X` was written, and that it stands whatever follows the input, unless
 /// line N is what stands behind the last LF at the end of the input: fewer than 256 bytes, or nothing.

@@ -23,7 +23,7 @@ use Rattle.tl_params.specs.declared.perm.Perm.{Perm}
 use Rattle.tl_params.specs.declared.perm.Perm.TheVariants as perm
 use Rattle.tl_params.specs.declared.profile.Profile.{Profile}
 use Rattle.tl_params.specs.Param.{grow_code, report_left}
-use Rattle.tl_rules.specs.Conformance.{Trace, on_link, broken_order, broken_in_order, grows_from}
+use Rattle.tl_rules.specs.Conformance.{Trace, on_link, broken_order, broken_in_order, grows_from, same_perm}
 use Rattle.tl_rules.specs.History.{pending, block_at, is_acquire, held}
 use Rattle.tl_client.specs.Send.{acquisition, probe_ack, release}
 use Rattle.tl_rules.specs.Agent.{is_outside, is_spoiled}
@@ -42,7 +42,7 @@ use Rattle.tl_manager.proofs.Free.{least_free-is_free}
 use Rattle.tl_manager.proofs.Serving.{tracker_among}
 use Rattle.tl_world.specs.Follow.{acquire_opcode}
 use Rattle.tl_world.specs.Log.{Log}
-use Rattle.tl_world.specs.Phase.{Pair, View, Idle, Own, Other, Granting, Acknowledging, GrantedOther, Wants, Letting, Kept, Releasing, Acked, is_kept, is_quiet, ok, same_perm, grow_fits}
+use Rattle.tl_world.specs.Phase.{Pair, View, Idle, Own, Other, Granting, Acknowledging, GrantedOther, Wants, Letting, Kept, Releasing, Acked, is_kept, is_quiet, ok, grow_fits}
 use Rattle.tl_world.specs.Sources.{is_served}
 use Rattle.tl_world.specs.Managed.{IsManaged, is_own, client_in, service_with}
 use Rattle.tl_world.specs.Invariant.{IsInvariant, tracks_with, is_busy}

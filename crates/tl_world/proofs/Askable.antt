@@ -12,9 +12,9 @@ use Rattle.tl_params.specs.declared.level.Level.TheVariants as level
 use Rattle.tl_params.specs.declared.perm.Perm.{Perm}
 use Rattle.tl_params.specs.declared.perm.Perm.TheVariants as perm
 use Rattle.tl_params.specs.Param.{grow_left, prune_left}
-use Rattle.tl_rules.specs.Conformance as rules
 use Rattle.tl_rules.specs.History.{block_at, pending}
 use Rattle.tl_rules.specs.Legality.{has_transfers}
+use Rattle.tl_rules.specs.Conformance.{same_perm}
 use Rattle.tl_client.specs.declared.busy.Busy.{Busy}
 use Rattle.tl_client.specs.declared.operation.Op.{Op}
 use Rattle.tl_client.specs.declared.operation.Op.TheVariants as op
@@ -27,7 +27,7 @@ use Rattle.tl_client.proofs.Free.{least_free-some}
 use Rattle.tl_manager.specs.Slave.{level_of}
 use Rattle.tl_world.specs.Follow.{Shadow}
 use Rattle.tl_world.specs.Log.{Log}
-use Rattle.tl_world.specs.Phase.{Letting, Kept, Releasing, Acked, Acquiring, Calm, Wants, same_perm, is_kept}
+use Rattle.tl_world.specs.Phase.{Letting, Kept, Releasing, Acked, Acquiring, Calm, Wants, is_kept}
 use Rattle.tl_world.specs.Protocol.{State, Use, Closed, Asked, InService, Replied, Acquires, is_wanting}
 use Rattle.tl_world.specs.Render.{Mail, acquire_of, rendered}
 use Rattle.tl_world.specs.System.{System, terms_at}
@@ -111,27 +111,16 @@ caches config c level.C at transfers = ap is_c at
 caches config c level.UL at transfers = absurd cc
 caches config c level.UH at transfers = absurd cc
 
-same_rule : (p q : Perm) → rules.same_perm p q ≡ same_perm p q
-same_rule perm.None perm.None = refl
-same_rule perm.None perm.Branch = refl
-same_rule perm.None perm.Trunk = refl
-same_rule perm.Branch perm.None = refl
-same_rule perm.Branch perm.Branch = refl
-same_rule perm.Branch perm.Trunk = refl
-same_rule perm.Trunk perm.None = refl
-same_rule perm.Trunk perm.Branch = refl
-same_rule perm.Trunk perm.Trunk = refl
-
-same_back : (p q : Perm) → same_perm p q ≡ same_perm q p
-same_back perm.None perm.None = refl
-same_back perm.None perm.Branch = refl
-same_back perm.None perm.Trunk = refl
-same_back perm.Branch perm.None = refl
-same_back perm.Branch perm.Branch = refl
-same_back perm.Branch perm.Trunk = refl
-same_back perm.Trunk perm.None = refl
-same_back perm.Trunk perm.Branch = refl
-same_back perm.Trunk perm.Trunk = refl
+pub swap_perms : (p q : Perm) → same_perm p q ≡ same_perm q p
+swap_perms perm.None perm.None = refl
+swap_perms perm.None perm.Branch = refl
+swap_perms perm.None perm.Trunk = refl
+swap_perms perm.Branch perm.None = refl
+swap_perms perm.Branch perm.Branch = refl
+swap_perms perm.Branch perm.Trunk = refl
+swap_perms perm.Trunk perm.None = refl
+swap_perms perm.Trunk perm.Branch = refl
+swap_perms perm.Trunk perm.Trunk = refl
 
 -- ---- what is started
 
@@ -167,7 +156,7 @@ done_may config c terms (op.Acquire n g) h e at free =
       free_use config c (source_or_0 (free_request terms e.past)) terms h e at (least_free-some (λ s. pending (RequestSource s) e.past) 0 terms.sources free.b1).0,
       calm_is ((h.state.block n).pair c).acquiring (sym (at.end.known.acquires n) ∙ idle.0),
       kept-letting ((h.state.block n).pair c).letting (sym (at.end.known.releases n) ∙ idle.1),
-      sym (same_rule (grow_left g) ((h.state.block n).pair c).held) ∙ ap (rules.same_perm (grow_left g)) (sym (at.end.known.held_is n)) ∙ not-false (rules.same_perm (grow_left g) (held_at e n)) free.b3,
+      ap (same_perm (grow_left g)) (sym (at.end.known.held_is n)) ∙ not-false (same_perm (grow_left g) (held_at e n)) free.b3,
     )
 done_may config c terms (op.AcquireWhole n bytes) h e at free =
     let idle = or_parts (pending (AcquireOf n) e.past) (pending (ReleaseOf n) e.past) free.b2 in (
@@ -175,7 +164,7 @@ done_may config c terms (op.AcquireWhole n bytes) h e at free =
       free_use config c (source_or_0 (free_request terms e.past)) terms h e at (least_free-some (λ s. pending (RequestSource s) e.past) 0 terms.sources free.b1).0,
       calm_is ((h.state.block n).pair c).acquiring (sym (at.end.known.acquires n) ∙ idle.0),
       kept-letting ((h.state.block n).pair c).letting (sym (at.end.known.releases n) ∙ idle.1),
-      sym (same_rule perm.Trunk ((h.state.block n).pair c).held) ∙ ap (rules.same_perm perm.Trunk) (sym (at.end.known.held_is n)) ∙ free.b3,
+      ap (same_perm perm.Trunk) (sym (at.end.known.held_is n)) ∙ free.b3,
     )
 done_may config c terms (op.Release n r) h e at free =
     let idle = or_parts (pending (AcquireOf n) e.past) (pending (ReleaseOf n) e.past) free.b2 in
@@ -184,8 +173,8 @@ done_may config c terms (op.Release n r) h e at free =
       no_let (h.state.lets c source) (sym (at.end.opened.releases source) ∙ (least_free-some (λ s. pending (ReleaseSource s) e.past) 0 terms.sources free.b1).0),
       calm_is ((h.state.block n).pair c).acquiring (sym (at.end.known.acquires n) ∙ idle.0),
       kept-letting ((h.state.block n).pair c).letting (sym (at.end.known.releases n) ∙ idle.1),
-      same_back ((h.state.block n).pair c).held (prune_left r) ∙ sym (same_rule (prune_left r) ((h.state.block n).pair c).held) ∙ ap (rules.same_perm (prune_left r)) (sym (at.end.known.held_is n))
-          ∙ not-false (rules.same_perm (prune_left r) (held_at e n)) free.b3,
+      swap_perms ((h.state.block n).pair c).held (prune_left r) ∙ ap (same_perm (prune_left r)) (sym (at.end.known.held_is n))
+          ∙ not-false (same_perm (prune_left r) (held_at e n)) free.b3,
     )
 done_may config c terms (op.Access (message.A m)) h e at free = free_use config c (source_or_0 (free_request terms e.past)) terms h e at (least_free-some (λ s. pending (RequestSource s) e.past) 0 terms.sources free.b1).0
 done_may config c terms (op.Access (message.B m)) h e at free = tt

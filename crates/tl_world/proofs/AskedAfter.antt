@@ -13,6 +13,7 @@ use Rattle.tl_params.specs.declared.param.Prune.{Prune}
 use Rattle.tl_params.specs.declared.param.Prune.TheVariants as prune
 use Rattle.tl_params.specs.declared.perm.Perm.TheVariants as perm
 use Rattle.tl_rules.specs.History.{block_at}
+use Rattle.tl_rules.specs.Conformance.{same_perm}
 use Rattle.tl_client.specs.declared.operation.Op.{Op}
 use Rattle.tl_client.specs.declared.operation.Op.TheVariants as op
 use Rattle.tl_client.specs.declared.reply.Reply.{Reply}
@@ -31,7 +32,7 @@ use Rattle.tl_world.specs.Invariant.{IsInvariant}
 use Rattle.tl_world.specs.Log.{Log, after}
 use Rattle.tl_world.specs.Machine.{Performs, after_reply}
 use Rattle.tl_world.specs.Matched.{AreCarried}
-use Rattle.tl_world.specs.Phase.{Pair, same_perm}
+use Rattle.tl_world.specs.Phase.{Pair}
 use Rattle.tl_world.specs.PhaseSteps.{after_acquire, after_release}
 use Rattle.tl_world.specs.Protocol.{Block, State, view, acquiring_block, releasing_block}
 use Rattle.tl_world.specs.Remembered.{remembered, performing, accesses_answered}

@@ -19,13 +19,13 @@ use Rattle.tl_params.specs.declared.perm.Perm.TheVariants as perm
 use Rattle.tl_params.specs.declared.param.Prune.{Prune}
 use Rattle.tl_params.specs.declared.param.Prune.TheVariants as prune
 use Rattle.tl_params.specs.Param.{grow_left, prune_left}
-use Rattle.tl_rules.specs.Conformance as rules
 use Rattle.tl_rules.specs.Effect.{Memory, IsBlock, number_from}
 use Rattle.tl_rules.specs.History.{block_at, pending}
 use Rattle.tl_rules.specs.Legality.{has_transfers, illegal, illegal_message}
 use Rattle.tl_rules.proofs.Legal.{legal_from_beats, legal_beat}
 use Rattle.tl_params.specs.declared.rule.Rule.{Rule}
 use Rattle.tl_rules.proofs.Places.{number_same}
+use Rattle.tl_rules.specs.Conformance.{same_perm}
 use Rattle.tl_client.specs.declared.operation.Op.{Op}
 use Rattle.tl_client.specs.declared.operation.Op.TheVariants as op
 use Rattle.tl_client.specs.declared.busy.Busy.{Busy}
@@ -44,13 +44,14 @@ use Rattle.tl_world.specs.Beside.{IsOpened, IsLet}
 use Rattle.tl_world.specs.Follow.{Shadow}
 use Rattle.tl_world.specs.Log.{Log}
 use Rattle.tl_world.specs.Machine.{Machine, Requests, Releases, Replies}
-use Rattle.tl_world.specs.Phase.{Acquiring, Calm, Wants, Letting, Kept, Releasing, Acked, is_kept, same_perm}
+use Rattle.tl_world.specs.Phase.{Acquiring, Calm, Wants, Letting, Kept, Releasing, Acked, is_kept}
 use Rattle.tl_world.specs.Protocol.{Block, State, Use, Closed, Asked as AskedUse, InService, Replied, Acquires, is_wanting}
 use Rattle.tl_world.specs.Remembered.{remembered}
 use Rattle.tl_world.specs.Render.{Mail, acquire_of, rendered}
 use Rattle.tl_world.specs.Token.{Acquire}
 use Rattle.tl_world.specs.System.{System, terms_at}
 use Rattle.tl_world.specs.Whole.{IsMatched, is_caching, first_of, asked_for, block_used, IsRequest, IsSourced, IsAnswered}
+use Rattle.tl_world.proofs.Askable.{swap_perms}
 use Rattle.tl_world.proofs.BesideAsked.{IsReply}
 use Rattle.tl_world.proofs.FollowKept.{IsAskable}
 use Rattle.tl_world.proofs.Goods.{level-terms}
@@ -70,28 +71,6 @@ and_parts : (x y : Bool) → (x && y) ≡ true → (x ≡ true) × (y ≡ true)
 and_parts true true e = (refl, refl)
 and_parts true false e = absurd cc
 and_parts false y e = absurd cc
-
-same_perms : (p q : Perm) → rules.same_perm p q ≡ same_perm p q
-same_perms perm.None perm.None = refl
-same_perms perm.None perm.Branch = refl
-same_perms perm.None perm.Trunk = refl
-same_perms perm.Branch perm.None = refl
-same_perms perm.Branch perm.Branch = refl
-same_perms perm.Branch perm.Trunk = refl
-same_perms perm.Trunk perm.None = refl
-same_perms perm.Trunk perm.Branch = refl
-same_perms perm.Trunk perm.Trunk = refl
-
-swap_perms : (p q : Perm) → same_perm p q ≡ same_perm q p
-swap_perms perm.None perm.None = refl
-swap_perms perm.None perm.Branch = refl
-swap_perms perm.None perm.Trunk = refl
-swap_perms perm.Branch perm.None = refl
-swap_perms perm.Branch perm.Branch = refl
-swap_perms perm.Branch perm.Trunk = refl
-swap_perms perm.Trunk perm.None = refl
-swap_perms perm.Trunk perm.Branch = refl
-swap_perms perm.Trunk perm.Trunk = refl
 
 -- ---- what the protocol has, by what the end has
 
@@ -297,12 +276,12 @@ asked-well {w} config log h sys c terms o width is known = asked-cases terms o e
     well (op.Acquire n g) free =
         let closed = free_source free.b1 in
         let still = transfers n free.b2 in
-        let begins : same_perm (grow_left g) ((s.block n).pair c).held ≡ true = sym (same_perms (grow_left g) ((s.block n).pair c).held) ∙ ap (rules.same_perm (grow_left g)) (sym (held_is n)) ∙ not_false (rules.same_perm (grow_left g) (held_at e n)) free.b3 in
+        let begins : same_perm (grow_left g) ((s.block n).pair c).held ≡ true = ap (same_perm (grow_left g)) (sym (held_is n)) ∙ not_false (same_perm (grow_left g) (held_at e n)) free.b3 in
         record { may = (caching free.b4, closed, still.0, still.1, begins); word = tt; source = tt; reply = tt; replies = (refl, unopened _ closed); message = refl }
     well (op.AcquireWhole n bytes) free =
         let closed = free_source free.b1 in
         let still = transfers n free.b2 in
-        let begins : same_perm perm.Trunk ((s.block n).pair c).held ≡ false = sym (same_perms perm.Trunk ((s.block n).pair c).held) ∙ ap (rules.same_perm perm.Trunk) (sym (held_is n)) ∙ free.b3 in
+        let begins : same_perm perm.Trunk ((s.block n).pair c).held ≡ false = ap (same_perm perm.Trunk) (sym (held_is n)) ∙ free.b3 in
         record {
           may = (caching free.b4, closed, still.0, still.1, begins);
           word = tt;
@@ -316,7 +295,7 @@ asked-well {w} config log h sys c terms o width is known = asked-cases terms o e
         let open_ = (least_free-some (λ i. pending (ReleaseSource i) e.past) 0 terms.sources free.b1).0 in
         let none = none_is (s.lets c source) (sym ((is.opened c).releases source) ∙ open_) in
         let still = transfers n free.b2 in
-        let begins : same_perm (prune_left p) ((s.block n).pair c).held ≡ true = sym (same_perms (prune_left p) ((s.block n).pair c).held) ∙ ap (rules.same_perm (prune_left p)) (sym (held_is n)) ∙ not_false (rules.same_perm (prune_left p) (held_at e n)) free.b3 in
+        let begins : same_perm (prune_left p) ((s.block n).pair c).held ≡ true = ap (same_perm (prune_left p)) (sym (held_is n)) ∙ not_false (same_perm (prune_left p) (held_at e n)) free.b3 in
         record {
           may = (caching free.b4, none, still.0, still.1, swap_perms ((s.block n).pair c).held (prune_left p) ∙ begins);
           word = tt;

@@ -10,6 +10,7 @@ use Rattle.tl_params.specs.declared.perm.Perm.TheVariants as perm
 use Rattle.tl_params.specs.declared.param.Prune.{Prune}
 use Rattle.tl_rules.specs.Effect.{Memory, IsBlock}
 use Rattle.tl_rules.specs.History.{block_at}
+use Rattle.tl_rules.specs.Conformance.{same_perm}
 use Rattle.tl_client.specs.declared.operation.Op.{Op}
 use Rattle.tl_client.specs.declared.operation.Op.TheVariants as op
 use Rattle.tl_client.specs.declared.reply.Reply.{Reply}
@@ -21,7 +22,7 @@ use Rattle.tl_world.specs.Beside.{op_of, IsBeside}
 use Rattle.tl_world.specs.Follow.{Shadow, asked}
 use Rattle.tl_world.specs.Invariant.{acquires_of, IsInvariant}
 use Rattle.tl_world.specs.Machine.{Machine, Open, Requests, Releases, with_open, with_number, after_reply}
-use Rattle.tl_world.specs.Phase.{Pair, Acquiring, Calm, Wants, same_perm}
+use Rattle.tl_world.specs.Phase.{Pair, Acquiring, Calm, Wants}
 use Rattle.tl_world.specs.PhaseSteps.{after_acquire, after_release}
 use Rattle.tl_world.specs.Protocol.{Block, State, Use, Closed, Asked, InService, Replied, Acquires, is_wanting, access_asked, acquiring_block, acquire_asked, releasing_block, release_asked, stored_block, block_stored}
 use Rattle.tl_world.specs.Render.{Mail}

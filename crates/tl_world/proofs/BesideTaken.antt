@@ -19,6 +19,7 @@ use Rattle.tl_params.specs.Param.{report_left}
 use Rattle.tl_rules.specs.Effect as memory
 use Rattle.tl_rules.specs.Effect.{Memory, IsBlock, effect, answer_of}
 use Rattle.tl_rules.specs.History.{block_at, is_acquire}
+use Rattle.tl_rules.specs.Conformance.{same_perm}
 use Rattle.tl_client.specs.declared.operation.Op.TheVariants as op
 use Rattle.tl_client.specs.Send.{sourced}
 use Rattle.tl_manager.specs.Handing.{access_answer}
@@ -28,7 +29,7 @@ use Rattle.tl_world.specs.Beside.{IsAccess, IsReach, Answers, IsBeside}
 use Rattle.tl_world.specs.Follow.{some_below, bytes_at, performs, answers}
 use Rattle.tl_world.specs.Invariant.{is_out, IsWell}
 use Rattle.tl_world.specs.Machine.{Machine, Open, Requests, with_memory, performed}
-use Rattle.tl_world.specs.Phase.{Pair, View, Probing, Quiet, Sent, Answered, ok, same_perm, same_cap, is_quiet}
+use Rattle.tl_world.specs.Phase.{Pair, View, Probing, Quiet, Sent, Answered, ok, same_cap, is_quiet}
 use Rattle.tl_world.specs.PhaseSteps.{is_above}
 use Rattle.tl_world.specs.Protocol.{Waits, Block, State, Use, Closed, Asked, InService, Replied, Acquires, view, is_sent, is_probed, written}
 use Rattle.tl_world.specs.Remembered.{performing}

@@ -1,6 +1,7 @@
 -- The channels carry the messages of the tokens after each delivery on channel C or E.
 use Rattle.tl_rules.specs.declared.answer.Answer as answers_of
 use Rattle.tl_rules.specs.declared.answer.Answer.TheVariants as answer
+use Rattle.tl_rules.specs.Conformance.{same_perm}
 use Rattle.tl_world.specs.Protocol as protocol
 use Rattle.tl_world.proofs.CarriedEvents.{grant_ack_taken-carried, release_taken-carried, report_taken-carried}
 use Rattle.tl_world.proofs.CarriedProbes.{report_answers-carried, report_grants-carried}
@@ -58,7 +59,7 @@ use Rattle.tl_rules.specs.History.{is_acquire}
 use Rattle.tl_manager.specs.Holders.{cap_probed}
 use Rattle.tl_world.specs.Follow.{Shadow, performs, ack_taken, answers, followed, granted_after, last_taken, some_below, token_taken, with_state}
 use Rattle.tl_world.specs.Invariant.{IsWell, IsInvariant}
-use Rattle.tl_world.specs.Phase.{Pair, Probing, Quiet, Sent, Answered, is_quiet, perm_le, same_perm, Acknowledging, Acquiring, Calm, GrantedOther, Granting, Wants}
+use Rattle.tl_world.specs.Phase.{Pair, Probing, Quiet, Sent, Answered, is_quiet, perm_le, Acknowledging, Acquiring, Calm, GrantedOther, Granting, Wants}
 use Rattle.tl_world.specs.PhaseSteps.{after_report, is_granted_data}
 use Rattle.tl_world.specs.Protocol.{Service, Waits, Block, ended_block, shown, view, Free, GrantSent, GrantTaken, granted_block, let_block, release_taken, report_taken, token}
 use Rattle.tl_world.specs.Render.{prune_told, message_of, rendered, report_told}

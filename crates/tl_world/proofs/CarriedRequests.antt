@@ -18,7 +18,7 @@ use Rattle.tl_params.specs.declared.param.Cap.{Cap}
 use Rattle.tl_params.specs.declared.param.Cap.TheVariants as cap
 use Rattle.tl_params.specs.declared.perm.Perm.{Perm}
 use Rattle.tl_params.specs.declared.perm.Perm.TheVariants as perm
-use Rattle.tl_rules.specs.Conformance.{on_link}
+use Rattle.tl_rules.specs.Conformance.{on_link, same_perm}
 use Rattle.tl_rules.specs.declared.answer.Answer.{Answer}
 use Rattle.tl_rules.specs.declared.answer.Answer.TheVariants as answer
 use Rattle.tl_rules.specs.Effect.{effect, answer_of}
@@ -34,7 +34,7 @@ use Rattle.tl_world.specs.Log.{Log}
 use Rattle.tl_world.specs.Matched.{AreCarried}
 use Rattle.tl_world.specs.Follow.{Shadow, bytes_at, some_below, probes_some, access_taken, request_taken, answers, performs, gift, is_unheld, acquire_taken, kind_taken}
 use Rattle.tl_world.specs.Invariant.{IsInvariant, IsWell, cap_asked}
-use Rattle.tl_world.specs.Phase.{same_perm, Acquiring, Wants}
+use Rattle.tl_world.specs.Phase.{Acquiring, Wants}
 use Rattle.tl_world.specs.PhaseSteps.{is_above, is_granted_data}
 use Rattle.tl_world.specs.Protocol.{Free, Block, State, token, is_probed, granted_at_once, acquire_served, acquire_granted}
 use Rattle.tl_world.specs.Render.{Mail, rendered}

@@ -22,6 +22,7 @@ use Rattle.tl_params.specs.declared.perm.Perm.TheVariants as perm
 use Rattle.tl_params.specs.Param.{prune_code, prune_left, prune_right}
 use Rattle.tl_rules.specs.Agent.{sent}
 use Rattle.tl_rules.specs.History.{block_at, is_acquire, is_release, held, pending}
+use Rattle.tl_rules.specs.Conformance.{same_perm}
 use Rattle.tl_client.specs.declared.busy.Busy.{Busy}
 use Rattle.tl_client.specs.declared.operation.Op.{Op}
 use Rattle.tl_client.specs.declared.operation.Op.TheVariants as op
@@ -39,7 +40,7 @@ use Rattle.tl_client.proofs.KeptAsked.{no_acquire, falls_to, kept-asked}
 use Rattle.tl_world.specs.Follow as world
 use Rattle.tl_world.specs.Follow.{Shadow, acquire_opcode}
 use Rattle.tl_world.specs.Invariant.{acquires_of, AreNamed}
-use Rattle.tl_world.specs.Phase.{Pair, Wants, same_perm, is_kept}
+use Rattle.tl_world.specs.Phase.{Pair, Wants, is_kept}
 use Rattle.tl_world.specs.PhaseSteps.{after_acquire, after_release}
 use Rattle.tl_world.specs.Protocol.{Block, State, Asked, Acquires, is_wanting, access_asked, acquiring_block, acquire_asked, releasing_block, release_asked, stored_block, block_stored}
 use Rattle.tl_world.specs.Render.{Mail}

@@ -26,6 +26,7 @@ use Rattle.tl_params.specs.declared.perm.Perm.TheVariants as perm
 use Rattle.tl_rules.specs.Agent.{payload_of}
 use Rattle.tl_rules.specs.History.{ends, is_grant, is_release_ack, request_of}
 use Rattle.tl_rules.proofs.Payload.{payload-d}
+use Rattle.tl_rules.specs.Conformance.{same_perm}
 use Rattle.tl_client.specs.declared.verdict.Finish.{Finish}
 use Rattle.tl_client.specs.End.{Terms, End, with_past}
 use Rattle.tl_client.specs.Offer.{Offered, offered, taken, ended, granted, responded, silent}
@@ -35,7 +36,7 @@ use Rattle.tl_client.proofs.KeptOffered.{kept-offered}
 use Rattle.tl_manager.proofs.Filled.{whole_block}
 use Rattle.tl_world.specs.Follow.{Shadow, is_whole, taken_by_client, kind_taken, token_taken}
 use Rattle.tl_world.specs.Log.{Log}
-use Rattle.tl_world.specs.Phase.{Acquiring, Wants, same_perm}
+use Rattle.tl_world.specs.Phase.{Acquiring, Wants}
 use Rattle.tl_world.specs.Protocol.{Service, GrantSent, State, token, is_on, grant_taken}
 use Rattle.tl_world.specs.Render.{Mail, rendered, message_of, message_of_kind}
 use Rattle.tl_world.specs.System.{System, terms_at}

@@ -15,6 +15,7 @@ use Rattle.tl_params.specs.declared.param.Grow.{Grow}
 use Rattle.tl_params.specs.declared.perm.Perm.TheVariants as perm
 use Rattle.tl_params.specs.declared.key.Key.TheVariants.{RequestSource, AcquireOf, ReleaseOf}
 use Rattle.tl_rules.specs.History.{is_grant, asks_for, held, pending, request_of}
+use Rattle.tl_rules.specs.Conformance.{same_perm}
 use Rattle.tl_client.specs.Accounted as accounted
 use Rattle.tl_client.specs.Accounted.{IsAccounted}
 use Rattle.tl_client.specs.End.{End}
@@ -25,7 +26,7 @@ use Rattle.tl_client.specs.Send.{acquisition}
 use Rattle.tl_world.specs.Follow.{acquire_opcode}
 use Rattle.tl_world.specs.Known.{comes_granting, IsKnown}
 use Rattle.tl_world.specs.Log.{Log}
-use Rattle.tl_world.specs.Phase.{Acquiring, Wants, same_perm, is_kept}
+use Rattle.tl_world.specs.Phase.{Acquiring, Wants, is_kept}
 use Rattle.tl_world.specs.Protocol.{Block, State, Use, Closed, Asked, InService, Replied, Acquires, is_wanting}
 use Rattle.tl_world.specs.Render.{Mail, acquire_of, rendered}
 use Rattle.tl_world.specs.Sources.{AreOpen}

@@ -12,6 +12,7 @@ use Rattle.tl_params.specs.declared.param.Cap.{Cap}
 use Rattle.tl_params.specs.declared.perm.Perm.{Perm}
 use Rattle.tl_params.specs.declared.perm.Perm.TheVariants as perm
 use Rattle.tl_params.specs.Param.{report_at, report_right}
+use Rattle.tl_rules.specs.Conformance.{same_perm}
 use Rattle.tl_client.specs.End.{End, copy_at, held_at, sending, with_past}
 use Rattle.tl_client.specs.Kept.{holds}
 use Rattle.tl_client.specs.Offer.{probed, report_for}
@@ -19,7 +20,7 @@ use Rattle.tl_client.specs.Send.{probe_ack}
 use Rattle.tl_client.proofs.AfterAsked.{kept_waits, kept_copies, kept_closed}
 use Rattle.tl_client.proofs.KeptOffered.{reports_held}
 use Rattle.tl_world.specs.Known.{IsKnown}
-use Rattle.tl_world.specs.Phase.{Pair, same_perm}
+use Rattle.tl_world.specs.Phase.{Pair}
 use Rattle.tl_world.specs.PhaseSteps.{after_probe}
 use Rattle.tl_world.specs.Protocol.{Block, State, probed_block, probe_taken}
 use Rattle.tl_world.specs.Render.{Mail, probe_beat}

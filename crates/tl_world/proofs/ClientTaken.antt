@@ -18,6 +18,7 @@ use Rattle.tl_params.specs.declared.perm.Perm.TheVariants as perm
 use Rattle.tl_params.specs.Param.{cap_code, cap_right}
 use Rattle.tl_rules.specs.Agent.{sent}
 use Rattle.tl_rules.specs.History.{block_at, ends, capped, is_acquire, is_grant, is_release_ack, request_of}
+use Rattle.tl_rules.specs.Conformance.{same_perm}
 use Rattle.tl_client.specs.After.{copy_granted, waiting_granted}
 use Rattle.tl_client.specs.declared.verdict.Finish.{Finish}
 use Rattle.tl_client.specs.End.{End, with_past, sending}
@@ -29,7 +30,7 @@ use Rattle.tl_client.proofs.AfterOffered.{granted_is}
 use Rattle.tl_client.proofs.HeldAfter.{same_block, swapped}
 use Rattle.tl_manager.specs.Handing.{grant_opcode}
 use Rattle.tl_world.specs.Follow.{acquire_opcode}
-use Rattle.tl_world.specs.Phase.{Pair, Wants, same_perm, is_kept}
+use Rattle.tl_world.specs.Phase.{Pair, Wants, is_kept}
 use Rattle.tl_world.specs.PhaseSteps.{after_grant, after_release_ack}
 use Rattle.tl_world.specs.Protocol.{Block, State, Closed, Acquires, is_wanting, answer_taken, granted_copy, taken_block, grant_taken, let_go_block, release_ack_taken}
 use Rattle.tl_world.specs.Render.{Mail}

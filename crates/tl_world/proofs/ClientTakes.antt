@@ -28,7 +28,7 @@ use Rattle.tl_params.specs.declared.profile.Profile.TheVariants as profile
 use Rattle.tl_params.specs.Param.{cap_code, grow_code}
 use Rattle.tl_rules.specs.Agent.{is_outside}
 use Rattle.tl_rules.specs.Conformance as rules
-use Rattle.tl_rules.specs.Conformance.{answers, fits_grow, is_acquire_block, is_grant_without_data, broken_in_order}
+use Rattle.tl_rules.specs.Conformance.{answers, fits_grow, is_acquire_block, is_grant_without_data, broken_in_order, same_perm}
 use Rattle.tl_rules.specs.History.{is_acquire, is_grant, is_release_ack, held, pending, request_of}
 use Rattle.tl_rules.specs.Legality.{illegal}
 use Rattle.tl_client.specs.End.{Terms, End}
@@ -42,7 +42,7 @@ use Rattle.tl_manager.specs.Service.{is_access_answer}
 use Rattle.tl_manager.specs.Slave.{level_of}
 use Rattle.tl_world.specs.Follow.{acquire_opcode}
 use Rattle.tl_world.specs.Log.{Log}
-use Rattle.tl_world.specs.Phase.{Wants, same_perm, cap_fits, grant_fits}
+use Rattle.tl_world.specs.Phase.{Wants, cap_fits, grant_fits}
 use Rattle.tl_world.specs.Protocol.{State}
 use Rattle.tl_world.specs.Render.{Mail}
 use Rattle.tl_world.specs.System.{System, terms_at}
@@ -204,7 +204,7 @@ fitting recorded held data_too k whole g fits =
     not_true false e = refl
 
 pub has_data : (whole data_too : Bool) (q : Perm) → (whole || (data_too || same_perm q perm.Branch)) ≡ true
-    → (is_grant_without_data (grant_opcode data_too) && (is_acquire_block (acquire_opcode whole) && not (rules.same_perm q perm.Branch))) ≡ false
+    → (is_grant_without_data (grant_opcode data_too) && (is_acquire_block (acquire_opcode whole) && not (same_perm q perm.Branch))) ≡ false
 has_data true true q e = refl
 has_data true false q e = refl
 has_data false true q e = refl
@@ -234,7 +234,7 @@ grant-first {w} p c n mail s e end due given whole =
       admits = answers_acquire due.whole due.data_too fits.bare;
       size = refl;
     }) (same_block n) (fits_asked p due.whole due.g due.k fits.cap_is given)
-    (ap (λ (q : Perm). is_grant_without_data (grant_opcode due.data_too) && (is_acquire_block (acquire_opcode due.whole) && not (rules.same_perm q perm.Branch))) (end.known.held_is n) ∙ has_data due.whole due.data_too ((s.block n).pair c).held fits.carried)
+    (ap (λ (q : Perm). is_grant_without_data (grant_opcode due.data_too) && (is_acquire_block (acquire_opcode due.whole) && not (same_perm q perm.Branch))) (end.known.held_is n) ∙ has_data due.whole due.data_too ((s.block n).pair c).held fits.carried)
     (end.known.probes n) (end.known.sinks (s.block n).tracker ∙ ap (λ (b : List (Beat w)). rules.comes_in_grant (s.block n).tracker b) whole)
 
 -- ---- a ReleaseAck

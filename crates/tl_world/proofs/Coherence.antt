@@ -8,6 +8,7 @@ use Rattle.tl_params.specs.declared.perm.Perm.{Perm}
 use Rattle.tl_params.specs.declared.perm.Perm.TheVariants as perm
 use Rattle.tl_rules.specs.Effect as memory
 use Rattle.tl_rules.specs.Effect.{IsBlock}
+use Rattle.tl_rules.specs.Conformance.{same_perm}
 use Rattle.tl_client.specs.declared.operation.Op.{Op}
 use Rattle.tl_client.specs.declared.operation.Op.TheVariants as op
 use Rattle.tl_client.specs.declared.reply.Reply.{Reply}
@@ -20,7 +21,7 @@ use Rattle.tl_world.specs.declared.event.Outcome.TheVariants as outcome
 use Rattle.tl_world.specs.Coherent.{started_at, started, IsCoherent}
 use Rattle.tl_world.specs.Log.{Log, after}
 use Rattle.tl_world.specs.Machine.{Machine, Open, Pool, Requests, Releases, same_pool, pool_of, with_open, with_memory, memory_after, after_reply, after_end, moved, performed, performed_op, performed_open}
-use Rattle.tl_world.specs.Phase.{same_perm, perm_le}
+use Rattle.tl_world.specs.Phase.{perm_le}
 use Rattle.tl_world.specs.Protocol.{State, view}
 use Rattle.tl_world.specs.Remembered.{remembered, performing, accesses_answered}
 use Rattle.tl_world.specs.Render.{Mail}

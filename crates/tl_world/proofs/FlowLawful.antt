@@ -18,7 +18,7 @@ use Rattle.tl_params.specs.declared.param.Report.{Report}
 use Rattle.tl_params.specs.declared.perm.Perm.TheVariants as perm
 use Rattle.tl_params.specs.declared.profile.Profile.{Profile}
 use Rattle.tl_params.specs.Param.{prune_code, prune_left, report_at, report_code, report_left}
-use Rattle.tl_rules.specs.Conformance.{on_link, broken_in_order, broken_after}
+use Rattle.tl_rules.specs.Conformance.{on_link, broken_in_order, broken_after, same_perm}
 use Rattle.tl_rules.specs.History.{block_at}
 use Rattle.tl_rules.specs.Legality.{illegal}
 use Rattle.tl_manager.specs.Kept.{illegal_at}
@@ -26,7 +26,7 @@ use Rattle.tl_manager.specs.Slave.{level_of}
 use Rattle.tl_world.specs.Flow.{flow}
 use Rattle.tl_world.specs.Log.{Log}
 use Rattle.tl_world.specs.Matched.{receiver}
-use Rattle.tl_world.specs.Phase.{View, Idle, Own, Other, Granting, Acknowledging, GrantedOther, Probing, Quiet, Sent, Answered, Letting, Kept, Releasing, Acked, Acquiring, Calm, Wants, ok, same_perm, same_report, is_kept, is_quiet}
+use Rattle.tl_world.specs.Phase.{View, Idle, Own, Other, Granting, Acknowledging, GrantedOther, Probing, Quiet, Sent, Answered, Letting, Kept, Releasing, Acked, Acquiring, Calm, Wants, ok, same_report, is_kept, is_quiet}
 use Rattle.tl_world.specs.Protocol.{Block, State, token, shown, view, is_granting, is_acknowledging, is_answered, is_acked, is_sent, is_on}
 use Rattle.tl_world.specs.Render.{Mail, message_of, message_of_kind, rendered, prune_told, report_told}
 use Rattle.tl_world.specs.Sources.{cap_waited}

@@ -23,14 +23,13 @@ use Rattle.tl_params.specs.declared.perm.Perm.TheVariants as perm
 use Rattle.tl_params.specs.declared.profile.Profile.{Profile}
 use Rattle.tl_params.specs.declared.rule.Rule.TheVariants.{H1, H9, H13}
 use Rattle.tl_params.specs.Param.{prune_code, prune_of, prune_left, report_code, report_at}
-use Rattle.tl_rules.specs.Conformance as conformance
-use Rattle.tl_rules.specs.Conformance.{broken_order, broken_in_order, broken_after, grows_from, prunes_from, comes_in_request, comes_in_release, comes_in_grant}
+use Rattle.tl_rules.specs.Conformance.{broken_order, broken_in_order, broken_after, grows_from, prunes_from, comes_in_request, comes_in_release, comes_in_grant, same_perm}
 use Rattle.tl_rules.specs.History.{block_at, is_acquire, is_probe, is_probe_ack, is_release, held, pending}
 use Rattle.tl_rules.specs.Legality.{illegal, rule_if}
 use Rattle.tl_rules.proofs.Later.{later-legal}
 use Rattle.tl_world.specs.Flowed.{IsFlowed, is_requested, is_let, is_let_by, is_sunk}
 use Rattle.tl_world.specs.Known.{comes_granting}
-use Rattle.tl_world.specs.Phase.{View, Idle, Letting, Kept, Releasing, Acked, Acquiring, Calm, Answered, same_perm}
+use Rattle.tl_world.specs.Phase.{View, Idle, Letting, Kept, Releasing, Acked, Acquiring, Calm, Answered}
 use Rattle.tl_world.specs.Protocol.{State, Use, Asked, Acquires, view, is_granting, is_acknowledging, is_answered, is_acked, is_wanting, is_unserved}
 use Rattle.tl_world.specs.Render.{probe_beat}
 use Rattle.tl_world.specs.Sources.{cap_waited}
@@ -102,17 +101,6 @@ prune_again prune.TtoB = refl
 prune_again prune.TtoN = refl
 prune_again prune.BtoN = refl
 
-perm_again : (p q : Perm) → same_perm p q ≡ true → conformance.same_perm p q ≡ true
-perm_again perm.None perm.None e = refl
-perm_again perm.Branch perm.Branch e = refl
-perm_again perm.Trunk perm.Trunk e = refl
-perm_again perm.None perm.Branch e = absurd cc
-perm_again perm.None perm.Trunk e = absurd cc
-perm_again perm.Branch perm.None e = absurd cc
-perm_again perm.Branch perm.Trunk e = absurd cc
-perm_again perm.Trunk perm.None e = absurd cc
-perm_again perm.Trunk perm.Branch e = absurd cc
-
 releases : (taken acquires again prunes : Bool) → taken ≡ false → acquires ≡ false → again ≡ false → prunes ≡ true → rule_if taken H1 (rule_if (acquires || (again || not prunes)) H13 None) ≡ None
 releases taken acquires again prunes e f g h = rw (e, f, g, h) refl
 
@@ -127,7 +115,7 @@ release-flows {w} p c n r x asked rest s t flowed whole is block param used lets
     flowed.release_sources x.source ∙ ap (λ (o : Option ℕ). is_let_by c x.source (rest channel.C) o s) used ∙ unlet x.source (rest channel.C) ((s.block n).pair c).letting whole (ap is_acked lets) in
     let once : pending (key.AcquireOf n) t ≡ false = flowed.acquires n ∙ ap (λ (a : Acquiring). is_wanting a && not (is_unserved (view (s.block n).service c))) calm in
     let again : pending (key.ReleaseOf n) t ≡ false = flowed.releases n ∙ unlet ((s.block n).release_source c) (rest channel.C) ((s.block n).pair c).letting whole (ap is_acked lets) in
-    let prunes : prunes_from (prune_of x.param) (held n t) ≡ true = rw (param, prune_again r, held_as c n asked rest s t flowed ungranted) (perm_again (prune_left r) ((s.block n).pair c).recorded left) in
+    let prunes : prunes_from (prune_of x.param) (held n t) ≡ true = rw (param, prune_again r, held_as c n asked rest s t flowed ungranted) left in
     rw (none, is, block) (releases (pending (key.ReleaseSource x.source) t) (pending (key.AcquireOf n) t) (pending (key.ReleaseOf n) t) (prunes_from (prune_of x.param) (held n t)) free once again prunes)
 
 -- ---- channel E

@@ -12,7 +12,7 @@ use Rattle.tl_burst.specs.Burst.{a_beat_of, beats_of}
 use Rattle.tl_burst.specs.Messages.{channel_of, unfinished}
 use Rattle.tl_params.specs.declared.config.Config.{Config}
 use Rattle.tl_params.specs.declared.level.Level.{Level}
-use Rattle.tl_rules.specs.Conformance.{broken_after, on_link}
+use Rattle.tl_rules.specs.Conformance.{broken_after, on_link, same_perm}
 use Rattle.tl_rules.specs.History.{block_at, ends}
 use Rattle.tl_rules.specs.Legality.{illegal}
 use Rattle.tl_rules.proofs.Sent.{is_last}
@@ -22,7 +22,7 @@ use Rattle.tl_manager.specs.Slave.{level_of, must_wait}
 use Rattle.tl_world.specs.Flow.{flow}
 use Rattle.tl_world.specs.Log.{Log}
 use Rattle.tl_world.specs.Matched.{receiver}
-use Rattle.tl_world.specs.Phase.{Pair, Idle, Letting, Kept, Releasing, Acked, is_kept, is_quiet, ok, same_perm}
+use Rattle.tl_world.specs.Phase.{Pair, Idle, Letting, Kept, Releasing, Acked, is_kept, is_quiet, ok}
 use Rattle.tl_world.specs.Protocol.{Free, State, token, view, is_on}
 use Rattle.tl_world.specs.Render.{Mail, message_of, message_of_kind}
 use Rattle.tl_world.specs.System.{System}

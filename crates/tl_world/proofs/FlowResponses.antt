@@ -26,7 +26,7 @@ use Rattle.tl_params.specs.declared.perm.Perm.{Perm}
 use Rattle.tl_params.specs.declared.perm.Perm.TheVariants as perm
 use Rattle.tl_params.specs.Param.{prune_code, report_code, report_left}
 use Rattle.tl_rules.specs.Conformance as rules
-use Rattle.tl_rules.specs.Conformance.{on_link, comes_in_request, comes_in_release, comes_in_grant, broken_in_order}
+use Rattle.tl_rules.specs.Conformance.{on_link, comes_in_request, comes_in_release, comes_in_grant, broken_in_order, same_perm}
 use Rattle.tl_rules.specs.History.{is_release, held, pending, request_of}
 use Rattle.tl_client.specs.End.{zeros}
 use Rattle.tl_client.specs.Send.{acquisition, about, release, probe_ack}
@@ -196,7 +196,7 @@ flow-grant {w} config log mail request s sys c n h flowed due given whole =
       admits = answers_acquire due.whole due.data_too fits.bare;
       size = refl;
     }) (same_block n) (fits_asked config.profile due.whole due.g due.k fits.cap_is given)
-    (ap (λ (q : Perm). rules.is_grant_without_data (grant_opcode due.data_too) && (rules.is_acquire_block (acquire_opcode due.whole) && not (rules.same_perm q perm.Branch))) held_now
+    (ap (λ (q : Perm). rules.is_grant_without_data (grant_opcode due.data_too) && (rules.is_acquire_block (acquire_opcode due.whole) && not (same_perm q perm.Branch))) held_now
     ∙ has_data due.whole due.data_too ((s.block n).pair c).held fits.carried)
     ((flowed c).probes n ∙ grant_quiet (is_caching config) c n s h.invariant due)
     ((flowed c).sinks sink ∙ ap (λ (b : List (Beat w)). is_sunk c sink b (s.tracked sink) s) whole ∙ ap (λ (o : Option ℕ). is_sunk c sink (none_of w) o s) (grant_tracked (is_caching config) c n s h.invariant due)

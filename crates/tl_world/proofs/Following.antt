@@ -23,7 +23,7 @@ use Rattle.tl_params.specs.declared.param.Prune.TheVariants as prune
 use Rattle.tl_params.specs.declared.perm.Perm.TheVariants as perm
 use Rattle.tl_params.specs.declared.profile.Profile.TheVariants as profile
 use Rattle.tl_rules.specs.Agent.{bytes_carried}
-use Rattle.tl_rules.specs.Conformance.{Trace, on_link, comes_in_request, comes_in_grant, broken_order}
+use Rattle.tl_rules.specs.Conformance.{Trace, on_link, comes_in_request, comes_in_grant, broken_order, same_perm}
 use Rattle.tl_rules.specs.Effect.{bytes_from, number_from, effect}
 use Rattle.tl_rules.specs.History.{held, pending, block_at, is_acquire, request_of, release_of, probe_of, grant_sink}
 use Rattle.tl_rules.specs.Legality.{illegal, first_illegal, beats_from, each_below}
@@ -49,7 +49,7 @@ use Rattle.tl_world.specs.Known.{comes_granting}
 use Rattle.tl_world.specs.Managed.{is_own, client_in}
 use Rattle.tl_world.specs.Matched.{receiver}
 use Rattle.tl_world.specs.Movable.{is_movable, first_movable, next_delivery}
-use Rattle.tl_world.specs.Phase.{ok, same_perm, same_cap, is_quiet, is_kept}
+use Rattle.tl_world.specs.Phase.{ok, same_cap, is_quiet, is_kept}
 use Rattle.tl_world.specs.Protocol.{Service, Free, Waits, GrantSent, GrantTaken, State, view, is_wanting, is_granting, is_acknowledging, is_unserved, is_answered}
 use Rattle.tl_world.specs.Render.{Mail, rendered, messages_on, probe_beat}
 use Rattle.tl_world.specs.Sources.{is_served, is_granted, cap_waited}

@@ -23,7 +23,7 @@ use Rattle.tl_params.specs.declared.param.Grow.TheVariants as grow
 use Rattle.tl_params.specs.declared.perm.Perm.{Perm}
 use Rattle.tl_params.specs.declared.perm.Perm.TheVariants as perm
 use Rattle.tl_params.specs.declared.rule.Rule.{Rule}
-use Rattle.tl_rules.specs.Conformance.{on_link}
+use Rattle.tl_rules.specs.Conformance.{on_link, same_perm}
 use Rattle.tl_client.specs.declared.verdict.Verdict.{Verdict}
 use Rattle.tl_client.specs.declared.verdict.Verdict.TheVariants as verdict
 use Rattle.tl_client.specs.End as client
@@ -41,7 +41,7 @@ use Rattle.tl_world.specs.Invariant.{IsInvariant}
 use Rattle.tl_world.specs.Log.{Log, after}
 use Rattle.tl_world.specs.Machine.{Machine, moved}
 use Rattle.tl_world.specs.Matched.{AreCarried, receiver}
-use Rattle.tl_world.specs.Phase.{Letting, Kept, Releasing, Acked, Wants, is_kept, same_perm, grant_fits}
+use Rattle.tl_world.specs.Phase.{Letting, Kept, Releasing, Acked, Wants, is_kept, grant_fits}
 use Rattle.tl_world.specs.Protocol.{Block, State, token, is_on, is_acked, is_granting, shown, view, taken_block}
 use Rattle.tl_world.specs.Remembered.{remembered, performing, accesses_answered}
 use Rattle.tl_world.specs.Render.{Mail, rendered, message_of, message_of_kind, messages_on}

@@ -24,7 +24,7 @@ use Rattle.tl_params.specs.declared.perm.Perm.{Perm}
 use Rattle.tl_params.specs.declared.perm.Perm.TheVariants as perm
 use Rattle.tl_params.specs.Param.{prune_code, prune_left, prune_right, report_code, report_left, report_right}
 use Rattle.tl_rules.specs.Agent.{payload_of}
-use Rattle.tl_rules.specs.Conformance.{on_link}
+use Rattle.tl_rules.specs.Conformance.{on_link, same_perm}
 use Rattle.tl_rules.specs.History.{ends, block_at, is_grant, is_probe_ack, is_release_ack, pending, reported}
 use Rattle.tl_rules.proofs.Payload.{payload-c}
 use Rattle.tl_rules.proofs.Sent.{is_last}
@@ -39,7 +39,7 @@ use Rattle.tl_manager.proofs.Handed.{whole-taken}
 use Rattle.tl_manager.proofs.Keeping.{kept-offered}
 use Rattle.tl_world.specs.Follow.{Shadow, with_state, some_below}
 use Rattle.tl_world.specs.Managed.{IsManaged}
-use Rattle.tl_world.specs.Phase.{Pair, is_quiet, same_perm}
+use Rattle.tl_world.specs.Phase.{Pair, is_quiet}
 use Rattle.tl_world.specs.Protocol.{Block, State, report_taken, reported_block, release_taken, let_block, grant_ack_taken, freed_block}
 use Rattle.tl_world.specs.Sources.{AreServed}
 use Rattle.tl_world.specs.Token.{Token}

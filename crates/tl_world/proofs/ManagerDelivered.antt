@@ -33,7 +33,7 @@ use Rattle.tl_params.specs.declared.param.Prune.{Prune}
 use Rattle.tl_params.specs.declared.param.Report.{Report}
 use Rattle.tl_params.specs.declared.perm.Perm.TheVariants as perm
 use Rattle.tl_params.specs.Param.{grow_code, prune_code, prune_left, report_code, report_left}
-use Rattle.tl_rules.specs.Conformance.{on_link, broken_in_order}
+use Rattle.tl_rules.specs.Conformance.{on_link, broken_in_order, same_perm}
 use Rattle.tl_rules.specs.History.{pending}
 use Rattle.tl_params.specs.declared.key.Key.TheVariants.{GrantSink}
 use Rattle.tl_manager.proofs.Links.{whole-e}
@@ -43,7 +43,7 @@ use Rattle.tl_manager.specs.Slave.{End, deed}
 use Rattle.tl_world.specs.Follow.{Shadow, acquire_opcode, ack_taken, granted_after, last_taken, some_below, token_taken, with_state, answers}
 use Rattle.tl_world.specs.Invariant.{IsInvariant, IsOwnSource, IsWell}
 use Rattle.tl_world.specs.Log.{Log}
-use Rattle.tl_world.specs.Phase.{View, Own, Other, Granting, Acknowledging, GrantedOther, Answered, Releasing, Acquiring, Calm, Wants, is_calm, same_perm}
+use Rattle.tl_world.specs.Phase.{View, Own, Other, Granting, Acknowledging, GrantedOther, Answered, Releasing, Acquiring, Calm, Wants, is_calm}
 use Rattle.tl_world.specs.Protocol.{Service, Free, Waits, GrantSent, GrantTaken, Block, Use, Acquires, is_wanting, report_taken, release_taken, grant_ack_taken, shown, token, view, granted_block, let_block}
 use Rattle.tl_world.specs.Render.{message_of, prune_told, rendered, report_told}
 use Rattle.tl_world.specs.System.{System}

@@ -11,9 +11,10 @@ use Rattle.tl_params.specs.declared.perm.Perm.TheVariants as perm
 use Rattle.tl_params.specs.declared.profile.Profile.{Profile}
 use Rattle.tl_params.specs.declared.profile.Profile.TheVariants as profile
 use Rattle.tl_params.specs.Param.{cap_right}
+use Rattle.tl_rules.specs.Conformance.{same_perm}
 use Rattle.tl_world.specs.Follow.{Shadow, gift}
 use Rattle.tl_world.specs.Invariant.{IsWell, is_out}
-use Rattle.tl_world.specs.Phase.{Pair, Granting, GrantedOther, same_perm}
+use Rattle.tl_world.specs.Phase.{Pair, Granting, GrantedOther}
 use Rattle.tl_world.specs.PhaseSteps.{after_report, after_grant_sent, is_granted_data}
 use Rattle.tl_world.specs.Protocol as protocol
 use Rattle.tl_world.specs.Protocol.{GrantSent, Block, State, granted_block, granted_pair, is_granting, let_block, report_grants, view}

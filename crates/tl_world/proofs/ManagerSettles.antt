@@ -30,7 +30,7 @@ use Rattle.tl_params.specs.declared.perm.Perm.TheVariants as perm
 use Rattle.tl_params.specs.Param.{report_code, report_left, report_right, cap_code, cap_right, grow_code}
 use Rattle.tl_rules.specs.declared.answer.Answer.{Answer}
 use Rattle.tl_rules.specs.declared.answer.Answer.TheVariants as answer
-use Rattle.tl_rules.specs.Conformance.{Trace, on_link}
+use Rattle.tl_rules.specs.Conformance.{Trace, on_link, same_perm}
 use Rattle.tl_rules.specs.Effect.{effect, Memory}
 use Rattle.tl_rules.specs.History.{block_at, is_release_ack, pending, is_grant, capped}
 use Rattle.tl_manager.specs.Handing.{Deed, access_answer, performed, with_handed, cap_granted, grant, grant_opcode}
@@ -47,7 +47,7 @@ use Rattle.tl_manager.proofs.SteadyReports.{report-ready}
 use Rattle.tl_world.specs.Follow.{Shadow, answers, performs, some_below, with_answer, with_state, acquire_opcode, gift, is_unheld}
 use Rattle.tl_world.specs.Invariant.{AreNamed}
 use Rattle.tl_world.specs.Managed.{IsManaged}
-use Rattle.tl_world.specs.Phase.{is_quiet, same_perm, Pair}
+use Rattle.tl_world.specs.Phase.{is_quiet, Pair}
 use Rattle.tl_world.specs.Protocol as protocol
 use Rattle.tl_world.specs.Protocol.{Service, Free, Waits, GrantSent, Block, State, Acquires, report_answers, ended_block, report_grants, granted_block, reported_block}
 use Rattle.tl_world.specs.Sources.{AreServed, IsFor}

@@ -25,8 +25,7 @@ use Rattle.tl_params.specs.declared.perm.Perm.TheVariants as perm
 use Rattle.tl_params.specs.declared.profile.Profile.{Profile}
 use Rattle.tl_params.specs.declared.rule.Rule.TheVariants.{H1, H8, H13}
 use Rattle.tl_params.specs.Param.{prune_code, prune_left, prune_of, report_at, report_code}
-use Rattle.tl_rules.specs.Conformance as conformance
-use Rattle.tl_rules.specs.Conformance.{on_link, broken_in_order, broken_order, prunes_from, comes_in_grant}
+use Rattle.tl_rules.specs.Conformance.{on_link, broken_in_order, broken_order, prunes_from, comes_in_grant, same_perm}
 use Rattle.tl_rules.specs.History.{held, pending}
 use Rattle.tl_rules.specs.Legality.{rule_if}
 use Rattle.tl_manager.specs.Kept.{IsSound, IsKept, illegal_at}
@@ -36,7 +35,7 @@ use Rattle.tl_manager.proofs.Judged.{judged-passes, manager-takes}
 use Rattle.tl_manager.proofs.Links.{whole-e}
 use Rattle.tl_world.specs.Invariant.{IsInvariant, AreNamed}
 use Rattle.tl_world.specs.Managed.{IsManaged, is_own}
-use Rattle.tl_world.specs.Phase.{View, Own, Other, Granting, Acknowledging, GrantedOther, Probing, Quiet, Sent, Answered, Releasing, is_kept, is_quiet, same_perm, same_report}
+use Rattle.tl_world.specs.Phase.{View, Own, Other, Granting, Acknowledging, GrantedOther, Probing, Quiet, Sent, Answered, Releasing, is_kept, is_quiet, same_report}
 use Rattle.tl_world.specs.Protocol.{Service, Free, Waits, GrantSent, GrantTaken, Block, State, view, is_answered, is_granting, is_acknowledging, is_on, token}
 use Rattle.tl_world.specs.Render.{Mail, message_of, rendered, message_of_kind}
 use Rattle.tl_world.specs.Sources.{AreServed, cap_waited, is_granted}
@@ -184,21 +183,10 @@ first_release used acquires releases fits = rule_if used H1 (rule_if (acquires |
 release_rules : (used acquires releases fits : Bool) → used ≡ false → acquires ≡ false → releases ≡ false → fits ≡ true → first_release used acquires releases fits
 release_rules used acquires releases fits e f g h = rw (e, f, g, h) refl
 
-same_perms : (p q : Perm) → conformance.same_perm p q ≡ same_perm p q
-same_perms perm.None perm.None = refl
-same_perms perm.None perm.Branch = refl
-same_perms perm.None perm.Trunk = refl
-same_perms perm.Branch perm.None = refl
-same_perms perm.Branch perm.Branch = refl
-same_perms perm.Branch perm.Trunk = refl
-same_perms perm.Trunk perm.None = refl
-same_perms perm.Trunk perm.Branch = refl
-same_perms perm.Trunk perm.Trunk = refl
-
 pruned : (r : Prune) (p : Perm) → same_perm (prune_left r) p ≡ true → prunes_from (prune_of (prune_code r)) p ≡ true
-pruned prune.TtoB p e = same_perms perm.Trunk p ∙ e
-pruned prune.TtoN p e = same_perms perm.Trunk p ∙ e
-pruned prune.BtoN p e = same_perms perm.Branch p ∙ e
+pruned prune.TtoB p e = e
+pruned prune.TtoN p e = e
+pruned prune.BtoN p e = e
 
 -- a Release that is first has no ProbeAck of its block behind it
 pub unanswered : (caching : ℕ → Bool) (c n : ℕ) (rest : List Token) (s : State (List ℕ)) → IsInvariant caching s → (s.link c).c ≡ token Release n ∷ rest → is_answered ((s.block n).pair c).probing ≡ false

@@ -18,6 +18,7 @@ use Rattle.tl_params.specs.declared.perm.Perm.{Perm}
 use Rattle.tl_params.specs.declared.perm.Perm.TheVariants as perm
 use Rattle.tl_params.specs.Param.{cap_code, cap_of, report_at, report_left}
 use Rattle.tl_rules.specs.History.{block_at}
+use Rattle.tl_rules.specs.Conformance.{same_perm}
 use Rattle.tl_client.specs.declared.verdict.Verdict.{Verdict}
 use Rattle.tl_client.specs.declared.verdict.Verdict.TheVariants as verdict
 use Rattle.tl_client.specs.End as client
@@ -33,7 +34,7 @@ use Rattle.tl_world.specs.Follow.{Shadow, followed, token_taken, kind_taken}
 use Rattle.tl_world.specs.Log.{Log, after}
 use Rattle.tl_world.specs.Machine.{Machine, moved}
 use Rattle.tl_world.specs.Matched.{AreCarried}
-use Rattle.tl_world.specs.Phase.{Pair, Probing, Quiet, Sent, Answered, Letting, Kept, Releasing, Acked, is_kept, same_perm}
+use Rattle.tl_world.specs.Phase.{Pair, Probing, Quiet, Sent, Answered, Letting, Kept, Releasing, Acked, is_kept}
 use Rattle.tl_world.specs.PhaseSteps.{after_probe}
 use Rattle.tl_world.specs.Protocol.{Block, token, is_on, is_sent, shown, probed_block, probe_taken}
 use Rattle.tl_world.specs.Remembered.{remembered, performing, accesses_answered}

@@ -23,7 +23,7 @@ use Rattle.tl_params.specs.declared.perm.Perm.{Perm}
 use Rattle.tl_params.specs.declared.perm.Perm.TheVariants as perm
 use Rattle.tl_params.specs.declared.rule.Rule.TheVariants.{L1, L2, L3}
 use Rattle.tl_params.specs.Param.{report_left}
-use Rattle.tl_rules.specs.Conformance.{answers}
+use Rattle.tl_rules.specs.Conformance.{answers, same_perm}
 use Rattle.tl_rules.specs.Legality.{is_one_of, a_of_level, a_has_param, a_has_size}
 use Rattle.tl_rules.proofs.Bursts.{control_of_legal, next_rule}
 use Rattle.tl_client.specs.Send.{probe_ack}
@@ -31,7 +31,7 @@ use Rattle.tl_manager.specs.Kept.{illegal_message_at}
 use Rattle.tl_manager.specs.Service.{is_access_answer}
 use Rattle.tl_manager.specs.Slave.{level_of}
 use Rattle.tl_world.specs.Invariant.{IsInvariant}
-use Rattle.tl_world.specs.Phase.{Pair, View, Acquiring, Calm, Wants, Probing, Quiet, Sent, Answered, ok, same_perm}
+use Rattle.tl_world.specs.Phase.{Pair, View, Acquiring, Calm, Wants, Probing, Quiet, Sent, Answered, ok}
 use Rattle.tl_world.specs.Protocol.{State, Asked, Replied, view}
 use Rattle.tl_world.specs.Render.{Mail, acquire_of, report_told, rendered, message_of_kind}
 use Rattle.tl_world.specs.Token.{Request, Acquire, ProbeAck, Answer}

@@ -10,9 +10,10 @@ use Rattle.tl_params.specs.declared.param.Report.{Report}
 use Rattle.tl_params.specs.declared.perm.Perm.{Perm}
 use Rattle.tl_params.specs.declared.perm.Perm.TheVariants as perm
 use Rattle.tl_params.specs.Param.{report_at}
+use Rattle.tl_rules.specs.Conformance.{same_perm}
 use Rattle.tl_world.specs.Invariant.{IsInvariant, serves_of, is_serving}
 use Rattle.tl_world.specs.Move.{Move}
-use Rattle.tl_world.specs.Phase.{Pair, Own, Granting, Probing, Quiet, Sent, Answered, same_perm, is_quiet}
+use Rattle.tl_world.specs.Phase.{Pair, Own, Granting, Probing, Quiet, Sent, Answered, is_quiet}
 use Rattle.tl_world.specs.PhaseSteps.{after_probe, after_report, after_grant_sent}
 use Rattle.tl_world.specs.Potential.{total, Left, probing_weight, pair_weight, probes_weight, acquire_weight, letting_weight, potential}
 use Rattle.tl_world.specs.Protocol.{Service, Free, Waits, GrantSent, GrantTaken, Block, State, Closed, InService, Replied, Acquires, view, is_unserved, probed_block, reported_block, ended_block, granted_block}

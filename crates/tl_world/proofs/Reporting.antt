@@ -17,9 +17,9 @@ use Rattle.tl_params.specs.declared.param.Report.TheVariants as report
 use Rattle.tl_params.specs.declared.perm.Perm.TheVariants as perm
 use Rattle.tl_params.specs.Param.{prune_code, prune_left, prune_right, report_code, report_left, report_right}
 use Rattle.tl_rules.specs.History.{block_at, is_probe_ack, is_release, reported}
+use Rattle.tl_rules.specs.Conformance.{same_perm}
 use Rattle.tl_client.specs.End.{zeros}
 use Rattle.tl_client.specs.Send.{about, probe_ack, release}
-use Rattle.tl_world.specs.Phase.{same_perm}
 
 -- a message of channel C about a block, with its bytes where it gives Trunk up
 pub record IsAbout {w : ℕ} (is_report : Bool) (n param : ℕ) (carries : Bool) (truth : List ℕ) (m : MessageC w) : Type 0 where

@@ -23,14 +23,14 @@ use Rattle.tl_manager.specs.Handing as handing
 use Rattle.tl_manager.specs.Handing.{Handed, Deed, probes, probe_of_block, performed, grant_with, access_answer, cap_granted, grant_payload}
 use Rattle.tl_manager.specs.Holders as holders
 use Rattle.tl_manager.specs.Holders.{recorded, probed, cap_probed}
-use Rattle.tl_rules.specs.Conformance.{Trace}
+use Rattle.tl_rules.specs.Conformance.{Trace, same_perm}
 use Rattle.tl_manager.specs.Service as manager
 use Rattle.tl_manager.specs.Slave.{End, level_of, deed}
 use Rattle.tl_manager.proofs.Events.{performed-access, performed-acquire}
 use Rattle.tl_world.specs.Follow.{acquire_opcode, answers, gift, is_unheld, probes_some}
 use Rattle.tl_world.specs.Invariant.{IsWell, is_out}
 use Rattle.tl_world.specs.Log.{Log}
-use Rattle.tl_world.specs.Phase.{Pair, same_perm}
+use Rattle.tl_world.specs.Phase.{Pair}
 use Rattle.tl_world.specs.PhaseSteps.{after_served, after_grant_sent, is_above, is_granted_data}
 use Rattle.tl_world.specs.Protocol.{GrantSent, Block, State, view, is_granting, is_probed, served_block, granted_at_once}
 use Rattle.tl_world.specs.Render.{Mail, cap_sent, grant_of, rendered}

@@ -13,7 +13,7 @@ use Rattle.tl_params.specs.declared.param.Grow.{Grow}
 use Rattle.tl_params.specs.declared.param.Grow.TheVariants as grow
 use Rattle.tl_params.specs.declared.perm.Perm.{Perm}
 use Rattle.tl_params.specs.declared.perm.Perm.TheVariants as perm
-use Rattle.tl_rules.specs.Conformance.{on_link}
+use Rattle.tl_rules.specs.Conformance.{on_link, same_perm}
 use Rattle.tl_rules.specs.History.{ends, block_at, is_acquire}
 use Rattle.tl_rules.proofs.Sent.{is_last}
 use Rattle.tl_client.specs.Send.{acquisition}
@@ -26,7 +26,7 @@ use Rattle.tl_manager.proofs.Events.{deed-unprobed, deed-intent}
 use Rattle.tl_world.specs.Follow.{Shadow, some_below, probes_some, access_taken, request_taken, acquire_opcode, is_unheld, gift, acquire_taken, kind_taken}
 use Rattle.tl_world.specs.Invariant.{IsInvariant, cap_asked}
 use Rattle.tl_world.specs.Log.{Log}
-use Rattle.tl_world.specs.Phase.{Pair, Acquiring, Wants, is_quiet, same_perm}
+use Rattle.tl_world.specs.Phase.{Pair, Acquiring, Wants, is_quiet}
 use Rattle.tl_world.specs.PhaseSteps.{is_above, is_granted_data}
 use Rattle.tl_world.specs.Protocol.{Service, Free, Waits, GrantSent, GrantTaken, Block, State, Asked, InService, Acquires, on, token, view, is_probed, acquire_served, acquire_granted}
 use Rattle.tl_world.specs.Render.{Mail}

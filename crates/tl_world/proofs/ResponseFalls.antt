@@ -11,9 +11,10 @@ use Rattle.tl_params.specs.declared.param.Prune.TheVariants as prune
 use Rattle.tl_params.specs.declared.perm.Perm.{Perm}
 use Rattle.tl_params.specs.declared.perm.Perm.TheVariants as perm
 use Rattle.tl_params.specs.Param.{prune_right}
+use Rattle.tl_rules.specs.Conformance.{same_perm}
 use Rattle.tl_world.specs.Invariant.{IsInvariant, acquires_of, acquires_with}
 use Rattle.tl_world.specs.Move.{Move}
-use Rattle.tl_world.specs.Phase.{Pair, Granting, Acknowledging, GrantedOther, Probing, Quiet, Sent, Answered, Kept, Releasing, Acked, same_perm}
+use Rattle.tl_world.specs.Phase.{Pair, Granting, Acknowledging, GrantedOther, Probing, Quiet, Sent, Answered, Kept, Releasing, Acked}
 use Rattle.tl_world.specs.PhaseSteps.{after_release_taken, after_release_ack, after_grant}
 use Rattle.tl_world.specs.Potential.{Left, probing_weight, pair_weight, probes_weight, acquire_weight, letting_weight, potential}
 use Rattle.tl_world.specs.Protocol.{Service, Free, GrantSent, GrantTaken, Block, State, Closed, Replied, Acquires, view, is_unserved, is_wanting, is_answered, taken_block, let_block, let_go_block, freed_block}

@@ -14,6 +14,7 @@ use Rattle.tl_params.specs.declared.profile.Profile.{Profile}
 use Rattle.tl_params.specs.declared.perm.Perm.TheVariants as perm
 use Rattle.tl_rules.specs.Effect.{Memory, bytes_from}
 use Rattle.tl_rules.specs.History.{block_at}
+use Rattle.tl_rules.specs.Conformance.{same_perm}
 use Rattle.tl_client.specs.declared.operation.Op.{Op}
 use Rattle.tl_client.specs.declared.operation.Op.TheVariants as op
 use Rattle.tl_client.specs.declared.reply.Reply.{Reply}
@@ -24,7 +25,7 @@ use Rattle.tl_client.proofs.Stores.{word_room, length-stored}
 use Rattle.tl_world.specs.Follow.{Shadow, asked, performs, access_taken, request_taken, acquire_taken, granted_after, last_taken, is_whole, taken_by_client, kind_taken}
 use Rattle.tl_world.specs.Headline.{IsTypedOp}
 use Rattle.tl_world.specs.Invariant.{is_asked, IsInvariant}
-use Rattle.tl_world.specs.Phase.{Pair, Acquiring, Calm, Wants, same_perm}
+use Rattle.tl_world.specs.Phase.{Pair, Acquiring, Calm, Wants}
 use Rattle.tl_world.specs.PhaseSteps.{after_acquire, after_release, after_served, after_grant_sent, after_probe, after_report, after_release_taken, after_release_ack, after_grant}
 use Rattle.tl_world.specs.Protocol.{Service, Free, Waits, GrantSent, GrantTaken, Block, State, Use, Closed, Asked, InService, Replied, Acquires, token, on, acquiring_block, stored_block, performed_block, served_block, ended_block, granted_block, granted_pair, taken_block, granted_truth, freed_block}
 use Rattle.tl_world.specs.Token.{Kind, Request, Acquire, Probe, ProbeAck, Release, Answer, Grant, ReleaseAck, GrantAck, Token, set, set_at}

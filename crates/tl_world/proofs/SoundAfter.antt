@@ -12,6 +12,7 @@ use Rattle.tl_params.specs.declared.config.Config.{Config}
 use Rattle.tl_params.specs.declared.perm.Perm.{Perm}
 use Rattle.tl_params.specs.declared.perm.Perm.TheVariants as perm
 use Rattle.tl_params.specs.declared.rule.Rule.{Rule}
+use Rattle.tl_rules.specs.Conformance.{same_perm}
 use Rattle.tl_client.specs.declared.operation.Op.{Op}
 use Rattle.tl_client.specs.declared.verdict.Verdict.{Verdict}
 use Rattle.tl_client.specs.declared.verdict.Verdict.TheVariants as verdict
@@ -32,7 +33,6 @@ use Rattle.tl_world.specs.declared.event.Event.{Event}
 use Rattle.tl_world.specs.declared.event.Event.TheVariants.{Ask, Deliver}
 use Rattle.tl_world.specs.Headline.{IsTypedOp, IsTyped}
 use Rattle.tl_world.specs.Log.{Log}
-use Rattle.tl_world.specs.Phase.{same_perm}
 use Rattle.tl_world.specs.Protocol.{State}
 use Rattle.tl_world.specs.Render.{Mail}
 use Rattle.tl_world.specs.Step.{stepped, stepped_at, client_of, delivered, handed_by, judged, client_took, manager_took, is_to_client}

@@ -5,10 +5,11 @@ use Rattle.std.proofs.lemmas.Bool.{cases_eq, ne_eqb}
 use Rattle.tl_params.specs.declared.config.Config.{Config}
 use Rattle.tl_params.specs.declared.perm.Perm.{Perm}
 use Rattle.tl_params.specs.declared.perm.Perm.TheVariants as perm
+use Rattle.tl_rules.specs.Conformance.{same_perm}
 use Rattle.tl_world.specs.Delivery.{sources_of}
 use Rattle.tl_world.specs.Follow.{some_below}
 use Rattle.tl_world.specs.Invariant.{IsInvariant}
-use Rattle.tl_world.specs.Phase.{View, Idle, Own, Other, Granting, Acknowledging, GrantedOther, Probing, Quiet, Sent, Answered, Letting, Kept, Releasing, Acked, same_perm, is_quiet}
+use Rattle.tl_world.specs.Phase.{View, Idle, Own, Other, Granting, Acknowledging, GrantedOther, Probing, Quiet, Sent, Answered, Letting, Kept, Releasing, Acked, is_quiet}
 use Rattle.tl_world.specs.Potential.{total, Left, probing_weight, pair_weight, probes_weight, acquire_weight, use_weight, letting_weight, let_weight, client_weight, potential, is_used, is_let, open_requests, open_releases}
 use Rattle.tl_world.specs.Protocol.{State, Use, Closed, Asked, InService, Replied, Acquires, view}
 use Rattle.tl_world.specs.System.{terms_at}

@@ -3,8 +3,9 @@ use Rattle.std.specs.Prelude.{ℕ, zero, suc, Bool, true, false, ◌+◌, if◌t
 use Rattle.tl_params.specs.declared.config.Config.{Config}
 use Rattle.tl_params.specs.declared.perm.Perm.{Perm}
 use Rattle.tl_params.specs.declared.perm.Perm.TheVariants as perm
+use Rattle.tl_rules.specs.Conformance.{same_perm}
 use Rattle.tl_world.specs.Delivery.{sources_of}
-use Rattle.tl_world.specs.Phase.{Pair, View, Own, Granting, Probing, Quiet, Sent, Answered, Letting, Kept, Releasing, Acked, same_perm}
+use Rattle.tl_world.specs.Phase.{Pair, View, Own, Granting, Probing, Quiet, Sent, Answered, Letting, Kept, Releasing, Acked}
 use Rattle.tl_world.specs.Protocol.{Block, State, Use, Closed, Asked, InService, Replied, Acquires, view}
 use Rattle.tl_world.specs.System.{terms_at}
 use Rattle.tl_world.specs.Token.{Kind, Request, Acquire, ProbeAck, Release, Answer, Grant, one_if}

@@ -19,7 +19,7 @@ use Rattle.tl_params.specs.declared.param.Grow.TheVariants as grow
 use Rattle.tl_params.specs.declared.perm.Perm.TheVariants as perm
 use Rattle.tl_params.specs.declared.profile.Profile.{Profile}
 use Rattle.tl_params.specs.declared.profile.Profile.TheVariants as profile
-use Rattle.tl_rules.specs.Conformance.{answers}
+use Rattle.tl_rules.specs.Conformance.{answers, same_perm}
 use Rattle.tl_rules.specs.Effect.{bytes_from}
 use Rattle.tl_client.specs.Accounted.{IsAccounted}
 use Rattle.tl_client.specs.Kept as client
@@ -27,7 +27,7 @@ use Rattle.tl_manager.specs.Kept as manager
 use Rattle.tl_manager.specs.Kept.{illegal_message_at}
 use Rattle.tl_manager.specs.Service.{is_access_answer}
 use Rattle.tl_manager.specs.Slave.{level_of}
-use Rattle.tl_world.specs.Phase.{Pair, Acquiring, Calm, Wants, same_perm}
+use Rattle.tl_world.specs.Phase.{Pair, Acquiring, Calm, Wants}
 use Rattle.tl_world.specs.Token.{Acquire}
 use Rattle.tl_world.specs.Protocol.{Service, Waits, GrantSent, Block, State, Use, Closed, Asked, InService, Replied, Acquires}
 use Rattle.tl_world.specs.Invariant.{IsInvariant}

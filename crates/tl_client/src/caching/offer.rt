@@ -13,12 +13,13 @@ ghost use Rattle.tl_rules.specs.Conformance;
 ghost use Rattle.tl_rules.specs.Legality.{verdict};
 
 use super::Caching;
-use crate::order::{broken_in_order, check_alone, is_outside, is_spoiled};
+use crate::order::{broken_in_order, check_alone};
 use crate::release::is_releasing;
 use crate::verdict::Verdict;
 use tl_beat::beat::Beat;
 use tl_beat::opcode::Channel;
 use tl_burst::message::Message;
+use tl_rules::agent::{is_outside, is_spoiled};
 use tl_rules::kind::is_probe;
 use tl_rules::order::broken_order;
 use tl_rules::rule::Rule;
@@ -60,7 +61,7 @@ impl<const W: usize> Caching<W> {
         if let Some(rule) = self.broken_in_order(beat) {
             return Err(rule);
         }
-        if is_outside(self.blocks, beat) {
+        if is_outside(usize::from(self.blocks), beat) {
             return Err(Rule::A1);
         }
         if is_spoiled(beat) {

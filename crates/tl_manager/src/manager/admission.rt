@@ -2,7 +2,6 @@
 
 ghost use Rattle.std.specs.Prelude.{◌≡◌};
 ghost use Rattle.tl_beat.specs.Width.{IsWidth};
-ghost use Rattle.tl_rules.specs.Agent;
 ghost use Rattle.tl_manager.specs.Admission.{admission_of, judged_by};
 ghost use Rattle.tl_manager.specs.Slave;
 
@@ -53,29 +52,4 @@ pub fn is_from_client<const W: usize>(beat: &Beat<W>) -> bool
     ensures { result ≡ Slave.is_from_client beat.now }
 {
     matches!(beat, Beat::A(_) | Beat::C(_) | Beat::E(_))
-}
-
-/// Whether a beat's address is outside of so many blocks.
-pub fn is_outside<const W: usize>(blocks: usize, beat: &Beat<W>) -> bool
-    ensures { result ≡ Agent.is_outside blocks beat.now }
-{
-    match beat {
-        Beat::A(x) => blocks <= (x.address / 64) as usize,
-        Beat::B(x) => blocks <= (x.address / 64) as usize,
-        Beat::C(x) => blocks <= (x.address / 64) as usize,
-        Beat::D(_) | Beat::E(_) => false,
-    }
-}
-
-/// Whether a beat is corrupt or denied.
-pub fn is_spoiled<const W: usize>(beat: &Beat<W>) -> bool
-    ensures { result ≡ Agent.is_spoiled beat.now }
-{
-    match beat {
-        Beat::A(x) => x.corrupt,
-        Beat::B(x) => x.corrupt,
-        Beat::C(x) => x.corrupt,
-        Beat::D(x) => x.corrupt || x.denied,
-        Beat::E(_) => false,
-    }
 }

@@ -16,7 +16,7 @@ ghost use Rattle.tl_beat.specs.declared.opcode.Channel.{Channel};
 ghost use Rattle.tl_manager.specs.Slave.{End, deed, judged, open_level, refused, taken};
 
 use crate::directory::Directory;
-use crate::manager::admission::{Admission, admit, is_from_client, is_outside, is_spoiled};
+use crate::manager::admission::{Admission, admit, is_from_client};
 use crate::manager::blocks::Blocks;
 use crate::manager::home::Home;
 use crate::manager::reply::Handed;
@@ -28,6 +28,7 @@ use std::alloc::{AllocError, Global};
 use tl_beat::beat::{Beat, Link};
 use tl_beat::opcode::Channel;
 use tl_burst::part::Part;
+use tl_rules::agent::{is_outside, is_spoiled};
 use tl_rules::config::{ClientConfig, Config, NewFault};
 use tl_rules::legality::check_beat;
 use tl_rules::order::broken_order;

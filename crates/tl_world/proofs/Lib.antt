@@ -1,3 +1,4 @@
+pub mod AccessEnds
 pub mod Accounts
 pub mod Acknowledged
 pub mod Alike
@@ -145,6 +146,7 @@ mod Shown
 pub mod Sized
 pub mod SizedAfter
 pub mod SoundAfter
+pub mod Soundness
 pub mod SourcesServed
 pub mod Steps
 pub mod Sums

@@ -92,6 +92,8 @@ pub mod KnownProbed
 pub mod Landed
 pub mod Lawful
 pub mod Local
+mod Lone
+mod Brought
 pub mod Machined
 pub mod ManagedAcks
 pub mod ManagedEndings

@@ -4,7 +4,7 @@ ghost use Rattle.std.specs.Prelude.{◌≡◌, true};
 ghost use Rattle.tl_beat.specs.Width.{IsWidth};
 ghost use Rattle.tl_world.specs.Phase.{Pair, View, ok};
 ghost use Rattle.tl_world.specs.Delivery.{Carries, Channels, Stalls};
-ghost use Rattle.tl_world.specs.Draining.{Grants};
+ghost use Rattle.tl_world.specs.Draining.{Alone, Grants};
 ghost use Rattle.tl_world.specs.Headline.{Headline, OneMemory, Unrefused, Coherent, Moving};
 ghost use Rattle.tl_world.specs.Facts.{IsBelow};
 
@@ -65,4 +65,10 @@ pub fn is_a_run_of_one_memory<const W: usize>()
 pub fn stays_sound<const W: usize>()
     requires { IsWidth W }
     ensures { Headline W }
+{}
+
+/// An Acquire that is started alone, and drained, brings what it asks for.
+pub fn brings_what_is_asked_alone<const W: usize>()
+    requires { IsWidth W }
+    ensures { Alone W }
 {}

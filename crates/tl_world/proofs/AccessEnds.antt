@@ -57,11 +57,11 @@ use Rattle.tl_world.proofs.Granting.{same-response}
 -- bytes between zeros, again
 bytes_again : (first : ℕ) (bytes : List ℕ) → take (length bytes) (drop first (as_payload first bytes)) ≡ bytes
 bytes_again first bytes =
-    let zero_ : ℕ = 0 in
+    let none : ℕ = 0 in
     let more : ℕ = 64 - first - length bytes in
-    ap (λ (xs : List ℕ). take (length bytes) (drop first xs)) (append_assoc (replicate first zero_) bytes (replicate more zero_))
-    ∙ ap (take (length bytes)) (drop_at (replicate first zero_) (bytes ++ replicate more zero_) first (length-replicate first zero_))
-    ∙ take_at bytes (replicate more zero_) (length bytes) refl
+    ap (λ (xs : List ℕ). take (length bytes) (drop first xs)) (append_assoc (replicate first none) bytes (replicate more none))
+    ∙ ap (take (length bytes)) (drop_at (replicate first none) (bytes ++ replicate more none) first (length-replicate first none))
+    ∙ take_at bytes (replicate more none) (length bytes) refl
 
 -- the address of a lawful access is aligned
 aligned : {w : ℕ} (o : Option Level) (m : MessageA w) → IsWidth w → illegal_message_at o (message.A m) ≡ None → m.address % 2 ^ m.size ≡ 0

@@ -61,14 +61,14 @@ not_popped None (Pushes k n) render fits = absurd fits
 not_popped (Some m) Stays render fits = absurd fits
 not_popped (Some m) (Pops k n) render fits = absurd fits
 
-same_again : (ch : Channel) → same_channel ch ch ≡ true
+pub same_again : (ch : Channel) → same_channel ch ch ≡ true
 same_again channel.A = refl
 same_again channel.B = refl
 same_again channel.C = refl
 same_again channel.D = refl
 same_again channel.E = refl
 
-elsewhere : (c d : ℕ) (ch at : Channel) → (d ≡ c → at ≡ ch → ⊥) → ((d == c) && same_channel at ch) ≡ false
+pub elsewhere : (c d : ℕ) (ch at : Channel) → (d ≡ c → at ≡ ch → ⊥) → ((d == c) && same_channel at ch) ≡ false
 elsewhere c d ch at ne = go (d == c) (same_channel at ch) refl refl
   where
     go : (a b : Bool) → (d == c) ≡ a → same_channel at ch ≡ b → (a && b) ≡ false

@@ -4,7 +4,7 @@ ghost use Rattle.std.specs.Prelude.{◌≡◌, true};
 ghost use Rattle.tl_beat.specs.Width.{IsWidth};
 ghost use Rattle.tl_world.specs.Phase.{Pair, View, ok};
 ghost use Rattle.tl_world.specs.Delivery.{Carries, Channels, Stalls};
-ghost use Rattle.tl_world.specs.Draining.{Grants};
+ghost use Rattle.tl_world.specs.Draining.{Bound, Drain, Grants};
 ghost use Rattle.tl_world.specs.Headline.{Unrefused, Coherent, Moving};
 ghost use Rattle.tl_world.specs.Facts.{IsBelow};
 
@@ -53,4 +53,16 @@ pub fn holds_what_it_is_granted<const W: usize>()
 pub fn moves_while_outstanding<const W: usize>()
     requires { IsWidth W }
     ensures { Moving W }
+{}
+
+/// Deliveries move no more beats than the load before them.
+pub fn moves_at_most_the_load<const W: usize>()
+    requires { IsWidth W }
+    ensures { Bound W }
+{}
+
+/// What is outstanding ends after as many deliveries as the load at most, each the next one, and then no delivery is left.
+pub fn drains_within_the_load<const W: usize>()
+    requires { IsWidth W }
+    ensures { Drain W }
 {}

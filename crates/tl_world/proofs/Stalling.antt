@@ -2,6 +2,7 @@
 -- whose block is in service, or for which there is no tracker.
 use Rattle.std.proofs.Common.{◌≡◌, ℕ, Bool, true, false, List, [], ◌∷◌, refl, sym, ◌∙◌, ap}
 use Rattle.std.specs.Prelude.{not, ◌&&◌, if◌then◌else◌, Option, Some, None, is_none, is_some, option_map, Result, Ok, Err}
+use Rattle.std.proofs.Math.Bool.{and-false}
 use Rattle.tl_beat.specs.declared.beat.Beat.{Beat}
 use Rattle.tl_beat.specs.declared.beat.Beat.TheVariants as beat
 use Rattle.tl_beat.specs.declared.beat.BeatB.{BeatB}
@@ -188,10 +189,6 @@ movable-moves {w} config log c ch exactly movable = go (terms_at config c) refl 
     sys : System w
     sys = after config log
 
-    never : (b : Bool) → (b && false) ≡ false
-    never true = refl
-    never false = refl
-
     go : (o : Option Terms) → terms_at config c ≡ o → (beats : List (Beat w)) → sys.channels c ch ≡ beats → moves config o c ch beats sys ≡ true → is_moving (outcome_of_delivery config log c ch) ≡ true
     go None e beats f g = absurd cc
     go (Some terms) e [] f g = absurd cc
@@ -199,7 +196,7 @@ movable-moves {w} config log c ch exactly movable = go (terms_at config c) refl 
         let is : IsExact config log c ch = exactly (ap is_some e) in
         let same : outcome_of_delivery config log c ch ≡ (delivered config terms c ch (sys.channels c ch) sys).outcome = ap (λ (o : Option Terms). (stepped_at config o (Deliver (record { 0 = c }) ch) sys).outcome) e in
         let some : is_emptiness (outcome_of_delivery config log c ch) ≡ false = is.empty ∙ ap is_empty f in
-        let unstalled : is_stall (outcome_of_delivery config log c ch) ≡ false = is.stalled ∙ ap (λ (b : Bool). not (is_empty (sys.channels c ch)) && not b) movable ∙ never (not (is_empty (sys.channels c ch))) in
+        let unstalled : is_stall (outcome_of_delivery config log c ch) ≡ false = is.stalled ∙ ap (λ (b : Bool). not (is_empty (sys.channels c ch)) && not b) movable ∙ and-false (not (is_empty (sys.channels c ch))) in
         ap is_moving same ∙ moving-else config terms c ch (sys.channels c ch) sys (sym (ap is_emptiness same) ∙ some) (sym (ap is_stall same) ∙ unstalled)
 
 -- ---- exact stalls

@@ -2,7 +2,7 @@
 use Rattle.std.proofs.Common.{◌≡◌, ℕ, zero, suc, ◌+◌, ◌<◌, ◌≤◌, Bool, true, false, [], refl, subst, inl, inr, arith}
 use Rattle.std.specs.Prelude.{if◌then◌else◌, length, Option, Some, None, option_map, slice_get}
 use Rattle.std.proofs.lemmas.Bool.{cases_eq}
-use Rattle.std.proofs.lemmas.Option.{slice_get_within}
+use Rattle.std.proofs.lemmas.Option.{same_Some, slice_get_within}
 use Rattle.tl_beat.specs.declared.beat.Link.{Link}
 use Rattle.tl_beat.specs.declared.opcode.Channel.{Channel}
 use Rattle.tl_beat.specs.declared.opcode.Channel.TheVariants as channel
@@ -81,9 +81,6 @@ no-next config s none =
 
 -- ---- the delivery that is next is movable
 
-some_is : {X : Type 0} {x y : X} → Some x ≡ Some y → x ≡ y
-some_is e = cc
-
 first-some : {w : ℕ} (config : Config) (ch : Channel) (link n : ℕ) (s : System w) (d : Link × Channel) → first_movable config ch link n s ≡ Some d → is_movable config d.0.0 d.1 s ≡ true
 unfolding first_movable
 first-some config ch link zero s d e = absurd cc
@@ -91,7 +88,7 @@ first-some config ch link (suc n) s d e = go (is_movable config link ch s) refl 
   where
     go : (b : Bool) → is_movable config link ch s ≡ b → (if b then Some (record { 0 = link }, ch) else first_movable config ch (link + 1) n s) ≡ Some d
         → (first_movable config ch (link + 1) n s ≡ Some d → is_movable config d.0.0 d.1 s ≡ true) → is_movable config d.0.0 d.1 s ≡ true
-    go true f g rest = subst (λ (i : Link × Channel). is_movable config i.0.0 i.1 s ≡ true) (some_is g) f
+    go true f g rest = subst (λ (i : Link × Channel). is_movable config i.0.0 i.1 s ≡ true) (same_Some (record { 0 = link }, ch) d g) f
     go false f g rest = rest g
 
 by-either : {X : Type 0} (a b : Option X) (x : X) (P : Type 0) → (a ≡ Some x → P) → (b ≡ Some x → P) → or_later a b ≡ Some x → P

@@ -39,10 +39,6 @@ client_below config c terms is = go (slice_get config.clients.items c) refl is
     go None e f = absurd cc
     go (Some x) e f = slice_get_within config.clients.items c x e
 
--- one of these
-abbrev pub IsNone : {X : Type 0} → Option X → Type 0
-IsNone o = o ≡ None
-
 none-both : {X : Type 0} (a b : Option X) → or_later a b ≡ None → (a ≡ None) × (b ≡ None)
 none-both None b e = (refl, e)
 none-both (Some x) b e = absurd cc

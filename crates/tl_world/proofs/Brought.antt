@@ -30,19 +30,15 @@ use Rattle.tl_world.proofs.Matching.{shadow}
 use Rattle.tl_world.proofs.Movement.{closed-when-counted}
 use Rattle.tl_world.proofs.Progress.{counted}
 use Rattle.tl_world.proofs.RequestsTaken.{next_tracker}
+use Rattle.tl_world.proofs.Settling.{given-before, given-delivering}
 use Rattle.tl_world.proofs.Still.{IsClosed}
 use Rattle.tl_world.proofs.Tokens.{set-same}
 
 -- ---- logs
 
-given_before : {w : ℕ} (config : Config) (x : Event w × Outcome w) (log : Log w) → IsGiven config (x ∷ log) → IsGiven config log
-unfolding AreTyped IsLog
-given_before config x log given = record { width = given.width; fits = given.fits; typed = given.typed.1; is_log = given.is_log.1 }
-
 given_delivering : {w : ℕ} (config : Config) (o : Option (Link × Channel)) (log : Log w) → IsGiven config log → IsGiven config (with_delivery config o log)
-unfolding AreTyped IsLog
 given_delivering config None log given = given
-given_delivering config (Some d) log given = record { width = given.width; fits = given.fits; typed = (tt, given.typed); is_log = (refl, given.is_log) }
+given_delivering config (Some d) log given = given-delivering config d.0 d.1 log given
 
 -- nothing is open where nothing is outstanding
 nothing_open : {w : ℕ} (config : Config) (log : Log w) → IsGiven config log → outstanding log ≡ 0 → IsClosed (shadow config log).state
@@ -70,7 +66,7 @@ lone_started : {w : ℕ} (config : Config) (log : Log w) (c n source : ℕ) (g :
 unfolding shadow IsLog
 lone_started {w} config log c n source g none given =
     subst (λ (o : Outcome w). IsLone config.profile c n source g (followed_by config (Ask c (Acquire n g)) o (after config log) (shadow config log)).state) given.is_log.0
-    (lone_asked config.profile c n source g (((shadow config log).state.block n).waiting c) (shadow config log).state (nothing_open config log (given_before config (Ask c (Acquire n g), Replied (Started source)) log given) none))
+    (lone_asked config.profile c n source g (((shadow config log).state.block n).waiting c) (shadow config log).state (nothing_open config log (given-before config (Ask c (Acquire n g), Replied (Started source)) log given) none))
 
 -- ---- as it is drained
 

@@ -180,6 +180,9 @@ mod OwedAfter
 mod OwedKinds
 mod OwedRequests
 mod OwedReports
+mod Grown
+mod Lessening
+mod Settling
 pub mod Taken
 pub mod TakenAll
 pub mod Tokens

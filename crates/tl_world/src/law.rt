@@ -4,7 +4,7 @@ ghost use Rattle.std.specs.Prelude.{◌≡◌, true};
 ghost use Rattle.tl_beat.specs.Width.{IsWidth};
 ghost use Rattle.tl_world.specs.Phase.{Pair, View, ok};
 ghost use Rattle.tl_world.specs.Delivery.{Carries, Channels, Stalls};
-ghost use Rattle.tl_world.specs.Draining.{Alone, Grants};
+ghost use Rattle.tl_world.specs.Draining.{Alone, Bound, Drain, Grants};
 ghost use Rattle.tl_world.specs.Headline.{Headline, OneMemory, Unrefused, Coherent, Moving};
 ghost use Rattle.tl_world.specs.Facts.{IsBelow};
 
@@ -71,4 +71,16 @@ pub fn stays_sound<const W: usize>()
 pub fn brings_what_is_asked_alone<const W: usize>()
     requires { IsWidth W }
     ensures { Alone W }
+{}
+
+/// Deliveries move no more beats than the load before them.
+pub fn moves_at_most_the_load<const W: usize>()
+    requires { IsWidth W }
+    ensures { Bound W }
+{}
+
+/// What is outstanding ends after as many deliveries as the load at most, each the next one, and then no delivery is left.
+pub fn drains_within_the_load<const W: usize>()
+    requires { IsWidth W }
+    ensures { Drain W }
 {}

@@ -104,3 +104,6 @@ impl<const W: usize, D: Directory> Manager<W, D> {
         self.links.closed(link)
     }
 }
+
+#[cfg(test)]
+mod tests;

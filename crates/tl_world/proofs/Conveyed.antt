@@ -104,7 +104,7 @@ manages-passing {w} config (x ∷ handed) t s p f each is =
 
 -- ---- the channel of a beat
 
-on_it : {w : ℕ} (x : Beat w) → IsOn (channel_of x) x
+pub on_it : {w : ℕ} (x : Beat w) → IsOn (channel_of x) x
 on_it (beat.A x) channel.A = refl
 on_it (beat.A x) channel.B = refl
 on_it (beat.A x) channel.C = refl

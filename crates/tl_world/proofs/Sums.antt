@@ -109,12 +109,3 @@ total-const (suc n) v = let rest = total-const n v in grind (arith, rest)
 -- no one has a Trunk: at most two each
 pub probes-light : (clients : ℕ) (f : ℕ → ℕ) → clients ≤ 16 → ((i : ℕ) → i < clients → f i ≤ 2) → total clients f ≤ 32
 probes-light clients f few light = omega (arith, total-le clients f (λ i. 2) light, total-const clients 2, few)
-
--- one has: the others weigh nothing
-pub probes-alone : (clients owner v : ℕ) (f : ℕ → ℕ) → owner < clients → ((i : ℕ) → (i ≡ owner → ⊥) → f i ≡ 0) → f owner ≡ v → total clients f ≡ v
-probes-alone clients owner v f lt none here =
-    total-same clients f (λ i. if i == owner then v else 0) (λ i below. at i (cases_eq i owner)) ∙ total-one clients owner v lt
-  where
-    at : (i : ℕ) → (i ≡ owner) ⊎ (i ≡ owner → ⊥) → f i ≡ (if i == owner then v else 0)
-    at i (inl e) = rw (e, same_number owner) here
-    at i (inr ne) = rw (ne_eqb i owner ne) (none i ne)

@@ -1,3 +1,4 @@
+pub mod AccessEnds
 pub mod Accounts
 pub mod Acknowledged
 pub mod Alike
@@ -91,6 +92,8 @@ pub mod KnownProbed
 pub mod Landed
 pub mod Lawful
 pub mod Local
+mod Lone
+mod Brought
 pub mod Machined
 pub mod ManagedAcks
 pub mod ManagedEndings
@@ -145,6 +148,7 @@ mod Shown
 pub mod Sized
 pub mod SizedAfter
 pub mod SoundAfter
+pub mod Soundness
 pub mod SourcesServed
 pub mod Steps
 pub mod Sums

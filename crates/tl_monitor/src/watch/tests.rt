@@ -1,6 +1,8 @@
 ghost use Rattle.std.specs.Prelude.{false, ◌≡◌};
 ghost use Rattle.tl_beat.specs.Opcode.{d_carries_data};
 
+mod long;
+
 use super::*;
 use std::process::Abort;
 use std::test::Fail;

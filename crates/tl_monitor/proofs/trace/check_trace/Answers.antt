@@ -1,6 +1,6 @@
 use Rattle.std.proofs.Common.{◌∙◌, arith, false}
 use Rattle.tl_monitor.proofs.Knowing.{fault-answered, fault-goes_on, fault-none, known-goes_on}
-use Rattle.tl_monitor.proofs.watch.check_trace.Goals as goal
+use Rattle.tl_monitor.proofs.trace.check_trace.Goals as goal
 
 pub loop-i-preserved : goal.loop-i-preserved
 loop-i-preserved g c = record {

@@ -1,7 +1,7 @@
 use Rattle.std.proofs.Common.{◌≡◌, [], length, take, drop, reverse, false}
 use Rattle.tl_rules.specs.Conformance.{fault_from}
 use Rattle.tl_monitor.specs.Knows.{Knows, IsCount}
-use Rattle.tl_monitor.proofs.watch.check_trace.Given as goal
+use Rattle.tl_monitor.proofs.trace.check_trace.Given as goal
 
 abbrev pub invariant-loop-i : goal.invariant-loop-i
 invariant-loop-i g l = record {

@@ -4,6 +4,8 @@ ghost use Rattle.tl_beat.specs.Opcode.{d_carries_data};
 mod long;
 
 use super::*;
+use crate::fault::TraceFault;
+use crate::trace::check_trace;
 use std::process::Abort;
 use std::test::Fail;
 use tl_beat::beat::{BeatA, BeatB, BeatC, BeatD, BeatE};

@@ -67,6 +67,12 @@ pub mod FlowGranted
 pub mod FlowAccess
 pub mod FlowRequests
 pub mod FlowSinks
+pub mod FlowSame
+pub mod FlowAcquired
+pub mod FlowAsked
+pub mod FlowApart
+pub mod FlowSunk
+pub mod FlowComing
 pub mod FlowStep
 pub mod Flowing
 pub mod FollowCases

@@ -1,5 +1,5 @@
 -- What was delivered in part on a link: of which Grant, and of which Release.
-use Rattle.std.proofs.Common.{◌≡◌, ℕ, zero, suc, ◌*◌, Bool, true, false, ◌&&◌, List, [], ◌∷◌, Option, Some, None, refl, sym, ◌∙◌, ap, subst}
+use Rattle.std.proofs.Common.{◌≡◌, ℕ, zero, suc, ◌*◌, Bool, true, false, ◌&&◌, List, [], ◌∷◌, Option, Some, None, refl, sym, ◌∙◌, ap, subst, arith}
 use Rattle.std.specs.Prelude.{◌==◌, map}
 use Rattle.std.proofs.lemmas.Bool.{eqb-true}
 use Rattle.tl_beat.specs.Width.{IsWidth}
@@ -19,7 +19,7 @@ use Rattle.tl_burst.specs.Messages.{unfinished}
 use Rattle.tl_params.specs.declared.config.Config.{Config}
 use Rattle.tl_params.specs.Param.{report_code, report_left, prune_code, prune_left}
 use Rattle.tl_rules.specs.Conformance.{same_perm, on_link, comes_in_release, comes_in_grant}
-use Rattle.tl_rules.specs.History.{is_grant, is_release, asks_for}
+use Rattle.tl_rules.specs.History.{block_at, is_grant, is_release, asks_for}
 use Rattle.tl_params.specs.declared.perm.Perm.TheVariants as perm
 use Rattle.tl_world.specs.Carried.{IsCarried}
 use Rattle.tl_world.specs.Known.{comes_granting}
@@ -29,10 +29,12 @@ use Rattle.tl_world.specs.Protocol.{State, Acquires, token, shown, view, is_on, 
 use Rattle.tl_world.specs.Render.{Mail, message_of, message_of_kind, report_told, prune_told, rendered}
 use Rattle.tl_world.specs.System.{System}
 use Rattle.tl_world.specs.Token.{Kind, Request, Acquire, Probe, ProbeAck, Release, Answer, Grant, ReleaseAck, GrantAck, Token}
-use Rattle.tl_world.specs.Whole.{IsMatched, is_caching}
+use Rattle.tl_world.specs.Whole.{IsMatched, is_caching, asked_by}
+use Rattle.tl_world.proofs.ClientEnd.{asks-acquire}
 use Rattle.tl_world.proofs.ClientTakes.{access_kind}
 use Rattle.tl_world.proofs.Due.{IsGrantDue, answer-due, grant-due, grant-rendered, grant_message, ack_message, own_view}
 use Rattle.tl_world.proofs.FirstToken.{own_kind}
+use Rattle.tl_world.proofs.FlowAside.{IsComing}
 use Rattle.tl_world.proofs.FollowKept.{releasing-is}
 use Rattle.tl_world.proofs.ManagedEndings.{tracker-of}
 use Rattle.tl_world.proofs.Moves.{is_of-is}
@@ -127,6 +129,26 @@ coming-sink {w} config log mail request s sys c i h = go (unfinished channel.D (
         let of = half-granted config log mail request s sys c x more h e (and_left (is_grant x.opcode) (x.sink == i) f) in
         let same : i ≡ (s.block of.0).tracker = sym (eqb-true x.sink i (and_right (is_grant x.opcode) (x.sink == i) f)) ∙ of.3 in
         (of.0, of.1, ap s.tracked same ∙ tracker-of of.0 s h.invariant.named (rw of.1.service refl))
+
+same_block : (n : ℕ) → block_at (64 * n) ≡ n
+same_block n = omega arith
+
+-- a Grant of a block that was delivered in part is due
+pub coming-granting : {w : ℕ} (config : Config) (log : Log w) (mail : Mail w) (request : ℕ → MessageA w) (s : State (List ℕ)) (sys : System w) (c : ℕ) → IsMatched config log mail request s sys → IsComing (asked_by mail s c) (unfinished channel.D (sys.clients c).past) c s
+coming-granting {w} config log mail request s sys c h n = go (unfinished channel.D (sys.clients c).past) refl
+  where
+    go : (beats : List (Beat w)) → unfinished channel.D (sys.clients c).past ≡ beats → comes_granting n (asked_by mail s c) beats ≡ true → is_granting (view (s.block n).service c) ≡ true
+    go [] e f = absurd cc
+    go (beat.A x ∷ more) e f = absurd cc
+    go (beat.B x ∷ more) e f = absurd cc
+    go (beat.C x ∷ more) e f = absurd cc
+    go (beat.E x ∷ more) e f = absurd cc
+    go (beat.D x ∷ more) e f =
+        let of = half-granted config log mail request s sys c x more h e (and_left (is_grant x.opcode) (asks_for n (asked_by mail s c x.source)) f) in
+        let asks = asks-acquire c ((s.block of.0).source c) of.0 ((s.block of.0).source c) of.1.whole of.1.g mail s of.1.used of.1.wants refl in
+        let here : (block_at (64 * of.0) == n) ≡ true = sym (ap (λ (i : ℕ). asks_for n (asked_by mail s c i)) of.2 ∙ ap (asks_for n) asks) ∙ and_right (is_grant x.opcode) (asks_for n (asked_by mail s c x.source)) f in
+        let same : of.0 ≡ n = sym (same_block of.0) ∙ eqb-true (block_at (64 * of.0)) n here in
+        ap (λ (i : ℕ). is_granting (view (s.block i).service c)) (sym same) ∙ ap is_granting (own_view c of.1.data_too of.1.k (s.block of.0).service of.1.service)
 
 -- requests that are asked with other first beats, but for sources that are open, change nothing of it
 pub coming-asked : {w : ℕ} (config : Config) (log : Log w) (mail : Mail w) (request : ℕ → MessageA w) (s : State (List ℕ)) (sys : System w) (c m : ℕ) (asked asked' : ℕ → Option (BeatA w)) → IsMatched config log mail request s sys

@@ -68,6 +68,7 @@ pub mod FlowAccess
 pub mod FlowRequests
 pub mod FlowSinks
 pub mod FlowSame
+pub mod FlowAsking
 pub mod FlowAcquired
 pub mod FlowAsked
 pub mod FlowApart

@@ -10,6 +10,8 @@ use Rattle.tl_burst.specs.Part.{is_empty, completes}
 use Rattle.tl_params.specs.declared.perm.Perm.{Perm}
 use Rattle.tl_params.specs.declared.perm.Perm.TheVariants as perm
 use Rattle.tl_rules.specs.Conformance.{same_perm}
+use Rattle.tl_world.specs.Invariant.{AreNamed, acquires_of}
+use Rattle.tl_world.specs.Protocol.{State, is_wanting}
 use Rattle.tl_world.specs.Token.{set_at}
 use Rattle.tl_world.proofs.Aside.{set_at-same, set_at-else}
 use Rattle.tl_world.proofs.Carried.{IsNext}
@@ -67,3 +69,14 @@ same_perms perm.Branch perm.None e = absurd cc
 same_perms perm.Branch perm.Trunk e = absurd cc
 same_perms perm.Trunk perm.None e = absurd cc
 same_perms perm.Trunk perm.Branch e = absurd cc
+
+-- the source of a client's Acquire of a block is of no other
+pub unused-else : {X : Type 0} (c n i : ℕ) (s : State X) → AreNamed s → ((s.block n).source c == i) ≡ false → acquires_of n (s.uses c i) ≡ false
+unused-else c n i s named e = named.acquires c i n ∙ second (is_wanting ((s.block n).pair c).acquiring) (i == (s.block n).source c) (ne_eqb i ((s.block n).source c) apart)
+  where
+    second : (p q : Bool) → q ≡ false → (p && q) ≡ false
+    second true q f = f
+    second false q f = refl
+
+    apart : i ≡ (s.block n).source c → ⊥
+    apart same = let no : ((s.block n).source c == (s.block n).source c) ≡ false = rw same at e in let yes : true ≡ false = sym (same_number ((s.block n).source c)) ∙ no in cc

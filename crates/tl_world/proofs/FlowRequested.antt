@@ -37,7 +37,7 @@ use Rattle.tl_world.proofs.FlowAcquired.{IsAcquired, flowed-acquire}
 use Rattle.tl_world.proofs.FlowAlone.{AreRests}
 use Rattle.tl_world.proofs.FlowApart.{replied}
 use Rattle.tl_world.proofs.FlowAsking.{rest_at}
-use Rattle.tl_world.proofs.FlowBeats.{came-so, comes-so, first-zero, one-beat, set_at-if, same_perms}
+use Rattle.tl_world.proofs.FlowBeats.{came-so, comes-so, first-zero, one-beat, set_at-if, same_perms, unused-else}
 use Rattle.tl_world.proofs.FlowComing.{coming-sink, coming-granting}
 use Rattle.tl_world.proofs.FlowStep.{held_by}
 use Rattle.tl_world.proofs.FlowSunk.{sunk_in, sunk-elsewhere, IsWithin, tracked-new}
@@ -128,18 +128,6 @@ module _ {w : ℕ} (config : Config) (log : Log w) (h : Shadow w) (sys : System 
     even : ((s.block n).pair c).held ≡ ((s.block n).pair c).recorded
     even = same_perms ((s.block n).pair c).recorded ((s.block n).pair c).held (and_right (is_quiet ((s.block n).pair c).probing && is_kept ((s.block n).pair c).letting) (same_perm ((s.block n).pair c).recorded ((s.block n).pair c).held) settled)
 
-    -- no other source of the client is of the block
-    other_use : (i : ℕ) → ((s.block n).source c == i) ≡ false → acquires_of n (s.uses c i) ≡ false
-    other_use i e = is.invariant.named.acquires c i n ∙ second (is_wanting ((s.block n).pair c).acquiring) (i == (s.block n).source c) (apart (cases_eq i ((s.block n).source c)))
-      where
-        second : (p q : Bool) → q ≡ false → (p && q) ≡ false
-        second true q f = f
-        second false q f = refl
-
-        apart : (i ≡ (s.block n).source c) ⊎ (i ≡ (s.block n).source c → ⊥) → (i == (s.block n).source c) ≡ false
-        apart (inl same) = absurd (let no : ((s.block n).source c == (s.block n).source c) ≡ false = rw same at e in let yes : true ≡ false = sym (same_number ((s.block n).source c)) ∙ no in cc)
-        apart (inr ne) = ne_eqb i ((s.block n).source c) ne
-
     -- the block afterwards
     record IsTakenUp (new : Block (List ℕ)) : Type 0 where
       pair_acquiring : (new.pair c).acquiring ≡ ((s.block n).pair c).acquiring
@@ -158,7 +146,7 @@ module _ {w : ℕ} (config : Config) (log : Log w) (h : Shadow w) (sys : System 
           acquire = acquires-so wanted.whole;
           at = acquire_block n;
           use_is = λ i e. ap (s.uses c) (sym (eqb-true ((s.block n).source c) i e)) ∙ wanted.used;
-          no_use = other_use;
+          no_use = λ i e. unused-else c n i s is.invariant.named e;
           asks = λ i e. ap (asked_by h.mail s c) (sym (eqb-true ((s.block n).source c) i e)) ∙ asks-acquire c ((s.block n).source c) n ((s.block n).source c) wanted.whole wanted.grow h.mail s wanted.used wanted.wants refl;
           idle = rw free refl;
           quiet = quiet;

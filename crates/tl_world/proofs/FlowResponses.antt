@@ -157,7 +157,7 @@ abbrev none_of : (w : ℕ) → List (Beat w)
 none_of w = []
 
 -- what the client of a Grant has of its block
-grant_quiet : (caching : ℕ → Bool) (c n : ℕ) (s : State (List ℕ)) → IsInvariant caching s → (due : IsGrantDue c n s) → is_answered ((s.block n).pair c).probing ≡ false
+pub grant_quiet : (caching : ℕ → Bool) (c n : ℕ) (s : State (List ℕ)) → IsInvariant caching s → (due : IsGrantDue c n s) → is_answered ((s.block n).pair c).probing ≡ false
 grant_quiet caching c n s inv due =
     let mine = own_view c due.data_too due.k (s.block n).service due.service in
     let alone = granting_alone due.data_too due.k ((s.block n).pair c) (view (s.block n).service c) ((inv.blocks n).phases c) mine in
@@ -169,7 +169,7 @@ grant_quiet caching c n s inv due =
     quiet_unanswered (Answered r) e = absurd cc
 
 -- the tracker of a Grant is of its block
-grant_tracked : (caching : ℕ → Bool) (c n : ℕ) (s : State (List ℕ)) → IsInvariant caching s → IsGrantDue c n s → s.tracked (s.block n).tracker ≡ Some n
+pub grant_tracked : (caching : ℕ → Bool) (c n : ℕ) (s : State (List ℕ)) → IsInvariant caching s → IsGrantDue c n s → s.tracked (s.block n).tracker ≡ Some n
 grant_tracked caching c n s inv due =
     is_of-is n (s.tracked (s.block n).tracker) (inv.named.trackers (s.block n).tracker n ∙ ap (λ (x : Service). is_busy x && ((s.block n).tracker == (s.block n).tracker)) due.service ∙ same_number (s.block n).tracker)
 

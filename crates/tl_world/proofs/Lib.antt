@@ -68,6 +68,8 @@ pub mod FlowAccess
 pub mod FlowRequests
 pub mod FlowSinks
 pub mod FlowSame
+pub mod FlowGiven
+pub mod FlowTold
 pub mod FlowBeats
 pub mod FlowRequested
 pub mod FlowAsking

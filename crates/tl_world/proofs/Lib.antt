@@ -68,6 +68,7 @@ pub mod FlowAccess
 pub mod FlowRequests
 pub mod FlowSinks
 pub mod FlowSame
+pub mod FlowKinds
 pub mod FlowGiven
 pub mod FlowTold
 pub mod FlowBeats

@@ -82,17 +82,6 @@ module _ {w : ℕ} {X : Type 0} (d : ℕ) (asked asked' : ℕ → Option (BeatA 
   free-outside : (n : ℕ) → (s.block n).service ≡ Free → is_outside (view (s.block n).service d) ≡ true
   free-outside n free = ap (λ (q : Service). is_outside (view q d)) free
 
-  -- nothing changes but how the same requests are given
-  pub left-nothing : IsLeft s
-  left-nothing = record {
-    blocks = λ m. same-block d (s.block m);
-    uses = λ i. inl refl;
-    lets = λ i. refl;
-    sinks = λ i. refl;
-    asked_is = asks;
-    coming = coming;
-  }
-
   -- ---- another client is asked
 
   pub left-access_asked : (c source : ℕ) → (d ≡ c → ⊥) → IsLeft (access_asked c source s)
@@ -216,7 +205,7 @@ module _ {w : ℕ} {X : Type 0} (d : ℕ) (asked asked' : ℕ → Option (BeatA 
     new_is : between.block n ≡ reported_block c r (s.block n)
     new_is = set-same n (reported_block c r (s.block n)) s.block
 
-    pub coming_still : IsComing asked (rest channel.D) d between
+    coming_still : IsComing asked (rest channel.D) d between
     coming_still m e = set-part (λ (z : Block X). is_granting (view z.service d)) n (reported_block c r (s.block n)) s.block refl m ∙ coming m e
 
     unanswered : ((i : ℕ) → (i ≡ c → ⊥) → is_answered ((s.block n).pair i).probing ≡ false) → is_answered ((reported_block c r (s.block n)).pair d).probing ≡ false

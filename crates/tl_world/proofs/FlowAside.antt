@@ -119,3 +119,20 @@ flowed-aside {w} {X} asked asked' rest d s s' t is = flowed-untouched asked aske
     tracked : (n : ℕ) → granted_by d n asked (rest channel.D) (s.block n) ≡ true → ((s'.block n).tracker ≡ (s.block n).tracker) ⊎ ((is_acknowledging (view (s.block n).service d) || is_granting (view (s.block n).service d)) ≡ false) → (s'.block n).tracker ≡ (s.block n).tracker
     tracked n e (inl same) = same
     tracked n e (inr none) = absurd (either_is (is_acknowledging (view (s.block n).service d)) (comes_granting n asked (rest channel.D)) (is_granting (view (s.block n).service d)) e (is.coming n) none)
+
+-- where the same requests are given in another way, nothing changes
+pub flowed-asks : {w : ℕ} {X : Type 0} (asked asked' : ℕ → Option (BeatA w)) (rest : Channel → List (Beat w)) (d : ℕ) (s : State X) (t : History w) → ((i : ℕ) → asked' i ≡ asked i) → IsFlowed asked rest d s t → IsFlowed asked' rest d s t
+flowed-asks asked asked' rest d s t asks = flowed-untouched asked asked' rest d s s t (record {
+  held_is = λ n. refl;
+  requests = λ i. refl;
+  asked_is = λ i e. asks i;
+  acquires = λ n. refl;
+  release_sources = λ i. refl;
+  lets = λ i n e f. f;
+  releases = λ n. refl;
+  sinks = λ i. refl;
+  grants = λ n. ap (λ (z : Bool). is_acknowledging (view (s.block n).service d) || z) (comes-same n asked asked' (rest channel.D) asks);
+  probes = λ n. refl;
+  caps = λ n e. refl;
+  trackers = λ n e. refl;
+})

@@ -33,8 +33,8 @@ use Rattle.tl_world.proofs.AsideAll.{Leaves, is_for_manager, leaves-at_manager, 
 use Rattle.tl_world.proofs.Choices.{plain-past}
 use Rattle.tl_world.proofs.Due.{IsGrantDue, grant-due}
 use Rattle.tl_world.proofs.Facts.{quiet_at_rest, own_alone, own_wants, answered_other, is_other}
-use Rattle.tl_world.proofs.FlowApart.{replied, left-nothing, left-replied, left-served, left-acquire_granted, left-probe_taken, left-report_taken, left-release_taken, left-answer_taken, left-grant_taken, left-release_ack_taken, left-grant_ack_taken, left-access_answered, left-access_served, coming_still, left-report_answers, left-report_grants}
-use Rattle.tl_world.proofs.FlowAside.{is_heard, IsComing, flowed-aside}
+use Rattle.tl_world.proofs.FlowApart.{replied, left-replied, left-served, left-acquire_granted, left-probe_taken, left-report_taken, left-release_taken, left-answer_taken, left-grant_taken, left-release_ack_taken, left-grant_ack_taken, left-access_answered, left-access_served, left-report_answers, left-report_grants}
+use Rattle.tl_world.proofs.FlowAside.{is_heard, IsComing, flowed-aside, flowed-asks}
 use Rattle.tl_world.proofs.FlowAsking.{rest_at, asks-left}
 use Rattle.tl_world.proofs.FlowBeats.{same_perms}
 use Rattle.tl_world.proofs.FlowComing.{coming-granting, coming-sink}
@@ -117,12 +117,8 @@ module _ {w : ℕ} (config : Config) (log : Log w) (h : Shadow w) (sys : System 
         seen : is_other (view (s.block n).service c) ≡ true
         seen = answered_other r ((s.block n).pair c) (view (s.block n).service c) ((is.invariant.blocks n).phases c) answered
 
-        again : IsComing before (rest channel.D) d (report_taken c n r toks s)
-        again = coming_still d before before rest s (λ i. refl) coming c n r toks
-
         taken : Leaves d h (with_state (report_taken c n r toks s) h) → FlowedAs (with_state (report_taken c n r toks s) h)
-        taken l = flowed-aside before (asked_by h.mail (report_taken c n r toks s) d) rest d (report_taken c n r toks s) (report_taken c n r toks s) t
-            (left-nothing d before (asked_by h.mail (report_taken c n r toks s) d) rest (report_taken c n r toks s) (asks-left d h (with_state (report_taken c n r toks s) h) l) again) flowed
+        taken l = flowed-asks before (asked_by h.mail (report_taken c n r toks s) d) rest d (report_taken c n r toks s) t (asks-left d h (with_state (report_taken c n r toks s) h) l) flowed
 
         -- the last one: what the service is
         unanswered : ((i : ℕ) → (i ≡ c → ⊥) → is_quiet ((s.block n).pair i).probing ≡ true) → (i : ℕ) → (i ≡ c → ⊥) → is_answered ((s.block n).pair i).probing ≡ false

@@ -311,20 +311,6 @@ flow-ack {w} config log mail request s sys c n h flowed let_ acked whole =
     let_acked Kept source rest e = absurd cc
     let_acked (Releasing r) source rest e = absurd cc
 
--- ---- a Probe
-
-pub flow-probe : {w : ℕ} (config : Config) (log : Log w) (mail : Mail w) (request : ℕ → MessageA w) (s : State (List ℕ)) (sys : System w) (c n : ℕ) (k : Cap) → IsMatched config log mail request s sys → AreFlowed log mail s sys → is_sent ((s.block n).pair c).probing ≡ true
-    → is_acknowledging (view (s.block n).service c) ≡ false → unfinished channel.B (sys.clients c).past ≡ []
-    → broken_in_order config.profile (beat.B (probe_beat n k)) (flow c log) ≡ None
-flow-probe {w} config log mail request s sys c n k h flowed sent idle whole =
-    in_order config.profile n k (flow c log) ((flowed c).rest_is channel.B ∙ whole) ((flowed c).probes n ∙ unanswered ((s.block n).pair c).probing sent)
-    ((flowed c).grants n ∙ ap (λ (b : Bool). b || comes_granting n (asked_by mail s c) (unfinished channel.D (sys.clients c).past)) idle ∙ not_coming config log mail request s sys c n h sent)
-  where
-    unanswered : (x : Probing) → is_sent x ≡ true → is_answered x ≡ false
-    unanswered (Sent j) e = refl
-    unanswered Quiet e = absurd cc
-    unanswered (Answered r) e = absurd cc
-
 -- ---- all of channel D
 
 -- each beat of a response, where its first breaks no rule
@@ -379,47 +365,4 @@ flow-legal_d {w} config log mail request s sys c x queue width h flowed beats = 
     go Probe i tokens own next = absurd cc
     go ProbeAck i tokens own next = absurd cc
     go Release i tokens own next = absurd cc
-    go GrantAck i tokens own next = absurd cc
-
--- ---- and of channel B
-
--- who is probed has no GrantAck on its way
-probed_idle : (p : Pair) (v : View) → ok p v ≡ true → is_sent p.probing ≡ true → is_acknowledging v ≡ false
-probed_idle p v well sent = go v refl
-  where
-    loud : (x : Probing) → is_sent x ≡ true → is_quiet x ≡ true → ⊥
-    loud (Sent k) e f = cc
-    loud Quiet e f = cc
-    loud (Answered r) e f = cc
-
-    go : (u : View) → v ≡ u → is_acknowledging u ≡ false
-    go Acknowledging e = absurd (loud p.probing sent (acknowledging_quiet p v well e))
-    go Idle e = refl
-    go Own e = refl
-    go (Other k) e = refl
-    go (Granting d k) e = refl
-    go GrantedOther e = refl
-
-pub flow-legal_b : {w : ℕ} (config : Config) (log : Log w) (mail : Mail w) (request : ℕ → MessageA w) (s : State (List ℕ)) (sys : System w) (c : ℕ) (x : Beat w) (queue : List (Beat w)) → IsWidth w → IsMatched config log mail request s sys → AreFlowed log mail s sys
-    → sys.channels c channel.B ≡ x ∷ queue → broken_in_order config.profile x (flow c log) ≡ None
-flow-legal_b {w} config log mail request s sys c x queue width h flowed beats = go first.kind first.number first.tokens first.own first.next
-  where
-    first : IsFirst channel.B c mail s sys x queue
-    first = first-token (is_caching config) channel.B c mail s sys x queue width h.invariant h.carried beats
-
-    rest_now : List (Beat w)
-    rest_now = unfinished channel.B (sys.clients c).past
-
-    go : (k : Kind) (i : ℕ) → (s.link c).b ≡ token k i ∷ first.rest → is_on channel.B k ≡ true → IsNext x rest_now (message_of_kind k mail s c i) (map (message_of mail s c) first.rest) queue → broken_in_order config.profile x (flow c log) ≡ None
-    go Probe i tokens own next =
-        let sent = holds-first Probe (s.link c).b first.rest (token Probe i) (λ j. shown Probe c (s.block j)) tokens refl (h.invariant.transfers c Probe refl) in
-        ap (λ (y : Beat w). broken_in_order config.profile y (flow c log)) (probe-beat c i s x rest_now (map (message_of mail s c) first.rest) queue next)
-        ∙ flow-probe config log mail request s sys c i (cap_sent ((s.block i).pair c).probing) h flowed sent (probed_idle ((s.block i).pair c) (view (s.block i).service c) ((h.invariant.blocks i).phases c) sent) ((h.kept c).b_whole)
-    go Request i tokens own next = absurd cc
-    go Acquire i tokens own next = absurd cc
-    go ProbeAck i tokens own next = absurd cc
-    go Release i tokens own next = absurd cc
-    go Answer i tokens own next = absurd cc
-    go Grant i tokens own next = absurd cc
-    go ReleaseAck i tokens own next = absurd cc
     go GrantAck i tokens own next = absurd cc

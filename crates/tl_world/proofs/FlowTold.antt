@@ -61,7 +61,7 @@ size_of : {w : ℕ} → Message w → ℕ
 size_of (message.C m) = m.size
 size_of m = 0
 
-report_rendered : {w : ℕ} (c n : ℕ) (b : Block (List ℕ)) → IsWidth w → IsLong b
+pub report_rendered : {w : ℕ} (c n : ℕ) (b : Block (List ℕ)) → IsWidth w → IsLong b
     → (m : MessageC w) × (rendered ProbeAck c n b ≡ message.C m) × IsAbout true n (report_code (report_told (b.pair c).probing)) (same_perm (report_left (report_told (b.pair c).probing)) perm.Trunk) b.truth m
 unfolding rendered
 report_rendered c n b width long = report-about (report_told (b.pair c).probing) n b.truth width long
@@ -99,7 +99,7 @@ busy_seen test none (Waits r own source k) c e = refl
 busy_seen test none (GrantSent r d k) c e = refl
 busy_seen test none (GrantTaken r) c e = refl
 
-ack_rendered : {w : ℕ} (c n : ℕ) (b : Block (List ℕ)) → rendered {w = w} GrantAck c n b ≡ message.E (record { sink = b.tracker })
+pub ack_rendered : {w : ℕ} (c n : ℕ) (b : Block (List ℕ)) → rendered {w = w} GrantAck c n b ≡ message.E (record { sink = b.tracker })
 unfolding rendered
 ack_rendered c n b = refl
 

@@ -55,7 +55,6 @@ pub mod FlowResponses
 pub mod FlowAside
 pub mod FlowAlone
 pub mod FlowLawful
-pub mod FlowLog
 pub mod FlowOrders
 pub mod FlowOthers
 pub mod FlowProbe
@@ -68,6 +67,8 @@ pub mod FlowAccess
 pub mod FlowRequests
 pub mod FlowSinks
 pub mod FlowSame
+pub mod Flows
+pub mod FlowOwn
 pub mod FlowKinds
 pub mod FlowGiven
 pub mod FlowTold

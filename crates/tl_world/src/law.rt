@@ -3,7 +3,7 @@
 ghost use Rattle.std.specs.Prelude.{◌≡◌, true};
 ghost use Rattle.tl_beat.specs.Width.{IsWidth};
 ghost use Rattle.tl_world.specs.Phase.{Pair, View, ok};
-ghost use Rattle.tl_world.specs.Delivery.{Carries, Channels, Stalls};
+ghost use Rattle.tl_world.specs.Delivery.{Carries, Channels, Flows, Stalls};
 ghost use Rattle.tl_world.specs.Draining.{Grants};
 ghost use Rattle.tl_world.specs.Headline.{Unrefused, Coherent, Moving};
 ghost use Rattle.tl_world.specs.Facts.{IsBelow};
@@ -53,4 +53,10 @@ pub fn holds_what_it_is_granted<const W: usize>()
 pub fn moves_while_outstanding<const W: usize>()
     requires { IsWidth W }
     ensures { Moving W }
+{}
+
+/// What is delivered on each link breaks no rule: a monitor finds no fault in it.
+pub fn breaks_no_rule_on_a_link<const W: usize>()
+    requires { IsWidth W }
+    ensures { Flows W }
 {}

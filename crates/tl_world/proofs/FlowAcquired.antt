@@ -1,6 +1,6 @@
 -- What is delivered on a link, as the beat of an Acquire is.
 use Rattle.std.proofs.Common.{◌≡◌, ℕ, Bool, true, false, not, ◌&&◌, ◌||◌, ◌∷◌, Option, Some, refl, sym, ◌∙◌, ap, List}
-use Rattle.std.specs.Prelude.{◌==◌, if◌then◌else◌, option_map}
+use Rattle.std.specs.Prelude.{◌==◌, option_map}
 use Rattle.std.proofs.lemmas.Bool.{ne_eqb}
 use Rattle.tl_beat.specs.declared.beat.Beat.{Beat}
 use Rattle.tl_beat.specs.declared.beat.Beat.TheVariants as beat
@@ -8,19 +8,19 @@ use Rattle.tl_beat.specs.declared.beat.BeatA.{BeatA}
 use Rattle.tl_beat.specs.declared.opcode.Channel.{Channel}
 use Rattle.tl_beat.specs.declared.opcode.Channel.TheVariants as channel
 use Rattle.tl_burst.specs.Messages.{History}
-use Rattle.tl_params.specs.declared.key.Key.TheVariants.{RequestSource}
 use Rattle.tl_rules.specs.Conformance.{comes_in_request}
-use Rattle.tl_rules.specs.History.{begins, ends, block_at, is_acquire, pending, request_of, release_of, probe_of, grant_sink}
+use Rattle.tl_rules.specs.History.{begins, ends, block_at, is_acquire, request_of, probe_of, grant_sink}
 use Rattle.tl_world.specs.Flowed.{IsFlowed, is_requested, is_let_by, is_sunk}
 use Rattle.tl_world.specs.Invariant.{acquires_of}
 use Rattle.tl_world.specs.Known.{comes_granting}
-use Rattle.tl_world.specs.Phase.{View, Idle}
+use Rattle.tl_world.specs.Phase.{Idle}
 use Rattle.tl_world.specs.Protocol.{Block, State, Use, Acquires, view, is_acknowledging, is_answered, is_granting, is_wanting, is_unserved}
 use Rattle.tl_world.specs.Render.{probe_beat}
 use Rattle.tl_world.specs.Sources.{cap_waited}
 use Rattle.tl_world.proofs.FlowAccess.{of_source, of_other, released-of, probed-of, sunk-of}
-use Rattle.tl_world.proofs.FlowAlone.{AreRests}
+use Rattle.tl_world.proofs.FlowAlone.{AreRests, no_coming}
 use Rattle.tl_world.proofs.FlowAside.{IsComing, comes-same, let_by-same}
+use Rattle.tl_world.proofs.FlowBeats.{second_false}
 use Rattle.tl_world.proofs.FlowGranted.{requested-apart}
 use Rattle.tl_world.proofs.FlowReleased.{AreElsewhere, each-block, part-block}
 use Rattle.tl_world.proofs.FlowStep.{flowed-next, held_by, acquired_by, let_of, granted_by, step}
@@ -60,16 +60,8 @@ unopened o p e = rw e refl
 both : (p q : Bool) → p ≡ true → q ≡ true → (p && q) ≡ true
 both p q e f = rw (e, f) refl
 
-second_not : (p q : Bool) → q ≡ false → (p && q) ≡ false
-second_not true q e = e
-second_not false q e = refl
-
 neither : (p q : Bool) → p ≡ false → q ≡ false → (p || q) ≡ false
 neither p q e f = rw (e, f) refl
-
-uncoming : (b g : Bool) → g ≡ false → (b ≡ true → g ≡ true) → b ≡ false
-uncoming false g e f = refl
-uncoming true g e f = let h : true ≡ false = sym (f refl) ∙ e in cc
 
 pub flowed-acquire : {w : ℕ} {X : Type 0} (c n : ℕ) (y : BeatA w) (asked asked' : ℕ → Option (BeatA w)) (rest rest' : Channel → List (Beat w)) (s s' : State X) (t : History w)
     → begins (beat.A y) t ≡ true → ends (beat.A y) t ≡ true → AreRests (beat.A y) rest rest' → IsAcquired c n y asked asked' rest rest' s s'
@@ -85,7 +77,7 @@ flowed-acquire {w} {X} c n y asked asked' rest rest' s s' t first_is last_is res
       acquires = each-block (λ m z. acquired_by c z ≡ step true true (is_acquire y.opcode && (block_at y.address == m)) false (acquired_by c (s.block m))) n s s' is.elsewhere
           (both (is_wanting (new.pair c).acquiring) (not (is_unserved (view new.service c))) is.wants (ap not is.served)
           ∙ sym (opened (is_acquire y.opcode && (block_at y.address == n)) (acquired_by c b) (both (is_acquire y.opcode) (block_at y.address == n) is.acquire (rw is.at (same_number n)))))
-          (λ m ne. sym (unopened (is_acquire y.opcode && (block_at y.address == m)) (acquired_by c (s.block m)) (second_not (is_acquire y.opcode) (block_at y.address == m) (rw is.at (ne_eqb n m (λ e. ne (sym e)))))));
+          (λ m ne. sym (unopened (is_acquire y.opcode && (block_at y.address == m)) (acquired_by c (s.block m)) (second_false (is_acquire y.opcode) (block_at y.address == m) (rw is.at (ne_eqb n m (λ e. ne (sym e)))))));
       release_sources = lets;
       released = λ i m e f. ap (option_map (λ z. block_at z.address)) (released-of i y t) ∙ before.released i m (sym (is.lets i) ∙ e) (before.release_sources i ∙ sym (lets i) ∙ f);
       sizes = λ i m e f. ap (option_map (λ z. z.size)) (released-of i y t) ∙ before.sizes i m (sym (is.lets i) ∙ e) (before.release_sources i ∙ sym (lets i) ∙ f);
@@ -125,7 +117,7 @@ flowed-acquire {w} {X} c n y asked asked' rest rest' s s' t first_is last_is res
         ∙ let_by-same c i (rest channel.C) (s.lets c i) s s' (part-block (λ (z : Block X). (z.pair c).letting) n s s' is.elsewhere is.letting_is)
 
     none_comes : comes_granting n asked (rest channel.D) ≡ false
-    none_comes = uncoming (comes_granting n asked (rest channel.D)) (is_granting (view b.service c)) (ap is_granting is.idle) (is.coming n)
+    none_comes = no_coming (is_granting (view b.service c)) (comes_granting n asked (rest channel.D)) (ap is_granting is.idle) (is.coming n)
 
     granted_then : granted_by c n asked (rest channel.D) b ≡ false
     granted_then = neither (is_acknowledging (view b.service c)) (comes_granting n asked (rest channel.D)) (ap is_acknowledging is.idle) none_comes

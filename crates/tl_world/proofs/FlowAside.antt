@@ -44,7 +44,7 @@ is_heard _ = false
 abbrev pub IsSameUse : Use → Use → Type 0
 IsSameUse u u' = (u' ≡ u) ⊎ ((is_heard u ≡ true) × (is_heard u' ≡ true))
 
-pub heard_requested : {w : ℕ} {X : Type 0} (c i : ℕ) (rest : List (Beat w)) (u : Use) (s : State X) → is_heard u ≡ true → is_requested c i rest u s ≡ true
+heard_requested : {w : ℕ} {X : Type 0} (c i : ℕ) (rest : List (Beat w)) (u : Use) (s : State X) → is_heard u ≡ true → is_requested c i rest u s ≡ true
 heard_requested c i rest (InService n) s e = refl
 heard_requested c i rest Replied s e = refl
 heard_requested c i rest Closed s e = absurd cc
@@ -58,7 +58,7 @@ requested-blocks c i rest (InService n) s s' h = refl
 requested-blocks c i rest Replied s s' h = refl
 requested-blocks c i rest (Acquires n) s s' h = ap not (h n)
 
-pub requested-same : {w : ℕ} {X : Type 0} (c i : ℕ) (rest : List (Beat w)) (s s' : State X) → ((n : ℕ) → is_unserved (view (s'.block n).service c) ≡ is_unserved (view (s.block n).service c)) → IsSameUse (s.uses c i) (s'.uses c i)
+requested-same : {w : ℕ} {X : Type 0} (c i : ℕ) (rest : List (Beat w)) (s s' : State X) → ((n : ℕ) → is_unserved (view (s'.block n).service c) ≡ is_unserved (view (s.block n).service c)) → IsSameUse (s.uses c i) (s'.uses c i)
     → is_requested c i rest (s'.uses c i) s' ≡ is_requested c i rest (s.uses c i) s
 requested-same c i rest s s' h (inl same) = ap (λ (u : Use). is_requested c i rest u s') same ∙ requested-blocks c i rest (s.uses c i) s s' h
 requested-same c i rest s s' h (inr both) = heard_requested c i rest (s'.uses c i) s' both.1 ∙ sym (heard_requested c i rest (s.uses c i) s both.0)

@@ -8,16 +8,15 @@ use Rattle.tl_beat.specs.declared.opcode.Channel.{Channel}
 use Rattle.tl_beat.specs.declared.opcode.Channel.TheVariants as channel
 use Rattle.tl_params.specs.declared.param.Grow.{Grow}
 use Rattle.tl_params.specs.declared.param.Prune.{Prune}
-use Rattle.tl_params.specs.declared.perm.Perm.{Perm}
 use Rattle.tl_rules.specs.Conformance.{comes_in_request, comes_in_release}
 use Rattle.tl_world.specs.Flowed.{is_requested, is_let, is_let_by}
 use Rattle.tl_world.specs.Invariant.{is_of}
 use Rattle.tl_world.specs.Known.{comes_granting}
-use Rattle.tl_world.specs.Phase.{Pair, Acquiring, Calm, Letting, Kept, Releasing}
+use Rattle.tl_world.specs.Phase.{Pair, Calm, Letting, Kept, Releasing}
 use Rattle.tl_world.specs.PhaseSteps.{after_acquire, after_release}
 use Rattle.tl_world.specs.Protocol.{Block, State, Use, Closed, Asked, Acquires, view, is_acknowledging, is_answered, is_granting, is_wanting, is_unserved, access_asked, acquire_asked, acquiring_block, release_asked, releasing_block}
 use Rattle.tl_world.specs.Sources.{cap_waited}
-use Rattle.tl_world.specs.Token.{set, set_at}
+use Rattle.tl_world.specs.Token.{set_at}
 use Rattle.tl_world.proofs.Aside.{set_at-else, set_at-same}
 use Rattle.tl_world.proofs.FlowAside.{comes-same, requested-blocks, let_by-same}
 use Rattle.tl_world.proofs.FlowSame.{IsUntouched}

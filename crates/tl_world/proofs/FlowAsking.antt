@@ -1,5 +1,5 @@
 -- What is delivered on each link stays as it is when a client is asked for something.
-use Rattle.std.proofs.Common.{◌≡◌, subst, ℕ, Bool, true, false, ◌&&◌, Option, Some, None, refl, sym, ◌∙◌, ap, List, inl, inr}
+use Rattle.std.proofs.Common.{◌≡◌, subst, ℕ, Bool, true, false, Option, refl, sym, ◌∙◌, ap, List, inl, inr}
 use Rattle.std.specs.Prelude.{◌==◌}
 use Rattle.std.proofs.lemmas.Bool.{cases_eq, ne_eqb}
 use Rattle.tl_beat.specs.Width.{IsWidth}
@@ -22,12 +22,11 @@ use Rattle.tl_client.specs.Ask.{stored, whole_grow}
 use Rattle.tl_client.specs.Send.{access}
 use Rattle.tl_world.specs.Flowed.{IsFlowed}
 use Rattle.tl_world.specs.Follow.{Shadow, asked}
-use Rattle.tl_world.specs.Invariant.{IsInvariant, is_of}
 use Rattle.tl_world.specs.Log.{Log}
 use Rattle.tl_world.specs.Matched.{receiver}
 use Rattle.tl_world.specs.Phase.{View, Idle, Own, Other, Granting, Acknowledging, GrantedOther, Calm, Pair}
 use Rattle.tl_world.specs.PhaseSteps.{after_release}
-use Rattle.tl_world.specs.Protocol.{Block, State, Use, Closed, Asked, Acquires, view, is_granting, is_unserved, is_wanting, access_asked, acquire_asked, release_asked, releasing_block, block_stored}
+use Rattle.tl_world.specs.Protocol.{Block, Use, Closed, Asked, Acquires, view, is_granting, is_unserved, is_wanting, access_asked, acquire_asked, release_asked, releasing_block, block_stored}
 use Rattle.tl_world.specs.Render.{Mail}
 use Rattle.tl_world.specs.System.{System}
 use Rattle.tl_world.specs.Token.{set_at}

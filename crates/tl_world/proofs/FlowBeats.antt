@@ -1,5 +1,5 @@
 -- What of a message was delivered before and after one of its beats.
-use Rattle.std.proofs.Common.{◌≡◌, ℕ, zero, suc, ◌+◌, ◌<◌, Bool, true, false, not, ◌&&◌, List, [], ◌∷◌, refl, sym, ◌∙◌, ap, arith, inl, inr}
+use Rattle.std.proofs.Common.{◌≡◌, ℕ, zero, suc, ◌<◌, Bool, true, false, not, ◌&&◌, List, [], ◌∷◌, Some, refl, sym, ◌∙◌, ap, arith, inl, inr}
 use Rattle.std.specs.Prelude.{◌==◌, if◌then◌else◌}
 use Rattle.std.proofs.lemmas.Bool.{cases_eq, ne_eqb}
 use Rattle.tl_beat.specs.declared.beat.Beat.{Beat}
@@ -11,7 +11,8 @@ use Rattle.tl_params.specs.declared.perm.Perm.{Perm}
 use Rattle.tl_params.specs.declared.perm.Perm.TheVariants as perm
 use Rattle.tl_rules.specs.Conformance.{same_perm}
 use Rattle.tl_world.specs.Invariant.{AreNamed, acquires_of}
-use Rattle.tl_world.specs.Protocol.{State, is_wanting}
+use Rattle.tl_world.specs.Phase.{Probing, Quiet, Sent, Answered, is_quiet}
+use Rattle.tl_world.specs.Protocol.{State, is_wanting, is_answered}
 use Rattle.tl_world.specs.Token.{set_at}
 use Rattle.tl_world.proofs.Aside.{set_at-same, set_at-else}
 use Rattle.tl_world.proofs.Carried.{IsNext}
@@ -70,13 +71,24 @@ same_perms perm.Branch perm.Trunk e = absurd cc
 same_perms perm.Trunk perm.None e = absurd cc
 same_perms perm.Trunk perm.Branch e = absurd cc
 
+pub some_is : (i j : ℕ) → Some i ≡ Some j → i ≡ j
+some_is i j e = cc
+
+pub second_false : (p q : Bool) → q ≡ false → (p && q) ≡ false
+second_false true q e = e
+second_false false q e = refl
+
+pub first_false : (p q : Bool) → p ≡ false → (p && q) ≡ false
+first_false p q e = rw e refl
+
+pub quiet_unanswered : (x : Probing) → is_quiet x ≡ true → is_answered x ≡ false
+quiet_unanswered Quiet e = refl
+quiet_unanswered (Sent k) e = refl
+quiet_unanswered (Answered r) e = absurd cc
+
 -- the source of a client's Acquire of a block is of no other
 pub unused-else : {X : Type 0} (c n i : ℕ) (s : State X) → AreNamed s → ((s.block n).source c == i) ≡ false → acquires_of n (s.uses c i) ≡ false
-unused-else c n i s named e = named.acquires c i n ∙ second (is_wanting ((s.block n).pair c).acquiring) (i == (s.block n).source c) (ne_eqb i ((s.block n).source c) apart)
+unused-else c n i s named e = named.acquires c i n ∙ second_false (is_wanting ((s.block n).pair c).acquiring) (i == (s.block n).source c) (ne_eqb i ((s.block n).source c) apart)
   where
-    second : (p q : Bool) → q ≡ false → (p && q) ≡ false
-    second true q f = f
-    second false q f = refl
-
     apart : i ≡ (s.block n).source c → ⊥
     apart same = let no : ((s.block n).source c == (s.block n).source c) ≡ false = rw same at e in let yes : true ≡ false = sym (same_number ((s.block n).source c)) ∙ no in cc

@@ -1,5 +1,5 @@
 -- What was delivered in part on a link: of which Grant, and of which Release.
-use Rattle.std.proofs.Common.{◌≡◌, ℕ, zero, suc, ◌*◌, Bool, true, false, ◌&&◌, List, [], ◌∷◌, Option, Some, None, refl, sym, ◌∙◌, ap, subst, arith}
+use Rattle.std.proofs.Common.{◌≡◌, ℕ, zero, suc, ◌*◌, Bool, true, false, ◌&&◌, List, [], ◌∷◌, Option, Some, None, refl, sym, ◌∙◌, ap, subst}
 use Rattle.std.specs.Prelude.{◌==◌, map}
 use Rattle.std.proofs.lemmas.Bool.{eqb-true}
 use Rattle.tl_beat.specs.Width.{IsWidth}
@@ -17,14 +17,12 @@ use Rattle.tl_burst.specs.declared.message.MessageD.{MessageD}
 use Rattle.tl_burst.specs.Burst.{begun}
 use Rattle.tl_burst.specs.Messages.{unfinished}
 use Rattle.tl_params.specs.declared.config.Config.{Config}
-use Rattle.tl_params.specs.Param.{report_code, report_left, prune_code, prune_left}
-use Rattle.tl_rules.specs.Conformance.{same_perm, on_link, comes_in_release, comes_in_grant}
+use Rattle.tl_rules.specs.Conformance.{on_link, comes_in_release, comes_in_grant}
 use Rattle.tl_rules.specs.History.{block_at, is_grant, is_release, asks_for}
-use Rattle.tl_params.specs.declared.perm.Perm.TheVariants as perm
+use Rattle.tl_client.proofs.HeldAfter.{same_block}
 use Rattle.tl_world.specs.Carried.{IsCarried}
 use Rattle.tl_world.specs.Known.{comes_granting}
 use Rattle.tl_world.specs.Log.{Log}
-use Rattle.tl_world.specs.Phase.{Releasing}
 use Rattle.tl_world.specs.Protocol.{State, Acquires, token, shown, view, is_on, is_granting, is_releasing}
 use Rattle.tl_world.specs.Render.{Mail, message_of, message_of_kind, report_told, prune_told, rendered}
 use Rattle.tl_world.specs.System.{System}
@@ -39,7 +37,7 @@ use Rattle.tl_world.proofs.FollowKept.{releasing-is}
 use Rattle.tl_world.proofs.ManagedEndings.{tracker-of}
 use Rattle.tl_world.proofs.Moves.{is_of-is}
 use Rattle.tl_world.proofs.Phases.{and_left, and_right}
-use Rattle.tl_world.proofs.Reporting.{IsAbout, report-about, release-about}
+use Rattle.tl_world.proofs.Reporting.{report-about, release-about}
 use Rattle.tl_world.proofs.Tokens.{same_number, holds-first}
 
 -- ---- a Grant
@@ -87,7 +85,7 @@ begun_alone {w} c s m k x more is e grants = go k (e ∙ ap (λ (y : Message w).
         (of.0, of.1, source ∙ of.2, sink ∙ of.3)
 
 -- a Grant that was delivered in part is due
-pub half-granted : {w : ℕ} (config : Config) (log : Log w) (mail : Mail w) (request : ℕ → MessageA w) (s : State (List ℕ)) (sys : System w) (c : ℕ) (x : BeatD w) (more : List (Beat w)) → IsMatched config log mail request s sys
+half-granted : {w : ℕ} (config : Config) (log : Log w) (mail : Mail w) (request : ℕ → MessageA w) (s : State (List ℕ)) (sys : System w) (c : ℕ) (x : BeatD w) (more : List (Beat w)) → IsMatched config log mail request s sys
     → unfinished channel.D (sys.clients c).past ≡ beat.D x ∷ more → is_grant x.opcode ≡ true → IsOfGrant c s x
 half-granted {w} config log mail request s sys c x more h is grants = go (s.link c).d refl (h.carried c channel.D)
   where
@@ -129,9 +127,6 @@ coming-sink {w} config log mail request s sys c i h = go (unfinished channel.D (
         let of = half-granted config log mail request s sys c x more h e (and_left (is_grant x.opcode) (x.sink == i) f) in
         let same : i ≡ (s.block of.0).tracker = sym (eqb-true x.sink i (and_right (is_grant x.opcode) (x.sink == i) f)) ∙ of.3 in
         (of.0, of.1, ap s.tracked same ∙ tracker-of of.0 s h.invariant.named (rw of.1.service refl))
-
-same_block : (n : ℕ) → block_at (64 * n) ≡ n
-same_block n = omega arith
 
 -- a Grant of a block that was delivered in part is due
 pub coming-granting : {w : ℕ} (config : Config) (log : Log w) (mail : Mail w) (request : ℕ → MessageA w) (s : State (List ℕ)) (sys : System w) (c : ℕ) → IsMatched config log mail request s sys → IsComing (asked_by mail s c) (unfinished channel.D (sys.clients c).past) c s

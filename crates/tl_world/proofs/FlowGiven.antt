@@ -1,7 +1,7 @@
 -- What is delivered on a link, as a beat of channel B or D is: of a Probe, an answer, a Grant or a ReleaseAck.
-use Rattle.std.proofs.Common.{◌≡◌, subst, ℕ, suc, ◌*◌, Bool, true, false, not, ◌&&◌, ◌||◌, List, [], ◌∷◌, Option, Some, None, refl, sym, ◌∙◌, ap, arith, inl, inr}
+use Rattle.std.proofs.Common.{◌≡◌, subst, ℕ, Bool, true, false, not, ◌&&◌, List, [], ◌∷◌, Option, None, refl, sym, ◌∙◌, ap, inl}
 use Rattle.std.specs.Prelude.{◌==◌, if◌then◌else◌}
-use Rattle.std.proofs.lemmas.Bool.{cases_eq, ne_eqb, eqb-true}
+use Rattle.std.proofs.lemmas.Bool.{ne_eqb, eqb-true}
 use Rattle.tl_beat.specs.declared.beat.Beat.{Beat}
 use Rattle.tl_beat.specs.declared.beat.Beat.TheVariants as beat
 use Rattle.tl_beat.specs.declared.beat.BeatA.{BeatA}
@@ -17,17 +17,18 @@ use Rattle.tl_params.specs.declared.config.Config.{Config}
 use Rattle.tl_params.specs.declared.param.Cap.{Cap}
 use Rattle.tl_params.specs.declared.param.Cap.TheVariants as cap
 use Rattle.tl_params.specs.Param.{cap_right}
-use Rattle.tl_rules.specs.Conformance.{comes_in_grant, same_perm}
-use Rattle.tl_rules.specs.History.{block_at, is_grant, is_release_ack, asks_for}
+use Rattle.tl_rules.specs.Conformance.{comes_in_grant}
+use Rattle.tl_rules.specs.History.{is_grant, is_release_ack, asks_for}
+use Rattle.tl_client.proofs.HeldAfter.{same_block}
 use Rattle.tl_manager.specs.Handing.{grant_opcode}
 use Rattle.tl_world.specs.Flowed.{IsFlowed}
 use Rattle.tl_world.specs.Follow.{Shadow}
-use Rattle.tl_world.specs.Invariant.{is_of, acquires_of, is_busy}
+use Rattle.tl_world.specs.Invariant.{acquires_of, is_busy}
 use Rattle.tl_world.specs.Known.{comes_granting}
 use Rattle.tl_world.specs.Log.{Log}
-use Rattle.tl_world.specs.Phase.{Pair, View, Idle, Own, Other, Granting, Acknowledging, GrantedOther, Probing, Sent, Acked, is_quiet, is_kept, same_cap, fits_service, ok}
+use Rattle.tl_world.specs.Phase.{Pair, View, Idle, Own, Other, Granting, Acknowledging, GrantedOther, Sent, is_quiet, is_kept, same_cap, fits_service, ok}
 use Rattle.tl_world.specs.PhaseSteps.{after_grant, after_release_ack}
-use Rattle.tl_world.specs.Protocol.{Service, Free, Waits, GrantSent, GrantTaken, Block, State, Use, Closed, Acquires, token, shown, view, is_granting, is_acknowledging, is_answered, is_wanting, probe_taken, answer_taken, taken_block, grant_taken, let_go_block, release_ack_taken}
+use Rattle.tl_world.specs.Protocol.{Service, Free, Waits, GrantSent, GrantTaken, Block, State, Closed, Acquires, token, shown, view, is_granting, is_answered, is_wanting, probe_taken, answer_taken, taken_block, grant_taken, let_go_block, release_ack_taken}
 use Rattle.tl_world.specs.Render.{cap_sent, probe_beat, rendered}
 use Rattle.tl_world.specs.Sources.{cap_waited}
 use Rattle.tl_world.specs.System.{System}
@@ -39,13 +40,13 @@ use Rattle.tl_world.proofs.ClientDelivered.{ack_next}
 use Rattle.tl_world.proofs.ClientEnd.{asks-same, asks-acquire}
 use Rattle.tl_world.proofs.ClientTaken.{capped_is, grants_always}
 use Rattle.tl_world.proofs.ClientTakes.{access_kind}
-use Rattle.tl_world.proofs.Due.{IsAnswerDue, answer-due, IsGrantDue, grant-due, grant-rendered, grant_message, ack_message, own_view}
+use Rattle.tl_world.proofs.Due.{IsAnswerDue, answer-due, IsGrantDue, grant-rendered, grant_message, ack_message, own_view}
 use Rattle.tl_world.proofs.Facts.{granting_alone}
 use Rattle.tl_world.proofs.FlowAlone.{AreRests}
 use Rattle.tl_world.proofs.FlowAnswered.{flowed-answer, flowed-let_go}
 use Rattle.tl_world.proofs.FlowAside.{comes-same}
 use Rattle.tl_world.proofs.FlowAsking.{rest_at}
-use Rattle.tl_world.proofs.FlowBeats.{came-so, comes-so, one-beat, set_at-if, same_perms, unused-else}
+use Rattle.tl_world.proofs.FlowBeats.{came-so, comes-so, one-beat, set_at-if, same_perms, unused-else, second_false, first_false}
 use Rattle.tl_world.proofs.FlowGranted.{seen_after, flowed-grant}
 use Rattle.tl_world.proofs.FlowProbe.{flowed-probe}
 use Rattle.tl_world.proofs.FlowResponses.{grant_quiet, grant_tracked}
@@ -100,16 +101,6 @@ waited_as k (GrantTaken r) c e = absurd (go (c == r) e)
     go : (b : Bool) → (if b then Acknowledging else GrantedOther) ≡ Other k → ⊥
     go true f = cc
     go false f = cc
-
-same_block : (n : ℕ) → block_at (64 * n) ≡ n
-same_block n = omega arith
-
-never : (p q : Bool) → q ≡ false → (p && q) ≡ false
-never true q e = e
-never false q e = refl
-
-first_false : (p q : Bool) → p ≡ false → (p && q) ≡ false
-first_false p q e = rw e refl
 
 apart_numbers : (i j : ℕ) → (j == i) ≡ false → i ≡ j → ⊥
 apart_numbers i j e same = let no : (j == j) ≡ false = rw same at e in let yes : true ≡ false = sym (same_number j) ∙ no in cc
@@ -190,12 +181,12 @@ module _ {w : ℕ} (config : Config) (log : Log w) (h : Shadow w) (sys : System 
 
     -- nothing comes of a message that is no Grant
     none_came : is_grant m.opcode ≡ false → (i : ℕ) → comes_in_grant i (rest' channel.D) ≡ comes_in_grant i (rest_at sys c channel.D)
-    none_came e i = comes i ∙ never (not b) (is_grant m.opcode && (m.sink == i)) (first_false (is_grant m.opcode) (m.sink == i) e)
-        ∙ sym (came i ∙ never (not (is_empty (rest_at sys c channel.D))) (is_grant m.opcode && (m.sink == i)) (first_false (is_grant m.opcode) (m.sink == i) e))
+    none_came e i = comes i ∙ second_false (not b) (is_grant m.opcode && (m.sink == i)) (first_false (is_grant m.opcode) (m.sink == i) e)
+        ∙ sym (came i ∙ second_false (not (is_empty (rest_at sys c channel.D))) (is_grant m.opcode && (m.sink == i)) (first_false (is_grant m.opcode) (m.sink == i) e))
 
     none_granted : is_grant m.opcode ≡ false → (asked' : ℕ → Option (BeatA w)) (j : ℕ) → comes_granting j asked' (rest' channel.D) ≡ comes_granting j before (rest_at sys c channel.D)
-    none_granted e asked' j = grants asked' j ∙ never (not b) (is_grant m.opcode && asks_for j (asked' m.source)) (first_false (is_grant m.opcode) (asks_for j (asked' m.source)) e)
-        ∙ sym (granted j ∙ never (not (is_empty (rest_at sys c channel.D))) (is_grant m.opcode && asks_for j (before m.source)) (first_false (is_grant m.opcode) (asks_for j (before m.source)) e))
+    none_granted e asked' j = grants asked' j ∙ second_false (not b) (is_grant m.opcode && asks_for j (asked' m.source)) (first_false (is_grant m.opcode) (asks_for j (asked' m.source)) e)
+        ∙ sym (granted j ∙ second_false (not (is_empty (rest_at sys c channel.D))) (is_grant m.opcode && asks_for j (before m.source)) (first_false (is_grant m.opcode) (asks_for j (before m.source)) e))
 
   -- ---- an answer
 
@@ -326,7 +317,7 @@ module _ {w : ℕ} (config : Config) (log : Log w) (h : Shadow w) (sys : System 
         use_is = λ i e. ap (s.uses c) (sym (eqb-true ((s.block n).source c) i e)) ∙ due.used;
         no_use = λ i e. unused-else c n i s is.invariant.named e;
         tracks = λ i e. ap s.tracked (sym (eqb-true (s.block n).tracker i e)) ∙ grant_tracked (is_caching config) c n s is.invariant due;
-        tracks_not = λ i e. is.invariant.named.trackers i n ∙ never (is_busy (s.block n).service) (i == (s.block n).tracker) (swapped i (s.block n).tracker e);
+        tracks_not = λ i e. is.invariant.named.trackers i n ∙ second_false (is_busy (s.block n).service) (i == (s.block n).tracker) (swapped i (s.block n).tracker e);
         asks = asks;
         came = λ i. came m x ms queue here rests b last i ∙ ap (λ (z : Bool). not (is_empty (rest_at sys c channel.D)) && (z && ((s.block n).tracker == i))) (grants_so due.data_too);
         comes = λ i. comes m x ms queue here rests b last i ∙ ap (λ (z : Bool). not b && (z && ((s.block n).tracker == i))) (grants_so due.data_too);

@@ -1,6 +1,6 @@
 -- What is delivered on a link, as messages of another link are taken; and after the last beat of a request or ProbeAck,
 -- as what comes of it at the manager.
-use Rattle.std.proofs.Common.{◌≡◌, subst, ℕ, ◌≤◌, Bool, true, false, not, ◌&&◌, List, ◌∷◌, Option, Some, None, length, refl, sym, ◌∙◌, ap, inl, inr}
+use Rattle.std.proofs.Common.{◌≡◌, subst, ℕ, Bool, true, false, not, ◌&&◌, List, ◌∷◌, Option, Some, None, length, refl, sym, ◌∙◌, ap, inl}
 use Rattle.std.specs.Prelude.{◌==◌, if◌then◌else◌}
 use Rattle.std.proofs.lemmas.Bool.{ne_eqb}
 use Rattle.tl_beat.specs.declared.beat.Beat.{Beat}
@@ -13,18 +13,17 @@ use Rattle.tl_burst.specs.declared.message.MessageA.{MessageA}
 use Rattle.tl_burst.specs.Messages.{History}
 use Rattle.tl_params.specs.declared.config.Config.{Config}
 use Rattle.tl_params.specs.declared.param.Cap.{Cap}
-use Rattle.tl_params.specs.declared.param.Grow.{Grow}
 use Rattle.tl_params.specs.declared.param.Report.{Report}
-use Rattle.tl_rules.specs.Conformance.{comes_in_grant, same_perm}
+use Rattle.tl_rules.specs.Conformance.{comes_in_grant}
 use Rattle.tl_rules.specs.History.{block_at}
 use Rattle.tl_manager.specs.Holders.{cap_probed}
 use Rattle.tl_world.specs.Flowed.{IsFlowed}
 use Rattle.tl_world.specs.Follow.{Shadow, with_state, some_below, performs, probes_some, access_taken, request_taken, is_unheld, gift, acquire_taken, granted_after, last_taken, ack_taken, is_whole, taken_by_client, kind_taken}
 use Rattle.tl_world.specs.Invariant.{cap_asked}
 use Rattle.tl_world.specs.Log.{Log}
-use Rattle.tl_world.specs.Phase.{Pair, View, Own, Other, Granting, Acknowledging, GrantedOther, Probing, Quiet, Sent, Answered, Acquiring, Calm, Wants, is_calm, is_quiet, is_kept}
+use Rattle.tl_world.specs.Phase.{View, Own, Granting, Acknowledging, GrantedOther, Answered, Acquiring, Calm, Wants, is_calm, is_quiet, is_kept}
 use Rattle.tl_world.specs.PhaseSteps.{is_granted_data, after_report}
-use Rattle.tl_world.specs.Protocol.{Service, Free, Waits, GrantSent, GrantTaken, Block, State, Use, token, on, shown, view, is_answered, is_acknowledging, is_probed, acquire_served, acquire_granted, report_taken, report_grants, report_answers}
+use Rattle.tl_world.specs.Protocol.{Service, Free, Waits, GrantSent, GrantTaken, Block, State, token, on, shown, view, is_answered, is_probed, acquire_served, acquire_granted, report_taken, report_grants}
 use Rattle.tl_world.specs.Render.{cap_sent, report_told, prune_told}
 use Rattle.tl_world.specs.System.{System}
 use Rattle.tl_world.specs.Token.{Kind, Request, Acquire, Probe, ProbeAck, Release, Answer, Grant, ReleaseAck, GrantAck, Token, set}
@@ -36,21 +35,13 @@ use Rattle.tl_world.proofs.Facts.{quiet_at_rest, own_alone, own_wants, answered_
 use Rattle.tl_world.proofs.FlowApart.{replied, left-replied, left-served, left-acquire_granted, left-probe_taken, left-report_taken, left-release_taken, left-answer_taken, left-grant_taken, left-release_ack_taken, left-grant_ack_taken, left-access_answered, left-access_served, left-report_answers, left-report_grants}
 use Rattle.tl_world.proofs.FlowAside.{is_heard, IsComing, flowed-aside, flowed-asks}
 use Rattle.tl_world.proofs.FlowAsking.{rest_at, asks-left}
-use Rattle.tl_world.proofs.FlowBeats.{same_perms}
+use Rattle.tl_world.proofs.FlowBeats.{same_perms, some_is, quiet_unanswered}
 use Rattle.tl_world.proofs.FlowComing.{coming-granting, coming-sink}
 use Rattle.tl_world.proofs.FollowKept.{IsReady, answered-is, acknowledging-is, settled_all}
 use Rattle.tl_world.proofs.ManagedEndings.{tracker-of}
-use Rattle.tl_world.proofs.Phases.{and_left, and_right}
+use Rattle.tl_world.proofs.Phases.{and_right}
 use Rattle.tl_world.proofs.Sized.{used-serving}
 use Rattle.tl_world.proofs.Tokens.{same_number, holds-first}
-
-quiet_unanswered : (x : Probing) → is_quiet x ≡ true → is_answered x ≡ false
-quiet_unanswered Quiet e = refl
-quiet_unanswered (Sent k) e = refl
-quiet_unanswered (Answered r) e = absurd cc
-
-some_is : (i j : ℕ) → Some i ≡ Some j → i ≡ j
-some_is i j e = cc
 
 not_other : (x : Bool) (u v : View) → is_other u ≡ false → is_other v ≡ false → is_other (if x then u else v) ≡ false
 not_other true u v e f = e

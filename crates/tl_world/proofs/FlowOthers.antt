@@ -20,10 +20,10 @@ pub record IsSameView (v v' : View) : Type 0 where
   pub unserved : is_unserved v' ≡ is_unserved v
   pub acknowledging : is_acknowledging v' ≡ is_acknowledging v
 
-pub same-view : (v : View) → IsSameView v v
+same-view : (v : View) → IsSameView v v
 same-view v = record { granting = refl; unserved = refl; acknowledging = refl }
 
-pub others-same : {X : Type 0} (d : ℕ) (b b' : Block X) → b'.pair d ≡ b.pair d → b'.release_source d ≡ b.release_source d → (b'.tracker ≡ b.tracker) ⊎ ((is_acknowledging (view b.service d) || is_granting (view b.service d)) ≡ false)
+others-same : {X : Type 0} (d : ℕ) (b b' : Block X) → b'.pair d ≡ b.pair d → b'.release_source d ≡ b.release_source d → (b'.tracker ≡ b.tracker) ⊎ ((is_acknowledging (view b.service d) || is_granting (view b.service d)) ≡ false)
     → IsSameView (view b.service d) (view b'.service d) → (is_answered (b.pair d).probing ≡ true → cap_waited b'.service ≡ cap_waited b.service) → IsSameBlock d b b'
 others-same {X} d b b' pair source tracker sees cap = record {
   held = ap (λ (p : Pair). if is_granting (view b'.service d) then p.held else p.recorded) pair ∙ ap (λ (g : Bool). if g then (b.pair d).held else (b.pair d).recorded) sees.granting;
@@ -39,12 +39,6 @@ others-same {X} d b b' pair source tracker sees cap = record {
 
 -- ---- how services look to others
 
-at_other : (b : Bool) (v v' : View) → b ≡ false → IsSameView v v' → (u : View) → IsSameView v (if b then u else v')
-at_other b v v' e h u = rw e h
-
-idle_other : (k : Cap) → IsSameView (Other k) Idle
-idle_other k = record { granting = refl; unserved = refl; acknowledging = refl }
-
 -- a view of one who has nothing of the service: not served, not granted
 abbrev pub is_outside : View → Bool
 is_outside Idle = true
@@ -52,7 +46,7 @@ is_outside (Other k) = true
 is_outside GrantedOther = true
 is_outside _ = false
 
-pub outside-same : (v v' : View) → is_outside v ≡ true → is_outside v' ≡ true → IsSameView v v'
+outside-same : (v v' : View) → is_outside v ≡ true → is_outside v' ≡ true → IsSameView v v'
 outside-same v v' e f = record {
   granting = granting v' f ∙ sym (granting v e);
   unserved = unserved v' f ∙ sym (unserved v e);
@@ -93,10 +87,7 @@ outside-sent d r x k ne = rw (ne_eqb d r ne) refl
 pub outside-taken : (d r : ℕ) → (d ≡ r → ⊥) → is_outside (view (GrantTaken r) d) ≡ true
 outside-taken d r ne = rw (ne_eqb d r ne) refl
 
-outside_is : (v u : View) → v ≡ u → is_outside u ≡ true → is_outside v ≡ true
-outside_is v u e f = ap is_outside e ∙ f
-
-pub not_in : (v : View) → is_outside v ≡ true → (is_acknowledging v || is_granting v) ≡ false
+not_in : (v : View) → is_outside v ≡ true → (is_acknowledging v || is_granting v) ≡ false
 not_in Idle e = refl
 not_in (Other k) e = refl
 not_in GrantedOther e = refl

@@ -1,10 +1,8 @@
 -- What is delivered on a link, as a beat of it is: each value of it is that of the protocol afterwards.
-use Rattle.std.proofs.Common.{◌≡◌, subst, ℕ, Bool, true, false, List, [], ◌∷◌, Option, Some, length, refl, sym, ◌∙◌, ap, inl}
+use Rattle.std.proofs.Common.{◌≡◌, subst, ℕ, Bool, true, false, List, [], ◌∷◌, length, refl, sym, ◌∙◌, ap, inl}
 use Rattle.std.specs.Prelude.{if◌then◌else◌}
 use Rattle.tl_beat.specs.Width.{IsWidth}
 use Rattle.tl_beat.specs.declared.beat.Beat.{Beat}
-use Rattle.tl_beat.specs.declared.beat.Beat.TheVariants as beat
-use Rattle.tl_beat.specs.declared.beat.BeatA.{BeatA}
 use Rattle.tl_beat.specs.declared.opcode.Channel.{Channel}
 use Rattle.tl_beat.specs.declared.opcode.Channel.TheVariants as channel
 use Rattle.tl_burst.specs.declared.message.Message.{Message}
@@ -24,8 +22,8 @@ use Rattle.tl_world.specs.Invariant.{cap_asked}
 use Rattle.tl_world.specs.Log.{Log}
 use Rattle.tl_world.specs.Phase.{Pair, Acquiring, Wants}
 use Rattle.tl_world.specs.PhaseSteps.{after_probe, after_release_ack, is_granted_data}
-use Rattle.tl_world.specs.Protocol.{Service, Free, GrantSent, Block, State, token, tokens_on, is_on, is_probed, probed_block, probe_taken, let_go_block, release_ack_taken, release_taken, acquire_served, acquire_granted}
-use Rattle.tl_world.specs.Render.{cap_sent, prune_told, probe_beat, rendered, message_of_kind}
+use Rattle.tl_world.specs.Protocol.{Service, Block, State, token, tokens_on, is_on, is_probed, probed_block, probe_taken, let_go_block, release_ack_taken, release_taken, acquire_served, acquire_granted}
+use Rattle.tl_world.specs.Render.{cap_sent, prune_told, rendered, message_of_kind}
 use Rattle.tl_world.specs.System.{System}
 use Rattle.tl_world.specs.Token.{Kind, Request, Acquire, Probe, ProbeAck, Release, Answer, Grant, ReleaseAck, GrantAck, Token}
 use Rattle.tl_world.specs.Whole.{IsMatched, is_caching, asked_by}

@@ -1,8 +1,7 @@
 -- What is delivered on a link, as a beat of channel A is: of an access, or of an Acquire.
-use Rattle.std.proofs.Common.{◌≡◌, subst, ℕ, suc, Bool, true, false, not, ◌&&◌, ◌||◌, List, [], ◌∷◌, Option, Some, None, refl, sym, ◌∙◌, ap, ◌⊎◌, inl, inr}
+use Rattle.std.proofs.Common.{◌≡◌, subst, ℕ, Bool, true, false, not, ◌&&◌, List, [], ◌∷◌, Option, Some, None, refl, sym, ◌∙◌, ap, ◌⊎◌, inl, inr}
 use Rattle.std.specs.Prelude.{◌==◌, if◌then◌else◌}
-use Rattle.std.proofs.lemmas.Bool.{cases_eq, ne_eqb, eqb-true}
-use Rattle.tl_beat.specs.Width.{IsWidth}
+use Rattle.std.proofs.lemmas.Bool.{cases_eq, eqb-true}
 use Rattle.tl_beat.specs.declared.beat.Beat.{Beat}
 use Rattle.tl_beat.specs.declared.beat.Beat.TheVariants as beat
 use Rattle.tl_beat.specs.declared.beat.BeatA.{BeatA}
@@ -10,20 +9,18 @@ use Rattle.tl_beat.specs.declared.opcode.Channel.{Channel}
 use Rattle.tl_beat.specs.declared.opcode.Channel.TheVariants as channel
 use Rattle.tl_burst.specs.declared.message.Message.{Message}
 use Rattle.tl_burst.specs.declared.message.Message.TheVariants as message
-use Rattle.tl_burst.specs.declared.message.MessageA.{MessageA}
 use Rattle.tl_burst.specs.Burst.{a_beat_of}
 use Rattle.tl_burst.specs.Messages.{History}
 use Rattle.tl_burst.specs.Part.{is_empty, completes}
 use Rattle.tl_params.specs.declared.config.Config.{Config}
 use Rattle.tl_params.specs.declared.param.Cap.{Cap}
 use Rattle.tl_rules.specs.Conformance.{comes_in_request, comes_in_grant, same_perm}
-use Rattle.tl_world.specs.Flowed.{IsFlowed, is_sunk}
+use Rattle.tl_world.specs.Flowed.{IsFlowed}
 use Rattle.tl_world.specs.Follow.{Shadow}
-use Rattle.tl_world.specs.Invariant.{acquires_of}
 use Rattle.tl_world.specs.Log.{Log}
-use Rattle.tl_world.specs.Phase.{Pair, View, Own, Granting, GrantedOther, Probing, Quiet, Sent, Answered, is_quiet, is_kept, ok}
+use Rattle.tl_world.specs.Phase.{Pair, View, Own, Granting, is_quiet, is_kept}
 use Rattle.tl_world.specs.PhaseSteps.{after_grant_sent}
-use Rattle.tl_world.specs.Protocol.{Service, Free, Waits, GrantSent, Block, State, Use, Replied, Acquires, view, is_granting, is_acknowledging, is_answered, is_unserved, is_wanting, served_block, acquire_served, granted_at_once, acquire_granted}
+use Rattle.tl_world.specs.Protocol.{Service, Free, GrantSent, Block, State, Replied, view, is_granting, is_acknowledging, is_answered, is_unserved, is_wanting, served_block, acquire_served, granted_at_once, acquire_granted}
 use Rattle.tl_world.specs.System.{System}
 use Rattle.tl_world.specs.Token.{Token, set}
 use Rattle.tl_world.specs.Whole.{IsMatched, asked_by}
@@ -33,11 +30,11 @@ use Rattle.tl_world.proofs.ClientEnd.{is_access, asks-access, asks-acquire}
 use Rattle.tl_world.proofs.Due.{IsGrantDue}
 use Rattle.tl_world.proofs.Facts.{asked_alone}
 use Rattle.tl_world.proofs.FlowAccess.{IsAccess, flowed-access}
-use Rattle.tl_world.proofs.FlowAcquired.{IsAcquired, flowed-acquire}
+use Rattle.tl_world.proofs.FlowAcquired.{flowed-acquire}
 use Rattle.tl_world.proofs.FlowAlone.{AreRests}
 use Rattle.tl_world.proofs.FlowApart.{replied}
 use Rattle.tl_world.proofs.FlowAsking.{rest_at}
-use Rattle.tl_world.proofs.FlowBeats.{came-so, comes-so, first-zero, one-beat, set_at-if, same_perms, unused-else}
+use Rattle.tl_world.proofs.FlowBeats.{came-so, comes-so, first-zero, one-beat, set_at-if, same_perms, unused-else, some_is, quiet_unanswered}
 use Rattle.tl_world.proofs.FlowComing.{coming-sink, coming-granting}
 use Rattle.tl_world.proofs.FlowStep.{held_by}
 use Rattle.tl_world.proofs.FlowSunk.{sunk_in, sunk-elsewhere, IsWithin, tracked-new}
@@ -45,9 +42,6 @@ use Rattle.tl_world.proofs.Fronts.{acquires-so, acquisition_beats, IsAsked, IsWa
 use Rattle.tl_world.proofs.Phases.{and_left, and_right}
 use Rattle.tl_world.proofs.RequestsTaken.{acquire_wanted, acquire_block}
 use Rattle.tl_world.proofs.Tokens.{same_number, set-same, set-other}
-
-some_is : (i j : ℕ) → Some i ≡ Some j → i ≡ j
-some_is i j e = cc
 
 module _ {w : ℕ} (config : Config) (log : Log w) (h : Shadow w) (sys : System w) (c : ℕ) (is : IsMatched config log h.mail h.request h.state sys) (t : History w) (flowed : IsFlowed (asked_by h.mail h.state c) (rest_at sys c) c h.state t) (rest' : Channel → List (Beat w)) where
   -- ---- an access
@@ -116,11 +110,6 @@ module _ {w : ℕ} (config : Config) (log : Log w) (h : Shadow w) (sys : System 
     settled : ((is_quiet ((s.block n).pair c).probing && is_kept ((s.block n).pair c).letting) && same_perm ((s.block n).pair c).recorded ((s.block n).pair c).held) ≡ true
     settled = first_three (is_quiet ((s.block n).pair c).probing) (is_kept ((s.block n).pair c).letting) (same_perm ((s.block n).pair c).recorded ((s.block n).pair c).held) _
         (asked_alone wanted.whole wanted.grow ((s.block n).pair c) (view (s.block n).service c) ((is.invariant.blocks n).phases c) (rw free refl) wanted.wants)
-
-    quiet_unanswered : (x : Probing) → is_quiet x ≡ true → is_answered x ≡ false
-    quiet_unanswered Quiet e = refl
-    quiet_unanswered (Sent k) e = refl
-    quiet_unanswered (Answered r) e = absurd cc
 
     quiet : is_answered ((s.block n).pair c).probing ≡ false
     quiet = quiet_unanswered ((s.block n).pair c).probing (and_left (is_quiet ((s.block n).pair c).probing) (is_kept ((s.block n).pair c).letting) (and_left (is_quiet ((s.block n).pair c).probing && is_kept ((s.block n).pair c).letting) (same_perm ((s.block n).pair c).recorded ((s.block n).pair c).held) settled))

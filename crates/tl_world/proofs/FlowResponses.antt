@@ -4,7 +4,6 @@ use Rattle.std.specs.Prelude.{◌==◌, if◌then◌else◌, map}
 use Rattle.std.proofs.lemmas.Bool.{eqb-true}
 use Rattle.tl_beat.specs.Width.{IsWidth}
 use Rattle.tl_beat.specs.declared.beat.Beat.{Beat}
-use Rattle.tl_beat.specs.declared.beat.Beat.TheVariants as beat
 use Rattle.tl_beat.specs.declared.beat.BeatA.{BeatA}
 use Rattle.tl_beat.specs.declared.opcode.Channel.TheVariants as channel
 use Rattle.tl_beat.specs.declared.opcode.OpB.TheVariants as opb
@@ -18,7 +17,6 @@ use Rattle.tl_burst.specs.Burst.{a_beat_of, d_beat_of, beat_of, begun}
 use Rattle.tl_burst.specs.Messages.{unfinished}
 use Rattle.tl_params.specs.declared.config.Config.{Config}
 use Rattle.tl_params.specs.declared.key.Key.TheVariants.{RequestSource, ReleaseSource}
-use Rattle.tl_params.specs.declared.param.Cap.{Cap}
 use Rattle.tl_params.specs.declared.param.Prune.{Prune}
 use Rattle.tl_params.specs.declared.param.Prune.TheVariants as prune
 use Rattle.tl_params.specs.declared.param.Report.{Report}
@@ -37,11 +35,10 @@ use Rattle.tl_world.specs.Flow.{flow}
 use Rattle.tl_world.specs.Flowed.{is_requested, is_sunk, is_let, is_let_by}
 use Rattle.tl_world.specs.Follow.{acquire_opcode}
 use Rattle.tl_world.specs.Invariant.{is_busy, IsInvariant}
-use Rattle.tl_world.specs.Known.{comes_granting}
 use Rattle.tl_world.specs.Log.{Log}
-use Rattle.tl_world.specs.Phase.{Pair, ok, View, Idle, Own, Other, Granting, Acknowledging, GrantedOther, Probing, Quiet, Sent, Answered, Letting, Kept, Releasing, Acked, Acquiring, Wants, is_quiet, is_kept}
-use Rattle.tl_world.specs.Protocol.{Service, GrantSent, is_sent, is_answered, is_acked, is_releasing, is_granting, is_acknowledging, State, Use, Asked, Acquires, view, token, shown, is_on, is_unserved, is_wanting}
-use Rattle.tl_world.specs.Render.{Mail, cap_sent, report_told, prune_told, probe_beat, rendered, message_of, message_of_kind}
+use Rattle.tl_world.specs.Phase.{View, Probing, Quiet, Sent, Answered, Letting, Kept, Releasing, Acked, Acquiring, Wants, is_quiet, is_kept}
+use Rattle.tl_world.specs.Protocol.{Service, GrantSent, is_answered, is_acked, is_releasing, is_granting, is_acknowledging, State, Use, Asked, Acquires, view, token, shown, is_on, is_unserved, is_wanting}
+use Rattle.tl_world.specs.Render.{Mail, report_told, prune_told, rendered, message_of, message_of_kind}
 use Rattle.tl_world.specs.System.{System}
 use Rattle.tl_world.specs.Token.{Kind, Request, Acquire, Probe, ProbeAck, Release, Answer, Grant, ReleaseAck, GrantAck, Token}
 use Rattle.tl_world.specs.Whole.{IsMatched, AreFlowed, IsGivenAsked, gives_asked, is_caching, asked_by}
@@ -50,12 +47,10 @@ use Rattle.tl_world.proofs.ClientDelivered.{ack_next}
 use Rattle.tl_world.proofs.ClientEnd.{is_access, asks-access, asks-acquire}
 use Rattle.tl_world.proofs.ClientTakes.{access_kind, answers_acquire, not_ack, fits_asked, fitting, has_data, next-legal}
 use Rattle.tl_world.proofs.Due.{IsAnswerDue, answer-due, IsGrantDue, grant-due, grant-rendered, ack-due, acquire-used, grant_message, ack_message, own_view}
-use Rattle.tl_world.proofs.Facts.{granting_alone, acknowledging_quiet}
+use Rattle.tl_world.proofs.Facts.{granting_alone}
 use Rattle.tl_world.proofs.FirstToken.{IsFirst, first-token, own_kind}
 use Rattle.tl_world.proofs.Fronts.{asked-first, rendered-acquire}
 use Rattle.tl_world.proofs.FollowKept.{wanting-is}
-use Rattle.tl_world.proofs.KnownProbed.{in_order}
-use Rattle.tl_world.proofs.ProbeDelivered.{not_coming, probe-beat}
 use Rattle.tl_world.proofs.Moves.{is_of-is}
 use Rattle.tl_world.proofs.Phases.{and_left, and_right}
 use Rattle.tl_world.proofs.ResponseOrder.{answer-legal, grant-legal, ack-legal}
@@ -134,7 +129,7 @@ not-coming_a {w} config log mail request s sys c source h none = go (s.link c).a
 
 -- ---- an answer
 
-pub flow-answer : {w : ℕ} (config : Config) (log : Log w) (mail : Mail w) (request : ℕ → MessageA w) (s : State (List ℕ)) (sys : System w) (c source : ℕ) → IsMatched config log mail request s sys → AreFlowed log mail s sys → (due : IsAnswerDue c source mail s)
+flow-answer : {w : ℕ} (config : Config) (log : Log w) (mail : Mail w) (request : ℕ → MessageA w) (s : State (List ℕ)) (sys : System w) (c source : ℕ) → IsMatched config log mail request s sys → AreFlowed log mail s sys → (due : IsAnswerDue c source mail s)
     → unfinished channel.D (sys.clients c).past ≡ [] → broken_in_order config.profile (beat_of (message.D due.answer) 0) (flow c log) ≡ None
 flow-answer {w} config log mail request s sys c source h flowed due whole =
     let kind = access_kind due.answer.opcode due.answers_access in
@@ -173,7 +168,7 @@ pub grant_tracked : (caching : ℕ → Bool) (c n : ℕ) (s : State (List ℕ)) 
 grant_tracked caching c n s inv due =
     is_of-is n (s.tracked (s.block n).tracker) (inv.named.trackers (s.block n).tracker n ∙ ap (λ (x : Service). is_busy x && ((s.block n).tracker == (s.block n).tracker)) due.service ∙ same_number (s.block n).tracker)
 
-pub flow-grant : {w : ℕ} (config : Config) (log : Log w) (mail : Mail w) (request : ℕ → MessageA w) (s : State (List ℕ)) (sys : System w) (c n : ℕ) → IsMatched config log mail request s sys → AreFlowed log mail s sys → (due : IsGrantDue c n s)
+flow-grant : {w : ℕ} (config : Config) (log : Log w) (mail : Mail w) (request : ℕ → MessageA w) (s : State (List ℕ)) (sys : System w) (c n : ℕ) → IsMatched config log mail request s sys → AreFlowed log mail s sys → (due : IsGrantDue c n s)
     → gives_asked config.profile (Wants due.whole due.g) due.k ≡ true → unfinished channel.D (sys.clients c).past ≡ []
     → broken_in_order config.profile (beat_of (message.D (grant_message due.data_too due.k ((s.block n).source c) (s.block n).tracker (s.block n).truth)) 0) (flow c log) ≡ None
 flow-grant {w} config log mail request s sys c n h flowed due given whole =
@@ -237,7 +232,7 @@ unfolding rendered
 rendered_release w c n source s e = unreleased_prune w source (prune_told ((s.block n).pair c).letting) ((s.block n).release_source c) n (s.block n).truth e
 
 -- no Release is half taken with the source of one that was acknowledged
-pub not-coming_c : {w : ℕ} (config : Config) (log : Log w) (mail : Mail w) (request : ℕ → MessageA w) (s : State (List ℕ)) (sys : System w) (c n : ℕ) → IsMatched config log mail request s sys → s.lets c ((s.block n).release_source c) ≡ Some n
+not-coming_c : {w : ℕ} (config : Config) (log : Log w) (mail : Mail w) (request : ℕ → MessageA w) (s : State (List ℕ)) (sys : System w) (c n : ℕ) → IsMatched config log mail request s sys → s.lets c ((s.block n).release_source c) ≡ Some n
     → is_acked ((s.block n).pair c).letting ≡ true → comes_in_release ((s.block n).release_source c) (unfinished channel.C (on_link c sys.manager.trace)) ≡ false
 not-coming_c {w} config log mail request s sys c n h let_ acked = go (s.link c).c refl (h.carried c channel.C)
   where
@@ -294,7 +289,7 @@ not-coming_c {w} config log mail request s sys c n h let_ acked = go (s.link c).
         subst (λ (ms : List (Message w)). IsCarried rest_now ms (sys.channels c channel.C)) (ap (map (message_of mail s c)) first) carried in
         unreleased source (message_of mail s c x) some.0 rest_now some.2 (each x.kind x.number xs first (own_kind (is_caching config) s c channel.C x.kind x.number xs h.invariant first))
 
-pub flow-ack : {w : ℕ} (config : Config) (log : Log w) (mail : Mail w) (request : ℕ → MessageA w) (s : State (List ℕ)) (sys : System w) (c n : ℕ) → IsMatched config log mail request s sys → AreFlowed log mail s sys
+flow-ack : {w : ℕ} (config : Config) (log : Log w) (mail : Mail w) (request : ℕ → MessageA w) (s : State (List ℕ)) (sys : System w) (c n : ℕ) → IsMatched config log mail request s sys → AreFlowed log mail s sys
     → s.lets c ((s.block n).release_source c) ≡ Some n → is_acked ((s.block n).pair c).letting ≡ true
     → unfinished channel.D (sys.clients c).past ≡ []
     → broken_in_order config.profile (beat_of (message.D (ack_message ((s.block n).release_source c))) 0) (flow c log) ≡ None

@@ -1,5 +1,5 @@
 -- What is delivered on a link, as a beat of channel C or E is: of a ProbeAck, a Release or a GrantAck.
-use Rattle.std.proofs.Common.{◌≡◌, subst, ℕ, suc, ◌*◌, Bool, true, false, not, ◌&&◌, List, [], ◌∷◌, Option, Some, None, refl, sym, ◌∙◌, ap, arith, length}
+use Rattle.std.proofs.Common.{◌≡◌, subst, ℕ, Bool, true, false, not, ◌&&◌, List, [], ◌∷◌, Option, refl, sym, ◌∙◌, ap, length}
 use Rattle.std.specs.Prelude.{◌==◌, if◌then◌else◌}
 use Rattle.tl_beat.specs.Width.{IsWidth}
 use Rattle.tl_beat.specs.declared.beat.Beat.{Beat}
@@ -19,15 +19,15 @@ use Rattle.tl_params.specs.declared.param.Prune.{Prune}
 use Rattle.tl_params.specs.declared.param.Prune.TheVariants as prune
 use Rattle.tl_params.specs.declared.param.Report.{Report}
 use Rattle.tl_params.specs.declared.perm.Perm.TheVariants as perm
-use Rattle.tl_params.specs.Param.{prune_code, prune_left, prune_right, report_code, report_left, report_right}
+use Rattle.tl_params.specs.Param.{prune_code, prune_left, prune_right, report_code, report_left}
 use Rattle.tl_rules.specs.Conformance.{comes_in_release, same_perm}
-use Rattle.tl_rules.specs.History.{block_at, is_probe_ack, is_release, reported}
+use Rattle.tl_rules.specs.History.{is_release, reported}
 use Rattle.tl_client.specs.Send.{release}
 use Rattle.tl_world.specs.Flowed.{IsFlowed}
 use Rattle.tl_world.specs.Follow.{Shadow}
 use Rattle.tl_world.specs.Invariant.{is_busy}
 use Rattle.tl_world.specs.Log.{Log}
-use Rattle.tl_world.specs.Phase.{Pair, View, Idle, Own, Other, Granting, Acknowledging, GrantedOther, Letting, Kept, Releasing, Acked, is_quiet, is_kept, ok}
+use Rattle.tl_world.specs.Phase.{Pair, View, Idle, Own, Other, Granting, Acknowledging, GrantedOther, Releasing, is_quiet, is_kept, ok}
 use Rattle.tl_world.specs.PhaseSteps.{after_release_taken}
 use Rattle.tl_world.specs.Protocol.{Service, Free, Waits, GrantSent, GrantTaken, Block, State, token, shown, view, is_granting, is_acknowledging, let_block, release_taken, report_taken, grant_ack_taken}
 use Rattle.tl_world.specs.Render.{rendered, prune_told, report_told}
@@ -39,17 +39,17 @@ use Rattle.tl_world.proofs.Facts.{answered_other, granting_alone}
 use Rattle.tl_world.proofs.FlowAlone.{AreRests, flowed-grant_ack}
 use Rattle.tl_world.proofs.FlowAside.{comes-same}
 use Rattle.tl_world.proofs.FlowAsking.{rest_at}
-use Rattle.tl_world.proofs.FlowBeats.{came-so, comes-so, one-beat}
+use Rattle.tl_world.proofs.FlowBeats.{came-so, comes-so, one-beat, second_false, first_false}
 use Rattle.tl_world.proofs.FlowComing.{coming-granting}
 use Rattle.tl_world.proofs.FlowLawful.{other_ungranted}
-use Rattle.tl_world.proofs.FlowReleased.{IsReleased, letting_after, flowed-release}
+use Rattle.tl_world.proofs.FlowReleased.{letting_after, flowed-release}
 use Rattle.tl_world.proofs.FlowReport.{flowed-report_part}
 use Rattle.tl_world.proofs.FlowReported.{flowed-report}
 use Rattle.tl_world.proofs.FlowStep.{held_by}
-use Rattle.tl_world.proofs.FollowKept.{answered-is, releasing-is, acknowledging-is}
+use Rattle.tl_world.proofs.FollowKept.{answered-is, releasing-is}
 use Rattle.tl_world.proofs.Phases.{and_left, and_right}
 use Rattle.tl_world.proofs.Reporting.{IsAbout, report-about, release-about, reported-report, reported-prune}
-use Rattle.tl_world.proofs.Tokens.{same_number, set-same, set-other, holds-first}
+use Rattle.tl_world.proofs.Tokens.{set-same, set-other, holds-first}
 
 -- ---- what the messages say
 
@@ -103,9 +103,6 @@ pub ack_rendered : {w : ℕ} (c n : ℕ) (b : Block (List ℕ)) → rendered {w 
 unfolding rendered
 ack_rendered c n b = refl
 
-same_block : (n : ℕ) → block_at (64 * n) ≡ n
-same_block n = omega arith
-
 module _ {w : ℕ} (config : Config) (log : Log w) (h : Shadow w) (sys : System w) (c : ℕ) (width : IsWidth w) (is : IsMatched config log h.mail h.request h.state sys) (t : History w) (flowed : IsFlowed (asked_by h.mail h.state c) (rest_at sys c) c h.state t) (rest' : Channel → List (Beat w)) (n : ℕ) (toks : List Token) where
   abbrev s : State (List ℕ)
   s = h.state
@@ -139,13 +136,6 @@ module _ {w : ℕ} (config : Config) (log : Log w) (h : Shadow w) (sys : System 
         ap (comes_in_release i) (rests_y channel.C) ∙ comes-so (comes_in_release i) (beat.C (c_beat_of m next.k)) (rest_at sys c channel.C) (is_release m.opcode && (m.source == i)) refl refl
         ∙ ap (λ (z : Bool). not z && (is_release m.opcode && (m.source == i))) last_y
 
-  never : (p q : Bool) → q ≡ false → (p && q) ≡ false
-  never true q e = e
-  never false q e = refl
-
-  first_false : (p q : Bool) → p ≡ false → (p && q) ≡ false
-  first_false p q e = rw e refl
-
   -- ---- a ProbeAck
 
   abbrev reported_if : Report → Bool → State (List ℕ)
@@ -174,8 +164,8 @@ module _ {w : ℕ} (config : Config) (log : Log w) (h : Shadow w) (sys : System 
 
       same : (z : Bool) → completes x (rest_at sys c channel.C) ≡ z → (i : ℕ) → comes_in_release i (rest' channel.C) ≡ comes_in_release i (rest_at sys c channel.C)
       same z e i =
-          comes m x ms queue here rests z e i ∙ never (not z) (is_release m.opcode && (m.source == i)) (first_false (is_release m.opcode) (m.source == i) about.2.releases)
-          ∙ sym (came m x ms queue here rests z e i ∙ never (not (is_empty (rest_at sys c channel.C))) (is_release m.opcode && (m.source == i)) (first_false (is_release m.opcode) (m.source == i) about.2.releases))
+          comes m x ms queue here rests z e i ∙ second_false (not z) (is_release m.opcode && (m.source == i)) (first_false (is_release m.opcode) (m.source == i) about.2.releases)
+          ∙ sym (came m x ms queue here rests z e i ∙ second_false (not (is_empty (rest_at sys c channel.C))) (is_release m.opcode && (m.source == i)) (first_false (is_release m.opcode) (m.source == i) about.2.releases))
 
       go : (z : Bool) → completes x (rest_at sys c channel.C) ≡ z → IsFlowed before rest' c (reported_if r z) (beat.C (c_beat_of m here.k) ∷ t)
       go false e =

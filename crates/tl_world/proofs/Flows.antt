@@ -1,16 +1,12 @@
 -- What is delivered on each link has the values of the protocol after every event, and so breaks no rule.
-use Rattle.std.proofs.Common.{◌≡◌, subst, ℕ, Bool, true, false, ◌&&◌, List, [], ◌∷◌, ◌++◌, Option, Some, None, refl, sym, ◌∙◌, ap, inl, inr}
+use Rattle.std.proofs.Common.{◌≡◌, subst, ℕ, Bool, true, false, ◌&&◌, List, [], ◌∷◌, Option, Some, None, refl, sym, ◌∙◌, ap, inl, inr}
 use Rattle.std.specs.Prelude.{◌==◌, if◌then◌else◌, map}
 use Rattle.std.proofs.lemmas.Bool.{cases_eq, ne_eqb, eqb-true}
 use Rattle.tl_beat.specs.Width.{IsWidth}
 use Rattle.tl_beat.specs.declared.beat.Beat.{Beat}
-use Rattle.tl_beat.specs.declared.beat.Beat.TheVariants as beat
-use Rattle.tl_beat.specs.declared.beat.BeatA.{BeatA}
 use Rattle.tl_beat.specs.declared.beat.Link.{Link}
 use Rattle.tl_beat.specs.declared.opcode.Channel.{Channel}
 use Rattle.tl_beat.specs.declared.opcode.Channel.TheVariants as channel
-use Rattle.tl_burst.specs.declared.message.Message.{Message}
-use Rattle.tl_burst.specs.Burst.{beat_of}
 use Rattle.tl_burst.specs.Messages.{History, channel_of, grown, unfinished}
 use Rattle.tl_burst.specs.Part.{completes}
 use Rattle.tl_params.specs.declared.config.Config.{Config}
@@ -19,8 +15,6 @@ use Rattle.tl_params.specs.declared.profile.Profile.{Profile}
 use Rattle.tl_rules.specs.Conformance.{on_link, broken_after, broken_in_order, is_legal}
 use Rattle.tl_rules.specs.Legality.{illegal}
 use Rattle.tl_client.specs.declared.operation.Op.{Op}
-use Rattle.tl_client.specs.declared.verdict.Verdict.{Verdict}
-use Rattle.tl_client.specs.declared.verdict.Verdict.TheVariants as verdict
 use Rattle.tl_client.specs.Ask as ask
 use Rattle.tl_client.specs.End as client
 use Rattle.tl_client.specs.End.{Terms}
@@ -41,10 +35,10 @@ use Rattle.tl_world.specs.Headline.{AreTyped, IsGiven}
 use Rattle.tl_world.specs.Log.{Log, IsLog, after}
 use Rattle.tl_world.specs.Remembered.{remembered}
 use Rattle.tl_world.specs.Matched.{receiver}
-use Rattle.tl_world.specs.Protocol.{token, tokens_on, on}
+use Rattle.tl_world.specs.Protocol.{token, on}
 use Rattle.tl_world.specs.Render.{message_of}
-use Rattle.tl_world.specs.Step.{Step, stepped, replied, handing, handed_by, outcome_of, is_to_client, only}
-use Rattle.tl_world.specs.System.{System, terms_at, same_channel, with_client, with_manager, with_channel, with_messages}
+use Rattle.tl_world.specs.Step.{Step, stepped, replied, outcome_of, is_to_client}
+use Rattle.tl_world.specs.System.{System, terms_at, same_channel, with_manager, with_channel, with_messages}
 use Rattle.tl_world.specs.Token.{Token}
 use Rattle.tl_world.specs.Whole.{IsMatched, AreFlowed, is_caching, asked_by}
 use Rattle.tl_world.proofs.AskedWell.{IsAskedWell, asked-well}
@@ -61,7 +55,6 @@ use Rattle.tl_world.proofs.FlowRequests.{flows-a}
 use Rattle.tl_world.proofs.FlowResponses.{flow-legal_d}
 use Rattle.tl_world.proofs.FlowSame.{flowed-rests}
 use Rattle.tl_world.proofs.FlowSinks.{flows-e}
-use Rattle.tl_world.proofs.FollowCases.{IsDelivery}
 use Rattle.tl_world.proofs.FollowKept.{IsReady}
 use Rattle.tl_world.proofs.HeardAfter.{followed-moving, followed-still}
 use Rattle.tl_world.proofs.HeardAll.{unmoved}
@@ -69,8 +62,8 @@ use Rattle.tl_world.proofs.Fresh.{fresh-flowed}
 use Rattle.tl_world.proofs.InvariantKept.{request-moves, ready-delivered}
 use Rattle.tl_world.proofs.Matching.{shadow, matched, stepped-nobody}
 use Rattle.tl_world.proofs.RequestsDelivered.{arrival-first}
-use Rattle.tl_world.proofs.Landed.{IsOn, HasHeard, landed-client, landed-manager, handed-client, pushes_of}
-use Rattle.tl_world.proofs.ManagersAfter.{IsAtManager, at-manager, on_message}
+use Rattle.tl_world.proofs.Landed.{IsOn, landed-client, landed-manager, handed-client}
+use Rattle.tl_world.proofs.ManagersAfter.{IsAtManager, at-manager}
 use Rattle.tl_world.proofs.Moved.{IsTakenByClient, client-moves, client-heard}
 use Rattle.tl_world.proofs.Outstanding.{first-moved}
 use Rattle.tl_world.proofs.RequestsTaken.{next_tracker}
@@ -262,7 +255,7 @@ asked-flowed {w} config log c o h width is flowed = go (terms_at config c) refl
         well : IsAskedWell config c o h (remembered config log) (ask.asked terms o (sys.clients c))
         well = asked-well config log h sys c terms o width is known
 
-pub flowed-event : {w : ℕ} (config : Config) (log : Log w) (event : Event w) (h : Shadow w) → IsWidth w → IsMatched config log h.mail h.request h.state (after config log) → AreFlowed log h.mail h.state (after config log) → AreFlowedAfter config log event h
+flowed-event : {w : ℕ} (config : Config) (log : Log w) (event : Event w) (h : Shadow w) → IsWidth w → IsMatched config log h.mail h.request h.state (after config log) → AreFlowed log h.mail h.state (after config log) → AreFlowedAfter config log event h
 flowed-event config log (Ask c o) h width is flowed = asked-flowed config log c o h width is flowed
 flowed-event config log (Deliver link ch) h width is flowed = delivered-flowed config log link ch h width is flowed
 

@@ -29,10 +29,9 @@ use Rattle.tl_world.specs.Whole.{IsMatched, is_caching}
 use Rattle.tl_world.proofs.Askable.{kept-letting, askable}
 use Rattle.tl_world.proofs.Carried.{IsNext}
 use Rattle.tl_world.proofs.ClientDelivered.{shadow_of}
-use Rattle.tl_world.proofs.FollowCases.{IsDelivery, taken_of, on-first}
 use Rattle.tl_world.proofs.FollowKept.{IsReady, asked-kept}
 use Rattle.tl_world.proofs.ProbeDelivered.{probe-delivered}
-use Rattle.tl_world.proofs.RequestsTaken.{next_tracker, invariant-taken}
+use Rattle.tl_world.proofs.RequestsTaken.{next_tracker}
 use Rattle.tl_world.proofs.Steps.{stepped-to-client}
 
 pub invariant-asked : {w : ℕ} (config : Config) (log : Log w) (mail : Mail w) (request : ℕ → MessageA w) (s : State (List ℕ)) (sys : System w) (terms : Terms) (c : ℕ) (o : Op w) → IsMatched config log mail request s sys

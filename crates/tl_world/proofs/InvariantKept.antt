@@ -17,7 +17,7 @@ use Rattle.tl_manager.specs.Slave.{must_wait}
 use Rattle.tl_world.specs.declared.event.Event.{Event}
 use Rattle.tl_world.specs.declared.event.Event.TheVariants.{Deliver}
 use Rattle.tl_world.specs.Draining.{is_moving}
-use Rattle.tl_world.specs.Follow.{Shadow, followed, token_taken}
+use Rattle.tl_world.specs.Follow.{Shadow, followed}
 use Rattle.tl_world.specs.Invariant.{IsInvariant}
 use Rattle.tl_world.specs.Log.{Log}
 use Rattle.tl_world.specs.Protocol.{State, token, is_on}
@@ -27,8 +27,6 @@ use Rattle.tl_world.specs.System.{System, terms_at}
 use Rattle.tl_world.specs.Token.{Kind, Request, Acquire, Probe, ProbeAck, Release, Answer, Grant, ReleaseAck, GrantAck, Token}
 use Rattle.tl_world.specs.Whole.{IsMatched, is_caching}
 use Rattle.tl_world.proofs.ClientDelivered.{shadow_of}
-use Rattle.tl_world.proofs.ClientStep.{on_same}
-use Rattle.tl_world.proofs.FirstToken.{own_kind}
 use Rattle.tl_world.proofs.FollowCases.{IsDelivery, taken_of, followed-cases, on-first}
 use Rattle.tl_world.proofs.FollowKept.{IsReady}
 use Rattle.tl_world.proofs.InvariantAtClients.{invariant-asked, ready-client, nobody_moves}

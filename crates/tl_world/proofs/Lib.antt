@@ -81,7 +81,6 @@ pub mod FlowApart
 pub mod FlowSunk
 pub mod FlowComing
 pub mod FlowStep
-pub mod Flowing
 pub mod FollowCases
 pub mod FollowKept
 pub mod Following

@@ -20,9 +20,8 @@ use Rattle.tl_world.specs.Sources.{cap_waited}
 use Rattle.tl_world.proofs.FlowAccess.{of_source, of_other, released-of, probed-of, sunk-of}
 use Rattle.tl_world.proofs.FlowAlone.{AreRests, no_coming}
 use Rattle.tl_world.proofs.FlowAside.{IsComing, comes-same, let_by-same}
-use Rattle.tl_world.proofs.FlowBeats.{second_false}
 use Rattle.tl_world.proofs.FlowGranted.{requested-apart}
-use Rattle.tl_world.proofs.FlowReleased.{AreElsewhere, each-block, part-block}
+use Rattle.tl_world.proofs.FlowReleased.{AreElsewhere, each-block, part-block, with_false}
 use Rattle.tl_world.proofs.FlowStep.{flowed-next, held_by, acquired_by, let_of, granted_by, step}
 use Rattle.tl_world.proofs.Tokens.{same_number}
 
@@ -77,7 +76,7 @@ flowed-acquire {w} {X} c n y asked asked' rest rest' s s' t first_is last_is res
       acquires = each-block (λ m z. acquired_by c z ≡ step true true (is_acquire y.opcode && (block_at y.address == m)) false (acquired_by c (s.block m))) n s s' is.elsewhere
           (both (is_wanting (new.pair c).acquiring) (not (is_unserved (view new.service c))) is.wants (ap not is.served)
           ∙ sym (opened (is_acquire y.opcode && (block_at y.address == n)) (acquired_by c b) (both (is_acquire y.opcode) (block_at y.address == n) is.acquire (rw is.at (same_number n)))))
-          (λ m ne. sym (unopened (is_acquire y.opcode && (block_at y.address == m)) (acquired_by c (s.block m)) (second_false (is_acquire y.opcode) (block_at y.address == m) (rw is.at (ne_eqb n m (λ e. ne (sym e)))))));
+          (λ m ne. sym (unopened (is_acquire y.opcode && (block_at y.address == m)) (acquired_by c (s.block m)) (with_false (is_acquire y.opcode) (block_at y.address == m) (rw is.at (ne_eqb n m (λ e. ne (sym e)))))));
       release_sources = lets;
       released = λ i m e f. ap (option_map (λ z. block_at z.address)) (released-of i y t) ∙ before.released i m (sym (is.lets i) ∙ e) (before.release_sources i ∙ sym (lets i) ∙ f);
       sizes = λ i m e f. ap (option_map (λ z. z.size)) (released-of i y t) ∙ before.sizes i m (sym (is.lets i) ∙ e) (before.release_sources i ∙ sym (lets i) ∙ f);

@@ -81,8 +81,10 @@ begun_alone {w} c s m k x more is e grants = go k (e ∙ ap (λ (y : Message w).
         let opcode : x.opcode ≡ is.0.opcode = cc in
         let source : x.source ≡ is.0.source = cc in
         let sink : x.sink ≡ is.0.sink = cc in
-        let of = is.2 (sym (ap is_grant opcode) ∙ grants) in
-        (of.0, of.1, source ∙ of.2, sink ∙ of.3)
+        told source sink (is.2 (sym (ap is_grant opcode) ∙ grants))
+      where
+        told : x.source ≡ is.0.source → x.sink ≡ is.0.sink → (n : ℕ) × IsGrantDue c n s × (is.0.source ≡ (s.block n).source c) × (is.0.sink ≡ (s.block n).tracker) → IsOfGrant c s x
+        told source sink (n, due, of_source, of_sink) = (n, due, source ∙ of_source, sink ∙ of_sink)
 
 -- a Grant that was delivered in part is due
 half-granted : {w : ℕ} (config : Config) (log : Log w) (mail : Mail w) (request : ℕ → MessageA w) (s : State (List ℕ)) (sys : System w) (c : ℕ) (x : BeatD w) (more : List (Beat w)) → IsMatched config log mail request s sys
@@ -193,8 +195,11 @@ begun_release {w} c s m k x more is e releases = go k (e ∙ ap (λ (y : Message
     go (suc i) f =
         let opcode : x.opcode ≡ is.0.opcode = cc in
         let source : x.source ≡ is.0.source = cc in
-        let of = is.2 (sym (ap is_release opcode) ∙ releases) in
-        (of.0, of.1, source ∙ of.2)
+        told source (is.2 (sym (ap is_release opcode) ∙ releases))
+      where
+        told : x.source ≡ is.0.source → (n : ℕ) × (is_releasing ((s.block n).pair c).letting ≡ true) × (is.0.source ≡ (s.block n).release_source c)
+            → (n : ℕ) × (is_releasing ((s.block n).pair c).letting ≡ true) × (x.source ≡ (s.block n).release_source c)
+        told source (n, releasing, of_source) = (n, releasing, source ∙ of_source)
 
 half-released : {w : ℕ} (config : Config) (log : Log w) (mail : Mail w) (request : ℕ → MessageA w) (s : State (List ℕ)) (sys : System w) (c : ℕ) (x : BeatC w) (more : List (Beat w)) → IsWidth w → IsMatched config log mail request s sys
     → unfinished channel.C (on_link c sys.manager.trace) ≡ beat.C x ∷ more → is_release x.opcode ≡ true → (n : ℕ) × (is_releasing ((s.block n).pair c).letting ≡ true) × (x.source ≡ (s.block n).release_source c)

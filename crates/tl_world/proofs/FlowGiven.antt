@@ -46,10 +46,11 @@ use Rattle.tl_world.proofs.FlowAlone.{AreRests}
 use Rattle.tl_world.proofs.FlowAnswered.{flowed-answer, flowed-let_go}
 use Rattle.tl_world.proofs.FlowAside.{comes-same}
 use Rattle.tl_world.proofs.FlowAsking.{rest_at}
-use Rattle.tl_world.proofs.FlowBeats.{came-so, comes-so, one-beat, set_at-if, same_perms, unused-else, second_false, first_false}
+use Rattle.tl_world.proofs.FlowBeats.{came-so, comes-so, one-beat, set_at-if, same_perms, unused-else, first_false}
 use Rattle.tl_world.proofs.FlowGranted.{seen_after, flowed-grant}
 use Rattle.tl_world.proofs.FlowProbe.{flowed-probe}
 use Rattle.tl_world.proofs.FlowResponses.{grant_quiet, grant_tracked}
+use Rattle.tl_world.proofs.FlowReleased.{with_false}
 use Rattle.tl_world.proofs.FlowStep.{held_by}
 use Rattle.tl_world.proofs.FollowKept.{sent-is, acked-is}
 use Rattle.tl_world.proofs.Phases.{and_left, and_right}
@@ -181,12 +182,12 @@ module _ {w : ℕ} (config : Config) (log : Log w) (h : Shadow w) (sys : System 
 
     -- nothing comes of a message that is no Grant
     none_came : is_grant m.opcode ≡ false → (i : ℕ) → comes_in_grant i (rest' channel.D) ≡ comes_in_grant i (rest_at sys c channel.D)
-    none_came e i = comes i ∙ second_false (not b) (is_grant m.opcode && (m.sink == i)) (first_false (is_grant m.opcode) (m.sink == i) e)
-        ∙ sym (came i ∙ second_false (not (is_empty (rest_at sys c channel.D))) (is_grant m.opcode && (m.sink == i)) (first_false (is_grant m.opcode) (m.sink == i) e))
+    none_came e i = comes i ∙ with_false (not b) (is_grant m.opcode && (m.sink == i)) (first_false (is_grant m.opcode) (m.sink == i) e)
+        ∙ sym (came i ∙ with_false (not (is_empty (rest_at sys c channel.D))) (is_grant m.opcode && (m.sink == i)) (first_false (is_grant m.opcode) (m.sink == i) e))
 
     none_granted : is_grant m.opcode ≡ false → (asked' : ℕ → Option (BeatA w)) (j : ℕ) → comes_granting j asked' (rest' channel.D) ≡ comes_granting j before (rest_at sys c channel.D)
-    none_granted e asked' j = grants asked' j ∙ second_false (not b) (is_grant m.opcode && asks_for j (asked' m.source)) (first_false (is_grant m.opcode) (asks_for j (asked' m.source)) e)
-        ∙ sym (granted j ∙ second_false (not (is_empty (rest_at sys c channel.D))) (is_grant m.opcode && asks_for j (before m.source)) (first_false (is_grant m.opcode) (asks_for j (before m.source)) e))
+    none_granted e asked' j = grants asked' j ∙ with_false (not b) (is_grant m.opcode && asks_for j (asked' m.source)) (first_false (is_grant m.opcode) (asks_for j (asked' m.source)) e)
+        ∙ sym (granted j ∙ with_false (not (is_empty (rest_at sys c channel.D))) (is_grant m.opcode && asks_for j (before m.source)) (first_false (is_grant m.opcode) (asks_for j (before m.source)) e))
 
   -- ---- an answer
 
@@ -317,7 +318,7 @@ module _ {w : ℕ} (config : Config) (log : Log w) (h : Shadow w) (sys : System 
         use_is = λ i e. ap (s.uses c) (sym (eqb-true ((s.block n).source c) i e)) ∙ due.used;
         no_use = λ i e. unused-else c n i s is.invariant.named e;
         tracks = λ i e. ap s.tracked (sym (eqb-true (s.block n).tracker i e)) ∙ grant_tracked (is_caching config) c n s is.invariant due;
-        tracks_not = λ i e. is.invariant.named.trackers i n ∙ second_false (is_busy (s.block n).service) (i == (s.block n).tracker) (swapped i (s.block n).tracker e);
+        tracks_not = λ i e. is.invariant.named.trackers i n ∙ with_false (is_busy (s.block n).service) (i == (s.block n).tracker) (swapped i (s.block n).tracker e);
         asks = asks;
         came = λ i. came m x ms queue here rests b last i ∙ ap (λ (z : Bool). not (is_empty (rest_at sys c channel.D)) && (z && ((s.block n).tracker == i))) (grants_so due.data_too);
         comes = λ i. comes m x ms queue here rests b last i ∙ ap (λ (z : Bool). not b && (z && ((s.block n).tracker == i))) (grants_so due.data_too);

@@ -14,8 +14,12 @@ use Rattle.tl_burst.specs.declared.message.MessageA.{MessageA}
 use Rattle.tl_burst.specs.declared.message.MessageC.{MessageC}
 use Rattle.tl_burst.specs.declared.message.MessageD.{MessageD}
 use Rattle.tl_burst.specs.Burst.{a_beat_of, d_beat_of, beat_of, begun}
-use Rattle.tl_burst.specs.Messages.{unfinished}
+use Rattle.tl_burst.specs.Messages.{unfinished, History, channel_of}
 use Rattle.tl_params.specs.declared.config.Config.{Config}
+use Rattle.tl_params.specs.declared.level.Level.{Level}
+use Rattle.tl_params.specs.declared.profile.Profile.{Profile}
+use Rattle.tl_rules.specs.Legality.{illegal}
+use Rattle.tl_manager.specs.Slave.{level_of}
 use Rattle.tl_params.specs.declared.key.Key.TheVariants.{RequestSource, ReleaseSource}
 use Rattle.tl_params.specs.declared.param.Prune.{Prune}
 use Rattle.tl_params.specs.declared.param.Prune.TheVariants as prune
@@ -24,7 +28,7 @@ use Rattle.tl_params.specs.declared.perm.Perm.{Perm}
 use Rattle.tl_params.specs.declared.perm.Perm.TheVariants as perm
 use Rattle.tl_params.specs.Param.{prune_code, report_code, report_left}
 use Rattle.tl_rules.specs.Conformance as rules
-use Rattle.tl_rules.specs.Conformance.{on_link, comes_in_request, comes_in_release, comes_in_grant, broken_in_order, same_perm}
+use Rattle.tl_rules.specs.Conformance.{on_link, comes_in_request, comes_in_release, comes_in_grant, broken_in_order, same_perm, broken_after}
 use Rattle.tl_rules.specs.History.{is_release, held, pending, request_of}
 use Rattle.tl_client.specs.End.{zeros}
 use Rattle.tl_client.specs.Send.{acquisition, about, release, probe_ack}
@@ -50,6 +54,8 @@ use Rattle.tl_world.proofs.Due.{IsAnswerDue, answer-due, IsGrantDue, grant-due, 
 use Rattle.tl_world.proofs.Facts.{granting_alone}
 use Rattle.tl_world.proofs.FirstToken.{IsFirst, first-token, own_kind}
 use Rattle.tl_world.proofs.Fronts.{asked-first, rendered-acquire}
+use Rattle.tl_world.proofs.FlowBeats.{some_is}
+use Rattle.tl_world.proofs.FlowLawful.{lawful-beat}
 use Rattle.tl_world.proofs.FollowKept.{wanting-is}
 use Rattle.tl_world.proofs.Moves.{is_of-is}
 use Rattle.tl_world.proofs.Phases.{and_left, and_right}
@@ -255,16 +261,13 @@ not-coming_c {w} config log mail request s sys c n h let_ acked = go (s.link c).
     both : (x y : Bool) → x ≡ true → y ≡ true → (x && y) ≡ true
     both x y e f = rw (e, f) refl
 
-    some_injective : (i j : ℕ) → Some i ≡ Some j → i ≡ j
-    some_injective i j e = cc
-
     differ : (i : ℕ) → is_releasing ((s.block i).pair c).letting ≡ true → (b : Bool) → ((s.block i).release_source c == source) ≡ b → b ≡ false
     differ i releasing false e = refl
     differ i releasing true e =
         let open_ = open_release ((s.block i).pair c).letting releasing in
         let lets : s.lets c ((s.block i).release_source c) ≡ Some i = is_of-is i (s.lets c ((s.block i).release_source c))
         (h.invariant.named.releases c ((s.block i).release_source c) i ∙ both (not (is_kept ((s.block i).pair c).letting)) ((s.block i).release_source c == (s.block i).release_source c) open_ (same_number ((s.block i).release_source c))) in
-        let same : i ≡ n = some_injective i n (sym lets ∙ ap (s.lets c) (eqb-true ((s.block i).release_source c) source e) ∙ let_) in
+        let same : i ≡ n = some_is i n (sym lets ∙ ap (s.lets c) (eqb-true ((s.block i).release_source c) source e) ∙ let_) in
         absurd (apart ((s.block n).pair c).letting acked (sym (ap (λ (j : ℕ). is_releasing ((s.block j).pair c).letting) same) ∙ releasing))
 
     each : (k : Kind) (i : ℕ) (rest : List Token) → (s.link c).c ≡ token k i ∷ rest → is_on channel.C k ≡ true → IsUnreleased source (message_of_kind k mail s c i)
@@ -316,9 +319,9 @@ legal_next {w} config log mail request s sys c m ms x queue h flowed next first 
     let rest_is = (flowed c).rest_is channel.D in
     ap (λ (y : Beat w). broken_in_order config.profile y (flow c log)) next.beat_is ∙ next-legal config.profile m next.k (flow c log) (rest_is ∙ next.rest_is) (λ whole. first (sym rest_is ∙ whole))
 
-pub flow-legal_d : {w : ℕ} (config : Config) (log : Log w) (mail : Mail w) (request : ℕ → MessageA w) (s : State (List ℕ)) (sys : System w) (c : ℕ) (x : Beat w) (queue : List (Beat w)) → IsWidth w → IsMatched config log mail request s sys → AreFlowed log mail s sys
+legal_d : {w : ℕ} (config : Config) (log : Log w) (mail : Mail w) (request : ℕ → MessageA w) (s : State (List ℕ)) (sys : System w) (c : ℕ) (x : Beat w) (queue : List (Beat w)) → IsWidth w → IsMatched config log mail request s sys → AreFlowed log mail s sys
     → sys.channels c channel.D ≡ x ∷ queue → broken_in_order config.profile x (flow c log) ≡ None
-flow-legal_d {w} config log mail request s sys c x queue width h flowed beats = go first.kind first.number first.tokens first.own first.next
+legal_d {w} config log mail request s sys c x queue width h flowed beats = go first.kind first.number first.tokens first.own first.next
   where
     first : IsFirst channel.D c mail s sys x queue
     first = first-token (is_caching config) channel.D c mail s sys x queue width h.invariant h.carried beats
@@ -361,3 +364,12 @@ flow-legal_d {w} config log mail request s sys c x queue width h flowed beats = 
     go ProbeAck i tokens own next = absurd cc
     go Release i tokens own next = absurd cc
     go GrantAck i tokens own next = absurd cc
+
+in_order : {w : ℕ} (l : Level) (p : Profile) (x : Beat w) (t : History w) → illegal l (channel_of x) x ≡ None → broken_in_order p x t ≡ None → broken_after l p x t ≡ None
+unfolding broken_after
+in_order l p x t lawful order = rw lawful order
+
+pub flows-d : {w : ℕ} (config : Config) (log : Log w) (mail : Mail w) (request : ℕ → MessageA w) (s : State (List ℕ)) (sys : System w) (c : ℕ) (l : Level) (x : Beat w) (queue : List (Beat w)) → IsWidth w → IsMatched config log mail request s sys → AreFlowed log mail s sys
+    → sys.channels c channel.D ≡ x ∷ queue → level_of config c ≡ Some l → broken_after l config.profile x (flow c log) ≡ None
+flows-d config log mail request s sys c l x queue width h flowed beats level =
+    in_order l config.profile x (flow c log) (lawful-beat config log mail request s sys c channel.D l x queue h beats level) (legal_d config log mail request s sys c x queue width h flowed beats)

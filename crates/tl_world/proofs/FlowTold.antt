@@ -39,10 +39,10 @@ use Rattle.tl_world.proofs.Facts.{answered_other, granting_alone}
 use Rattle.tl_world.proofs.FlowAlone.{AreRests, flowed-grant_ack}
 use Rattle.tl_world.proofs.FlowAside.{comes-same}
 use Rattle.tl_world.proofs.FlowAsking.{rest_at}
-use Rattle.tl_world.proofs.FlowBeats.{came-so, comes-so, one-beat, second_false, first_false}
+use Rattle.tl_world.proofs.FlowBeats.{came-so, comes-so, one-beat, first_false}
 use Rattle.tl_world.proofs.FlowComing.{coming-granting}
 use Rattle.tl_world.proofs.FlowLawful.{other_ungranted}
-use Rattle.tl_world.proofs.FlowReleased.{letting_after, flowed-release}
+use Rattle.tl_world.proofs.FlowReleased.{letting_after, flowed-release, with_false}
 use Rattle.tl_world.proofs.FlowReport.{flowed-report_part}
 use Rattle.tl_world.proofs.FlowReported.{flowed-report}
 use Rattle.tl_world.proofs.FlowStep.{held_by}
@@ -164,8 +164,8 @@ module _ {w : ℕ} (config : Config) (log : Log w) (h : Shadow w) (sys : System 
 
       same : (z : Bool) → completes x (rest_at sys c channel.C) ≡ z → (i : ℕ) → comes_in_release i (rest' channel.C) ≡ comes_in_release i (rest_at sys c channel.C)
       same z e i =
-          comes m x ms queue here rests z e i ∙ second_false (not z) (is_release m.opcode && (m.source == i)) (first_false (is_release m.opcode) (m.source == i) about.2.releases)
-          ∙ sym (came m x ms queue here rests z e i ∙ second_false (not (is_empty (rest_at sys c channel.C))) (is_release m.opcode && (m.source == i)) (first_false (is_release m.opcode) (m.source == i) about.2.releases))
+          comes m x ms queue here rests z e i ∙ with_false (not z) (is_release m.opcode && (m.source == i)) (first_false (is_release m.opcode) (m.source == i) about.2.releases)
+          ∙ sym (came m x ms queue here rests z e i ∙ with_false (not (is_empty (rest_at sys c channel.C))) (is_release m.opcode && (m.source == i)) (first_false (is_release m.opcode) (m.source == i) about.2.releases))
 
       go : (z : Bool) → completes x (rest_at sys c channel.C) ≡ z → IsFlowed before rest' c (reported_if r z) (beat.C (c_beat_of m here.k) ∷ t)
       go false e =

@@ -7,13 +7,12 @@ use Rattle.tl_beat.specs.declared.beat.Beat.{Beat}
 use Rattle.tl_beat.specs.declared.beat.Link.{Link}
 use Rattle.tl_beat.specs.declared.opcode.Channel.{Channel}
 use Rattle.tl_beat.specs.declared.opcode.Channel.TheVariants as channel
-use Rattle.tl_burst.specs.Messages.{History, channel_of, grown, unfinished}
+use Rattle.tl_burst.specs.Messages.{History, grown, unfinished}
 use Rattle.tl_burst.specs.Part.{completes}
 use Rattle.tl_params.specs.declared.config.Config.{Config}
 use Rattle.tl_params.specs.declared.level.Level.{Level}
 use Rattle.tl_params.specs.declared.profile.Profile.{Profile}
-use Rattle.tl_rules.specs.Conformance.{on_link, broken_after, broken_in_order, is_legal}
-use Rattle.tl_rules.specs.Legality.{illegal}
+use Rattle.tl_rules.specs.Conformance.{on_link, broken_after, is_legal}
 use Rattle.tl_client.specs.declared.operation.Op.{Op}
 use Rattle.tl_client.specs.Ask as ask
 use Rattle.tl_client.specs.End as client
@@ -50,9 +49,9 @@ use Rattle.tl_world.proofs.FlowAlone.{AreRests}
 use Rattle.tl_world.proofs.FlowAsking.{rest_at, flowed-asked}
 use Rattle.tl_world.proofs.FlowKinds.{FlowsAs, other-kind}
 use Rattle.tl_world.proofs.FlowOwn.{own-kind}
-use Rattle.tl_world.proofs.FlowLawful.{lawful-beat, flows-b, flows-c}
+use Rattle.tl_world.proofs.FlowLawful.{flows-b, flows-c}
 use Rattle.tl_world.proofs.FlowRequests.{flows-a}
-use Rattle.tl_world.proofs.FlowResponses.{flow-legal_d}
+use Rattle.tl_world.proofs.FlowResponses.{flows-d}
 use Rattle.tl_world.proofs.FlowSame.{flowed-rests}
 use Rattle.tl_world.proofs.FlowSinks.{flows-e}
 use Rattle.tl_world.proofs.FollowKept.{IsReady}
@@ -276,22 +275,16 @@ legal_more : {w : ℕ} (l : Level) (p : Profile) (x : Beat w) (t : History w) �
 unfolding is_legal
 legal_more l p x t e f = rw (e, f) refl
 
-in_order : {w : ℕ} (l : Level) (p : Profile) (x : Beat w) (t : History w) → illegal l (channel_of x) x ≡ None → broken_in_order p x t ≡ None → broken_after l p x t ≡ None
-unfolding broken_after
-in_order l p x t lawful order = rw lawful order
-
 -- nor by a beat of any channel that is moved
 unbroken : {w : ℕ} (config : Config) (log : Log w) (h : Shadow w) (link : Link) (ch : Channel) (l : Level) (x : Beat w) (queue : List (Beat w)) → IsWidth w → IsMatched config log h.mail h.request h.state (after config log) → AreFlowed log h.mail h.state (after config log)
     → is_moving (stepped config (Deliver link ch) (after config log)).outcome ≡ true → (after config log).channels link.0 ch ≡ x ∷ queue → level_of config link.0 ≡ Some l → broken_after l config.profile x (flow link.0 log) ≡ None
-unbroken config log h link channel.A l x queue width is flowed moving beats level =
-    flows-a config log h.mail h.request h.state (after config log) link.0 l x queue width is flowed beats level
+unbroken config log h link channel.A l x queue width is values moving beats level =
+    flows-a config log h.mail h.request h.state (after config log) link.0 l x queue width is values beats level
     (request-moves config log h.mail h.request h.state (after config log) link x queue is moving beats (arrival-first config log h (after config log) link.0 x queue width is beats))
-unbroken config log h link channel.B l x queue width is flowed moving beats level = flows-b config log h.mail h.request h.state (after config log) link.0 l x queue width is flowed beats level
-unbroken config log h link channel.C l x queue width is flowed moving beats level = flows-c config log h.mail h.request h.state (after config log) link.0 l x queue width is flowed beats level
-unbroken config log h link channel.D l x queue width is flowed moving beats level =
-    in_order l config.profile x (flow link.0 log) (lawful-beat config log h.mail h.request h.state (after config log) link.0 channel.D l x queue is beats level)
-    (flow-legal_d config log h.mail h.request h.state (after config log) link.0 x queue width is flowed beats)
-unbroken config log h link channel.E l x queue width is flowed moving beats level = flows-e config log h.mail h.request h.state (after config log) link.0 l x queue width is flowed beats level
+unbroken config log h link channel.B l x queue width is values moving beats level = flows-b config log h.mail h.request h.state (after config log) link.0 l x queue width is values beats level
+unbroken config log h link channel.C l x queue width is values moving beats level = flows-c config log h.mail h.request h.state (after config log) link.0 l x queue width is values beats level
+unbroken config log h link channel.D l x queue width is values moving beats level = flows-d config log h.mail h.request h.state (after config log) link.0 l x queue width is values beats level
+unbroken config log h link channel.E l x queue width is values moving beats level = flows-e config log h.mail h.request h.state (after config log) link.0 l x queue width is values beats level
 
 -- who is asked moves no beat
 asked-still : {w : ℕ} (config : Config) (log : Log w) (c : ℕ) (o : Op w) → is_moving (stepped config (Ask c o) (after config log)).outcome ≡ false
@@ -303,8 +296,8 @@ asked-still {w} config log c o = go (terms_at config c) refl
 
 legal-event : {w : ℕ} (config : Config) (log : Log w) (h : Shadow w) (event : Event w) (d : ℕ) (l : Level) → IsWidth w → IsMatched config log h.mail h.request h.state (after config log) → AreFlowed log h.mail h.state (after config log)
     → level_of config d ≡ Some l → is_legal l config.profile (flow d log) ≡ true → is_legal l config.profile (flow d ((event, (stepped config event (after config log)).outcome) ∷ log)) ≡ true
-legal-event {w} config log h (Ask c o) d l width is flowed level legal = ap (is_legal l config.profile) (flow_still (Ask c o) (stepped config (Ask c o) (after config log)).outcome log d (asked-still config log c o)) ∙ legal
-legal-event {w} config log h (Deliver link ch) d l width is flowed level legal = go (is_moving (stepped config (Deliver link ch) sys).outcome) refl
+legal-event {w} config log h (Ask c o) d l width is values level legal = ap (is_legal l config.profile) (flow_still (Ask c o) (stepped config (Ask c o) (after config log)).outcome log d (asked-still config log c o)) ∙ legal
+legal-event {w} config log h (Deliver link ch) d l width is values level legal = go (is_moving (stepped config (Deliver link ch) sys).outcome) refl
   where
     sys : System w
     sys = after config log
@@ -319,7 +312,7 @@ legal-event {w} config log h (Deliver link ch) d l width is flowed level legal =
         ap (is_legal l config.profile) ((moved-on config log link ch h at.0 at.1 at.2 width is at.3.0 at.3.1 moving (is_to_client ch) refl).delivered d)
         ∙ with_beat at.0 (link.0 == d) (λ same.
         let here : link.0 ≡ d = eqb-true link.0 d same in
-        subst (λ (i : ℕ). broken_after l config.profile at.0 (flow i log) ≡ None) here (unbroken config log h link ch l at.0 at.1 width is flowed moving at.3.0 (ap (level_of config) here ∙ level)))
+        subst (λ (i : ℕ). broken_after l config.profile at.0 (flow i log) ≡ None) here (unbroken config log h link ch l at.0 at.1 width is values moving at.3.0 (ap (level_of config) here ∙ level)))
     go false still = ap (is_legal l config.profile) (flow_still (Deliver link ch) (stepped config (Deliver link ch) sys).outcome log d still) ∙ legal
 
 legal : {w : ℕ} (config : Config) (log : Log w) (d : ℕ) (l : Level) → IsWidth w → AreTyped log → IsLog config log → level_of config d ≡ Some l → is_legal l config.profile (flow d log) ≡ true

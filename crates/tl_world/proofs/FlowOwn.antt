@@ -36,8 +36,9 @@ use Rattle.tl_world.proofs.FlowAlone.{AreRests}
 use Rattle.tl_world.proofs.FlowAside.{flowed-asks}
 use Rattle.tl_world.proofs.FlowAsking.{rest_at, asks-left}
 use Rattle.tl_world.proofs.FlowBeats.{one-beat}
-use Rattle.tl_world.proofs.FlowGiven.{own-probe, own-answer, own-release_ack, own-grant}
+use Rattle.tl_world.proofs.FlowGiven.{own-answer, own-release_ack, own-grant}
 use Rattle.tl_world.proofs.FlowKinds.{settled-request, settled-report}
+use Rattle.tl_world.proofs.FlowProbed.{own-probe}
 use Rattle.tl_world.proofs.FlowRequested.{own-access, own-acquire_served, own-acquire_granted}
 use Rattle.tl_world.proofs.FlowTold.{report_rendered, ack_rendered, own-report, own-release, own-grant_ack}
 use Rattle.tl_world.proofs.FollowKept.{IsReady}

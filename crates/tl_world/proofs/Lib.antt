@@ -58,6 +58,7 @@ pub mod FlowLawful
 pub mod FlowOrders
 pub mod FlowOthers
 pub mod FlowProbe
+pub mod FlowProbed
 pub mod FlowReport
 pub mod FlowReported
 pub mod FlowReleased

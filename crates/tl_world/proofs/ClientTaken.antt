@@ -166,12 +166,12 @@ pub record IsGrantOf {w : ℕ} (c n : ℕ) (whole data_too : Bool) (g : Grow) (k
   pub has_copy : whole ≡ false → data_too ≡ false → same_perm ((s.block n).pair c).held perm.None ≡ false
   pub bytes : data_too ≡ true → payload ≡ (s.block n).truth
 
-capped_is : (k : Cap) → capped (cap_code k) ≡ cap_right k
+pub capped_is : (k : Cap) → capped (cap_code k) ≡ cap_right k
 capped_is cap.ToT = refl
 capped_is cap.ToB = refl
 capped_is cap.ToN = refl
 
-grants_always : (data_too : Bool) → (is_grant (grant_opcode data_too) ≡ true) × (is_release_ack (grant_opcode data_too) ≡ false)
+pub grants_always : (data_too : Bool) → (is_grant (grant_opcode data_too) ≡ true) × (is_release_ack (grant_opcode data_too) ≡ false)
 grants_always true = (refl, refl)
 grants_always false = (refl, refl)
 

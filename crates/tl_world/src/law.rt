@@ -3,9 +3,10 @@
 ghost use Rattle.std.specs.Prelude.{◌≡◌, true};
 ghost use Rattle.tl_beat.specs.Width.{IsWidth};
 ghost use Rattle.tl_world.specs.Phase.{Pair, View, ok};
-ghost use Rattle.tl_world.specs.Delivery.{Carries, Channels, Stalls};
+ghost use Rattle.tl_world.specs.Delivery.{Carries, Channels, Flows, Stalls};
 ghost use Rattle.tl_world.specs.Draining.{Alone, Bound, Drain, Grants};
 ghost use Rattle.tl_world.specs.Headline.{Headline, OneMemory, Unrefused, Coherent, Moving};
+ghost use Rattle.tl_world.specs.Theorem.{Theorem};
 ghost use Rattle.tl_world.specs.Facts.{IsBelow};
 
 /// In no phase does a client hold more than is recorded.
@@ -83,4 +84,16 @@ pub fn moves_at_most_the_load<const W: usize>()
 pub fn drains_within_the_load<const W: usize>()
     requires { IsWidth W }
     ensures { Drain W }
+{}
+
+/// What is delivered on each link breaks no rule: a monitor finds no fault in it.
+pub fn breaks_no_rule_on_a_link<const W: usize>()
+    requires { IsWidth W }
+    ensures { Flows W }
+{}
+
+/// All of this at once: whatever requests and deliveries come, of each manager and its clients.
+pub fn holds<const W: usize>()
+    requires { IsWidth W }
+    ensures { Theorem W }
 {}

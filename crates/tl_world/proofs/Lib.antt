@@ -44,7 +44,6 @@ pub mod Choices
 pub mod Coherence
 pub mod Continuing
 pub mod Conveyed
-pub mod Delivered
 pub mod Due
 pub mod Ended
 pub mod Ending
@@ -80,7 +79,6 @@ pub mod Goods
 pub mod Granted
 pub mod GrantedAll
 pub mod Granting
-pub mod Handing
 pub mod Heard
 pub mod HeardAfter
 pub mod HeardAll
@@ -125,7 +123,6 @@ pub mod Probing
 pub mod ProbesAfter
 pub mod Quiet
 pub mod Quieted
-pub mod ReleasesAfter
 pub mod Rendered
 pub mod Reported
 pub mod ReportsAfter
@@ -133,19 +130,16 @@ pub mod Reporting
 pub mod Requests
 pub mod RequestsDelivered
 pub mod RequestsHanded
-pub mod RequestsStalls
 pub mod RequestsTaken
 pub mod ResponseOrder
 pub mod Rows
 pub mod Runs
 pub mod Served
-pub mod Services
 pub mod Showing
 mod Shown
 pub mod Sized
 pub mod SizedAfter
 pub mod SoundAfter
-pub mod SourcesServed
 pub mod Steps
 pub mod Sums
 mod Distinct

@@ -7,13 +7,12 @@ use Rattle.tl_params.specs.declared.param.Grow.{Grow}
 use Rattle.tl_params.specs.declared.profile.Profile.{Profile}
 use Rattle.tl_client.specs.declared.operation.Op.TheVariants.{Acquire}
 use Rattle.tl_client.specs.declared.reply.Reply.TheVariants.{Started}
-use Rattle.tl_world.specs.declared.event.Event.{Event}
 use Rattle.tl_world.specs.declared.event.Event.TheVariants.{Ask, Deliver}
 use Rattle.tl_world.specs.declared.event.Outcome.{Outcome}
 use Rattle.tl_world.specs.declared.event.Outcome.TheVariants.{Replied}
 use Rattle.tl_world.specs.Draining.{Alone, grown_to}
 use Rattle.tl_world.specs.Follow.{Shadow, followed, followed_by}
-use Rattle.tl_world.specs.Headline.{AreTyped, IsGiven}
+use Rattle.tl_world.specs.Headline.{IsGiven}
 use Rattle.tl_world.specs.Load.{outstanding}
 use Rattle.tl_world.specs.Log.{Log, IsLog, after}
 use Rattle.tl_world.specs.Movable.{next_delivery, drained, with_delivery}

@@ -1,3 +1,7 @@
+pub mod Stepping
+pub mod Unmoved
+pub mod Queues
+pub mod Sending
 pub mod Accounts
 pub mod Acknowledged
 pub mod Alike

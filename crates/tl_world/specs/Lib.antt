@@ -1,5 +1,7 @@
 pub mod Beside
 pub mod Carried
+pub mod Called
+pub mod Carrying
 pub mod Coherent
 pub mod Delivery
 pub mod Draining
@@ -8,6 +10,7 @@ pub mod Flow
 pub mod Flowed
 pub mod Follow
 pub mod Headline
+pub mod Holds
 pub mod Invariant
 pub mod Known
 pub mod Load

@@ -1,3 +1,5 @@
+pub mod Happened
+pub mod Made
 pub mod Stepping
 pub mod Unmoved
 pub mod Queues

@@ -1,7 +1,7 @@
 -- The channels of all links as one list of queues.
-use Rattle.std.proofs.Common.{◌≡◌, ℕ, Bool, true, false, List, [], ◌∷◌, ◌++◌, ◌+◌, ◌*◌, ◌≤◌, ◌<◌, length, take, drop, refl, sym, subst, ap, ◌∙◌, ◌⊎◌, inl, inr, arith}
-use Rattle.std.specs.Prelude.{◌≢◌, ◌==◌, ◌&&◌, if◌then◌else◌, max, slice_index_or}
-use Rattle.std.proofs.Math.Nat.{max-eq_left, max-eq_right}
+use Rattle.std.proofs.Common.{◌≡◌, ℕ, Bool, true, false, List, [], ◌∷◌, ◌++◌, ◌+◌, ◌≤◌, ◌<◌, length, take, drop, refl, sym, subst, ap, ◌∙◌, ◌⊎◌, inl, inr, arith}
+use Rattle.std.specs.Prelude.{◌≢◌, ◌==◌, ◌&&◌, max, slice_index_or}
+use Rattle.std.proofs.Math.Nat.{max-eq_left}
 use Rattle.std.proofs.lemmas.Bool.{cases_eq, ne_eqb, eq-eqb}
 use Rattle.std.proofs.lemmas.List.{length-append, take_more, take-append-drop}
 use Rattle.tl_beat.specs.declared.beat.Beat.{Beat}
@@ -12,7 +12,7 @@ use Rattle.tl_burst.specs.declared.message.Message.{Message}
 use Rattle.tl_burst.specs.Burst.{beats_of}
 use Rattle.tl_rules.specs.Legality.{beats_from}
 use Rattle.tl_manager.specs.Handing.{Handed}
-use Rattle.tl_world.specs.Carrying.{number, place, Carries, Fit, AreKept, Deepen, AreMoved}
+use Rattle.tl_world.specs.Carrying.{number, place, channel_at, Carries, Fit, AreKept, AreMoved}
 use Rattle.tl_world.specs.declared.ring.Ring.{Ring}
 use Rattle.tl_world.specs.System.{System, same_channel, channel_of_message, with_channel, with_message, with_messages}
 use Rattle.tl_world.proofs.Beats.{length-beats_from}
@@ -20,11 +20,7 @@ use Rattle.tl_world.proofs.Channels.{same_channel-is}
 
 -- ---- places
 
-channel_at : ℕ → Channel
-channel_at n = if n == 0 then channel.A else if n == 1 then channel.B else if n == 2 then channel.C else if n == 3 then channel.D else channel.E
-
-back : (ch : Channel) → channel_at (number ch) ≡ ch
-unfolding channel_at
+pub back : (ch : Channel) → channel_at (number ch) ≡ ch
 back channel.A = refl
 back channel.B = refl
 back channel.C = refl

@@ -1,7 +1,7 @@
 -- What the parts of a world hold after an event.
-use Rattle.std.proofs.Common.{◌≡◌, ◌<◌, ◌≤◌, ℕ, Bool, true, false, List, [], ◌∷◌, Option, Some, None, refl, ap, sym, subst, ◌∙◌, ◌⊎◌, inl, inr, length, drop, arith}
+use Rattle.std.proofs.Common.{◌≡◌, ◌<◌, ◌≤◌, ℕ, true, false, List, [], ◌∷◌, Option, Some, None, refl, ap, sym, subst, ◌∙◌, inl, inr, length, drop, arith}
 use Rattle.std.proofs.lemmas.Bool.{cases_eq, ne_eqb, eq-eqb}
-use Rattle.std.specs.Prelude.{◌≢◌, ◌==◌, Result, Ok, Err, slice_get, slice_index_or}
+use Rattle.std.specs.Prelude.{◌≢◌, Result, Ok, Err, slice_get, slice_index_or}
 use Rattle.tl_beat.specs.declared.beat.Beat.{Beat}
 use Rattle.tl_beat.specs.declared.beat.Link.{Link}
 use Rattle.tl_beat.specs.declared.opcode.Channel.{Channel}
@@ -12,7 +12,6 @@ use Rattle.tl_params.specs.declared.rule.Rule.{Rule}
 use Rattle.tl_client.specs.declared.operation.Op.{Op}
 use Rattle.tl_client.specs.declared.reply.Reply.{Reply}
 use Rattle.tl_client.specs.declared.verdict.Verdict.{Verdict}
-use Rattle.tl_client.specs.declared.verdict.Verdict.TheVariants as verdict
 use Rattle.tl_client.specs.Ask.{asked}
 use Rattle.tl_client.specs.End.{Terms, End}
 use Rattle.tl_client.specs.Offer.{offered}
@@ -22,8 +21,8 @@ use Rattle.tl_manager.specs.Slave as manager
 use Rattle.tl_world.specs.Called.{IsAsked, IsOffered}
 use Rattle.tl_world.specs.Carrying.{place, Carries, Fit, AreKept, Deepen, AreMoved}
 use Rattle.tl_world.specs.Holds.{clients_of, Holds, HasRoom, IsStepped, is_stay}
-use Rattle.tl_world.specs.Step.{Step, stepped, only, handing, handed_by, replied, judged, outcome_of, client_took, manager_took, is_to_client, client_of}
-use Rattle.tl_world.specs.System.{System, terms_at, with_client, with_manager, with_channel, with_messages}
+use Rattle.tl_world.specs.Step.{Step, stepped, only, handing, handed_by, judged, outcome_of, manager_took, is_to_client, client_of}
+use Rattle.tl_world.specs.System.{System, with_client, with_manager, with_channel, with_messages}
 use Rattle.tl_world.specs.declared.event.Event.{Event}
 use Rattle.tl_world.specs.declared.event.Event.TheVariants.{Ask, Deliver}
 use Rattle.tl_world.specs.declared.event.Outcome.{Outcome}

@@ -1,5 +1,5 @@
 -- What comes of an event, by what the end that takes the beat answers.
-use Rattle.std.proofs.Common.{◌≡◌, ◌≤◌, ℕ, Bool, true, false, cond, List, [], ◌∷◌, Option, Some, None, refl, ap, sym, ◌∙◌, length}
+use Rattle.std.proofs.Common.{◌≡◌, ◌≤◌, ℕ, Bool, true, false, cond, List, Option, Some, None, refl, ap, sym, ◌∙◌}
 use Rattle.std.proofs.lemmas.Option.{slice_get_past}
 use Rattle.std.specs.Prelude.{Result, Ok, Err, slice_get}
 use Rattle.tl_beat.specs.declared.beat.Beat.{Beat}
@@ -17,8 +17,8 @@ use Rattle.tl_client.proofs.Stalls.{taken_now}
 use Rattle.tl_manager.specs.Handing.{Handed}
 use Rattle.tl_manager.specs.Slave as manager
 use Rattle.tl_world.specs.Holds.{clients_of, is_stay}
-use Rattle.tl_world.specs.Step.{Step, stepped, stepped_at, only, handing, handed_by, judged, outcome_of, manager_took, client_of}
-use Rattle.tl_world.specs.System.{System, terms_at, with_client, with_manager, with_channel}
+use Rattle.tl_world.specs.Step.{stepped, only, handing, handed_by, judged, outcome_of, manager_took, client_of}
+use Rattle.tl_world.specs.System.{System, with_client, with_manager, with_channel}
 use Rattle.tl_world.specs.declared.event.Event.{Event}
 use Rattle.tl_world.specs.declared.event.Outcome.TheVariants as outcome
 

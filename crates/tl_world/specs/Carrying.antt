@@ -1,10 +1,12 @@
 -- What the channels of a world hold, and for how many beats they are made.
-use Rattle.std.specs.Prelude.{ℕ, List, [], ◌∷◌, ◌≡◌, ◌<◌, ◌≤◌, ◌+◌, ◌*◌, length, max, slice_index_or}
-use Rattle.tl_beat.specs.declared.beat.Beat.{Beat}
+use Rattle.std.specs.Prelude.{ℕ, List, [], ◌≡◌, ◌==◌, ◌<◌, ◌≤◌, ◌+◌, ◌*◌, ◌/◌, ◌%◌, if◌then◌else◌, length, max, slice_index_or}
+use Rattle.circular_buffer.specs.Buffer.{buffer}
 use Rattle.tl_beat.specs.declared.opcode.Channel.{Channel}
 use Rattle.tl_beat.specs.declared.opcode.Channel.TheVariants as channel
+use Rattle.tl_params.specs.declared.config.Config.{Config}
 use Rattle.tl_world.specs.declared.ring.Ring.{Ring}
-use Rattle.tl_world.specs.System.{System}
+use Rattle.tl_world.specs.Delivery.{capacity, sources_of}
+use Rattle.tl_world.specs.System.{System, terms_at}
 
 abbrev pub number : Channel → ℕ
 number channel.A = 0
@@ -40,3 +42,18 @@ Deepen {w} n old new = (k : ℕ) (ch : Channel) (d : Ring w) → k < n →
 pub record AreMoved {w : ℕ} (n : ℕ) (old new : List (Ring w)) (s : System w) : Type 0 where
   pub carries : Carries n new s
   pub deepen : Deepen n old new
+
+-- ---- how they are made
+
+abbrev pub channel_at : ℕ → Channel
+channel_at n = if n == 0 then channel.A else if n == 1 then channel.B else if n == 2 then channel.C else if n == 3 then channel.D else channel.E
+
+-- for how many beats the channel at this place is made
+abbrev pub capacity_at : ℕ → Config → ℕ → ℕ
+capacity_at w config i = capacity (64 / w) (sources_of (terms_at config (i / 5))) config.trackers (channel_at (i % 5))
+
+-- so many channels are made, and hold nothing
+pub record AreFresh {w : ℕ} (config : Config) (count : ℕ) (rings : List (Ring w)) : Type 0 where
+  pub so_many : length rings ≡ count
+  pub beats : (i : ℕ) (d : Ring w) → i < count → (slice_index_or rings i d).beats ≡ buffer [] (capacity_at w config i)
+  pub deepest : (i : ℕ) (d : Ring w) → i < count → (slice_index_or rings i d).deepest ≡ 0

@@ -33,3 +33,4 @@ pub mod System
 pub mod Theorem
 pub mod Token
 pub mod Whole
+pub mod World

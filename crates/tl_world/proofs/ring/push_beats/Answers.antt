@@ -1,4 +1,4 @@
-use Rattle.std.proofs.Common.{rules, ◌≡◌, ◌∙◌, ap, refl, sym, arith}
+use Rattle.std.proofs.Common.{rules, refl, sym, arith}
 use Rattle.std.proofs.lemmas.List.{append-nil}
 use Rattle.tl_rules.specs.Legality.{beats_from}
 use Rattle.tl_world.proofs.Sending.{pushed}

@@ -1,4 +1,4 @@
-use Rattle.std.proofs.Common.{refl, rules, ◌∙◌, ◌≡◌, ◌<◌, Some, sym, ap, drop, arith}
+use Rattle.std.proofs.Common.{rules, ◌<◌, drop, arith}
 use Rattle.tl_world.specs.Holds.{clients_of}
 use Rattle.tl_world.proofs.Stepping.{steps-empty, first-is}
 use Rattle.tl_world.proofs.parts.Parts.deliver.Goals as goal

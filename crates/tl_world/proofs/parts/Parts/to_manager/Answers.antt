@@ -1,4 +1,4 @@
-use Rattle.std.proofs.Common.{refl, rules, ◌∙◌, sym, ap}
+use Rattle.std.proofs.Common.{refl, rules}
 use Rattle.tl_manager.specs.Answers.{answer_of}
 use Rattle.tl_world.proofs.Stepping.{manager-refused, manager-stayed, manager-sent}
 use Rattle.tl_world.proofs.parts.Parts.to_manager.Goals as goal

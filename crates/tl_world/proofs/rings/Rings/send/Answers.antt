@@ -1,4 +1,4 @@
-use Rattle.std.proofs.Common.{rules, ◌≡◌, sym, subst}
+use Rattle.std.proofs.Common.{rules}
 use Rattle.tl_world.proofs.Queues.{moved-sent}
 use Rattle.tl_world.proofs.rings.Rings.send.Goals as goal
 

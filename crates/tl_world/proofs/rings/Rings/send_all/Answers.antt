@@ -1,8 +1,7 @@
-use Rattle.std.proofs.Common.{rules, ℕ, ◌≡◌, take, sym, refl, ◌∙◌, ap, length, arith}
+use Rattle.std.proofs.Common.{rules, ap, length, arith}
 use Rattle.tl_manager.specs.Handing.{Handed}
 use Rattle.std.proofs.lemmas.List.{take_all}
-use Rattle.tl_world.specs.Carrying.{Carries, Fit, AreKept, AreMoved}
-use Rattle.tl_world.specs.System.{System, with_messages}
+use Rattle.tl_world.specs.System.{with_messages}
 use Rattle.tl_world.proofs.Queues.{moved-still, moved-more}
 use Rattle.tl_world.proofs.rings.Rings.send_all.Goals as goal
 

@@ -1,4 +1,3 @@
-use Rattle.std.proofs.Common.{rules, ◌≡◌, sym, subst}
 use Rattle.tl_world.specs.System.{with_messages}
 use Rattle.tl_world.proofs.Queues.{moved-still}
 use Rattle.tl_world.proofs.rings.Rings.send_if_any.Goals as goal

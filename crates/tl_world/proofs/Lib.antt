@@ -1,3 +1,6 @@
+pub mod Hired
+pub mod Seen
+pub mod Movables
 pub mod Happened
 pub mod Made
 pub mod Stepping

@@ -35,12 +35,12 @@ use Rattle.tl_world.proofs.Steps.{clients-with_messages, manager-with_messages, 
 use Rattle.tl_world.proofs.Unmoved.{stayed-client, stayed-manager, judged-refused, judged-stayed, judged-taken, took-refused, took-stalled, took-sent, stepped-nobody}
 
 -- one of several
-member : {X : Type 0} (xs : List X) (i : ℕ) → i < length xs → X
+pub member : {X : Type 0} (xs : List X) (i : ℕ) → i < length xs → X
 member [] i lt = absurd (omega (arith, lt))
 member (x ∷ xs) i lt = x
 
 -- a list with no first member
-none-left : {X : Type 0} (xs : List X) → None ≡ slice_get xs 0 → xs ≡ []
+pub none-left : {X : Type 0} (xs : List X) → None ≡ slice_get xs 0 → xs ≡ []
 none-left [] e = refl
 none-left (x ∷ xs) e = absurd cc
 

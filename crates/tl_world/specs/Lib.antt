@@ -1,3 +1,4 @@
+pub mod Agents
 pub mod Beside
 pub mod Carried
 pub mod Called

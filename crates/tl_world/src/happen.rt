@@ -21,7 +21,8 @@ use tl_client::verdict::Verdict;
 use tl_manager::directory::Directory;
 use tl_manager::manager::Taken;
 
-fn is_to_client(channel: Channel) -> bool
+/// Whether a client takes the beats of a channel.
+pub fn is_to_client(channel: Channel) -> bool
     ensures { result ≡ Step.is_to_client channel }
 {
     match channel {

@@ -80,6 +80,18 @@ impl<const W: usize> Rings<W> {
         }
     }
 
+    /// The greatest number of beats that ever stood in a channel.
+    pub fn deepest(&self, link: Link, channel: Channel) -> u16
+        ensures there { (d : Ring W) → Carrying.place link.0 channel < length self.now.all.items →
+            result ≡ (slice_index_or self.now.all.items (Carrying.place link.0 channel) d).deepest }
+        ensures nowhere { length self.now.all.items ≤ Carrying.place link.0 channel → result ≡ 0 }
+    {
+        match self.all.get(place(link, channel)) {
+            None => 0,
+            Some(ring) => ring.deepest,
+        }
+    }
+
     /// Takes the first beat of a channel away.
     pub fn drop_first(&mut self, link: Link, channel: Channel)
         ensures kept { AreKept self.old.all.items self.new.all.items }

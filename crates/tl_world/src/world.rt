@@ -5,14 +5,18 @@ ghost use Rattle.tl_beat.specs.Width.{IsWidth};
 ghost use Rattle.tl_params.specs.declared.config.Config.{Config};
 ghost use Rattle.tl_world.specs.Log.{Log, after, logged};
 ghost use Rattle.tl_world.specs.Step.{stepped};
-ghost use Rattle.tl_world.specs.World.{IsReached, IsNewWorld, AreReady, IsEmpty};
+ghost use Rattle.tl_world.specs.World.{IsReached, IsNewWorld, IsReplayed, AreReady, IsEmpty, held_by, copy_by, deepest_by};
+ghost use Rattle.tl_world.specs.Movable;
 
+use crate::clients::{copy_at, held_at};
 use crate::event::{Event, Outcome};
 use crate::make::make_rings;
 use crate::parts::Parts;
 use crate::typed::typed;
 use std::alloc::Global;
 use std::marker::Model;
+use tl_beat::beat::Link;
+use tl_beat::opcode::Channel;
 use tl_client::agent::Agent;
 use tl_manager::directory::Directory;
 use tl_manager::manager::Manager;
@@ -91,5 +95,59 @@ impl<const W: usize, A: Agent<W>, D: Directory> World<W, A, D> {
         for (i, event) in events.iter().enumerate() {
             put(outcomes, i, self.step(*event));
         }
+    }
+
+    /// A new world in which these events happened, with what came of each: a world that is refused
+    /// leaves the outcomes as they were.
+    pub fn replay(
+        alloc: Global,
+        config: Config,
+        clients: Vec<A>,
+        directory: D,
+        events: &[Event<W>],
+        outcomes: &mut [Outcome<W>],
+    ) -> Result<Self, NewFault>
+        requires width { IsWidth W }
+        requires clients { AreReady A.knows A.terms config clients.items }
+        requires directory { IsEmpty D.perm_of D.blocks D.clients config directory }
+        requires number { length events.now ≡ length outcomes.old }
+        ensures { IsReplayed A.knows A.terms D.perm_of config events.now outcomes.old outcomes.new result }
+    {
+        let mut world = World::new(alloc, config, clients, directory)?;
+        world.run(events, outcomes);
+        Ok(world)
+    }
+
+    /// The next delivery: the first on a client's link that finds a beat which isn't stalled, in the
+    /// order E, D, C, B, A of the channels, and of the links within one.
+    pub fn next_delivery(&self) -> Option<(Link, Channel)>
+        ensures { (config : Config) (log : Log W) → IsReached A.knows A.terms D.perm_of config self.now log →
+            result ≡ Movable.next_delivery config (after config log) }
+    {
+        self.parts.next_delivery()
+    }
+
+    /// What a client holds of a block: None where there is no such client.
+    pub fn held(&self, client: u8, block: u16) -> Perm
+        ensures { (config : Config) (log : Log W) → IsReached A.knows A.terms D.perm_of config self.now log →
+            result ≡ held_by config client block (after config log) }
+    {
+        held_at(&self.parts.clients, usize::from(client), block)
+    }
+
+    /// The bytes of a client's copy of a block: None where it has none, or there is no such client.
+    pub fn copy(&self, client: u8, block: u16) -> Option<[u8; 64]>
+        ensures { (config : Config) (log : Log W) → IsReached A.knows A.terms D.perm_of config self.now log →
+            result ≡ copy_by config client block (after config log) }
+    {
+        copy_at(&self.parts.clients, usize::from(client), block)
+    }
+
+    /// The greatest number of beats that ever stood in a channel: 0 for a link without a client.
+    pub fn deepest(&self, link: Link, channel: Channel) -> u16
+        ensures { (config : Config) (log : Log W) → IsReached A.knows A.terms D.perm_of config self.now log →
+            result ≡ deepest_by config log link.0 channel }
+    {
+        self.parts.rings.deepest(link, channel)
     }
 }

@@ -1,3 +1,5 @@
+pub mod Drained
+pub mod Loads
 pub mod Hired
 pub mod Seen
 pub mod Movables

@@ -51,6 +51,7 @@ pub mod Continuing
 pub mod Conveyed
 pub mod Counted
 mod Distinct
+pub mod Drained
 pub mod Due
 pub mod Ended
 pub mod Ending
@@ -104,9 +105,11 @@ pub mod Granted
 pub mod GrantedAll
 pub mod Granting
 mod Grown
+pub mod Happened
 pub mod Heard
 pub mod HeardAfter
 pub mod HeardAll
+pub mod Hired
 pub mod Holding
 pub mod InvariantAtClients
 pub mod InvariantKept
@@ -115,9 +118,11 @@ pub mod Landed
 pub mod Lawful
 mod Leftover
 mod Lessening
+pub mod Loads
 pub mod Local
 mod Lone
 pub mod Machined
+pub mod Made
 pub mod ManagedAcks
 pub mod ManagedEndings
 pub mod ManagedGrants
@@ -135,6 +140,7 @@ pub mod ManagersAfter
 pub mod ManagersEnd
 pub mod Matching
 pub mod Memories
+pub mod Movables
 pub mod Moved
 pub mod Movement
 pub mod Moves
@@ -164,6 +170,7 @@ pub mod Probed
 pub mod ProbesAfter
 pub mod Probing
 pub mod Progress
+pub mod Queues
 pub mod Quiet
 pub mod Quieted
 mod Remainders
@@ -182,6 +189,8 @@ pub mod ResponseOrder
 mod Room
 pub mod Rows
 pub mod Runs
+pub mod Seen
+pub mod Sending
 pub mod Served
 mod Settling
 pub mod Showing
@@ -192,6 +201,7 @@ pub mod SoundAfter
 pub mod Soundness
 mod Stalling
 mod Standing
+pub mod Stepping
 pub mod Steps
 mod Still
 mod Strangers
@@ -200,6 +210,7 @@ pub mod Taken
 pub mod TakenAll
 pub mod Tokens
 pub mod Traces
+pub mod Unmoved
 pub mod Unseen
 pub mod UnseenSteps
 pub mod Waiting

@@ -1,5 +1,8 @@
+pub mod Agents
 pub mod Beside
 pub mod Carried
+pub mod Called
+pub mod Carrying
 pub mod Coherent
 pub mod Delivery
 pub mod Draining
@@ -8,6 +11,7 @@ pub mod Flow
 pub mod Flowed
 pub mod Follow
 pub mod Headline
+pub mod Holds
 pub mod Invariant
 pub mod Known
 pub mod Load
@@ -17,6 +21,7 @@ pub mod Managed
 pub mod Matched
 pub mod Movable
 pub mod Move
+pub mod Opened
 pub mod Phase
 pub mod PhaseSteps
 pub mod Potential
@@ -30,3 +35,4 @@ pub mod System
 pub mod Theorem
 pub mod Token
 pub mod Whole
+pub mod World

@@ -7,7 +7,6 @@ ghost use Rattle.tl_beat.specs.declared.beat.Link.{Link};
 ghost use Rattle.tl_beat.specs.declared.beat.Beat.{Beat};
 ghost use Rattle.tl_beat.specs.FromLeft.{letter_in, spaces_in, body_at, line_at, line_with};
 ghost use Rattle.tl_beat.specs.Line.{Spells, line_fault};
-ghost use Rattle.tl_beat.specs.Reading.{reading};
 ghost use Rattle.tl_beat.specs.Width.{IsWidth};
 
 use crate::beat::{Beat, Link};
@@ -136,7 +135,6 @@ pub fn read_line<const W: usize>(line: &[u8]) -> Result<(Link, Beat<W>), LineFau
     ensures every_spelling { (link : Link) (beat : Beat W) → Spells line.now link beat → result ≡ Ok (link, beat) }
     ensures one_beat { (k l : Link) (b c : Beat W) → Spells line.now k b → Spells line.now l c → (k ≡ l) × (b ≡ c) }
     ensures fault { result_err result ≡ line_fault W line.now }
-    ensures reads { result ≡ reading W line.now }
 {
     whole_line(line)
 }

@@ -162,3 +162,14 @@ fn a_line_is_appended(rt: HostRuntime) -> Result<(), Fail> {
     assert_eq!(rt; out.as_slice(), b"x01 E 03\n".as_slice());
     Ok(())
 }
+
+#[test]
+fn lines_are_appended_to_a_megabyte(rt: HostRuntime) -> Result<(), Fail> {
+    let (link, beat): (Link, Beat<8>) = read_line(b"01 E 03\n")?;
+    let mut out = Vec::new(rt.alloc());
+    for _ in 0..131_072 {
+        write_line(link, &beat, &mut out)?;
+    }
+    assert_eq!(rt; out.len(), 1_048_576);
+    Ok(())
+}

@@ -30,9 +30,6 @@ field_below m a b j l le =
 sum_below : (m a b j : ℕ) → m < 2 ^ a → b < 2 ^ j → m + b * 2 ^ a < 2 ^ (a + j)
 sum_below m a b j low small = rw (turned m a b, pow-add 2 a j) (mul-add-lt b (2 ^ a) m (2 ^ j) small low)
 
-fits_64 : (n : ℕ) → n < 64 → 2 ^ n < 2 ^ 64
-fits_64 n lt = pow_below n 64 lt
-
 pub next_place : (w i : ℕ) → w * (i + 1) ≡ w * i + w
 next_place w i = omega arith
 

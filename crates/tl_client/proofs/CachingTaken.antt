@@ -92,30 +92,3 @@ knows-after {w} c d ch x e a knows is takes follows =
       accounted = accounted-offered (terms_of c) ch x e c.width knows.kept knows.accounted;
       inside = subst (λ terms. IsInside terms after.past) (sym follows.terms) (inside-offered (terms_of c) ch x e c.width knows.kept knows.inside);
     }
-
--- a refusal closes the link, and leaves the rest
-pub knows-shut : {w : ℕ} (c d : Caching w) (e : End w) → KnowsCaching c e → d.closed ≡ true → d.table ≡ c.table → d.requests ≡ c.requests → d.releases ≡ c.releases → d.responses ≡ c.responses → d.granting ≡ c.granting → terms_of d ≡ terms_of c → KnowsCaching d (shut e)
-knows-shut c d e knows closed table requests releases responses granting terms = record {
-  closed_is = closed;
-  held_is = λ k. ap (λ t. held_in t k) table ∙ knows.held_is k;
-  copies_are = λ k. ap (λ t. copy_in t k) table ∙ knows.copies_are k;
-  waiting_are = λ k. ap (λ t. waiting_in t k) table ∙ knows.waiting_are k;
-  requests_are = λ s. ap (λ o. open_at o s) requests ∙ knows.requests_are s;
-  releases_are = λ s. ap (λ o. open_at o s) releases ∙ knows.releases_are s;
-  response_is = responses ∙ knows.response_is;
-  granting_is = λ k. ap (is_granting k) granting ∙ knows.granting_is k;
-  sink_is = λ s. ap (has_sink s) granting ∙ knows.sink_is s;
-  kept = record {
-    a_whole = knows.kept.a_whole;
-    b_whole = knows.kept.b_whole;
-    c_whole = knows.kept.c_whole;
-    e_whole = knows.kept.e_whole;
-    copies_held = knows.kept.copies_held;
-    awaited = knows.kept.awaited;
-    once = knows.kept.once;
-    outstanding = knows.kept.outstanding;
-    granting = knows.kept.granting;
-  };
-  accounted = knows.accounted;
-  inside = subst (λ t. IsInside t e.past) (sym terms) knows.inside;
-}

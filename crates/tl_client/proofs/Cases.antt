@@ -146,6 +146,3 @@ takes {w} terms ch x e passed moves lawful = judged_none (broken_before terms ch
 -- the rules before a stall and after it, one by one
 pub passes_before : {w : ℕ} (terms : Terms) (ch : Channel) (x : Beat w) (e : End w) → e.closed ≡ false → is_sent_on ch ≡ false → illegal terms.level ch x ≡ None → broken_before terms ch x e ≡ None
 passes_before terms ch x e live comes lawful = rw (live, comes, lawful) refl
-
-pub passes_later : {w : ℕ} (terms : Terms) (x : Beat w) (e : End w) → broken_in_order terms.profile x e.past ≡ None → is_outside terms.blocks x ≡ false → is_spoiled x ≡ false → broken_later terms x e ≡ None
-passes_later terms x e order inside clean = rw (order, inside, clean) refl

@@ -67,23 +67,6 @@ pub asked-access : {w : ℕ} (terms : Terms) (m : MessageA w) (e : End w) → bu
 unfolding busy
 asked-access terms m e is = begun_by terms m e (free_request terms e.past) (neither _ _ (busy_if (is_none (free_request terms e.past)) B1 None) is) refl
 
-not_of_level : {w : ℕ} (terms : Terms) (op : Op w) (e : End w) → (has_transfers terms.level ≡ false → breaks_b4 terms.level op ≡ true) → has_transfers terms.level ≡ false → asked terms op e ≡ only (reply.Busy B4) e
-unfolding asked busy
-not_of_level terms op e broken low = rw (broken low) refl
-
--- a client without transfers starts nothing but accesses
-pub asked-other : {w : ℕ} (terms : Terms) (op : Op w) (e : End w) → has_transfers terms.level ≡ false → access_in op ≡ None → asked terms op e ≡ only (reply.Busy B4) e
-asked-other terms (Load address size) e low none = not_of_level terms (Load address size) e (λ h. rw h refl) low
-asked-other terms (Store address size value) e low none = not_of_level terms (Store address size value) e (λ h. rw h refl) low
-asked-other terms (Acquire block grow) e low none = not_of_level terms (Acquire block grow) e (λ h. rw h refl) low
-asked-other terms (AcquireWhole block bytes) e low none = not_of_level terms (AcquireWhole block bytes) e (λ h. rw h refl) low
-asked-other terms (Release block prune) e low none = not_of_level terms (Release block prune) e (λ h. rw h refl) low
-asked-other terms (Access (message.A m)) e low none = absurd cc
-asked-other terms (Access (message.B m)) e low none = not_of_level terms (Access (message.B m)) e (λ h. refl) low
-asked-other terms (Access (message.C m)) e low none = not_of_level terms (Access (message.C m)) e (λ h. refl) low
-asked-other terms (Access (message.D m)) e low none = not_of_level terms (Access (message.D m)) e (λ h. refl) low
-asked-other terms (Access (message.E m)) e low none = not_of_level terms (Access (message.E m)) e (λ h. refl) low
-
 -- ---- what is known afterwards
 
 open-sent : {w : ℕ} (s : ℕ) (m : MessageA w) (t : History w) → IsWidth w → unfinished channel.A t ≡ [] → open_request s (sent (message.A m) t) ≡ cond (m.source == s) (Some (fields_in m)) (open_request s t)

@@ -54,27 +54,3 @@ payload_here m beats is burst long = sym (payload-d m beats is long burst)
 pub newest_of : {w : ℕ} (m : Message w) (x : Beat w) (burst : List (Beat w)) (n : ℕ) → (x ∷ burst) ≡ begun m n → (i : ℕ) × (x ≡ beat_of m i)
 newest_of m x burst zero is = absurd cc
 newest_of m x burst (suc i) is = (i, cc)
-
--- a response that is complete is answered by its last beat
-pub message_done : {w : ℕ} (m : MessageD w) (x : Beat w) (burst : List (Beat w)) (asked : ℕ → Option Request) → Completes (Some m) x burst → done_with (in_message m) w (asked m.source) ≡ plain_verdict asked burst x
-message_done {w} m (beat.D x) burst asked whole = subst (λ (r : Response). done_with r w (asked r.source) ≡ plain_verdict asked burst (beat.D x)) (sym whole.1) (rw (whole.0) refl)
-message_done m (beat.A x) burst asked whole = absurd whole
-message_done m (beat.B x) burst asked whole = absurd whole
-message_done m (beat.C x) burst asked whole = absurd whole
-message_done m (beat.E x) burst asked whole = absurd whole
-
--- and closes its request
-pub message_closes : {w : ℕ} (m : MessageD w) (x : Beat w) (burst : List (Beat w)) (s : ℕ) → Completes (Some m) x burst → (m.source == s) ≡ ends_request burst x s
-message_closes {w} m (beat.D x) burst s whole = subst (λ (r : Response). (r.source == s) ≡ ends_request burst (beat.D x) s) (sym whole.1) (rw (whole.0) refl)
-message_closes m (beat.A x) burst s whole = absurd whole
-message_closes m (beat.B x) burst s whole = absurd whole
-message_closes m (beat.C x) burst s whole = absurd whole
-message_closes m (beat.E x) burst s whole = absurd whole
-
--- a beat that completes none is taken, and closes none
-pub beat_taken : {w : ℕ} (x : Beat w) (burst : List (Beat w)) (asked : ℕ → Option Request) (s : ℕ) → Completes None x burst → (plain_verdict asked burst x ≡ Taken) × (ends_request burst x s ≡ false)
-beat_taken (beat.D x) burst asked s more = (rw more refl, rw more refl)
-beat_taken (beat.A x) burst asked s more = (refl, refl)
-beat_taken (beat.B x) burst asked s more = (refl, refl)
-beat_taken (beat.C x) burst asked s more = (refl, refl)
-beat_taken (beat.E x) burst asked s more = (refl, refl)

@@ -19,4 +19,3 @@ pub mod Sound
 pub mod Sources
 pub mod Table
 pub mod Takes
-pub mod Width

@@ -1,8 +1,7 @@
 //! The client that keeps copies of blocks.
 
 ghost use Rattle.std.specs.Prelude.{ℕ, ◌≡◌, ◌≤◌, true, length, OnOk};
-ghost use Rattle.tl_beat.specs.Width.{IsWidth};
-ghost use Rattle.tl_client.specs.Width.{IsWidth-prop};
+ghost use Rattle.tl_beat.specs.Width.{IsWidth, IsWidth-prop};
 ghost use Rattle.tl_rules.specs.Legality.{has_transfers};
 
 mod ask;

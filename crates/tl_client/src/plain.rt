@@ -1,13 +1,12 @@
 //! The client that keeps no copies.
 
 ghost use Rattle.std.specs.Prelude.{ℕ, ◌≡◌, ◌==◌, ◌≤◌, ◌<◌, false, is_some, None, IfOk, OnOk, if◌then◌else◌};
-ghost use Rattle.tl_beat.specs.Width.{IsWidth};
+ghost use Rattle.tl_beat.specs.Width.{IsWidth, IsWidth-prop};
 ghost use Rattle.tl_burst.specs.Messages.{breaks_burst, grown};
 ghost use Rattle.tl_burst.specs.Part.{IsTakeable};
 ghost use Rattle.tl_rules.specs.Legality.{illegal, verdict, has_transfers};
 ghost use Rattle.tl_client.specs.Plain.{order_rule, plain_rule, plain_verdict, ends_request};
 ghost use Rattle.tl_client.specs.Sources.{open_at};
-ghost use Rattle.tl_client.specs.Width.{IsWidth-prop};
 
 mod past;
 

@@ -29,15 +29,6 @@ one_of owners sharers i apart = sym (bit_at_and owners sharers i) ∙ rw apart (
 pub apart_from : (owners sharers : ℕ) → ((i : ℕ) → min (bit_at owners i) (bit_at sharers i) ≡ 0) → bit_and owners sharers ≡ 0
 apart_from owners sharers none = same_from_bits (bit_and owners sharers) 0 (λ i. bit_at_and owners sharers i ∙ none i ∙ sym (bit_at-zero i))
 
--- the words after a client's permission is recorded
-pub perm_in-bits : (owners sharers i : ℕ) (p : Perm) → bit_at owners i ≡ trunk_bit p → bit_at sharers i ≡ branch_bit p → perm_in owners sharers i ≡ p
-perm_in-bits owners sharers i None e f = rw (e, f) refl
-perm_in-bits owners sharers i Branch e f = rw (e, f) refl
-perm_in-bits owners sharers i Trunk e f = rw e refl
-
-pub perm_in-other : (owners sharers owners' sharers' i : ℕ) → bit_at owners' i ≡ bit_at owners i → bit_at sharers' i ≡ bit_at sharers i → perm_in owners' sharers' i ≡ perm_in owners sharers i
-perm_in-other owners sharers owners' sharers' i e f = rw (e, f) refl
-
 bits-of : (o s : ℕ) → o < 2 → s < 2 → min o s ≡ 0 → (o ≡ trunk_bit (cond (o == 1) Trunk (cond (s == 1) Branch None))) × (max o s ≡ copy_bit (cond (o == 1) Trunk (cond (s == 1) Branch None)))
 bits-of zero zero a b e = (refl, refl)
 bits-of zero (suc zero) a b e = (refl, refl)
@@ -46,9 +37,6 @@ bits-of (suc zero) (suc zero) a b e = absurd (omega (arith, e))
 bits-of zero (suc (suc s)) a b e = absurd (omega arith)
 bits-of (suc zero) (suc (suc s)) a b e = absurd (omega arith)
 bits-of (suc (suc o)) s a b e = absurd (omega arith)
-
-pub owners-bit : (owners sharers i : ℕ) → bit_and owners sharers ≡ 0 → bit_at owners i ≡ trunk_bit (perm_in owners sharers i)
-owners-bit owners sharers i apart = (bits-of (bit_at owners i) (bit_at sharers i) (bit_at-lt owners i) (bit_at-lt sharers i) (one_of owners sharers i apart)).0
 
 pub holders-bit : (owners sharers i : ℕ) → bit_and owners sharers ≡ 0 → bit_at (bit_or owners sharers) i ≡ copy_bit (perm_in owners sharers i)
 holders-bit owners sharers i apart = bit_at_or owners sharers i ∙ (bits-of (bit_at owners i) (bit_at sharers i) (bit_at-lt owners i) (bit_at-lt sharers i) (one_of owners sharers i apart)).1

@@ -107,11 +107,6 @@ none_of : {X : Type 0} (o : Option X) → is_some o ≡ false → o ≡ None
 none_of None e = refl
 none_of (Some x) e = absurd cc
 
-pub busy-served : {w : ℕ} {M : Type 0} (perm_of : M → ℕ → ℕ → Perm) (links : Links w M) (config : Config) (e : End w) (block : ℕ) (o : Option ℕ) → Knows perm_of links config e → is_some o ≡ true → IfSome o (λ n. (n < 8) × (is_of block (tracker_at links.home.trackers n) ≡ true))
-    → true ≡ (is_in_service block (services e.trace) || nat_le config.trackers (length (services e.trace)))
-busy-served perm_of links config e block None k some found = absurd cc
-busy-served perm_of links config e block (Some n) k some found = rw (served-among n block (tracker_at links.home.trackers n) e.trace (k.home.tracked n tt) found.1) refl
-
 pub busy-free : {w : ℕ} {M : Type 0} (perm_of : M → ℕ → ℕ → Perm) (links : Links w M) (config : Config) (e : End w) (block : ℕ) (o : Option ℕ) (least : Option ℕ) → Knows perm_of links config e → is_some o ≡ false → (o ≡ None → (i : ℕ) → is_of block (tracker_at links.home.trackers i) ≡ false)
     → IfSome least (λ n. (n < links.home.trackers.count) × (is_free (tracker_at links.home.trackers n) ≡ true) × ((i : ℕ) → i < n → is_free (tracker_at links.home.trackers i) ≡ false))
     → (least ≡ None → (i : ℕ) → i < links.home.trackers.count → is_free (tracker_at links.home.trackers i) ≡ false)

@@ -34,36 +34,11 @@ looked-past perm_of link wire home t p = record {
   trackers_apart = p.kept.trackers_apart;
 }
 
-pub held-within : {w : ℕ} {M : Type 0} (perm_of : M → ℕ → ℕ → Perm) (link : Link) (wire : Wire w) (home : Home w M) (t : History w) (block : ℕ) → IsLinkPast perm_of link wire home t → perm_of home.directory block link.0 ≡ held block t
-held-within perm_of link wire home t block p = p.home_is.records block link.0 ∙ ap (held block) (sym p.past)
-
 pub held-outside : {w : ℕ} {M : Type 0} (perm_of : M → ℕ → ℕ → Perm) (link : Link) (wire : Wire w) (home : Home w M) (t : History w) (block : ℕ) → IsLinkPast perm_of link wire home t → length home.blocks.bytes.items ≤ block → perm.None ≡ held block t
 held-outside perm_of link wire home t block p past =
     sym (ap (held block) p.past ∙ recorded-outside p.config link.0 block p.end.trace p.kept.sound (rw p.size at past))
 
 -- ---- bursts
-
-same-release : {w : ℕ} (s : ℕ) (burst : List (Beat w)) → comes_with s burst ≡ comes_in_release s burst
-same-release s [] = refl
-same-release s (beat.A x ∷ burst) = refl
-same-release s (beat.B x ∷ burst) = refl
-same-release s (beat.C x ∷ burst) = refl
-same-release s (beat.D x ∷ burst) = refl
-same-release s (beat.E x ∷ burst) = refl
-
--- no Release is pending and complete
-pub none-released : {w : ℕ} {M : Type 0} (perm_of : M → ℕ → ℕ → Perm) (link : Link) (wire : Wire w) (home : Home w M) (t : History w) (source : ℕ) → IsLinkPast perm_of link wire home t → None ≡ open_release source t
-none-released {w} perm_of link wire home t source p =
-    rw p.past (go (pending (ReleaseSource source) u) (comes_in_release source (unfinished channel.C u)) ((p.kept.releases link.0).sources source ∙ same-release source (unfinished channel.C u)))
-  where
-    u : History w
-    u = on_link link.0 p.end.trace
-
-    go : (a b : Bool) → a ≡ b → None ≡ (if a && not b then release_size (release_of source u) else None)
-    go true true e = refl
-    go false true e = refl
-    go false false e = refl
-    go true false e = absurd cc
 
 -- no Grant is unfinished
 pub granted-whole : {w : ℕ} {M : Type 0} (perm_of : M → ℕ → ℕ → Perm) (link : Link) (wire : Wire w) (home : Home w M) (t : History w) (sink : ℕ) → (p : IsLinkPast perm_of link wire home t) → pending (GrantSink sink) (on_link link.0 p.end.trace) ≡ has_open_grant sink t

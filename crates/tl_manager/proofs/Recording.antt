@@ -26,11 +26,6 @@ copy-bit perm.None = refl
 copy-bit perm.Branch = refl
 copy-bit perm.Trunk = refl
 
-pub trunk-bit : (p : Perm) → trunk_bit p ≡ bit_if (is_above cap.ToB p)
-trunk-bit perm.None = refl
-trunk-bit perm.Branch = refl
-trunk-bit perm.Trunk = refl
-
 -- whether a block is unheld is read off the word of its holders
 pub unheld-word : {w : ℕ} (config : Config) (block word : ℕ) (perm_at : ℕ → Perm) (t : Trace w) → Each (IsSound config) t → ((c : ℕ) → bit_at word c ≡ copy_bit (perm_at c)) → ((c : ℕ) → perm_at c ≡ recorded c block t) → (word == 0) ≡ is_unheld config block t
 unheld-word config block word perm_at t sound bits records =

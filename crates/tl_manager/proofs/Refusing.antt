@@ -32,21 +32,6 @@ stalls-judged config link ch x e = stall-is (judged config link ch x e)
 
 -- ---- links that are closed
 
-pub closed-past : {w : ℕ} {M : Type 0} (perm_of : M → ℕ → ℕ → Perm) (links : Links w M) (config : Config) (link : Link) (e : End w) → Knows perm_of links config e → length links.wires.items ≤ link.0 → true ≡ is_none (open_level config link e)
-closed-past perm_of links config link e k past =
-    go (is_one_of link.0 e.closed) (level_of config link.0) (ap (option_map (λ client. client.level)) (slice_get_past config.clients.items link.0 (rw k.count at past)))
-  where
-    go : (b : Bool) (o : Option Level) → o ≡ None → true ≡ is_none (if b then None else o)
-    go true o none = refl
-    go false o none = rw none refl
-
-pub closed-wire : {w : ℕ} (config : Config) (link : Link) (wire : Wire w) (e : End w) → IsWire config wire link.0 e → wire.closed ≡ is_none (open_level config link e)
-closed-wire config link wire e is = rw is.level (is.closed ∙ go (is_one_of link.0 e.closed))
-  where
-    go : (b : Bool) → b ≡ is_none (if b then None else Some wire.level)
-    go true = refl
-    go false = refl
-
 -- ---- refusals
 
 kept-refused : {w : ℕ} (config : Config) (link : Link) (e : End w) → IsKept config e → IsKept config (refused link e)

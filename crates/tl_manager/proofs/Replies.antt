@@ -70,9 +70,6 @@ probe-reply link m t c k = sent-keeps (probe_of k) c link (D m) t (λ h e. probe
 
 -- ---- the sink of the last Grant (to stand in tl_rules)
 
-grants-later : {w : ℕ} (k : ℕ) (m : MessageD w) (t : History w) (i : ℕ) → (is_grant m.opcode && asks_for k (request_of m.source (begun (D m) i ++ t))) ≡ (is_grant m.opcode && asks_for k (request_of m.source t))
-grants-later k m t i = ap (λ o. is_grant m.opcode && asks_for k o) (request_of-other m.source (D m) t i refl)
-
 sink_opened : {w : ℕ} (k : ℕ) (m : MessageD w) (t : History w) (i : ℕ) → unfinished channel.D t ≡ [] → suc i ≤ beats_of (D m)
     → grant_sink k (begun (D m) (suc i) ++ t) ≡ (if is_grant m.opcode && asks_for k (request_of m.source t) then Some m.sink else grant_sink k t)
 unfolding grant_sink

@@ -10,18 +10,6 @@ pub set_here : (rows : List (List Perm)) (row : List Perm) (b c b' c' : ℕ) (p 
 set_here rows row b c b' c' p e f lt within =
     rw (e, f) (ap (λ (r : List Perm). get_or r c perm.None) (get_or-set_same rows b (set row c p) [] lt) ∙ get_or-set_same row c p perm.None within)
 
-pub set_others : (rows : List (List Perm)) (row : List Perm) (b c b' c' : ℕ) (p : Perm) → b' ≡ b → c' ≡ c → b < length rows → row ≡ get_or rows b' row → (i j : ℕ) → (i ≢ b) ⊎ (j ≢ c) → perm_of_rows (set rows b' (set row c' p)) i j ≡ perm_of_rows rows i j
-set_others rows row b c b' c' p e f lt same i j other = rw (e, f) (elim (cases_eq i b) [
-  | inl here ↦ rw here (
-      ap (λ (r : List Perm). get_or r j perm.None) (get_or-set_same rows b (set row c p) [] lt)
-      ∙ get_or-set_other row c j p perm.None (elsewhere here)
-      ∙ ap (λ (r : List Perm). get_or r j perm.None) (rw e at same ∙ get_or_default rows b row [] lt))
-  | inr away ↦ ap (λ (r : List Perm). get_or r j perm.None) (get_or-set_other rows b i (set row c p) [] away)
-])
-  where
-    elsewhere : i ≡ b → j ≢ c
-    elsewhere here = elim other [ inl not ↦ absurd (not here) | inr not ↦ not ]
-
 -- one more entry
 pub entry-take_same : (row : List Perm) (i : ℕ) → i < length row → entry (take (suc i) row) i ≡ entry row i
 entry-take_same [] i lt = absurd (omega arith)

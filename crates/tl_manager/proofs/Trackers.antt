@@ -39,28 +39,6 @@ tracked-still n (Granted link block) t u free still is =
 pub other_block : {w : ℕ} (n k : ℕ) (s v : Service w) (ss : List (Service w)) → serving n ss ≡ Some s → serving k ss ≡ Some v → v.tracker ≢ s.tracker → (n == k) ≡ false
 other_block n k s v ss e f apart = ne_eqb n k (λ same. apart (ap (λ (x : Service _). x.tracker) (some_is v s (sym f ∙ ap (λ i. serving i ss) (sym same) ∙ e))))
 
--- a tracker that is among those of some services has one of them
-pub tracker-serves : {w : ℕ} (n : ℕ) (ss : List (Service w)) → AreApart (blocks_of ss) → is_one_of n (trackers_of ss) ≡ true → (s : Service w) × (serving (block_at s.request.address) ss ≡ Some s) × (s.tracker ≡ n)
-tracker-serves n [] apart e = absurd cc
-tracker-serves {w} n (s ∷ ss) apart e = go (n == s.tracker) refl (λ f. tracker-serves n ss apart.1 f) e
-  where
-    away : (k : ℕ) (vs : List (Service w)) (v : Service w) → serving k vs ≡ Some v → is_one_of (block_at s.request.address) (blocks_of vs) ≡ false → (block_at s.request.address == k) ≡ false
-    away k [] v f none = absurd cc
-    away k (u ∷ vs) v f none =
-        let parts = or_parts (block_at s.request.address == block_at u.request.address) (is_one_of (block_at s.request.address) (blocks_of vs)) none in
-        found (block_at u.request.address == k) refl f parts.0 (λ g. away k vs v g parts.1)
-      where
-        found : (b : Bool) → (block_at u.request.address == k) ≡ b → (if b then Some u else serving k vs) ≡ Some v → (block_at s.request.address == block_at u.request.address) ≡ false → (serving k vs ≡ Some v → (block_at s.request.address == k) ≡ false) → (block_at s.request.address == k) ≡ false
-        found true g h i rest = let same : block_at u.request.address ≡ k = eqb-true (block_at u.request.address) k g in rw same at i
-        found false g h i rest = rest h
-
-    go : (b : Bool) → (n == s.tracker) ≡ b → (is_one_of n (trackers_of ss) ≡ true → (v : Service w) × (serving (block_at v.request.address) ss ≡ Some v) × (v.tracker ≡ n)) → (b || is_one_of n (trackers_of ss)) ≡ true
-        → (v : Service w) × (serving (block_at v.request.address) (s ∷ ss) ≡ Some v) × (v.tracker ≡ n)
-    go true f rest g = (s, rw (eq-eqb (block_at s.request.address) (block_at s.request.address) refl) refl, sym (eqb-true n s.tracker f))
-    go false f rest g =
-        let r = rest g in
-        (r.0, rw (away (block_at r.0.request.address) ss r.0 r.1 apart.0) r.1, r.2)
-
 -- where the services of a block end, its tracker is free
 pub tracker-ended : {w : ℕ} (n : ℕ) (s : Service w) (ss : List (Service w)) → AreApart (trackers_of ss) → serving n ss ≡ Some s → is_one_of s.tracker (trackers_of (filter (λ v. not (block_at v.request.address == n)) ss)) ≡ false
 tracker-ended {w} n s ss apart e = none (block-of n ss s e) ss (same_tracker n ss s apart e)

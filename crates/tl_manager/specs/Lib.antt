@@ -27,6 +27,5 @@ pub mod Table
 pub mod Tracking
 pub mod Tracked
 pub mod Trackers
-pub mod Width
 pub mod Wire
 pub mod Word

@@ -56,12 +56,6 @@ at-none zero i = refl
 at-none (suc n) zero = refl
 at-none (suc n) (suc i) = at-none n i
 
-pub at-set : {X : Type 0} (values : List (Option X)) (k i : ℕ) (x : Option X) → k < length values → at (slice_set values k x) i ≡ (if i == k then x else at values i)
-at-set values k i x lt = elim (cases_eq i k) [
-  | inl here ↦ rw (here, get_or-set_same values k x None lt, eq-eqb k k refl) refl
-  | inr other ↦ rw (get_or-set_other values k i x None other, ne_eqb i k other) refl
-]
-
 abbrev counted : {X : Type 0} → List (Option X) → ℕ
 counted values = count_below 256 (λ i. is_some (at values i))
 

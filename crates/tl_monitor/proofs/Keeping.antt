@@ -66,18 +66,6 @@ same_either : (here : Bool) (b c : Block) → b ≡ c → (if here then b else c
 same_either true b c e = e
 same_either false b c e = refl
 
--- beats that neither begin nor complete a message leave the block
-idle_c : {w : ℕ} (x : BeatC w) (b : Block) → block_next false false (C x) b ≡ b
-idle_c x b = refl
-
-idle_d : {w : ℕ} (x : BeatD w) (b : Block) → block_next false false (D x) b ≡ b
-idle_d x b = refl
-
-either_false : (a b : Bool) → (a || b) ≡ false → (a ≡ false) × (b ≡ false)
-either_false false false e = (refl, refl)
-either_false true b e = absurd cc
-either_false false true e = absurd cc
-
 abbrev IsSameFor : {w : ℕ} → Bool → Bool → Bool → Option ℕ → ℕ → Beat w → Block → Type 0
 IsSameFor first last bears touched b x block = (if bears then block_next first last x block else block) ≡ (if is_block b touched then block_next first last x block else block)
 

@@ -49,13 +49,6 @@ knows-more m m' levels p t closed i link x kept k levels_same profile_same open_
     (rw (on_link-own i link x t (sym i_is)) own)
     (λ n apart. on_link-other n link x t (λ e. apart (sym e ∙ sym i_is)))
 
--- and all is as before
-pub knows-same : {w : ℕ} (m m' : Monitor w) (levels : List Level) (p : Profile) (t : Trace w) (closed : Bool) (i : ℕ) (kept : Kept)
-    → Knows m levels p t closed → m'.levels ≡ m.levels → m'.profile ≡ m.profile → m'.closed ≡ false → m'.links.items ≡ slice_set m.links.items i kept → i < length m.links.items
-    → Keeps kept (on_link i t) → Knows m' levels p t false
-knows-same m m' levels p t closed i kept k levels_same profile_same open_still links lt own =
-    knows-at m m' levels p t t closed i kept k levels_same profile_same open_still links lt own (λ n apart. refl)
-
 get_is : {X : Type 0} (xs : List X) (i : ℕ) (x : X) → i < length xs → x ≡ slice_index_or xs i x → slice_get xs i ≡ Some x
 get_is [] i x lt is = absurd (omega arith)
 get_is (y ∷ ys) zero x lt is = ap Some (sym is)
@@ -74,18 +67,6 @@ fault-is m levels p t closed i link x l o k open_still i_is lt level_is rule =
     let got : slice_get levels link.0 ≡ Some l = rw (← i_is, ← k.levels_are) (get_is m.levels.items i l lt level_is) in
     let same : broken_after l p x (on_link link.0 t) ≡ o = sym (rule ∙ rw (k.profile_is, i_is) refl) in
     rw (not_closed, got, same) refl
-
-pub empty-none : (links : List Kept) → links ≡ [] → AllEmpty 0 links
-empty-none links e = record { so_many = ap length e; all_empty = λ n d lt. absurd (omega arith) }
-
-pub empty-more : (count : ℕ) (links : List Kept) (kept : Kept) → IsEmpty kept → AllEmpty count links → AllEmpty (count + 1) (links ++ kept ∷ [])
-empty-more count links kept e all = record {
-  so_many = omega (arith, length_push links kept, all.so_many);
-  all_empty = λ n d lt. elim (cases_eq n count) [
-    | inl here ↦ rw (here, get_or_push links kept d count all.so_many) e
-    | inr other ↦ rw (get_or_append_left links (kept ∷ []) d n (omega (arith, all.so_many))) (all.all_empty n d (omega arith))
-  ];
-}
 
 on_link-none : {w : ℕ} (n : ℕ) → on_link {w = w} n [] ≡ []
 unfolding on_link

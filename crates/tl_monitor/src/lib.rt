@@ -10,4 +10,4 @@ mod kept;
 mod lookups;
 pub mod monitor;
 mod slots;
-pub mod watch;
+pub mod trace;

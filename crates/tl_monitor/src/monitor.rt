@@ -1,10 +1,20 @@
-//! A monitor of links.
+//! A monitor of links: what it answers to each beat.
 
-ghost use Rattle.std.specs.Prelude.{length, ◌≡◌};
+ghost use Rattle.std.specs.Prelude.{Bool, List, IfOk, length, ◌≡◌};
+ghost use Rattle.tl_beat.specs.declared.beat.Beat.{Beat};
+ghost use Rattle.tl_beat.specs.Width.{IsWidth};
+ghost use Rattle.tl_params.specs.declared.level.Level.{Level};
+ghost use Rattle.tl_params.specs.declared.profile.Profile.{Profile};
+ghost use Rattle.tl_rules.specs.Conformance.{Trace, on_link};
 
+use crate::fault::MonitorFault;
+use crate::judge::broken_after;
 use crate::kept::Kept;
+use std::alloc::{AllocError, Global};
+use tl_beat::beat::{Beat, Link};
 use tl_rules::level::Level;
 use tl_rules::profile::Profile;
+use tl_rules::rule::Rule;
 
 /// Judges the beats of up to 16 links, each after those of its own link. It keeps what is unfinished,
 /// pending and held on each link, and no beat.
@@ -16,3 +26,93 @@ pub struct Monitor<const W: usize> {
     pub closed: bool,
     ghost one_each: { length links.items ≡ length levels.items },
 }
+
+impl<const W: usize> Monitor<W> {
+    ghost use Rattle.tl_monitor.specs.Numbers.{IsMoreWhereRefused, entries_of};
+    ghost use Rattle.tl_monitor.specs.Knows.{Knows, IsNew, Answers, fault_of, recorded_after, closed_after, AllEmpty};
+
+    /// What is kept of so many links that have carried nothing.
+    fn empty_links(alloc: Global, count: usize) -> Result<Vec<Kept>, AllocError>
+        ensures { IfOk result (λ v. AllEmpty count v.items) }
+    {
+        let mut links = Vec::new(alloc);
+        for _ in 0..count {
+            links.push(Kept::new(alloc))?;
+        }
+        Ok(links)
+    }
+
+    /// A monitor of links of these levels, which has seen no beat. There are to be 1 to 16 levels.
+    pub fn new(alloc: Global, levels: &[Level], profile: Profile) -> Result<Self, MonitorFault>
+        requires { IsWidth W }
+        ensures { IsNew levels.now profile result }
+    {
+        if levels.is_empty() || levels.len() > 16 {
+            return Err(MonitorFault::Levels);
+        }
+        let Ok(links) = Self::empty_links(alloc, levels.len()) else {
+            return Err(MonitorFault::Memory);
+        };
+        let Ok(levels) = Vec::from_slice(alloc, levels) else {
+            return Err(MonitorFault::Memory);
+        };
+        Ok(Monitor {
+            levels,
+            profile,
+            links,
+            closed: false,
+        })
+    }
+
+    /// Judges a beat of a link, and takes it where it breaks no rule. After a broken rule every call is
+    /// answered `Closed`. `Memory` is answered only where more keys of one kind are pending than
+    /// before, or more blocks held; then the monitor knows what it knew before.
+    pub fn push(&mut self, link: Link, beat: &Beat<W>) -> Result<(), MonitorFault>
+        requires { IsWidth W }
+        ensures answer { (levels : List Level) (p : Profile) (t : Trace W) (closed : Bool) →
+            Knows self.old levels p t closed →
+            Answers (fault_of levels p t closed (link, beat.now)) result }
+        ensures knows { (levels : List Level) (p : Profile) (t : Trace W) (closed : Bool) →
+            Knows self.old levels p t closed →
+            Knows self.new levels p (recorded_after result (link, beat.now) t) (closed_after result) }
+        ensures memory { (levels : List Level) (p : Profile) (t : Trace W) (closed : Bool) →
+            Knows self.old levels p t closed →
+            IsMoreWhereRefused (on_link link.0 t) beat.now result }
+    {
+        if self.closed {
+            return Err(MonitorFault::Closed);
+        }
+        let n = usize::from(link.0);
+        if n >= self.levels.len() {
+            self.closed = true;
+            return Err(MonitorFault::Broken(Rule::L1));
+        }
+        match broken_after(self.levels[n], self.profile, beat, &self.links[n]) {
+            Some(rule) => {
+                self.closed = true;
+                Err(MonitorFault::Broken(rule))
+            }
+            None => match self.links[n].take(beat) {
+                Ok(()) => Ok(()),
+                Err(_) => Err(MonitorFault::Memory),
+            },
+        }
+    }
+
+    /// How many keys are pending on a link, and how many blocks aren't held as None; 0 for a link
+    /// without a level.
+    pub fn entries(&self, link: Link) -> usize
+        ensures { (levels : List Level) (p : Profile) (t : Trace W) (closed : Bool) →
+            Knows self.now levels p t closed →
+            result ≡ entries_of levels link t }
+    {
+        let n = usize::from(link.0);
+        if n >= self.levels.len() {
+            return 0;
+        }
+        self.links[n].entries()
+    }
+}
+
+#[cfg(test)]
+mod tests;

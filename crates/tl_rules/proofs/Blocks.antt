@@ -67,9 +67,6 @@ merged_byte mask k (x ∷ xs) (y ∷ ys) (suc i) same lt =
     let e : k + 1 + i ≡ k + suc i = omega arith in
     merged_byte mask (k + 1) xs ys i (omega arith) (omega arith) ∙ ap (λ n. cond (bit mask n) (get_or ys i 0) (get_or xs i 0)) e
 
-pub length_moved_up : (n : ℕ) (bytes : List ℕ) → n ≤ 64 → length bytes ≡ 64 → length (moved_up n bytes) ≡ 64
-length_moved_up n bytes le long = omega (arith, length-append (replicate n 0) (take (64 - n) bytes), length-replicate {A = ℕ} n 0, length-take-le (64 - n) bytes (omega arith))
-
 pub moved_byte : (n : ℕ) (bytes : List ℕ) (i : ℕ) → n ≤ i → i < 64 → get_or (moved_up n bytes) i 0 ≡ get_or bytes (i - n) 0
 moved_byte n bytes i le lt =
     get_or-append_right {X = ℕ} (replicate n 0) (take (64 - n) bytes) n i 0 (length-replicate {A = ℕ} n 0) le ∙ get_or-take (64 - n) bytes (i - n) 0 (omega arith)

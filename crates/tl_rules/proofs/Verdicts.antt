@@ -35,8 +35,3 @@ illegal_d {w} l x = sym (simp or_else-rule_if)
 pub broken_first : (o first rest : Option Rule) (r : Rule) → o ≡ or_else first rest → Err r ≡ verdict first → verdict o ≡ Err r
 broken_first o None rest r is e = absurd cc
 broken_first o (Some s) rest r is e = rw is (sym e)
-
--- and leaves it to the second where it breaks none
-pub passed_first : (o first rest : Option Rule) → o ≡ or_else first rest → Ok tt ≡ verdict first → verdict o ≡ verdict rest
-passed_first o None rest is e = rw is refl
-passed_first o (Some s) rest is e = absurd cc

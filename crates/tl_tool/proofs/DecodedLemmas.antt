@@ -21,9 +21,6 @@ use Rattle.tl_tool.specs.Lines.{IsOpen}
 use Rattle.tl_tool.specs.Fault.{fault_text}
 use Rattle.tl_tool.specs.Text.{text_of}
 
-pub before-nil : (w : ℕ) → DecodesBefore w [] []
-before-nil w = λ more rest status d. d
-
 -- a line that spells a beat
 pub before-line : (w : ℕ) (lines : List (List ℕ)) (text line : List ℕ) (link : Link) (beat : Beat w) → DecodesBefore w lines text → Spells line link beat
     → DecodesBefore w (lines ++ line ∷ []) (text ++ text_of link beat)

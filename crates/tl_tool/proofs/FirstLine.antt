@@ -11,9 +11,6 @@ not_true : (b : Bool) → (b ≡ true → ⊥) → b ≡ false
 not_true true apart = absurd (apart refl)
 not_true false apart = refl
 
-pub no_lf : (bytes : List ℕ) → Nowhere (Passes (is_byte 10) bytes) 0 (length bytes) → LacksLf bytes
-no_lf bytes none = All-from_get_or (λ b. (b == 10) ≡ false) bytes 0 (λ k lt. not_true (get_or bytes k 0 == 10) (none k (omega arith) lt))
-
 -- the bytes up to an LF, and it
 pub cut_line : (bytes : List ℕ) (k : ℕ) → NoneBefore (Passes (is_byte 10) bytes) 0 (length bytes) k → Passes (is_byte 10) bytes k
     → IsLine (take (k + 1) bytes) × (take (k + 1) bytes ++ drop (k + 1) bytes ≡ bytes)

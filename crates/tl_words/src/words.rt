@@ -1,10 +1,11 @@
 //! Reads the program's words: `tltool decode [--width 4|8|16] [FILE]`, `tltool monitor [FILE]`, and
 //! those that ask for help or the version.
 
-ghost use Rattle.std.specs.Prelude.{◌≡◌, IfOk, false, List, Some, map, option_map};
+ghost use Rattle.std.specs.Prelude.{◌≡◌, IfOk, IfErr, true, false, List, Some, map, option_map};
 ghost use Rattle.std.specs.String.{string_bytes};
-ghost use Rattle.clap.specs.Words.{Row, Text, app_of, subcommand_of};
+ghost use Rattle.clap.specs.Words.{Row, Text, app_of, is_simple_and_free, kind_of, subcommand_of};
 ghost use Rattle.clap.specs.declared.builder.command.Command.TheViews.{out-Command};
+ghost use Rattle.tl_words.specs.Refused.{IsRefusal, usage_status, words_fault};
 ghost use Rattle.tl_words.specs.Tool.{command_in, command_named, decode_of, file_in, monitor_of, tool_of, width_named};
 
 use crate::command::{Command, Width};
@@ -20,14 +21,34 @@ pub enum WordsFault {
 }
 
 impl From<AllocError> for WordsFault {
+    ghost use Rattle.tl_words.specs.declared.words.WordsFault.{WordsFault};
+
+    ghost from_gives = { λ _ fault. fault ≡ WordsFault.Memory };
+
     fn from(_error: AllocError) -> WordsFault {
         WordsFault::Memory
     }
 }
 
 impl From<clap::Error> for WordsFault {
+    ghost from_gives = { λ error fault. fault ≡ words_fault error };
+
     fn from(error: clap::Error) -> WordsFault {
-        WordsFault::Usage(error)
+        if matches!(error.kind(), ErrorKind::OutOfMemory) {
+            WordsFault::Memory
+        } else {
+            WordsFault::Usage(error)
+        }
+    }
+}
+
+/// The exit status where the words are a `Usage`: 0 where they ask for help or the version, 2 else.
+pub fn usage_status(error: &clap::Error) -> u8
+    ensures { result ≡ usage_status (kind_of error.now) }
+{
+    match error.kind() {
+        ErrorKind::DisplayHelp | ErrorKind::DisplayVersion => 0,
+        _ => 2,
     }
 }
 
@@ -145,10 +166,16 @@ fn wrong_width(alloc: Global, word: Option<&str>) -> Result<clap::Error, AllocEr
     decode.error(ErrorKind::InvalidValue, message.as_str())
 }
 
+/// That `clap`'s statements on simple command lines hold of the program's.
+pub fn is_simple_command()
+    ensures { is_simple_and_free tool_of ≡ true }
+{}
+
 /// The command and FILE that the program's words give, its own name first. Words of another form and
-/// a request for help are a `Usage`, whose text and status are `clap`'s.
+/// a request for help or the version are a `Usage`, whose text is `clap`'s.
 pub fn invocation(alloc: Global, words: &[String]) -> Result<(Command, Option<String>), WordsFault>
-    ensures { IfOk result (λ r. (name : Text) × (rows : List Row) × (subcommand_of tool_of (map string_bytes words.now) ≡ Some (name, rows))
+    ensures refused { IfErr result (IsRefusal (map string_bytes words.now)) }
+    ensures given { IfOk result (λ r. (name : Text) × (rows : List Row) × (subcommand_of tool_of (map string_bytes words.now) ≡ Some (name, rows))
         × (command_in name rows ≡ Some r.0) × (option_map string_bytes r.1 ≡ file_in rows)) }
 {
     let mut tool = tool(alloc)?;

@@ -261,10 +261,6 @@ alike-probed c k b sent i = elim (cases_eq i c) [
     there ne ReleaseAck e f = (refl, inr refl)
     there ne GrantAck e f = (refl, inr refl)
 
--- what is shown of one whose ProbeAck was taken
-unprobed : (c : ℕ) (r : Report) (f : ℕ → Pair) (g : ℕ → Pair) → g c ≡ after_report r (f c) → (is_sent (g c).probing ≡ false) × (is_answered (g c).probing ≡ false)
-unprobed c r f g e = (ap (λ (p : Pair). is_sent p.probing) e, ap (λ (p : Pair). is_answered p.probing) e)
-
 never : (x y : Bool) → x ≡ false → x ≡ true → ⊥
 never x y e f = let g : false ≡ true = sym e ∙ f in cc
 

@@ -50,7 +50,7 @@ AreAnswered mail s = (c source : ℕ) → IsAnswered source (mail.request c sour
 IsAnswerTo : {w : ℕ} → OpA → MessageA w → Message w → Type 0
 IsAnswerTo {w} o m y = (x : MessageD w) × (y ≡ message.D x) × (is_access_answer x.opcode ≡ true) × (answers x.opcode o ≡ true) × (x.source ≡ m.source) × (x.size ≡ m.size)
 
-abbrev answer_message : {w : ℕ} → OpD → List ℕ → MessageA w → MessageD w
+abbrev pub answer_message : {w : ℕ} → OpD → List ℕ → MessageA w → MessageD w
 answer_message opcode payload m = record { opcode = opcode; param = 0; size = m.size; source = m.source; sink = 0; denied = false; payload = payload; corrupt = 0; small = m.small }
 
 answer_kind : {w : ℕ} (o : OpA) (m : MessageA w) (f : Memory) → is_acquire o ≡ false → IsAnswerTo o m (access_answer m (answer_of (message.A m) (memory.reply o m f)))

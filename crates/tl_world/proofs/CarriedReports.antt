@@ -3,19 +3,16 @@ use Rattle.tl_rules.specs.declared.answer.Answer as answers_of
 use Rattle.tl_rules.specs.declared.answer.Answer.TheVariants as answer
 use Rattle.tl_rules.specs.Conformance.{same_perm}
 use Rattle.tl_world.specs.Protocol as protocol
-use Rattle.tl_world.proofs.CarriedEvents.{grant_ack_taken-carried, release_taken-carried, report_taken-carried}
+use Rattle.tl_world.proofs.CarriedEvents.{release_taken-carried, report_taken-carried}
 use Rattle.tl_world.proofs.CarriedProbes.{report_answers-carried, report_grants-carried}
 use Rattle.tl_world.proofs.Choices.{plain-past}
 use Rattle.tl_world.proofs.FirstToken.{first-token}
-use Rattle.tl_world.proofs.Carried.{IsNext}
 use Rattle.tl_world.proofs.ManagedEndings.{set_at-same}
 use Rattle.tl_world.proofs.ManagerSettles.{gift_after}
 use Rattle.tl_world.proofs.RequestsTaken.{invariant-taken, next_tracker}
 use Rattle.tl_world.proofs.Reporting.{report-about, release-about}
 use Rattle.tl_world.proofs.Sized.{used-serving}
 use Rattle.tl_world.specs.Sources.{IsFor}
-use Rattle.tl_beat.specs.declared.beat.Beat.TheVariants as beat
-use Rattle.tl_beat.specs.declared.beat.BeatE.{BeatE}
 use Rattle.tl_burst.specs.declared.message.Message.TheVariants as message
 use Rattle.tl_burst.specs.declared.message.MessageC.{MessageC}
 use Rattle.tl_burst.specs.Burst.{beat_of}
@@ -35,9 +32,9 @@ use Rattle.tl_world.specs.Whole.{IsMatched, is_caching}
 use Rattle.tl_world.proofs.Channels.{behind, IsTaken, pushes_at}
 use Rattle.tl_world.proofs.Landed.{HasTaken, IsLanded, IsOn, landed-manager, channels-handed, pushes_of, taken-landed}
 use Rattle.tl_world.proofs.ManagerAfter.{left, others_probed}
-use Rattle.tl_world.proofs.ManagerDelivered.{first_of, Delivered, acks-delivered, channel_c-delivered, channel_e-delivered, pushed, pushed_by, pushed_last, releases-delivered, reports-delivered, seen_apart}
+use Rattle.tl_world.proofs.ManagerDelivered.{first_of, Delivered, channel_c-delivered, pushed, pushed_by, pushed_last, releases-delivered, reports-delivered, seen_apart}
 use Rattle.tl_world.proofs.ManagerFollowed.{client-of, step-taken, followed-taken}
-use Rattle.tl_world.proofs.ManagerTakes.{IsTakenUp, by-first_c, by-first_e}
+use Rattle.tl_world.proofs.ManagerTakes.{IsTakenUp, by-first_c}
 use Rattle.tl_world.proofs.Moved.{carried-part, manager-heard}
 use Rattle.std.proofs.Common.{◌≡◌, ℕ, Bool, true, false, ◌||◌, List, [], ◌∷◌, Option, Some, None, length, refl, sym, ◌∙◌, ap, subst, ◌⊎◌, inl, inr}
 use Rattle.std.specs.Prelude.{◌==◌, if◌then◌else◌, map}
@@ -65,7 +62,7 @@ use Rattle.tl_world.specs.Protocol.{Service, Waits, Block, ended_block, shown, v
 use Rattle.tl_world.specs.Render.{prune_told, message_of, rendered, report_told}
 use Rattle.tl_world.specs.Token.{Kind, Request, Acquire, Probe, ProbeAck, Release, Answer, Grant, ReleaseAck, GrantAck, set, Token}
 use Rattle.tl_world.proofs.Facts.{reported_within, spared_within, answered_other, is_other, own_wants}
-use Rattle.tl_world.proofs.FollowKept.{leaves-bytes, acknowledging-is, answered-is, settled_all}
+use Rattle.tl_world.proofs.FollowKept.{leaves-bytes, answered-is, settled_all}
 use Rattle.tl_world.proofs.Showing.{carries, none-carried}
 use Rattle.tl_world.proofs.Tokens.{same_number, set-same, set-other, set-part, holds-first}
 
@@ -162,13 +159,6 @@ on_c m k channel.B = refl
 on_c m k channel.C = refl
 on_c m k channel.D = refl
 on_c m k channel.E = refl
-
-on_e : (w : ℕ) (y : BeatE) → IsOn {w = w} channel.E (beat.E y)
-on_e w y channel.A = refl
-on_e w y channel.B = refl
-on_e w y channel.C = refl
-on_e w y channel.D = refl
-on_e w y channel.E = refl
 
 -- what holds before a delivery to the manager
 record IsReceived {w : ℕ} (config : Config) (log : Log w) (h : Shadow w) (sys : System w) (c : ℕ) (ch : Channel) (x : Beat w) (queue : List (Beat w)) : Type 0 where
@@ -330,11 +320,6 @@ received_on {w} config log h sys c x queue width is beats =
     let m = release-about (prune_told ((h.state.block n).pair c).letting) ((h.state.block n).release_source c) n (h.state.block n).truth width (is.sized n).truth in
     subst (IsOn channel.C) (sym (next.beat_is ∙ ap (λ (i : Message w). beat_of i next.k) m.1)) (on_c m.0 next.k))
 
--- that of channel E too
-acked_on : {w : ℕ} (c n : ℕ) (b : Block (List ℕ)) (x : Beat w) (before : List (Beat w)) (ms : List (Message w)) (queue : List (Beat w)) → IsNext x before (rendered GrantAck c n b) ms queue → IsOn channel.E x
-unfolding rendered
-acked_on {w} c n b x before ms queue next = subst (IsOn channel.E) (sym next.beat_is) (on_e w (record { sink = b.tracker }))
-
 -- the channels after a delivery on C, as the protocol follows it
 pub carried-followed_c : {w : ℕ} (config : Config) (log : Log w) (h : Shadow w) (sys : System w) (c : ℕ) (x : Beat w) (queue : List (Beat w)) → IsWidth w → IsMatched config log h.mail h.request h.state sys → sys.channels c channel.C ≡ x ∷ queue
     → CarriesAfter config c channel.C sys (followed config (Deliver (record { 0 = c }) channel.C) sys h)
@@ -369,29 +354,3 @@ carried-followed_c {w} config log h sys c x queue width is beats =
         release_taken-carried (is_caching config) c n (prune_told ((h.state.block n).pair c).letting) rest (rendered ReleaseAck c n new) h.mail h.state sys (stepped config (Deliver (record { 0 = c }) channel.C) sys).after x queue width is.invariant
         (invariant-taken config log h sys c Release n rest is tokens tt) tokens (ack_on_d w c n new) refl
         (last-handing config log h sys c c channel.C x queue (rendered ReleaseAck c n new) at (one ∙ ap (λ (i : Block (List ℕ)). (record { 0 = c }, rendered ReleaseAck c n i) ∷ []) (set-same n new h.state.block)) whole) is.carried
-
--- and on E
-pub carried-followed_e : {w : ℕ} (config : Config) (log : Log w) (h : Shadow w) (sys : System w) (c : ℕ) (x : Beat w) (queue : List (Beat w)) → IsWidth w → IsMatched config log h.mail h.request h.state sys → sys.channels c channel.E ≡ x ∷ queue
-    → CarriesAfter config c channel.E sys (followed config (Deliver (record { 0 = c }) channel.E) sys h)
-carried-followed_e {w} config log h sys c x queue width is beats =
-    subst (CarriesAfter config c channel.E sys) (sym (followed-taken config c channel.E x queue sys h t.0 t.1 beats refl any.up))
-    (by-first_e (λ i. CarriesAfter config c channel.E sys (if completes x before then token_taken config (next_tracker sys) c i h else h)) c h.mail h.state sys x queue
-    (first-token (is_caching config) channel.E c h.mail h.state sys x queue width is.invariant is.carried beats)
-    (λ n rest tokens next.
-    let d = acks-delivered config log h sys c n rest x queue (map (message_of h.mail h.state c) rest) width is beats tokens next in
-    by-place config log h _ [] sys c channel.E x queue (at n rest next) d.handed (λ whole one.
-    grant_ack_taken-carried (is_caching config) c n rest h.mail h.state sys (stepped config (Deliver (record { 0 = c }) channel.E) sys).after x queue width is.invariant (invariant-taken config log h sys c GrantAck n rest is tokens tt) tokens
-    (acknowledging-is (h.state.block n).service c (holds-first GrantAck (h.state.link c).e rest (token GrantAck n) (λ i. shown GrantAck c (h.state.block i)) tokens refl (is.invariant.transfers c GrantAck refl)))
-    (last-quietly config log h sys c channel.E x queue (at n rest next) one whole) is.carried)))
-  where
-    before : List (Beat w)
-    before = unfinished channel.E (receiver channel.E c sys)
-
-    t : (t : Terms) × (terms_at config c ≡ Some t)
-    t = client-of config c channel.E x queue sys beats (is.sound c channel.E)
-
-    any : Delivered config c channel.E before h (token_taken config (next_tracker sys) c (h.state.link c).e h) (pushed_by config c (h.state.link c).e h (token_taken config (next_tracker sys) c (h.state.link c).e h)) sys.manager x
-    any = channel_e-delivered config log (next_tracker sys) h sys c x queue width is beats
-
-    at : (n : ℕ) (rest : List Token) → IsNext x before (rendered GrantAck c n (h.state.block n)) (map (message_of h.mail h.state c) rest) queue → IsReceived config log h sys c channel.E x queue
-    at n rest next = record { width = width; is = is; beats = beats; down = refl; on_ch = acked_on c n (h.state.block n) x before (map (message_of h.mail h.state c) rest) queue next; up = any.up }

@@ -103,14 +103,14 @@ end-access_asked {w} c m mail s e width plain kept end =
 -- ---- an Acquire
 
 -- no source is of a block whose Acquire isn't open
-unused : (c n i : ℕ) (s : State (List ℕ)) → AreNamed s → is_wanting ((s.block n).pair c).acquiring ≡ false → s.uses c i ≡ Acquires n → ⊥
+pub unused : (c n i : ℕ) (s : State (List ℕ)) → AreNamed s → is_wanting ((s.block n).pair c).acquiring ≡ false → s.uses c i ≡ Acquires n → ⊥
 unused c n i s named calm used =
     let one : acquires_of n (s.uses c i) ≡ true = ap (acquires_of n) used ∙ same_number n in
     let both : (is_wanting ((s.block n).pair c).acquiring && (i == (s.block n).source c)) ≡ true = sym (named.acquires c i n) ∙ one in
     let no : false ≡ true = rw calm at both in
     cc
 
-asks_acquire : {w : ℕ} (c n source i : ℕ) (whole : Bool) (g : Grow) (bytes : List ℕ) (mail : Mail w) (s : State (List ℕ)) → AreNamed s → is_wanting ((s.block n).pair c).acquiring ≡ false
+pub asks_acquire : {w : ℕ} (c n source i : ℕ) (whole : Bool) (g : Grow) (bytes : List ℕ) (mail : Mail w) (s : State (List ℕ)) → AreNamed s → is_wanting ((s.block n).pair c).acquiring ≡ false
     → asked_by mail (acquire_asked c n source whole g bytes s) c i ≡ cond (source == i) (Some (a_beat_of (acquisition (acquire_opcode whole) g source n) 0)) (asked_by mail s c i)
 asks_acquire {w} c n source i whole g bytes mail s named calm = elim (cases_eq i source) [
   | inl same ↦ ap (asked_by mail s' c) same

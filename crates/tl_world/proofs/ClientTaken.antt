@@ -101,9 +101,6 @@ end-answer_taken {w} c source x rest mail s e f is last plain other from well en
 
 -- ---- a ReleaseAck
 
-some_injective : (i j : ℕ) → Some i ≡ Some j → i ≡ j
-some_injective i j e = cc
-
 pub end-release_ack_taken : {w : ℕ} (c n : ℕ) (x : BeatD w) (rest : List Token) (mail : Mail w) (s : State (List ℕ)) (e f : End w) → f ≡ with_past (beat.D x ∷ e.past) e → ends (beat.D x) e.past ≡ true
     → is_grant x.opcode ≡ false → is_release_ack x.opcode ≡ true → x.source ≡ (s.block n).release_source c → s.lets c x.source ≡ Some n → IsWellKept f → IsEnd (asked_by mail s c) c s e
     → IsEnd (asked_by mail (release_ack_taken c n rest s) c) c (release_ack_taken c n rest s) f
@@ -166,12 +163,12 @@ pub record IsGrantOf {w : ℕ} (c n : ℕ) (whole data_too : Bool) (g : Grow) (k
   pub has_copy : whole ≡ false → data_too ≡ false → same_perm ((s.block n).pair c).held perm.None ≡ false
   pub bytes : data_too ≡ true → payload ≡ (s.block n).truth
 
-capped_is : (k : Cap) → capped (cap_code k) ≡ cap_right k
+pub capped_is : (k : Cap) → capped (cap_code k) ≡ cap_right k
 capped_is cap.ToT = refl
 capped_is cap.ToB = refl
 capped_is cap.ToN = refl
 
-grants_always : (data_too : Bool) → (is_grant (grant_opcode data_too) ≡ true) × (is_release_ack (grant_opcode data_too) ≡ false)
+pub grants_always : (data_too : Bool) → (is_grant (grant_opcode data_too) ≡ true) × (is_release_ack (grant_opcode data_too) ≡ false)
 grants_always true = (refl, refl)
 grants_always false = (refl, refl)
 

@@ -29,7 +29,7 @@ use Rattle.tl_params.specs.Param.{cap_code, grow_code}
 use Rattle.tl_rules.specs.Agent.{is_outside}
 use Rattle.tl_rules.specs.Conformance as rules
 use Rattle.tl_rules.specs.Conformance.{answers, fits_grow, is_acquire_block, is_grant_without_data, broken_in_order, same_perm}
-use Rattle.tl_rules.specs.History.{is_acquire, is_grant, is_release_ack, held, pending, request_of}
+use Rattle.tl_rules.specs.History.{is_grant, is_release_ack, held, pending, request_of}
 use Rattle.tl_rules.specs.Legality.{illegal}
 use Rattle.tl_client.specs.End.{Terms, End}
 use Rattle.tl_client.specs.Offer.{offered, taken, waits}
@@ -211,10 +211,6 @@ has_data false true q e = refl
 has_data false false perm.Branch e = refl
 has_data false false perm.None e = absurd cc
 has_data false false perm.Trunk e = absurd cc
-
-acquires_block : (whole : Bool) → is_acquire (acquire_opcode whole) ≡ true
-acquires_block true = refl
-acquires_block false = refl
 
 pub grant-first : {w : ℕ} (p : Profile) (c n : ℕ) (mail : Mail w) (s : State (List ℕ)) (e : End w) → IsEnd (asked_by mail s c) c s e → (due : IsGrantDue c n s) → gives_asked p (Wants due.whole due.g) due.k ≡ true
     → unfinished channel.D e.past ≡ []

@@ -104,7 +104,7 @@ manages-passing {w} config (x ∷ handed) t s p f each is =
 
 -- ---- the channel of a beat
 
-on_it : {w : ℕ} (x : Beat w) → IsOn (channel_of x) x
+pub on_it : {w : ℕ} (x : Beat w) → IsOn (channel_of x) x
 on_it (beat.A x) channel.A = refl
 on_it (beat.A x) channel.B = refl
 on_it (beat.A x) channel.C = refl
@@ -134,7 +134,7 @@ on_it (beat.E x) channel.E = refl
 -- ---- what is delivered
 
 -- with the beat that was moved
-flow_moved : {w : ℕ} (link : Link) (ch : Channel) (o : Outcome w) (x : Beat w) (log : Log w) (d : ℕ) → taken_on d (Deliver link ch) o ≡ (if link.0 == d then x ∷ [] else []) → flow d ((Deliver link ch, o) ∷ log) ≡ heard_at link.0 x (λ i. flow i log) d
+pub flow_moved : {w : ℕ} (link : Link) (ch : Channel) (o : Outcome w) (x : Beat w) (log : Log w) (d : ℕ) → taken_on d (Deliver link ch) o ≡ (if link.0 == d then x ∷ [] else []) → flow d ((Deliver link ch, o) ∷ log) ≡ heard_at link.0 x (λ i. flow i log) d
 unfolding flow
 flow_moved {w} link ch o x log d is = ap (λ xs. xs ++ flow d log) is ∙ go (link.0 == d)
   where
@@ -142,7 +142,13 @@ flow_moved {w} link ch o x log d is = ap (λ xs. xs ++ flow d log) is ∙ go (li
     go true = refl
     go false = refl
 
-flow_still : {w : ℕ} (event : Event w) (o : Outcome w) (log : Log w) (d : ℕ) → is_moving o ≡ false → flow d ((event, o) ∷ log) ≡ flow d log
+-- the beat that a client takes
+pub taken_at : {w : ℕ} (link : Link) (ch : Channel) (x : Beat w) (v : Verdict) (d : ℕ) → is_moving (outcome_of x v) ≡ true → taken_on d (Deliver link ch) (outcome_of x v) ≡ (if link.0 == d then x ∷ [] else [])
+taken_at link ch x verdict.Taken d e = refl
+taken_at link ch x (verdict.Done source f) d e = refl
+taken_at link ch x verdict.Stalled d e = absurd cc
+
+pub flow_still : {w : ℕ} (event : Event w) (o : Outcome w) (log : Log w) (d : ℕ) → is_moving o ≡ false → flow d ((event, o) ∷ log) ≡ flow d log
 unfolding flow
 flow_still (Ask c i) o log d e = refl
 flow_still (Deliver link ch) (outcome.Replied r) log d e = refl
@@ -224,7 +230,7 @@ moved-passing {w} config log link ch terms x queue width typed logged known beat
             took : (v : Verdict) (m : Option (Message w)) → (offer.taken x (sys.clients c)).answer ≡ Ok (v, m) → is_moving (outcome_of x v) ≡ true
                 → IsPassing (with_messages (handed_by c m) (with_client c (offer.taken x (sys.clients c)).after (with_channel c ch queue sys))) (λ d. flow d ((Deliver link ch, outcome_of x v) ∷ log))
             took v m answer moves =
-                passing-same _ _ _ _ _ _ (heard_at c x f) _ (λ d. refl) (λ d. refl) (λ d at. refl) (λ d. flow_moved link ch (outcome_of x v) x log d (it v d moves))
+                passing-same _ _ _ _ _ _ (heard_at c x f) _ (λ d. refl) (λ d. refl) (λ d at. refl) (λ d. flow_moved link ch (outcome_of x v) x log d (taken_at link ch x v d moves))
                 (says-passing c m (offer.taken x (sys.clients c)).after (sys.clients c).past (with_channel c ch queue sys) (heard_at c x (λ d. (sys.clients d).past)) (heard_at c x f)
                 (ours v m answer)
                 (ap (λ (o : offer.Offered w). o.after.past) (sym t.takes) ∙ past-offered terms ch x (sys.clients c) ∙ ap (sent_if_any (client_after.handed (offer.offered terms ch x (sys.clients c)).answer)) t.heard
@@ -232,11 +238,6 @@ moved-passing {w} config log link ch terms x queue width typed logged known beat
                 (λ d other. rw (ne_eqb c d (λ i. other (sym i))) refl)
                 (client-hears c ch x queue (λ d. (sys.clients d).past) (λ d. on_link d sys.manager.trace) sys.channels f up on_ch beats is))
               where
-                it : (v : Verdict) (d : ℕ) → is_moving (outcome_of x v) ≡ true → taken_on d (Deliver link ch) (outcome_of x v) ≡ (if c == d then x ∷ [] else [])
-                it verdict.Taken d e = refl
-                it (verdict.Done source fin) d e = refl
-                it verdict.Stalled d e = absurd cc
-
                 handed_is : (v : Verdict) (m : Option (Message w)) → is_moving (outcome_of x v) ≡ true → sent_if_any (client_after.handed (Ok (v, m))) (x ∷ (sys.clients c).past) ≡ sent_if_any m (x ∷ (sys.clients c).past)
                 handed_is verdict.Taken m e = refl
                 handed_is (verdict.Done source fin) m e = refl

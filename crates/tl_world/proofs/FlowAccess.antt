@@ -21,15 +21,15 @@ use Rattle.tl_world.proofs.FlowGranted.{begun}
 use Rattle.tl_world.proofs.FlowReleased.{with_true, with_false}
 use Rattle.tl_world.proofs.FlowStep.{flowed-next, held_by, acquired_by, let_of, granted_by, step, step_quiet}
 
-released-of : {w : ℕ} (i : ℕ) (y : BeatA w) (t : History w) → release_of i (beat.A y ∷ t) ≡ release_of i t
+pub released-of : {w : ℕ} (i : ℕ) (y : BeatA w) (t : History w) → release_of i (beat.A y ∷ t) ≡ release_of i t
 unfolding release_of
 released-of i y t = refl
 
-probed-of : {w : ℕ} (n : ℕ) (y : BeatA w) (t : History w) → probe_of n (beat.A y ∷ t) ≡ probe_of n t
+pub probed-of : {w : ℕ} (n : ℕ) (y : BeatA w) (t : History w) → probe_of n (beat.A y ∷ t) ≡ probe_of n t
 unfolding probe_of
 probed-of n y t = refl
 
-sunk-of : {w : ℕ} (n : ℕ) (y : BeatA w) (t : History w) → grant_sink n (beat.A y ∷ t) ≡ grant_sink n t
+pub sunk-of : {w : ℕ} (n : ℕ) (y : BeatA w) (t : History w) → grant_sink n (beat.A y ∷ t) ≡ grant_sink n t
 unfolding grant_sink
 sunk-of n y t = refl
 

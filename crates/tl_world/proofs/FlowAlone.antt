@@ -49,7 +49,7 @@ sunk-of n y t = refl
 not_granting : (v : View) → v ≡ Acknowledging → is_granting v ≡ false
 not_granting v e = ap is_granting e
 
-no_coming : (g b : Bool) → g ≡ false → (b ≡ true → g ≡ true) → b ≡ false
+pub no_coming : (g b : Bool) → g ≡ false → (b ≡ true → g ≡ true) → b ≡ false
 no_coming g false e f = refl
 no_coming g true e f = let h : g ≡ true = f refl in let i : false ≡ true = sym e ∙ h in cc
 

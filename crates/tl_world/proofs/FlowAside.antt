@@ -6,15 +6,14 @@ use Rattle.tl_beat.specs.declared.beat.BeatA.{BeatA}
 use Rattle.tl_beat.specs.declared.opcode.Channel.{Channel}
 use Rattle.tl_beat.specs.declared.opcode.Channel.TheVariants as channel
 use Rattle.tl_burst.specs.Messages.{History}
-use Rattle.tl_params.specs.declared.key.Key.TheVariants.{GrantAckOf}
-use Rattle.tl_rules.specs.History.{is_grant, asks_for, pending, grant_sink}
+use Rattle.tl_rules.specs.History.{is_grant, asks_for}
 use Rattle.tl_world.specs.Flowed.{IsFlowed, is_requested, is_let, is_let_by, is_sunk}
 use Rattle.tl_world.specs.Known.{comes_granting}
 use Rattle.tl_world.specs.Phase.{Letting}
 use Rattle.tl_world.specs.Protocol.{Block, State, Use, Closed, Asked, InService, Replied, Acquires, view, is_granting, is_acknowledging, is_answered, is_wanting, is_unserved}
-use Rattle.tl_world.specs.Render.{probe_beat}
 use Rattle.tl_world.specs.Sources.{cap_waited}
-use Rattle.tl_world.proofs.FlowStep.{held_by}
+use Rattle.tl_world.proofs.FlowSame.{flowed-untouched}
+use Rattle.tl_world.proofs.FlowStep.{held_by, granted_by}
 
 -- the block is as before for what was delivered on client d's link
 pub record IsSameBlock {X : Type 0} (d : ℕ) (b b' : Block X) : Type 0 where
@@ -45,7 +44,7 @@ is_heard _ = false
 abbrev pub IsSameUse : Use → Use → Type 0
 IsSameUse u u' = (u' ≡ u) ⊎ ((is_heard u ≡ true) × (is_heard u' ≡ true))
 
-pub heard_requested : {w : ℕ} {X : Type 0} (c i : ℕ) (rest : List (Beat w)) (u : Use) (s : State X) → is_heard u ≡ true → is_requested c i rest u s ≡ true
+heard_requested : {w : ℕ} {X : Type 0} (c i : ℕ) (rest : List (Beat w)) (u : Use) (s : State X) → is_heard u ≡ true → is_requested c i rest u s ≡ true
 heard_requested c i rest (InService n) s e = refl
 heard_requested c i rest Replied s e = refl
 heard_requested c i rest Closed s e = absurd cc
@@ -59,7 +58,7 @@ requested-blocks c i rest (InService n) s s' h = refl
 requested-blocks c i rest Replied s s' h = refl
 requested-blocks c i rest (Acquires n) s s' h = ap not (h n)
 
-pub requested-same : {w : ℕ} {X : Type 0} (c i : ℕ) (rest : List (Beat w)) (s s' : State X) → ((n : ℕ) → is_unserved (view (s'.block n).service c) ≡ is_unserved (view (s.block n).service c)) → IsSameUse (s.uses c i) (s'.uses c i)
+requested-same : {w : ℕ} {X : Type 0} (c i : ℕ) (rest : List (Beat w)) (s s' : State X) → ((n : ℕ) → is_unserved (view (s'.block n).service c) ≡ is_unserved (view (s.block n).service c)) → IsSameUse (s.uses c i) (s'.uses c i)
     → is_requested c i rest (s'.uses c i) s' ≡ is_requested c i rest (s.uses c i) s
 requested-same c i rest s s' h (inl same) = ap (λ (u : Use). is_requested c i rest u s') same ∙ requested-blocks c i rest (s.uses c i) s s' h
 requested-same c i rest s s' h (inr both) = heard_requested c i rest (s'.uses c i) s' both.1 ∙ sym (heard_requested c i rest (s.uses c i) s both.0)
@@ -72,7 +71,7 @@ let_by-same c i rest (Some n) s s' h = ap (is_let i rest) (h n)
 abbrev pub IsComing : {w : ℕ} {X : Type 0} → (ℕ → Option (BeatA w)) → List (Beat w) → ℕ → State X → Type 0
 IsComing asked rest c s = (n : ℕ) → comes_granting n asked rest ≡ true → is_granting (view (s.block n).service c) ≡ true
 
-comes-same : {w : ℕ} (n : ℕ) (asked asked' : ℕ → Option (BeatA w)) (rest : List (Beat w)) → ((i : ℕ) → asked' i ≡ asked i) → comes_granting n asked' rest ≡ comes_granting n asked rest
+pub comes-same : {w : ℕ} (n : ℕ) (asked asked' : ℕ → Option (BeatA w)) (rest : List (Beat w)) → ((i : ℕ) → asked' i ≡ asked i) → comes_granting n asked' rest ≡ comes_granting n asked rest
 comes-same n asked asked' [] h = refl
 comes-same n asked asked' (beat.A x ∷ rest) h = refl
 comes-same n asked asked' (beat.B x ∷ rest) h = refl
@@ -96,22 +95,20 @@ either_is false true g e f h = let p : g ≡ true = f refl in let q : true ≡ f
 either_is false false g e f h = absurd cc
 
 pub flowed-aside : {w : ℕ} {X : Type 0} (asked asked' : ℕ → Option (BeatA w)) (rest : Channel → List (Beat w)) (d : ℕ) (s s' : State X) (t : History w) → IsAside asked asked' rest d s s' → IsFlowed asked rest d s t → IsFlowed asked' rest d s' t
-flowed-aside {w} {X} asked asked' rest d s s' t is before = record {
-  rest_is = before.rest_is;
-  held_is = λ n. before.held_is n ∙ sym (is.blocks n).held;
-  requests = λ i. before.requests i ∙ sym (requested-same d i (rest channel.A) s s' (λ n. (is.blocks n).unserved) (is.uses i));
-  asked_is = λ i e. before.asked_is i e ∙ sym (is.asked_is i);
-  acquires = λ n. before.acquires n ∙ sym (both_same (is.blocks n).wanting (is.blocks n).unserved);
-  release_sources = λ i. before.release_sources i ∙ sym (let_same i);
-  released = λ i n e f. before.released i n (sym (is.lets i) ∙ e) f;
-  sizes = λ i n e f. before.sizes i n (sym (is.lets i) ∙ e) f;
-  releases = λ n. before.releases n ∙ sym (is_let_same n);
-  sinks = λ i. before.sinks i ∙ sym (is.sinks i);
-  grants = λ n. before.grants n ∙ sym (either_same (is.blocks n).acknowledging (comes-same n asked asked' (rest channel.D) is.asked_is));
-  probes = λ n. before.probes n ∙ sym (is.blocks n).answered;
-  probed = λ n e. before.probed n (sym (is.blocks n).answered ∙ e) ∙ sym (ap (λ k. Some (probe_beat n k)) ((is.blocks n).cap e));
-  sunk = λ n e. tracked n e (is.blocks n).tracker;
-}
+flowed-aside {w} {X} asked asked' rest d s s' t is = flowed-untouched asked asked' rest d s s' t (record {
+  held_is = λ n. (is.blocks n).held;
+  requests = λ i. requested-same d i (rest channel.A) s s' (λ n. (is.blocks n).unserved) (is.uses i);
+  asked_is = λ i e. is.asked_is i;
+  acquires = λ n. both_same (is.blocks n).wanting (is.blocks n).unserved;
+  release_sources = λ i. ap (λ (o : Option ℕ). is_let_by d i (rest channel.C) o s') (is.lets i) ∙ let_by-same d i (rest channel.C) (s.lets d i) s s' (λ n. (is.blocks n).letting);
+  lets = λ i n e f. sym (is.lets i) ∙ f;
+  releases = λ n. ap (λ (i : ℕ). is_let i (rest channel.C) ((s'.block n).pair d).letting) (is.blocks n).source ∙ ap (λ (l : Letting). is_let ((s.block n).release_source d) (rest channel.C) l) (is.blocks n).letting;
+  sinks = is.sinks;
+  grants = λ n. either_same (is.blocks n).acknowledging (comes-same n asked asked' (rest channel.D) is.asked_is);
+  probes = λ n. (is.blocks n).answered;
+  caps = λ n e. (is.blocks n).cap ((is.blocks n).answered ∙ e);
+  trackers = λ n e. tracked n e (is.blocks n).tracker;
+})
   where
     both_same : {a b a' b' : Bool} → a' ≡ a → b' ≡ b → (a' && not b') ≡ (a && not b)
     both_same e f = rw (e, f) refl
@@ -119,12 +116,23 @@ flowed-aside {w} {X} asked asked' rest d s s' t is before = record {
     either_same : {a b a' b' : Bool} → a' ≡ a → b' ≡ b → (a' || b') ≡ (a || b)
     either_same e f = rw (e, f) refl
 
-    let_same : (i : ℕ) → is_let_by d i (rest channel.C) (s'.lets d i) s' ≡ is_let_by d i (rest channel.C) (s.lets d i) s
-    let_same i = ap (λ (o : Option ℕ). is_let_by d i (rest channel.C) o s') (is.lets i) ∙ let_by-same d i (rest channel.C) (s.lets d i) s s' (λ n. (is.blocks n).letting)
+    tracked : (n : ℕ) → granted_by d n asked (rest channel.D) (s.block n) ≡ true → ((s'.block n).tracker ≡ (s.block n).tracker) ⊎ ((is_acknowledging (view (s.block n).service d) || is_granting (view (s.block n).service d)) ≡ false) → (s'.block n).tracker ≡ (s.block n).tracker
+    tracked n e (inl same) = same
+    tracked n e (inr none) = absurd (either_is (is_acknowledging (view (s.block n).service d)) (comes_granting n asked (rest channel.D)) (is_granting (view (s.block n).service d)) e (is.coming n) none)
 
-    is_let_same : (n : ℕ) → is_let ((s'.block n).release_source d) (rest channel.C) ((s'.block n).pair d).letting ≡ is_let ((s.block n).release_source d) (rest channel.C) ((s.block n).pair d).letting
-    is_let_same n = ap (λ (i : ℕ). is_let i (rest channel.C) ((s'.block n).pair d).letting) (is.blocks n).source ∙ ap (λ (l : Letting). is_let ((s.block n).release_source d) (rest channel.C) l) (is.blocks n).letting
-
-    tracked : (n : ℕ) → pending (GrantAckOf n) t ≡ true → ((s'.block n).tracker ≡ (s.block n).tracker) ⊎ ((is_acknowledging (view (s.block n).service d) || is_granting (view (s.block n).service d)) ≡ false) → grant_sink n t ≡ Some (s'.block n).tracker
-    tracked n e (inl same) = before.sunk n e ∙ ap Some (sym same)
-    tracked n e (inr none) = absurd (either_is (is_acknowledging (view (s.block n).service d)) (comes_granting n asked (rest channel.D)) (is_granting (view (s.block n).service d)) (sym (before.grants n) ∙ e) (is.coming n) none)
+-- where the same requests are given in another way, nothing changes
+pub flowed-asks : {w : ℕ} {X : Type 0} (asked asked' : ℕ → Option (BeatA w)) (rest : Channel → List (Beat w)) (d : ℕ) (s : State X) (t : History w) → ((i : ℕ) → asked' i ≡ asked i) → IsFlowed asked rest d s t → IsFlowed asked' rest d s t
+flowed-asks asked asked' rest d s t asks = flowed-untouched asked asked' rest d s s t (record {
+  held_is = λ n. refl;
+  requests = λ i. refl;
+  asked_is = λ i e. asks i;
+  acquires = λ n. refl;
+  release_sources = λ i. refl;
+  lets = λ i n e f. f;
+  releases = λ n. refl;
+  sinks = λ i. refl;
+  grants = λ n. ap (λ (z : Bool). is_acknowledging (view (s.block n).service d) || z) (comes-same n asked asked' (rest channel.D) asks);
+  probes = λ n. refl;
+  caps = λ n e. refl;
+  trackers = λ n e. refl;
+})

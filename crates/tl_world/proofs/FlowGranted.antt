@@ -13,7 +13,7 @@ use Rattle.tl_params.specs.declared.key.Key.TheVariants.{RequestSource}
 use Rattle.tl_params.specs.declared.param.Cap.{Cap}
 use Rattle.tl_params.specs.declared.perm.Perm.{Perm}
 use Rattle.tl_params.specs.Param.{cap_right}
-use Rattle.tl_rules.specs.Conformance.{comes_in_grant}
+use Rattle.tl_rules.specs.Conformance.{comes_in_request, comes_in_grant}
 use Rattle.tl_rules.specs.History.{begins, ends, block_at, pending, is_grant, is_release_ack, asks_for, request_of, release_of, probe_of, grant_sink, releases, capped, or_perm}
 use Rattle.tl_world.specs.Flowed.{IsFlowed, is_requested, is_let_by, is_sunk}
 use Rattle.tl_world.specs.Invariant.{is_of, acquires_of}
@@ -109,12 +109,13 @@ of_other {w} m y t e = go (begins (beat.D y) t) (is_grant y.opcode && asks_for m
     go false q f = refl
 
 -- a use that isn't of the block in which the states differ
-requested-other : {w : ℕ} {X : Type 0} (c i n : ℕ) (rest : List (Beat w)) (u : Use) (s s' : State X) → AreElsewhere n s s' → acquires_of n u ≡ false → is_requested c i rest u s' ≡ is_requested c i rest u s
-requested-other c i n rest Closed s s' same e = refl
-requested-other c i n rest Asked s s' same e = refl
-requested-other c i n rest (InService m) s s' same e = refl
-requested-other c i n rest Replied s s' same e = refl
-requested-other {w} {X} c i n rest (Acquires m) s s' same e = ap (λ (z : Block X). not (is_unserved (view z.service c))) (same m (λ f. let g : (n == n) ≡ false = rw f at e in let h : true ≡ false = sym (same_number n) ∙ g in cc))
+pub requested-apart : {w : ℕ} {X : Type 0} (c i n : ℕ) (rest rest' : List (Beat w)) (u : Use) (s s' : State X) → AreElsewhere n s s' → comes_in_request i rest' ≡ comes_in_request i rest → acquires_of n u ≡ false → is_requested c i rest' u s' ≡ is_requested c i rest u s
+requested-apart c i n rest rest' Closed s s' same comes e = refl
+requested-apart c i n rest rest' Asked s s' same comes e = comes
+requested-apart c i n rest rest' (InService m) s s' same comes e = refl
+requested-apart c i n rest rest' Replied s s' same comes e = refl
+requested-apart {w} {X} c i n rest rest' (Acquires m) s s' same comes e =
+    ap (λ (z : Block X). not (is_unserved (view z.service c))) (same m (λ f. let g : (n == n) ≡ false = rw f at e in let h : true ≡ false = sym (same_number n) ∙ g in cc))
 
 now_requested : (last d : Bool) (k : Cap) (v : View) → v ≡ seen_after last d k → last ≡ false → not (is_unserved v) ≡ true
 now_requested true d k v e f = absurd cc
@@ -197,12 +198,12 @@ flowed-grant {w} {X} c n d k y first last asked asked' rest rest' s s' t first_i
     requests i false true e f =
         ap (λ (u : Use). is_requested c i (rest channel.A) u s') (is.use_is i f) ∙ now_requested last d k (view new.service c) is.seen_is e ∙ ap not (sym e)
         ∙ sym (closed first last (is_release_ack y.opcode) (y.source == i) (is_requested c i (rest channel.A) (s.uses c i) s) is.ack f (was_requested i f))
-    requests i true false e f = requested-other c i n (rest channel.A) (s.uses c i) s s' is.elsewhere (is.no_use i f) ∙ sym (unclosed_by first last (not (is_release_ack y.opcode)) (y.source == i) (is_requested c i (rest channel.A) (s.uses c i) s) f)
-    requests i false false e f = requested-other c i n (rest channel.A) (s.uses c i) s s' is.elsewhere (is.no_use i f) ∙ sym (unclosed_by first last (not (is_release_ack y.opcode)) (y.source == i) (is_requested c i (rest channel.A) (s.uses c i) s) f)
+    requests i true false e f = requested-apart c i n (rest channel.A) (rest channel.A) (s.uses c i) s s' is.elsewhere refl (is.no_use i f) ∙ sym (unclosed_by first last (not (is_release_ack y.opcode)) (y.source == i) (is_requested c i (rest channel.A) (s.uses c i) s) f)
+    requests i false false e f = requested-apart c i n (rest channel.A) (rest channel.A) (s.uses c i) s s' is.elsewhere refl (is.no_use i f) ∙ sym (unclosed_by first last (not (is_release_ack y.opcode)) (y.source == i) (is_requested c i (rest channel.A) (s.uses c i) s) f)
 
     was_pending : (i : ℕ) → is_requested c i (rest channel.A) (s.uses c i) s' ≡ true → (here : Bool) → (y.source == i) ≡ here → pending (RequestSource i) t ≡ true
     was_pending i e true f = before.requests i ∙ was_requested i f
-    was_pending i e false f = before.requests i ∙ sym (requested-other c i n (rest channel.A) (s.uses c i) s s' is.elsewhere (is.no_use i f)) ∙ e
+    was_pending i e false f = before.requests i ∙ sym (requested-apart c i n (rest channel.A) (rest channel.A) (s.uses c i) s s' is.elsewhere refl (is.no_use i f)) ∙ e
 
     asked_still : (i : ℕ) → is_requested c i (rest' channel.A) (s'.uses c i) s' ≡ true → (z : Bool) → (last && (y.source == i)) ≡ z → request_of i (beat.D y ∷ t) ≡ asked' i
     asked_still i e true f = absurd (let g : false ≡ true = sym (use_at i ∙ ap (λ (z : Bool). is_requested c i (rest channel.A) (if z then Closed else s.uses c i) s') f) ∙ e in cc)

@@ -63,7 +63,7 @@ same_block n = omega arith
 -- ---- channel C
 
 -- who sees another's service isn't granted the block
-other_ungranted : (v : View) → is_other v ≡ true → is_granting v ≡ false
+pub other_ungranted : (v : View) → is_other v ≡ true → is_granting v ≡ false
 other_ungranted (Other k) e = refl
 other_ungranted Idle e = refl
 other_ungranted Own e = refl

@@ -18,8 +18,6 @@ use Rattle.tl_params.specs.declared.param.Cap.{Cap}
 use Rattle.tl_params.specs.declared.param.Prune.{Prune}
 use Rattle.tl_params.specs.declared.param.Prune.TheVariants as prune
 use Rattle.tl_params.specs.declared.param.Report.{Report}
-use Rattle.tl_params.specs.declared.perm.Perm.{Perm}
-use Rattle.tl_params.specs.declared.perm.Perm.TheVariants as perm
 use Rattle.tl_params.specs.declared.profile.Profile.{Profile}
 use Rattle.tl_params.specs.declared.rule.Rule.TheVariants.{H1, H9, H13}
 use Rattle.tl_params.specs.Param.{prune_code, prune_of, prune_left, report_code, report_at}

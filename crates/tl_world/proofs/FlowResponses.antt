@@ -4,7 +4,6 @@ use Rattle.std.specs.Prelude.{◌==◌, if◌then◌else◌, map}
 use Rattle.std.proofs.lemmas.Bool.{eqb-true}
 use Rattle.tl_beat.specs.Width.{IsWidth}
 use Rattle.tl_beat.specs.declared.beat.Beat.{Beat}
-use Rattle.tl_beat.specs.declared.beat.Beat.TheVariants as beat
 use Rattle.tl_beat.specs.declared.beat.BeatA.{BeatA}
 use Rattle.tl_beat.specs.declared.opcode.Channel.TheVariants as channel
 use Rattle.tl_beat.specs.declared.opcode.OpB.TheVariants as opb
@@ -15,10 +14,13 @@ use Rattle.tl_burst.specs.declared.message.MessageA.{MessageA}
 use Rattle.tl_burst.specs.declared.message.MessageC.{MessageC}
 use Rattle.tl_burst.specs.declared.message.MessageD.{MessageD}
 use Rattle.tl_burst.specs.Burst.{a_beat_of, d_beat_of, beat_of, begun}
-use Rattle.tl_burst.specs.Messages.{unfinished}
+use Rattle.tl_burst.specs.Messages.{unfinished, History, channel_of}
 use Rattle.tl_params.specs.declared.config.Config.{Config}
+use Rattle.tl_params.specs.declared.level.Level.{Level}
+use Rattle.tl_params.specs.declared.profile.Profile.{Profile}
+use Rattle.tl_rules.specs.Legality.{illegal}
+use Rattle.tl_manager.specs.Slave.{level_of}
 use Rattle.tl_params.specs.declared.key.Key.TheVariants.{RequestSource, ReleaseSource}
-use Rattle.tl_params.specs.declared.param.Cap.{Cap}
 use Rattle.tl_params.specs.declared.param.Prune.{Prune}
 use Rattle.tl_params.specs.declared.param.Prune.TheVariants as prune
 use Rattle.tl_params.specs.declared.param.Report.{Report}
@@ -26,7 +28,7 @@ use Rattle.tl_params.specs.declared.perm.Perm.{Perm}
 use Rattle.tl_params.specs.declared.perm.Perm.TheVariants as perm
 use Rattle.tl_params.specs.Param.{prune_code, report_code, report_left}
 use Rattle.tl_rules.specs.Conformance as rules
-use Rattle.tl_rules.specs.Conformance.{on_link, comes_in_request, comes_in_release, comes_in_grant, broken_in_order, same_perm}
+use Rattle.tl_rules.specs.Conformance.{on_link, comes_in_request, comes_in_release, comes_in_grant, broken_in_order, same_perm, broken_after}
 use Rattle.tl_rules.specs.History.{is_release, held, pending, request_of}
 use Rattle.tl_client.specs.End.{zeros}
 use Rattle.tl_client.specs.Send.{acquisition, about, release, probe_ack}
@@ -37,11 +39,10 @@ use Rattle.tl_world.specs.Flow.{flow}
 use Rattle.tl_world.specs.Flowed.{is_requested, is_sunk, is_let, is_let_by}
 use Rattle.tl_world.specs.Follow.{acquire_opcode}
 use Rattle.tl_world.specs.Invariant.{is_busy, IsInvariant}
-use Rattle.tl_world.specs.Known.{comes_granting}
 use Rattle.tl_world.specs.Log.{Log}
-use Rattle.tl_world.specs.Phase.{Pair, ok, View, Idle, Own, Other, Granting, Acknowledging, GrantedOther, Probing, Quiet, Sent, Answered, Letting, Kept, Releasing, Acked, Acquiring, Wants, is_quiet, is_kept}
-use Rattle.tl_world.specs.Protocol.{Service, GrantSent, is_sent, is_answered, is_acked, is_releasing, is_granting, is_acknowledging, State, Use, Asked, Acquires, view, token, shown, is_on, is_unserved, is_wanting}
-use Rattle.tl_world.specs.Render.{Mail, cap_sent, report_told, prune_told, probe_beat, rendered, message_of, message_of_kind}
+use Rattle.tl_world.specs.Phase.{View, Probing, Quiet, Sent, Answered, Letting, Kept, Releasing, Acked, Acquiring, Wants, is_quiet, is_kept}
+use Rattle.tl_world.specs.Protocol.{Service, GrantSent, is_answered, is_acked, is_releasing, is_granting, is_acknowledging, State, Use, Asked, Acquires, view, token, shown, is_on, is_unserved, is_wanting}
+use Rattle.tl_world.specs.Render.{Mail, report_told, prune_told, rendered, message_of, message_of_kind}
 use Rattle.tl_world.specs.System.{System}
 use Rattle.tl_world.specs.Token.{Kind, Request, Acquire, Probe, ProbeAck, Release, Answer, Grant, ReleaseAck, GrantAck, Token}
 use Rattle.tl_world.specs.Whole.{IsMatched, AreFlowed, IsGivenAsked, gives_asked, is_caching, asked_by}
@@ -50,12 +51,12 @@ use Rattle.tl_world.proofs.ClientDelivered.{ack_next}
 use Rattle.tl_world.proofs.ClientEnd.{is_access, asks-access, asks-acquire}
 use Rattle.tl_world.proofs.ClientTakes.{access_kind, answers_acquire, not_ack, fits_asked, fitting, has_data, next-legal}
 use Rattle.tl_world.proofs.Due.{IsAnswerDue, answer-due, IsGrantDue, grant-due, grant-rendered, ack-due, acquire-used, grant_message, ack_message, own_view}
-use Rattle.tl_world.proofs.Facts.{granting_alone, acknowledging_quiet}
+use Rattle.tl_world.proofs.Facts.{granting_alone}
 use Rattle.tl_world.proofs.FirstToken.{IsFirst, first-token, own_kind}
 use Rattle.tl_world.proofs.Fronts.{asked-first, rendered-acquire}
+use Rattle.tl_world.proofs.FlowBeats.{some_is}
+use Rattle.tl_world.proofs.FlowLawful.{lawful-beat}
 use Rattle.tl_world.proofs.FollowKept.{wanting-is}
-use Rattle.tl_world.proofs.KnownProbed.{in_order}
-use Rattle.tl_world.proofs.ProbeDelivered.{not_coming, probe-beat}
 use Rattle.tl_world.proofs.Moves.{is_of-is}
 use Rattle.tl_world.proofs.Phases.{and_left, and_right}
 use Rattle.tl_world.proofs.ResponseOrder.{answer-legal, grant-legal, ack-legal}
@@ -134,7 +135,7 @@ not-coming_a {w} config log mail request s sys c source h none = go (s.link c).a
 
 -- ---- an answer
 
-pub flow-answer : {w : ℕ} (config : Config) (log : Log w) (mail : Mail w) (request : ℕ → MessageA w) (s : State (List ℕ)) (sys : System w) (c source : ℕ) → IsMatched config log mail request s sys → AreFlowed log mail s sys → (due : IsAnswerDue c source mail s)
+flow-answer : {w : ℕ} (config : Config) (log : Log w) (mail : Mail w) (request : ℕ → MessageA w) (s : State (List ℕ)) (sys : System w) (c source : ℕ) → IsMatched config log mail request s sys → AreFlowed log mail s sys → (due : IsAnswerDue c source mail s)
     → unfinished channel.D (sys.clients c).past ≡ [] → broken_in_order config.profile (beat_of (message.D due.answer) 0) (flow c log) ≡ None
 flow-answer {w} config log mail request s sys c source h flowed due whole =
     let kind = access_kind due.answer.opcode due.answers_access in
@@ -157,7 +158,7 @@ abbrev none_of : (w : ℕ) → List (Beat w)
 none_of w = []
 
 -- what the client of a Grant has of its block
-grant_quiet : (caching : ℕ → Bool) (c n : ℕ) (s : State (List ℕ)) → IsInvariant caching s → (due : IsGrantDue c n s) → is_answered ((s.block n).pair c).probing ≡ false
+pub grant_quiet : (caching : ℕ → Bool) (c n : ℕ) (s : State (List ℕ)) → IsInvariant caching s → (due : IsGrantDue c n s) → is_answered ((s.block n).pair c).probing ≡ false
 grant_quiet caching c n s inv due =
     let mine = own_view c due.data_too due.k (s.block n).service due.service in
     let alone = granting_alone due.data_too due.k ((s.block n).pair c) (view (s.block n).service c) ((inv.blocks n).phases c) mine in
@@ -169,11 +170,11 @@ grant_quiet caching c n s inv due =
     quiet_unanswered (Answered r) e = absurd cc
 
 -- the tracker of a Grant is of its block
-grant_tracked : (caching : ℕ → Bool) (c n : ℕ) (s : State (List ℕ)) → IsInvariant caching s → IsGrantDue c n s → s.tracked (s.block n).tracker ≡ Some n
+pub grant_tracked : (caching : ℕ → Bool) (c n : ℕ) (s : State (List ℕ)) → IsInvariant caching s → IsGrantDue c n s → s.tracked (s.block n).tracker ≡ Some n
 grant_tracked caching c n s inv due =
     is_of-is n (s.tracked (s.block n).tracker) (inv.named.trackers (s.block n).tracker n ∙ ap (λ (x : Service). is_busy x && ((s.block n).tracker == (s.block n).tracker)) due.service ∙ same_number (s.block n).tracker)
 
-pub flow-grant : {w : ℕ} (config : Config) (log : Log w) (mail : Mail w) (request : ℕ → MessageA w) (s : State (List ℕ)) (sys : System w) (c n : ℕ) → IsMatched config log mail request s sys → AreFlowed log mail s sys → (due : IsGrantDue c n s)
+flow-grant : {w : ℕ} (config : Config) (log : Log w) (mail : Mail w) (request : ℕ → MessageA w) (s : State (List ℕ)) (sys : System w) (c n : ℕ) → IsMatched config log mail request s sys → AreFlowed log mail s sys → (due : IsGrantDue c n s)
     → gives_asked config.profile (Wants due.whole due.g) due.k ≡ true → unfinished channel.D (sys.clients c).past ≡ []
     → broken_in_order config.profile (beat_of (message.D (grant_message due.data_too due.k ((s.block n).source c) (s.block n).tracker (s.block n).truth)) 0) (flow c log) ≡ None
 flow-grant {w} config log mail request s sys c n h flowed due given whole =
@@ -237,7 +238,7 @@ unfolding rendered
 rendered_release w c n source s e = unreleased_prune w source (prune_told ((s.block n).pair c).letting) ((s.block n).release_source c) n (s.block n).truth e
 
 -- no Release is half taken with the source of one that was acknowledged
-pub not-coming_c : {w : ℕ} (config : Config) (log : Log w) (mail : Mail w) (request : ℕ → MessageA w) (s : State (List ℕ)) (sys : System w) (c n : ℕ) → IsMatched config log mail request s sys → s.lets c ((s.block n).release_source c) ≡ Some n
+not-coming_c : {w : ℕ} (config : Config) (log : Log w) (mail : Mail w) (request : ℕ → MessageA w) (s : State (List ℕ)) (sys : System w) (c n : ℕ) → IsMatched config log mail request s sys → s.lets c ((s.block n).release_source c) ≡ Some n
     → is_acked ((s.block n).pair c).letting ≡ true → comes_in_release ((s.block n).release_source c) (unfinished channel.C (on_link c sys.manager.trace)) ≡ false
 not-coming_c {w} config log mail request s sys c n h let_ acked = go (s.link c).c refl (h.carried c channel.C)
   where
@@ -260,16 +261,13 @@ not-coming_c {w} config log mail request s sys c n h let_ acked = go (s.link c).
     both : (x y : Bool) → x ≡ true → y ≡ true → (x && y) ≡ true
     both x y e f = rw (e, f) refl
 
-    some_injective : (i j : ℕ) → Some i ≡ Some j → i ≡ j
-    some_injective i j e = cc
-
     differ : (i : ℕ) → is_releasing ((s.block i).pair c).letting ≡ true → (b : Bool) → ((s.block i).release_source c == source) ≡ b → b ≡ false
     differ i releasing false e = refl
     differ i releasing true e =
         let open_ = open_release ((s.block i).pair c).letting releasing in
         let lets : s.lets c ((s.block i).release_source c) ≡ Some i = is_of-is i (s.lets c ((s.block i).release_source c))
         (h.invariant.named.releases c ((s.block i).release_source c) i ∙ both (not (is_kept ((s.block i).pair c).letting)) ((s.block i).release_source c == (s.block i).release_source c) open_ (same_number ((s.block i).release_source c))) in
-        let same : i ≡ n = some_injective i n (sym lets ∙ ap (s.lets c) (eqb-true ((s.block i).release_source c) source e) ∙ let_) in
+        let same : i ≡ n = some_is i n (sym lets ∙ ap (s.lets c) (eqb-true ((s.block i).release_source c) source e) ∙ let_) in
         absurd (apart ((s.block n).pair c).letting acked (sym (ap (λ (j : ℕ). is_releasing ((s.block j).pair c).letting) same) ∙ releasing))
 
     each : (k : Kind) (i : ℕ) (rest : List Token) → (s.link c).c ≡ token k i ∷ rest → is_on channel.C k ≡ true → IsUnreleased source (message_of_kind k mail s c i)
@@ -294,7 +292,7 @@ not-coming_c {w} config log mail request s sys c n h let_ acked = go (s.link c).
         subst (λ (ms : List (Message w)). IsCarried rest_now ms (sys.channels c channel.C)) (ap (map (message_of mail s c)) first) carried in
         unreleased source (message_of mail s c x) some.0 rest_now some.2 (each x.kind x.number xs first (own_kind (is_caching config) s c channel.C x.kind x.number xs h.invariant first))
 
-pub flow-ack : {w : ℕ} (config : Config) (log : Log w) (mail : Mail w) (request : ℕ → MessageA w) (s : State (List ℕ)) (sys : System w) (c n : ℕ) → IsMatched config log mail request s sys → AreFlowed log mail s sys
+flow-ack : {w : ℕ} (config : Config) (log : Log w) (mail : Mail w) (request : ℕ → MessageA w) (s : State (List ℕ)) (sys : System w) (c n : ℕ) → IsMatched config log mail request s sys → AreFlowed log mail s sys
     → s.lets c ((s.block n).release_source c) ≡ Some n → is_acked ((s.block n).pair c).letting ≡ true
     → unfinished channel.D (sys.clients c).past ≡ []
     → broken_in_order config.profile (beat_of (message.D (ack_message ((s.block n).release_source c))) 0) (flow c log) ≡ None
@@ -311,20 +309,6 @@ flow-ack {w} config log mail request s sys c n h flowed let_ acked whole =
     let_acked Kept source rest e = absurd cc
     let_acked (Releasing r) source rest e = absurd cc
 
--- ---- a Probe
-
-pub flow-probe : {w : ℕ} (config : Config) (log : Log w) (mail : Mail w) (request : ℕ → MessageA w) (s : State (List ℕ)) (sys : System w) (c n : ℕ) (k : Cap) → IsMatched config log mail request s sys → AreFlowed log mail s sys → is_sent ((s.block n).pair c).probing ≡ true
-    → is_acknowledging (view (s.block n).service c) ≡ false → unfinished channel.B (sys.clients c).past ≡ []
-    → broken_in_order config.profile (beat.B (probe_beat n k)) (flow c log) ≡ None
-flow-probe {w} config log mail request s sys c n k h flowed sent idle whole =
-    in_order config.profile n k (flow c log) ((flowed c).rest_is channel.B ∙ whole) ((flowed c).probes n ∙ unanswered ((s.block n).pair c).probing sent)
-    ((flowed c).grants n ∙ ap (λ (b : Bool). b || comes_granting n (asked_by mail s c) (unfinished channel.D (sys.clients c).past)) idle ∙ not_coming config log mail request s sys c n h sent)
-  where
-    unanswered : (x : Probing) → is_sent x ≡ true → is_answered x ≡ false
-    unanswered (Sent j) e = refl
-    unanswered Quiet e = absurd cc
-    unanswered (Answered r) e = absurd cc
-
 -- ---- all of channel D
 
 -- each beat of a response, where its first breaks no rule
@@ -335,9 +319,9 @@ legal_next {w} config log mail request s sys c m ms x queue h flowed next first 
     let rest_is = (flowed c).rest_is channel.D in
     ap (λ (y : Beat w). broken_in_order config.profile y (flow c log)) next.beat_is ∙ next-legal config.profile m next.k (flow c log) (rest_is ∙ next.rest_is) (λ whole. first (sym rest_is ∙ whole))
 
-pub flow-legal_d : {w : ℕ} (config : Config) (log : Log w) (mail : Mail w) (request : ℕ → MessageA w) (s : State (List ℕ)) (sys : System w) (c : ℕ) (x : Beat w) (queue : List (Beat w)) → IsWidth w → IsMatched config log mail request s sys → AreFlowed log mail s sys
+legal_d : {w : ℕ} (config : Config) (log : Log w) (mail : Mail w) (request : ℕ → MessageA w) (s : State (List ℕ)) (sys : System w) (c : ℕ) (x : Beat w) (queue : List (Beat w)) → IsWidth w → IsMatched config log mail request s sys → AreFlowed log mail s sys
     → sys.channels c channel.D ≡ x ∷ queue → broken_in_order config.profile x (flow c log) ≡ None
-flow-legal_d {w} config log mail request s sys c x queue width h flowed beats = go first.kind first.number first.tokens first.own first.next
+legal_d {w} config log mail request s sys c x queue width h flowed beats = go first.kind first.number first.tokens first.own first.next
   where
     first : IsFirst channel.D c mail s sys x queue
     first = first-token (is_caching config) channel.D c mail s sys x queue width h.invariant h.carried beats
@@ -381,45 +365,11 @@ flow-legal_d {w} config log mail request s sys c x queue width h flowed beats = 
     go Release i tokens own next = absurd cc
     go GrantAck i tokens own next = absurd cc
 
--- ---- and of channel B
+in_order : {w : ℕ} (l : Level) (p : Profile) (x : Beat w) (t : History w) → illegal l (channel_of x) x ≡ None → broken_in_order p x t ≡ None → broken_after l p x t ≡ None
+unfolding broken_after
+in_order l p x t lawful order = rw lawful order
 
--- who is probed has no GrantAck on its way
-probed_idle : (p : Pair) (v : View) → ok p v ≡ true → is_sent p.probing ≡ true → is_acknowledging v ≡ false
-probed_idle p v well sent = go v refl
-  where
-    loud : (x : Probing) → is_sent x ≡ true → is_quiet x ≡ true → ⊥
-    loud (Sent k) e f = cc
-    loud Quiet e f = cc
-    loud (Answered r) e f = cc
-
-    go : (u : View) → v ≡ u → is_acknowledging u ≡ false
-    go Acknowledging e = absurd (loud p.probing sent (acknowledging_quiet p v well e))
-    go Idle e = refl
-    go Own e = refl
-    go (Other k) e = refl
-    go (Granting d k) e = refl
-    go GrantedOther e = refl
-
-pub flow-legal_b : {w : ℕ} (config : Config) (log : Log w) (mail : Mail w) (request : ℕ → MessageA w) (s : State (List ℕ)) (sys : System w) (c : ℕ) (x : Beat w) (queue : List (Beat w)) → IsWidth w → IsMatched config log mail request s sys → AreFlowed log mail s sys
-    → sys.channels c channel.B ≡ x ∷ queue → broken_in_order config.profile x (flow c log) ≡ None
-flow-legal_b {w} config log mail request s sys c x queue width h flowed beats = go first.kind first.number first.tokens first.own first.next
-  where
-    first : IsFirst channel.B c mail s sys x queue
-    first = first-token (is_caching config) channel.B c mail s sys x queue width h.invariant h.carried beats
-
-    rest_now : List (Beat w)
-    rest_now = unfinished channel.B (sys.clients c).past
-
-    go : (k : Kind) (i : ℕ) → (s.link c).b ≡ token k i ∷ first.rest → is_on channel.B k ≡ true → IsNext x rest_now (message_of_kind k mail s c i) (map (message_of mail s c) first.rest) queue → broken_in_order config.profile x (flow c log) ≡ None
-    go Probe i tokens own next =
-        let sent = holds-first Probe (s.link c).b first.rest (token Probe i) (λ j. shown Probe c (s.block j)) tokens refl (h.invariant.transfers c Probe refl) in
-        ap (λ (y : Beat w). broken_in_order config.profile y (flow c log)) (probe-beat c i s x rest_now (map (message_of mail s c) first.rest) queue next)
-        ∙ flow-probe config log mail request s sys c i (cap_sent ((s.block i).pair c).probing) h flowed sent (probed_idle ((s.block i).pair c) (view (s.block i).service c) ((h.invariant.blocks i).phases c) sent) ((h.kept c).b_whole)
-    go Request i tokens own next = absurd cc
-    go Acquire i tokens own next = absurd cc
-    go ProbeAck i tokens own next = absurd cc
-    go Release i tokens own next = absurd cc
-    go Answer i tokens own next = absurd cc
-    go Grant i tokens own next = absurd cc
-    go ReleaseAck i tokens own next = absurd cc
-    go GrantAck i tokens own next = absurd cc
+pub flows-d : {w : ℕ} (config : Config) (log : Log w) (mail : Mail w) (request : ℕ → MessageA w) (s : State (List ℕ)) (sys : System w) (c : ℕ) (l : Level) (x : Beat w) (queue : List (Beat w)) → IsWidth w → IsMatched config log mail request s sys → AreFlowed log mail s sys
+    → sys.channels c channel.D ≡ x ∷ queue → level_of config c ≡ Some l → broken_after l config.profile x (flow c log) ≡ None
+flows-d config log mail request s sys c l x queue width h flowed beats level =
+    in_order l config.profile x (flow c log) (lawful-beat config log mail request s sys c channel.D l x queue h beats level) (legal_d config log mail request s sys c x queue width h flowed beats)

@@ -34,8 +34,10 @@ use Rattle.tl_world.proofs.Carried.{IsNext}
 use Rattle.tl_world.proofs.ClientTakes.{access_kind}
 use Rattle.tl_world.proofs.Due.{ack_message, answer-due, grant-due, grant-rendered, grant_message}
 use Rattle.tl_world.proofs.FirstToken.{first-token, own_kind}
+use Rattle.tl_world.proofs.FlowBeats.{some_is, first_false}
 use Rattle.tl_world.proofs.FlowLawful.{lawful-beat, next-flows}
 use Rattle.tl_world.proofs.FlowOrders.{grant_ack-flows}
+use Rattle.tl_world.proofs.FlowReleased.{with_false}
 use Rattle.tl_world.proofs.FollowKept.{acknowledging-is}
 use Rattle.tl_world.proofs.ManagedEndings.{tracker-of}
 use Rattle.tl_world.proofs.ManagerTakes.{by-first_e}
@@ -53,13 +55,6 @@ comes_else sink m k rest e is = ap (comes_in_grant sink) e ∙ ap (λ y. comes_i
     go zero = refl
     go (suc i) = is.2
 
-never : (a b : Bool) → b ≡ false → (a && b) ≡ false
-never true b e = e
-never false b e = refl
-
-plain : (a b : Bool) → a ≡ false → (a && b) ≡ false
-plain a b e = rw e refl
-
 not_both : (c : ℕ) (d : Bool) (k : Cap) (q : Service) → q ≡ GrantSent c d k → q ≡ GrantTaken c → ⊥
 not_both c d k q e f = let g : GrantSent c d k ≡ GrantTaken c = sym e ∙ f in cc
 
@@ -67,7 +62,7 @@ else_answer : {w : ℕ} (config : Config) (log : Log w) (mail : Mail w) (request
 unfolding IsElse
 else_answer config log mail request s sys c sink i rest h first =
     let due = answer-due (is_caching config) c i rest mail s h.invariant (h.answered c i) first in
-    (due.answer, due.answer_is, plain (is_grant due.answer.opcode) (due.answer.sink == sink) (access_kind due.answer.opcode due.answers_access).0)
+    (due.answer, due.answer_is, first_false (is_grant due.answer.opcode) (due.answer.sink == sink) (access_kind due.answer.opcode due.answers_access).0)
 
 -- a Grant that is on its way has another block's tracker for its sink
 else_grant : {w : ℕ} (config : Config) (log : Log w) (mail : Mail w) (request : ℕ → MessageA w) (s : State (List ℕ)) (sys : System w) (c n i : ℕ) (rest : List Token) → IsMatched config log mail request s sys → (s.link c).d ≡ token Grant i ∷ rest
@@ -79,10 +74,7 @@ else_grant {w} config log mail request s sys c n i rest h first taken =
     let theirs : s.tracked (s.block n).tracker ≡ Some n = tracker-of n s h.invariant.named (rw taken refl) in
     let apart : (s.block i).tracker ≡ (s.block n).tracker → ⊥ =
     λ e. not_both c due.data_too due.k (s.block i).service due.service (ap (λ (j : ℕ). (s.block j).service) (some_is i n (sym mine ∙ ap s.tracked e ∙ theirs)) ∙ taken) in
-    (grant_message due.data_too due.k ((s.block i).source c) (s.block i).tracker (s.block i).truth, grant-rendered c i s due, never (is_grant (grant_opcode due.data_too)) ((s.block i).tracker == (s.block n).tracker) (ne_eqb (s.block i).tracker (s.block n).tracker apart))
-  where
-    some_is : (a b : ℕ) → Some a ≡ Some b → a ≡ b
-    some_is a b e = cc
+    (grant_message due.data_too due.k ((s.block i).source c) (s.block i).tracker (s.block i).truth, grant-rendered c i s due, with_false (is_grant (grant_opcode due.data_too)) ((s.block i).tracker == (s.block n).tracker) (ne_eqb (s.block i).tracker (s.block n).tracker apart))
 
 else_ack : {w : ℕ} (mail : Mail w) (s : State (List ℕ)) (c sink i : ℕ) → IsElse {w = w} sink (rendered {w = w} ReleaseAck c i (s.block i))
 unfolding IsElse rendered

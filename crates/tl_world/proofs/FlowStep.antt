@@ -26,15 +26,15 @@ step_quiet true false p = refl
 step_quiet false true p = refl
 step_quiet false false p = refl
 
-pub pending-next : {w : ℕ} (k : Key) (x : Beat w) (t : History w) (first last : Bool) → begins x t ≡ first → ends x t ≡ last → pending k (x ∷ t) ≡ step first last (opens k x t) (closes k x t) (pending k t)
+pending-next : {w : ℕ} (k : Key) (x : Beat w) (t : History w) (first last : Bool) → begins x t ≡ first → ends x t ≡ last → pending k (x ∷ t) ≡ step first last (opens k x t) (closes k x t) (pending k t)
 unfolding pending
 pending-next k x t first last e f = rw (e, f) refl
 
-pub held-next : {w : ℕ} (n : ℕ) (x : Beat w) (t : History w) (last : Bool) → ends x t ≡ last → held n (x ∷ t) ≡ (if last then or_perm (says_held n x t) (held n t) else held n t)
+held-next : {w : ℕ} (n : ℕ) (x : Beat w) (t : History w) (last : Bool) → ends x t ≡ last → held n (x ∷ t) ≡ (if last then or_perm (says_held n x t) (held n t) else held n t)
 unfolding held
 held-next n x t last f = rw f refl
 
-pub unfinished-next : {w : ℕ} (ch : Channel) (x : Beat w) (t : History w) → unfinished ch (x ∷ t) ≡ (if on ch x then grown x (unfinished ch t) else unfinished ch t)
+unfinished-next : {w : ℕ} (ch : Channel) (x : Beat w) (t : History w) → unfinished ch (x ∷ t) ≡ (if on ch x then grown x (unfinished ch t) else unfinished ch t)
 unfolding unfinished
 unfinished-next ch x t = refl
 

@@ -301,7 +301,7 @@ acquire_taken-kept {w} caching clients p c n tracker rest h inv plain first free
 
 -- ---- Probes, ProbeAcks and Releases
 
-sent-is : (x : Probing) → is_sent x ≡ true → x ≡ Sent (cap_sent x)
+pub sent-is : (x : Probing) → is_sent x ≡ true → x ≡ Sent (cap_sent x)
 sent-is Quiet e = absurd cc
 sent-is (Sent k) e = refl
 sent-is (Answered r) e = absurd cc
@@ -316,7 +316,7 @@ releasing-is Kept e = absurd cc
 releasing-is (Releasing r) e = refl
 releasing-is Acked e = absurd cc
 
-acked-is : (x : Letting) → is_acked x ≡ true → x ≡ Acked
+pub acked-is : (x : Letting) → is_acked x ≡ true → x ≡ Acked
 acked-is Kept e = absurd cc
 acked-is (Releasing r) e = absurd cc
 acked-is Acked e = refl

@@ -108,7 +108,7 @@ same_op x y e = cc
 
 -- ---- what the client holds then
 
-held_granted : {w : ℕ} (config : Config) (tracker c n : ℕ) (rest : List Token) (h : Shadow w) (due : IsGrantDue c n h.state) → (((kind_taken config tracker c Grant n rest h).state.block n).pair c).held ≡ cap_right due.k
+pub held_granted : {w : ℕ} (config : Config) (tracker c n : ℕ) (rest : List Token) (h : Shadow w) (due : IsGrantDue c n h.state) → (((kind_taken config tracker c Grant n rest h).state.block n).pair c).held ≡ cap_right due.k
 held_granted {w} config tracker c n rest h due =
     ap (λ (v : Service). ((((taken_by_client c n v rest h).state).block n).pair c).held) due.service
     ∙ ap (λ (i : Block (List ℕ)). (i.pair c).held) (set-same n (taken_block c (is_whole (b.pair c).acquiring) due.data_too due.k b) h.state.block)

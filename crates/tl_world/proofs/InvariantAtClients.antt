@@ -29,10 +29,9 @@ use Rattle.tl_world.specs.Whole.{IsMatched, is_caching}
 use Rattle.tl_world.proofs.Askable.{kept-letting, askable}
 use Rattle.tl_world.proofs.Carried.{IsNext}
 use Rattle.tl_world.proofs.ClientDelivered.{shadow_of}
-use Rattle.tl_world.proofs.FollowCases.{IsDelivery, taken_of, on-first}
 use Rattle.tl_world.proofs.FollowKept.{IsReady, asked-kept}
 use Rattle.tl_world.proofs.ProbeDelivered.{probe-delivered}
-use Rattle.tl_world.proofs.RequestsTaken.{next_tracker, invariant-taken}
+use Rattle.tl_world.proofs.RequestsTaken.{next_tracker}
 use Rattle.tl_world.proofs.Steps.{stepped-to-client}
 
 pub invariant-asked : {w : ℕ} (config : Config) (log : Log w) (mail : Mail w) (request : ℕ → MessageA w) (s : State (List ℕ)) (sys : System w) (terms : Terms) (c : ℕ) (o : Op w) → IsMatched config log mail request s sys
@@ -64,34 +63,27 @@ probe_ready {w} config log mail request s sys link n rest x queue width h moves 
     at_terms (Some terms) at = stands terms at (is_kept ((s.block n).pair link.0).letting) refl
 
 -- what a client takes, it may take
-ready : {w : ℕ} (config : Config) (log : Log w) (mail : Mail w) (request : ℕ → MessageA w) (s : State (List ℕ)) (sys : System w) (link : Link) (ch : Channel) (k : Kind) (i : ℕ) (rest : List Token) (x : Beat w) (queue : List (Beat w)) → IsWidth w
+pub ready-client : {w : ℕ} (config : Config) (log : Log w) (mail : Mail w) (request : ℕ → MessageA w) (s : State (List ℕ)) (sys : System w) (link : Link) (ch : Channel) (k : Kind) (i : ℕ) (rest : List Token) (x : Beat w) (queue : List (Beat w)) → IsWidth w
     → IsMatched config log mail request s sys → is_to_client ch ≡ true → is_on ch k ≡ true → is_moving (stepped config (Deliver link ch) sys).outcome ≡ true → sys.channels link.0 ch ≡ x ∷ queue → tokens_on ch (s.link link.0) ≡ token k i ∷ rest
     → IsNext x (unfinished ch (receiver ch link.0 sys)) (message_of_kind k mail s link.0 i) (map (message_of mail s link.0) rest) queue → IsReady (next_tracker sys) link.0 k i (shadow_of mail request s)
-ready config log mail request s sys link channel.B Probe i rest x queue width h up own moves beats first next = probe_ready config log mail request s sys link i rest x queue width h moves beats first next
-ready config log mail request s sys link channel.D Answer i rest x queue width h up own moves beats first next = tt
-ready config log mail request s sys link channel.D Grant i rest x queue width h up own moves beats first next = tt
-ready config log mail request s sys link channel.D ReleaseAck i rest x queue width h up own moves beats first next = tt
-ready config log mail request s sys link channel.B Request i rest x queue width h up own moves beats first next = absurd cc
-ready config log mail request s sys link channel.B Acquire i rest x queue width h up own moves beats first next = absurd cc
-ready config log mail request s sys link channel.B ProbeAck i rest x queue width h up own moves beats first next = absurd cc
-ready config log mail request s sys link channel.B Release i rest x queue width h up own moves beats first next = absurd cc
-ready config log mail request s sys link channel.B Answer i rest x queue width h up own moves beats first next = absurd cc
-ready config log mail request s sys link channel.B Grant i rest x queue width h up own moves beats first next = absurd cc
-ready config log mail request s sys link channel.B ReleaseAck i rest x queue width h up own moves beats first next = absurd cc
-ready config log mail request s sys link channel.B GrantAck i rest x queue width h up own moves beats first next = absurd cc
-ready config log mail request s sys link channel.D Request i rest x queue width h up own moves beats first next = absurd cc
-ready config log mail request s sys link channel.D Acquire i rest x queue width h up own moves beats first next = absurd cc
-ready config log mail request s sys link channel.D Probe i rest x queue width h up own moves beats first next = absurd cc
-ready config log mail request s sys link channel.D ProbeAck i rest x queue width h up own moves beats first next = absurd cc
-ready config log mail request s sys link channel.D Release i rest x queue width h up own moves beats first next = absurd cc
-ready config log mail request s sys link channel.D GrantAck i rest x queue width h up own moves beats first next = absurd cc
-ready config log mail request s sys link channel.A k i rest x queue width h up own moves beats first next = absurd cc
-ready config log mail request s sys link channel.C k i rest x queue width h up own moves beats first next = absurd cc
-ready config log mail request s sys link channel.E k i rest x queue width h up own moves beats first next = absurd cc
-
-pub invariant-to_client : {w : ℕ} (config : Config) (log : Log w) (mail : Mail w) (request : ℕ → MessageA w) (s : State (List ℕ)) (sys : System w) (link : Link) (ch : Channel) (x : Beat w) (queue : List (Beat w)) → IsWidth w
-    → IsMatched config log mail request s sys → is_to_client ch ≡ true → (d : IsDelivery config mail s sys link ch x queue)
-    → IsInvariant (is_caching config) (taken_of config mail request s sys link.0 d.first.kind d.first.number d.first.rest).state
-invariant-to_client config log mail request s sys link ch x queue width h up d =
-    invariant-taken config log (shadow_of mail request s) sys link.0 d.first.kind d.first.number d.first.rest h (on-first config mail s sys link ch x queue d)
-    (ready config log mail request s sys link ch d.first.kind d.first.number d.first.rest x queue width h up d.first.own d.moves d.beats d.first.tokens d.first.next)
+ready-client config log mail request s sys link channel.B Probe i rest x queue width h up own moves beats first next = probe_ready config log mail request s sys link i rest x queue width h moves beats first next
+ready-client config log mail request s sys link channel.D Answer i rest x queue width h up own moves beats first next = tt
+ready-client config log mail request s sys link channel.D Grant i rest x queue width h up own moves beats first next = tt
+ready-client config log mail request s sys link channel.D ReleaseAck i rest x queue width h up own moves beats first next = tt
+ready-client config log mail request s sys link channel.B Request i rest x queue width h up own moves beats first next = absurd cc
+ready-client config log mail request s sys link channel.B Acquire i rest x queue width h up own moves beats first next = absurd cc
+ready-client config log mail request s sys link channel.B ProbeAck i rest x queue width h up own moves beats first next = absurd cc
+ready-client config log mail request s sys link channel.B Release i rest x queue width h up own moves beats first next = absurd cc
+ready-client config log mail request s sys link channel.B Answer i rest x queue width h up own moves beats first next = absurd cc
+ready-client config log mail request s sys link channel.B Grant i rest x queue width h up own moves beats first next = absurd cc
+ready-client config log mail request s sys link channel.B ReleaseAck i rest x queue width h up own moves beats first next = absurd cc
+ready-client config log mail request s sys link channel.B GrantAck i rest x queue width h up own moves beats first next = absurd cc
+ready-client config log mail request s sys link channel.D Request i rest x queue width h up own moves beats first next = absurd cc
+ready-client config log mail request s sys link channel.D Acquire i rest x queue width h up own moves beats first next = absurd cc
+ready-client config log mail request s sys link channel.D Probe i rest x queue width h up own moves beats first next = absurd cc
+ready-client config log mail request s sys link channel.D ProbeAck i rest x queue width h up own moves beats first next = absurd cc
+ready-client config log mail request s sys link channel.D Release i rest x queue width h up own moves beats first next = absurd cc
+ready-client config log mail request s sys link channel.D GrantAck i rest x queue width h up own moves beats first next = absurd cc
+ready-client config log mail request s sys link channel.A k i rest x queue width h up own moves beats first next = absurd cc
+ready-client config log mail request s sys link channel.C k i rest x queue width h up own moves beats first next = absurd cc
+ready-client config log mail request s sys link channel.E k i rest x queue width h up own moves beats first next = absurd cc

@@ -26,14 +26,13 @@ use Rattle.tl_params.specs.declared.perm.Perm.TheVariants as perm
 use Rattle.tl_params.specs.Param.{cap_code, cap_of, report_at, report_code, report_right}
 use Rattle.tl_rules.specs.Agent.{sent, is_outside}
 use Rattle.tl_rules.specs.Conformance.{broken_order, broken_in_order}
-use Rattle.tl_rules.specs.History.{block_at, begins, opens, closes, held, pending, is_release, is_probe_ack, release_of}
+use Rattle.tl_rules.specs.History.{block_at, opens, closes, held, pending, is_release, is_probe_ack, release_of}
 use Rattle.tl_rules.specs.Legality.{illegal}
 use Rattle.tl_rules.proofs.Bursts.{has_beats}
 use Rattle.tl_rules.proofs.Sent.{unfinished-sent_other}
 use Rattle.tl_client.specs.End.{Terms, End, zeros, copy_at, held_at, with_past, sending}
 use Rattle.tl_client.specs.Offer.{silent, offered, broken_before, broken_later, waits, judged, judged_later, taken, probed, report_for}
 use Rattle.tl_client.specs.declared.verdict.Verdict.TheVariants as verdict
-use Rattle.tl_manager.specs.Handing.{probe_of_block}
 use Rattle.tl_client.specs.Send.{about, probe_ack}
 use Rattle.tl_client.proofs.HeldAfter.{held-probe_ack, kept_past}
 use Rattle.tl_rules.proofs.Sent.{pending-quiet}
@@ -51,9 +50,6 @@ use Rattle.tl_world.proofs.Whole.{pending-whole, release_of-sent}
 
 -- ---- the Probe
 
-pub probe_beat-is : {w : ℕ} (n : ℕ) (k : Cap) → beat_of (probe_of_block {w = w} n k) 0 ≡ beat.B (probe_beat n k)
-probe_beat-is n k = refl
-
 same_block : (block : ℕ) → block_at (64 * block) ≡ block
 same_block block = omega arith
 
@@ -66,9 +62,6 @@ pub report_is : (w n : ℕ) (k : Cap) (p : Perm) → report_for (probe_beat {w =
 report_is w n k p = rw (cap_again k) refl
 
 -- ---- the answer isn't a refusal or a stall
-
-begins_b : {w : ℕ} (x : BeatB w) (t : History w) → unfinished channel.B t ≡ [] → begins (beat.B x) t ≡ true
-begins_b x t none = rw none refl
 
 pub in_order : {w : ℕ} (profile : Profile) (n : ℕ) (k : Cap) (t : History w) → unfinished channel.B t ≡ [] → pending (key.ProbeOf n) t ≡ false → pending (key.GrantAckOf n) t ≡ false
     → broken_in_order profile (beat.B (probe_beat n k)) t ≡ None
@@ -183,9 +176,6 @@ no_probe {w} i n k m t width is none before =
     go false e = other_probe i n k t e ∙ before
 
 -- ---- what is known
-
-abbrev known_part : {X A : Type 0} → (Pair → A) → ℕ → State X → ℕ → A
-known_part part c s n = part ((s.block n).pair c)
 
 -- a part of the client's pairs that its Probe leaves
 same_part : {X A : Type 0} (part : Pair → A) (c n : ℕ) (k : Cap) (rest : List Token) (s : State X) → part (after_probe k ((s.block n).pair c)) ≡ part ((s.block n).pair c) → (i : ℕ)

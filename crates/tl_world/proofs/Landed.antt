@@ -59,22 +59,27 @@ pub record IsLanded {w : ℕ} (c : ℕ) (ch : Channel) (x : Beat w) (queue : Lis
   pub channels : (d : ℕ) (at : Channel) → sys'.channels d at ≡ behind (pushes d at) (if (d == c) && same_channel at ch then queue else sys.channels d at)
   pub rests : (d : ℕ) (at : Channel) → unfinished at (receiver at d sys') ≡ (if (d == c) && same_channel at ch then grown x (unfinished at (receiver at d sys)) else unfinished at (receiver at d sys))
 
+-- with the last beat of a message its receiver has nothing of the next
+pub rests-ended : {w : ℕ} (c : ℕ) (ch : Channel) (x : Beat w) (sys : System w) → completes x (unfinished ch (receiver ch c sys)) ≡ true → (d : ℕ) (at : Channel)
+    → (if (d == c) && same_channel at ch then grown x (unfinished at (receiver at d sys)) else unfinished at (receiver at d sys)) ≡ (if (d == c) && same_channel at ch then [] else unfinished at (receiver at d sys))
+rests-ended {w} c ch x sys last d at = ended (cases_eq d c) (same_channel at ch) refl
+  where
+    rest : ℕ → Channel → List (Beat w)
+    rest i j = unfinished j (receiver j i sys)
+
+    ended : (d ≡ c) ⊎ (d ≡ c → ⊥) → (y : Bool) → same_channel at ch ≡ y → (if (d == c) && y then grown x (rest d at) else rest d at) ≡ (if (d == c) && y then [] else rest d at)
+    ended (inl same) true f = rw (same, same_channel-is at ch f, last) refl
+    ended (inl same) false f = rw (same, same_number c) refl
+    ended (inr other) y f = rw (ne_eqb d c other) refl
+
 pub taken-landed : {w : ℕ} (c : ℕ) (ch : Channel) (x : Beat w) (queue : List (Beat w)) (pushes : ℕ → Channel → Option (Message w)) (sys sys' : System w) → IsLanded c ch x queue pushes sys sys'
     → completes x (unfinished ch (receiver ch c sys)) ≡ true → IsTaken c ch x queue pushes sys sys'
 taken-landed {w} c ch x queue pushes sys sys' is last = record {
   first = is.first;
   last = last;
   channels = is.channels;
-  rests = λ d at. is.rests d at ∙ ended d at (cases_eq d c) (same_channel at ch) refl;
+  rests = λ d at. is.rests d at ∙ rests-ended c ch x sys last d at;
 }
-  where
-    rest : ℕ → Channel → List (Beat w)
-    rest d at = unfinished at (receiver at d sys)
-
-    ended : (d : ℕ) (at : Channel) → (d ≡ c) ⊎ (d ≡ c → ⊥) → (y : Bool) → same_channel at ch ≡ y → (if (d == c) && y then grown x (rest d at) else rest d at) ≡ (if (d == c) && y then [] else rest d at)
-    ended d at (inl same) true f = rw (same, same_channel-is at ch f, last) refl
-    ended d at (inl same) false f = rw (same, same_number c) refl
-    ended d at (inr other) y f = rw (ne_eqb d c other) refl
 
 -- a beat is of one channel
 abbrev pub IsOn : {w : ℕ} → Channel → Beat w → Type 0
@@ -191,17 +196,10 @@ handed-client {w} c m e sys same = record {
 abbrev pub HasTaken : {w : ℕ} → ℕ → Beat w → slave.End w → slave.End w → Type 0
 HasTaken c x e e' = (d : ℕ) (at : Channel) → is_to_client at ≡ false → unfinished at (on_link d e'.trace) ≡ unfinished at (if c == d then x ∷ on_link d e.trace else on_link d e.trace)
 
-pub landed-manager : {w : ℕ} (c : ℕ) (ch : Channel) (x : Beat w) (queue : List (Beat w)) (pushes : ℕ → Channel → Option (Message w)) (handed : Handed w) (e : slave.End w) (sys : System w) → is_to_client ch ≡ false
-    → sys.channels c ch ≡ x ∷ queue
-    → IsOn ch x
-    → HasTaken c x sys.manager e
-    → ((d : ℕ) (at : Channel) → (with_messages handed (with_manager e (with_channel c ch queue sys))).channels d at ≡ behind (pushes d at) ((with_channel c ch queue sys).channels d at))
-    → IsLanded c ch x queue pushes sys (with_messages handed (with_manager e (with_channel c ch queue sys)))
-landed-manager {w} c ch x queue pushes handed e sys to_manager first is heard pushed = record {
-  first = first;
-  channels = pushed;
-  rests = rests;
-}
+-- whatever it hands out, it has this beat too
+pub rests-manager : {w : ℕ} (c : ℕ) (ch : Channel) (x : Beat w) (queue : List (Beat w)) (handed : Handed w) (e : slave.End w) (sys : System w) → is_to_client ch ≡ false → IsOn ch x → HasTaken c x sys.manager e → (d : ℕ) (at : Channel)
+    → unfinished at (receiver at d (with_messages handed (with_manager e (with_channel c ch queue sys)))) ≡ (if (d == c) && same_channel at ch then grown x (unfinished at (receiver at d sys)) else unfinished at (receiver at d sys))
+rests-manager {w} c ch x queue handed e sys to_manager is heard = rests
   where
     base : System w
     base = with_manager e (with_channel c ch queue sys)
@@ -260,3 +258,15 @@ landed-manager {w} c ch x queue pushes handed e sys to_manager first is heard pu
     rests d channel.C = theirs d channel.C refl (cases_eq d c)
     rests d channel.D = ours d channel.D (not_here ch channel.D to_manager refl)
     rests d channel.E = theirs d channel.E refl (cases_eq d c)
+
+pub landed-manager : {w : ℕ} (c : ℕ) (ch : Channel) (x : Beat w) (queue : List (Beat w)) (pushes : ℕ → Channel → Option (Message w)) (handed : Handed w) (e : slave.End w) (sys : System w) → is_to_client ch ≡ false
+    → sys.channels c ch ≡ x ∷ queue
+    → IsOn ch x
+    → HasTaken c x sys.manager e
+    → ((d : ℕ) (at : Channel) → (with_messages handed (with_manager e (with_channel c ch queue sys))).channels d at ≡ behind (pushes d at) ((with_channel c ch queue sys).channels d at))
+    → IsLanded c ch x queue pushes sys (with_messages handed (with_manager e (with_channel c ch queue sys)))
+landed-manager c ch x queue pushes handed e sys to_manager first is heard pushed = record {
+  first = first;
+  channels = pushed;
+  rests = rests-manager c ch x queue handed e sys to_manager is heard;
+}

@@ -1,15 +1,16 @@
+pub mod AccessEnds
 pub mod Accounts
 pub mod Acknowledged
-pub mod Alike
 pub mod AcksAfter
 pub mod Admitted
+pub mod Alike
 pub mod Allowing
 pub mod Alone
 pub mod Answered
+pub mod AnswersKept
+pub mod Arrivals
 pub mod Aside
 pub mod AsideAll
-pub mod Arrivals
-pub mod AnswersKept
 pub mod Askable
 pub mod Asked
 pub mod AskedAfter
@@ -17,12 +18,16 @@ pub mod AskedWell
 pub mod AtOnce
 pub mod AtRequests
 pub mod Beats
+mod Beginnings
 pub mod Beside
 pub mod BesideAsked
 pub mod BesideKinds
 pub mod BesideRequests
 pub mod BesideTaken
 pub mod Blocks
+mod Bounded
+mod Brought
+mod Capacities
 pub mod Carried
 pub mod CarriedEvents
 pub mod CarriedMoves
@@ -31,6 +36,7 @@ pub mod CarriedReports
 pub mod CarriedRequests
 pub mod Channels
 pub mod Checks
+pub mod Choices
 pub mod ClientAsked
 pub mod ClientDelivered
 pub mod ClientEnd
@@ -40,38 +46,55 @@ pub mod ClientSent
 pub mod ClientStep
 pub mod ClientTaken
 pub mod ClientTakes
-pub mod Choices
 pub mod Coherence
 pub mod Continuing
 pub mod Conveyed
-pub mod Delivered
+pub mod Counted
+mod Distinct
 pub mod Due
 pub mod Ended
 pub mod Ending
+mod Ends
+mod EventFalls
 pub mod Facts
+mod Falls
 pub mod FirstToken
 pub mod Firsts
-pub mod FlowResponses
-pub mod FlowAside
+pub mod FlowAccess
+pub mod FlowAcquired
 pub mod FlowAlone
+pub mod FlowAnswered
+pub mod FlowApart
+pub mod FlowAside
+pub mod FlowAsked
+pub mod FlowAsking
+pub mod FlowBeats
+pub mod FlowComing
+pub mod FlowGiven
+pub mod FlowGranted
+pub mod FlowKinds
 pub mod FlowLawful
-pub mod FlowLog
 pub mod FlowOrders
 pub mod FlowOthers
+pub mod FlowOwn
 pub mod FlowProbe
+pub mod FlowProbed
+pub mod FlowReleased
 pub mod FlowReport
 pub mod FlowReported
-pub mod FlowReleased
-pub mod FlowAnswered
-pub mod FlowGranted
-pub mod FlowAccess
+pub mod FlowRequested
 pub mod FlowRequests
+pub mod FlowResponses
+pub mod FlowSame
 pub mod FlowSinks
 pub mod FlowStep
-pub mod Flowing
+pub mod FlowSunk
+pub mod FlowTold
+pub mod Flows
 pub mod FollowCases
 pub mod FollowKept
 pub mod Following
+mod Frames
 pub mod Fresh
 pub mod Fronts
 pub mod Given
@@ -80,7 +103,7 @@ pub mod Goods
 pub mod Granted
 pub mod GrantedAll
 pub mod Granting
-pub mod Handing
+mod Grown
 pub mod Heard
 pub mod HeardAfter
 pub mod HeardAll
@@ -90,18 +113,16 @@ pub mod InvariantKept
 pub mod KnownProbed
 pub mod Landed
 pub mod Lawful
+mod Leftover
+mod Lessening
 pub mod Local
+mod Lone
 pub mod Machined
 pub mod ManagedAcks
 pub mod ManagedEndings
 pub mod ManagedGrants
 pub mod ManagedReports
 pub mod ManagedServed
-pub mod Moved
-pub mod ManagersEnd
-pub mod ManagersAfter
-pub mod Memories
-pub mod Matching
 pub mod ManagerAfter
 pub mod ManagerDelivered
 pub mod ManagerFollowed
@@ -110,72 +131,71 @@ pub mod ManagerKept
 pub mod ManagerMemory
 pub mod ManagerSettles
 pub mod ManagerTakes
+pub mod ManagersAfter
+pub mod ManagersEnd
+pub mod Matching
+pub mod Memories
+pub mod Moved
+pub mod Movement
 pub mod Moves
+mod Moving
 pub mod OneMemory
+pub mod OpenAsks
+pub mod OpenCounts
+pub mod OpenKinds
 pub mod Orders
+pub mod Outstanding
+mod Owed
+mod OwedAfter
+mod OwedKinds
+mod OwedReports
+mod OwedRequests
+mod Owing
+mod Owned
 pub mod Passes
 pub mod Passing
 pub mod Performing
 pub mod PhaseSteps
 pub mod Phases
 pub mod Play
+mod Popped
 pub mod ProbeDelivered
 pub mod Probed
-pub mod Probing
 pub mod ProbesAfter
+pub mod Probing
+pub mod Progress
 pub mod Quiet
 pub mod Quieted
-pub mod ReleasesAfter
+mod Remainders
 pub mod Rendered
+mod ReportFalls
 pub mod Reported
-pub mod ReportsAfter
 pub mod Reporting
+pub mod ReportsAfter
+mod RequestFalls
 pub mod Requests
 pub mod RequestsDelivered
 pub mod RequestsHanded
-pub mod RequestsStalls
 pub mod RequestsTaken
+mod ResponseFalls
 pub mod ResponseOrder
+mod Room
 pub mod Rows
 pub mod Runs
 pub mod Served
-pub mod Services
+mod Settling
 pub mod Showing
 mod Shown
 pub mod Sized
 pub mod SizedAfter
 pub mod SoundAfter
-pub mod SourcesServed
-pub mod Steps
-pub mod Sums
-mod Distinct
-mod Capacities
-mod Room
-mod Bounded
-mod Ends
-mod Owned
+pub mod Soundness
 mod Stalling
-mod Still
 mod Standing
+pub mod Steps
+mod Still
 mod Strangers
-mod Moving
-mod Weights
-mod Falls
-mod Leftover
-mod Frames
-mod Owing
-mod ReportFalls
-mod RequestFalls
-mod ResponseFalls
-mod Popped
-mod Remainders
-mod Beginnings
-mod EventFalls
-mod Owed
-mod OwedAfter
-mod OwedKinds
-mod OwedRequests
-mod OwedReports
+pub mod Sums
 pub mod Taken
 pub mod TakenAll
 pub mod Tokens
@@ -183,11 +203,5 @@ pub mod Traces
 pub mod Unseen
 pub mod UnseenSteps
 pub mod Waiting
+mod Weights
 pub mod Whole
-pub mod OpenCounts
-pub mod OpenKinds
-pub mod OpenAsks
-pub mod Outstanding
-pub mod Counted
-pub mod Movement
-pub mod Progress

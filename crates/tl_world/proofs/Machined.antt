@@ -1,4 +1,4 @@
--- Each event is a step of the one-memory machine, where each answer that comes ends its access as the machine allows.
+-- Each event is a step of the one-memory machine, and performs what it answers: the outcomes are a run of it.
 use Rattle.std.proofs.Common.{◌≡◌, ℕ, Bool, true, false, List, [], ◌∷◌, Option, Some, None, refl, sym, ◌∙◌, ap, subst}
 use Rattle.std.specs.Prelude.{if◌then◌else◌, Result, Ok, Err, is_some}
 use Rattle.tl_beat.specs.Width.{IsWidth}
@@ -30,17 +30,13 @@ use Rattle.tl_world.specs.System.{System, terms_at}
 use Rattle.tl_world.specs.Token.{Kind, Request, Acquire, Probe, ProbeAck, Release, Answer, Grant, ReleaseAck, GrantAck}
 use Rattle.tl_world.specs.Whole.{IsMatched}
 use Rattle.tl_world.proofs.Allowing.{ends-transfer}
+use Rattle.tl_world.proofs.AccessEnds.{ends-answer}
 use Rattle.tl_world.proofs.AskedAfter.{continues-ask}
 use Rattle.tl_world.proofs.Continuing.{performs-delivered}
 use Rattle.tl_world.proofs.Ending.{IsEnding, ending}
 use Rattle.tl_world.proofs.Matching.{shadow, matched, stepped-nobody}
 use Rattle.tl_world.proofs.Runs.{AllContinue, run-continued}
 use Rattle.tl_world.proofs.Steps.{stepped-asked}
-
--- each answer that comes ends its access as the machine allows
-abbrev pub AnswersEnd : {w : ℕ} → Config → Log w → Shadow w → Type 0
-AnswersEnd {w} config log h =
-    (link : Link) (ch : Channel) (x : Beat w) (source : ℕ) (f : Finish) (end : IsEnding config log link ch h x source f) → end.first.kind ≡ Answer → Ends ((remembered config log).opened link.0 (pool_of f) source) x f
 
 -- ---- what a delivery can come to
 
@@ -113,9 +109,9 @@ nobody-continues {w} config log event none =
     same (Ask c o) = refl
     same (Deliver link ch) = refl
 
-pub continues-delivered : {w : ℕ} (config : Config) (log : Log w) (link : Link) (ch : Channel) (h : Shadow w) (terms : Terms) → IsWidth w → IsMatched config log h.mail h.request h.state (after config log) → AnswersEnd config log h → terms_at config link.0 ≡ Some terms
+continues-delivered : {w : ℕ} (config : Config) (log : Log w) (link : Link) (ch : Channel) (h : Shadow w) (terms : Terms) → IsWidth w → IsMatched config log h.mail h.request h.state (after config log) → terms_at config link.0 ≡ Some terms
     → Continues config (Deliver link ch, (stepped config (Deliver link ch) (after config log)).outcome) log
-continues-delivered {w} config log link ch h terms width is answers known = (
+continues-delivered {w} config log link ch h terms width is known = (
   moved (Deliver link ch) (stepped config (Deliver link ch) (after config log)).outcome m,
   accesses_answered (stepped config (Deliver link ch) (after config log)).handed,
   step_allowed config link ch (stepped config (Deliver link ch) (after config log)).outcome m (stepped-so config link ch terms (after config log) known) (ap is_some known) done,
@@ -132,7 +128,7 @@ continues-delivered {w} config log link ch h terms width is answers known = (
         end = ending config log link ch h x source f width is e
 
         go : (k : Kind) → end.first.kind ≡ k → Ends (m.opened link.0 (pool_of f) source) x f
-        go Answer g = answers link ch x source f end g
+        go Answer g = ends-answer config log link ch h x source f width is end g
         go Request g = ends-transfer config log link ch h x source f is end (λ i. let no_one : Request ≡ Answer = sym g ∙ i in cc)
         go Acquire g = ends-transfer config log link ch h x source f is end (λ i. let no_one : Acquire ≡ Answer = sym g ∙ i in cc)
         go Probe g = ends-transfer config log link ch h x source f is end (λ i. let no_one : Probe ≡ Answer = sym g ∙ i in cc)
@@ -142,28 +138,32 @@ continues-delivered {w} config log link ch h terms width is answers known = (
         go ReleaseAck g = ends-transfer config log link ch h x source f is end (λ i. let no_one : ReleaseAck ≡ Answer = sym g ∙ i in cc)
         go GrantAck g = ends-transfer config log link ch h x source f is end (λ i. let no_one : GrantAck ≡ Answer = sym g ∙ i in cc)
 
--- Each event goes on from the machine before it, where each answer ends its access as the machine allows.
-pub continues-event : {w : ℕ} (config : Config) (log : Log w) (event : Event w) (h : Shadow w) → IsWidth w → IsMatched config log h.mail h.request h.state (after config log) → AnswersEnd config log h
-    → Continues config (event, (stepped config event (after config log)).outcome) log
-continues-event {w} config log event h width is answers = go event (terms_at config (step.client_of event)) refl
+continues_event : {w : ℕ} (config : Config) (log : Log w) (event : Event w) (h : Shadow w) → IsWidth w → IsMatched config log h.mail h.request h.state (after config log) → Continues config (event, (stepped config event (after config log)).outcome) log
+continues_event {w} config log event h width is = go event (terms_at config (step.client_of event)) refl
   where
     go : (e : Event w) (o : Option Terms) → terms_at config (step.client_of e) ≡ o → Continues config (e, (stepped config e (after config log)).outcome) log
     go e None none = nobody-continues config log e none
-    go (Deliver link ch) (Some terms) known = continues-delivered config log link ch h terms width is answers known
+    go (Deliver link ch) (Some terms) known = continues-delivered config log link ch h terms width is known
     go (Ask c o) (Some terms) known =
         subst (λ (i : Outcome w). Continues config (Ask c o, i) log) (sym (ap (λ (x : Step w). x.outcome) (stepped-asked config c o (after config log) terms known))) (continues-ask config log h c terms o width is known)
 
+-- Each event goes on from the machine before it.
+pub continues : {w : ℕ} (config : Config) (log : Log w) (x : Event w × Outcome w) → IsWidth w → AreTyped log → IsLog config (x ∷ log) → Continues config x log
+unfolding IsLog
+continues {w} config log x width typed logged =
+    subst (λ (o : Outcome w). Continues config (x.0, o) log) (sym logged.0) (continues_event config log x.0 (shadow config log) width (matched config log width typed logged.1))
+
 -- ---- runs
 
-all-continue : {w : ℕ} (config : Config) (log : Log w) → IsWidth w → AreTyped log → IsLog config log → ((l : Log w) → AreTyped l → IsLog config l → AnswersEnd config l (shadow config l)) → AllContinue config log
-unfolding AllContinue AreTyped IsLog
-all-continue config [] width typed logged answers = tt
-all-continue {w} config (x ∷ log) width typed logged answers = (
-  subst (λ (o : Outcome w). Continues config (x.0, o) log) (sym logged.0)
-      (continues-event config log x.0 (shadow config log) width (matched config log width typed.1 logged.1) (answers log typed.1 logged.1)),
-  all-continue config log width typed.1 logged.1 answers,
-)
+logged_before : {w : ℕ} (config : Config) (x : Event w × Outcome w) (log : Log w) → IsLog config (x ∷ log) → IsLog config log
+unfolding IsLog
+logged_before config x log logged = logged.1
 
--- The outcomes are a run of the one-memory machine, where each answer ends its access as the machine allows.
-pub run-answered : {w : ℕ} (config : Config) (log : Log w) → IsWidth w → AreTyped log → IsLog config log → ((l : Log w) → AreTyped l → IsLog config l → AnswersEnd config l (shadow config l)) → Run config log (remembered config log)
-run-answered config log width typed logged answers = run-continued config log (all-continue config log width typed logged answers)
+all_continue : {w : ℕ} (config : Config) (log : Log w) → IsWidth w → AreTyped log → IsLog config log → AllContinue config log
+unfolding AllContinue AreTyped
+all_continue config [] width typed logged = tt
+all_continue config (x ∷ log) width typed logged = (continues config log x width typed.1 logged, all_continue config log width typed.1 (logged_before config x log logged))
+
+-- The outcomes are a run of the one-memory machine.
+pub run : {w : ℕ} (config : Config) (log : Log w) → IsWidth w → AreTyped log → IsLog config log → Run config log (remembered config log)
+run config log width typed logged = run-continued config log (all_continue config log width typed logged)

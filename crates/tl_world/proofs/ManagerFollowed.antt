@@ -1,10 +1,5 @@
 -- The manager's end after a delivery on channel C or E, as a step of the whole and as the protocol follows it.
-use Rattle.tl_world.proofs.FirstToken.{first-token}
-use Rattle.tl_world.proofs.RequestsTaken.{invariant-taken, next_tracker}
-use Rattle.tl_world.proofs.Waiting.{AreAcquired, kind_taken-acquired}
-use Rattle.tl_world.specs.Token.{ProbeAck, Release, GrantAck}
-use Rattle.tl_world.specs.Invariant.{IsInvariant}
-use Rattle.std.proofs.Common.{Bool, true, false, ◌≡◌, ℕ, false, List, ◌∷◌, Option, Some, None, refl, sym, ◌∙◌, ap, subst, arith}
+use Rattle.std.proofs.Common.{false, ◌≡◌, ℕ, false, List, ◌∷◌, Option, Some, None, refl, sym, ◌∙◌, ap, subst, arith}
 use Rattle.std.specs.Prelude.{if◌then◌else◌, option_map, slice_get, All}
 use Rattle.tl_beat.specs.Width.{IsWidth}
 use Rattle.tl_beat.specs.declared.beat.Beat.{Beat}
@@ -28,10 +23,10 @@ use Rattle.tl_world.specs.Matched.{receiver}
 use Rattle.tl_world.specs.Protocol.{tokens_on}
 use Rattle.tl_world.specs.Step.{Step, handing, is_to_client, manager_took, stepped}
 use Rattle.tl_world.specs.System.{System, terms_at, with_channel, with_manager}
-use Rattle.tl_world.specs.Whole.{IsMatched, is_caching}
+use Rattle.tl_world.specs.Whole.{IsMatched}
 use Rattle.tl_world.proofs.ManagerAfter.{IsManagerOf, left}
 use Rattle.tl_world.proofs.ManagerDelivered.{channel_c-delivered, channel_e-delivered}
-use Rattle.tl_world.proofs.ManagerTakes.{IsTakenUp, by-first_c, by-first_e}
+use Rattle.tl_world.proofs.ManagerTakes.{IsTakenUp}
 use Rattle.tl_world.proofs.Steps.{manager-with_messages, stepped-to-manager}
 
 -- a link that has a beat is a client's
@@ -83,45 +78,3 @@ manager-followed_e {w} config log h sys c x queue width is beats =
     let d = channel_e-delivered config log (least_free (trackers_of (services sys.manager.trace))) h sys c x queue width is beats in
     subst (λ (i : End w). IsManagerOf config (followed config (Deliver (record { 0 = c }) channel.E) sys h) i) (sym (manager-taken config c channel.E x queue sys t.0 t.1 beats refl d.up))
     (subst (λ (i : Shadow w). IsManagerOf config i (left c x (deed config (record { 0 = c }) x sys.manager) sys.manager)) (sym (followed-taken config c channel.E x queue sys h t.0 t.1 beats refl d.up)) d.manager)
-
--- ---- the invariant, and whose Acquire waits
-
--- either way
-either_way : {w : ℕ} (P : Shadow w → Type 0) (b : Bool) (h' h : Shadow w) → P h' → P h → P (if b then h' else h)
-either_way P true h' h last part = last
-either_way P false h' h last part = part
-
--- the invariant, and whose Acquire waits
-abbrev pub IsKeptBy : {w : ℕ} → Config → Shadow w → Type 0
-IsKeptBy config h = IsInvariant (is_caching config) h.state × AreAcquired h.request h.state.block
-
-token-kept_c : {w : ℕ} (config : Config) (log : Log w) (h : Shadow w) (sys : System w) (c : ℕ) (x : Beat w) (queue : List (Beat w)) → IsWidth w → IsMatched config log h.mail h.request h.state sys → sys.channels c channel.C ≡ x ∷ queue
-    → IsKeptBy config (token_taken config (next_tracker sys) c (h.state.link c).c h)
-token-kept_c {w} config log h sys c x queue width is beats =
-    by-first_c (λ i. IsKeptBy config (token_taken config (next_tracker sys) c i h)) c h.mail h.state sys x queue (first-token (is_caching config) channel.C c h.mail h.state sys x queue width is.invariant is.carried beats)
-    (λ n rest tokens next. (invariant-taken config log h sys c ProbeAck n rest is tokens tt, kind_taken-acquired config (next_tracker sys) c ProbeAck n rest h is.acquired))
-    (λ n rest tokens next. (invariant-taken config log h sys c Release n rest is tokens tt, kind_taken-acquired config (next_tracker sys) c Release n rest h is.acquired))
-
-token-kept_e : {w : ℕ} (config : Config) (log : Log w) (h : Shadow w) (sys : System w) (c : ℕ) (x : Beat w) (queue : List (Beat w)) → IsWidth w → IsMatched config log h.mail h.request h.state sys → sys.channels c channel.E ≡ x ∷ queue
-    → IsKeptBy config (token_taken config (next_tracker sys) c (h.state.link c).e h)
-token-kept_e {w} config log h sys c x queue width is beats =
-    by-first_e (λ i. IsKeptBy config (token_taken config (next_tracker sys) c i h)) c h.mail h.state sys x queue (first-token (is_caching config) channel.E c h.mail h.state sys x queue width is.invariant is.carried beats)
-    (λ n rest tokens next. (invariant-taken config log h sys c GrantAck n rest is tokens tt, kind_taken-acquired config (next_tracker sys) c GrantAck n rest h is.acquired))
-
-pub kept-followed_c : {w : ℕ} (config : Config) (log : Log w) (h : Shadow w) (sys : System w) (c : ℕ) (x : Beat w) (queue : List (Beat w)) → IsWidth w → IsMatched config log h.mail h.request h.state sys → sys.channels c channel.C ≡ x ∷ queue
-    → IsKeptBy config (followed config (Deliver (record { 0 = c }) channel.C) sys h)
-kept-followed_c {w} config log h sys c x queue width is beats =
-    let tracker = least_free (trackers_of (services sys.manager.trace)) in
-    let t = client-of config c channel.C x queue sys beats (is.sound c channel.C) in
-    let d = channel_c-delivered config log tracker h sys c x queue width is beats in
-    subst (IsKeptBy config) (sym (followed-taken config c channel.C x queue sys h t.0 t.1 beats refl d.up))
-    (either_way (IsKeptBy config) (completes x (unfinished channel.C (receiver channel.C c sys))) (token_taken config tracker c (h.state.link c).c h) h (token-kept_c config log h sys c x queue width is beats) (is.invariant, is.acquired))
-
-pub kept-followed_e : {w : ℕ} (config : Config) (log : Log w) (h : Shadow w) (sys : System w) (c : ℕ) (x : Beat w) (queue : List (Beat w)) → IsWidth w → IsMatched config log h.mail h.request h.state sys → sys.channels c channel.E ≡ x ∷ queue
-    → IsKeptBy config (followed config (Deliver (record { 0 = c }) channel.E) sys h)
-kept-followed_e {w} config log h sys c x queue width is beats =
-    let tracker = least_free (trackers_of (services sys.manager.trace)) in
-    let t = client-of config c channel.E x queue sys beats (is.sound c channel.E) in
-    let d = channel_e-delivered config log tracker h sys c x queue width is beats in
-    subst (IsKeptBy config) (sym (followed-taken config c channel.E x queue sys h t.0 t.1 beats refl d.up))
-    (either_way (IsKeptBy config) (completes x (unfinished channel.E (receiver channel.E c sys))) (token_taken config tracker c (h.state.link c).e h) h (token-kept_e config log h sys c x queue width is beats) (is.invariant, is.acquired))

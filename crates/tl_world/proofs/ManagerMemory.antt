@@ -7,7 +7,6 @@ use Rattle.tl_beat.specs.Opcode.{c_carries_data}
 use Rattle.tl_beat.specs.declared.beat.Beat.{Beat}
 use Rattle.tl_beat.specs.declared.beat.Beat.TheVariants as beat
 use Rattle.tl_beat.specs.declared.beat.BeatC.{BeatC}
-use Rattle.tl_beat.specs.declared.beat.BeatE.{BeatE}
 use Rattle.tl_beat.specs.declared.beat.Link.{Link}
 use Rattle.tl_beat.specs.declared.opcode.Channel.{Channel}
 use Rattle.tl_burst.specs.declared.message.Message.TheVariants as message
@@ -56,9 +55,6 @@ pub other-blocks : {w : ℕ} (config : Config) (link : Link) (ch : Channel) (x :
     → block_in (offered config link ch (beat.C x) e).1.memory i ≡ block_in e.memory i
 other-blocks config link ch x e n width kept block i other =
     block-alike i _ _ (λ address here. memory-elsewhere config link ch (beat.C x) e address width tt kept (rw (block, here) (ne_eqb n i (λ f. other (sym f)))))
-
-pub all-blocks_e : {w : ℕ} (config : Config) (link : Link) (ch : Channel) (x : BeatE) (e : slave.End w) → IsWidth w → IsKept config e → (i : ℕ) → block_in (offered config link ch (beat.E x) e).1.memory i ≡ block_in e.memory i
-all-blocks_e config link ch x e width kept i = block-alike i _ _ (λ address here. memory-elsewhere config link ch (beat.E x) e address width tt kept refl)
 
 -- what holds of the block of the event, and of the others as before, holds of all
 pub blocks-now : (memory later : Memory) (n : ℕ) (new : Block (List ℕ)) (s : State (List ℕ)) → block_in later n ≡ new.memory → ((i : ℕ) → (i ≡ n → ⊥) → block_in later i ≡ block_in memory i)

@@ -21,11 +21,10 @@ use Rattle.tl_params.specs.declared.param.Prune.TheVariants as prune
 use Rattle.tl_params.specs.declared.param.Report.{Report}
 use Rattle.tl_params.specs.declared.param.Report.TheVariants as report
 use Rattle.tl_params.specs.declared.perm.Perm.{Perm}
-use Rattle.tl_params.specs.declared.perm.Perm.TheVariants as perm
 use Rattle.tl_params.specs.declared.profile.Profile.{Profile}
 use Rattle.tl_params.specs.declared.rule.Rule.TheVariants.{H1, H8, H13}
 use Rattle.tl_params.specs.Param.{prune_code, prune_left, prune_of, report_at, report_code}
-use Rattle.tl_rules.specs.Conformance.{on_link, broken_in_order, broken_order, prunes_from, comes_in_grant, same_perm}
+use Rattle.tl_rules.specs.Conformance.{on_link, broken_in_order, broken_order, prunes_from, same_perm}
 use Rattle.tl_rules.specs.History.{held, pending}
 use Rattle.tl_rules.specs.Legality.{rule_if}
 use Rattle.tl_manager.specs.Kept.{IsSound, IsKept, illegal_at}

@@ -35,9 +35,6 @@ at_manager-matched config log mail request s sys is = record {
   all_live = is.all_live;
 }
 
-pub traced-matched : {w : ℕ} (config : Config) (log : Log w) (mail : Mail w) (request : ℕ → MessageA w) (s : State (List ℕ)) (sys : System w) → IsMatched config log mail request s sys → IsTraced request s sys.manager.trace
-traced-matched config log mail request s sys is = traced-known request s sys.manager.trace is.managed is.served
-
 -- the values of the trace give all else
 pub at_manager-traced : {w : ℕ} (caching : ℕ → Bool) (config : Config) (mail : Mail w) (request : ℕ → MessageA w) (s : State (List ℕ)) (e : End w) → IsInvariant caching s → IsKept config e → IsTraced request s e.trace
     → ((n : ℕ) → IsServedWith mail (s.block n).service (request n)) → ((n : ℕ) → bytes_from e.memory (64 * n) 64 ≡ (s.block n).memory) → e.closed ≡ [] → IsAtManager config mail request s e

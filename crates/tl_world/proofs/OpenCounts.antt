@@ -86,11 +86,6 @@ pub record IsBalance {X : Type 0} (config : Config) (s s' : State X) (starts end
 pub requests-split : {X : Type 0} (config : Config) (s : State X) → open_requests config s ≡ marked is_used (clients_in config) (sources_in config) s.uses + acks (clients_in config) s.link
 requests-split config s = total-plus (clients_in config) (λ c. total (sources_in config c) (λ i. one_if (is_used (s.uses c i)))) (λ c. length (s.link c).e)
 
--- by uses, GrantAcks and Releases
-pub requests-by : {X : Type 0} (config : Config) (s s' : State X) (a b p q : ℕ) → marked is_used (clients_in config) (sources_in config) s'.uses + a ≡ marked is_used (clients_in config) (sources_in config) s.uses + b
-    → acks (clients_in config) s'.link + p ≡ acks (clients_in config) s.link + q → open_requests config s' + (a + p) ≡ open_requests config s + (b + q)
-requests-by config s s' a b p q uses links = omega (arith, uses, links, requests-split config s, requests-split config s')
-
 -- nothing is opened or ended
 pub balance-same : {X : Type 0} (config : Config) (s s' : State X) → ((c i : ℕ) → is_used (s'.uses c i) ≡ is_used (s.uses c i)) → ((c i : ℕ) → is_let (s'.lets c i) ≡ is_let (s.lets c i)) → ((c : ℕ) → (s'.link c).e ≡ (s.link c).e)
     → IsBalance config s s' false false false false

@@ -180,7 +180,7 @@ first-probe {w} c h sys x queue first = go first.kind first.own first.next
     go GrantAck own next = absurd cc
 
 -- a delivery that moves a beat is one of a client's link, which has that beat
-first-moved : {w : ℕ} (config : Config) (link : Link) (ch : Channel) (sys : System w) → is_moving (stepped config (Deliver link ch) sys).outcome ≡ true
+pub first-moved : {w : ℕ} (config : Config) (link : Link) (ch : Channel) (sys : System w) → is_moving (stepped config (Deliver link ch) sys).outcome ≡ true
     → (x : Beat w) × (queue : List (Beat w)) × (terms : Terms) × ((sys.channels link.0 ch ≡ x ∷ queue) × (terms_at config link.0 ≡ Some terms))
 unfolding stepped
 first-moved {w} config link ch sys moving = go (terms_at config link.0) refl moving

@@ -1,5 +1,5 @@
 -- What a delivery leaves on the channels, who has something open, and how much is left of what is taken.
-use Rattle.std.proofs.Common.{◌≡◌, ℕ, ◌+◌, ◌<◌, ◌≤◌, Bool, true, false, List, [], ◌∷◌, refl, sym, ◌∙◌, ap, arith}
+use Rattle.std.proofs.Common.{◌≡◌, ℕ, ◌+◌, ◌<◌, Bool, true, false, List, [], ◌∷◌, refl, sym, ◌∙◌, ap, arith}
 use Rattle.std.specs.Prelude.{◌==◌, ◌&&◌, if◌then◌else◌, Option, Some, None, length}
 use Rattle.std.proofs.lemmas.Bool.{eqb-true}
 use Rattle.tl_beat.specs.Width.{IsWidth}
@@ -22,7 +22,7 @@ use Rattle.tl_world.specs.System.{System, same_channel, terms_at}
 use Rattle.tl_world.specs.Token.{Kind, Request, Acquire, Probe, ProbeAck, Release, Answer, Grant, ReleaseAck, GrantAck, Token, is}
 use Rattle.tl_world.specs.Whole.{IsMatched}
 use Rattle.tl_world.proofs.Bounded.{matched-bounded}
-use Rattle.tl_world.proofs.Channels.{IsTaken, Fits, same_channel-is}
+use Rattle.tl_world.proofs.Channels.{Fits, same_channel-is}
 use Rattle.tl_world.proofs.FirstToken.{IsFirst}
 use Rattle.tl_world.proofs.Leftover.{IsPopped, beats_left, is_pop, is_front, taken_of}
 use Rattle.tl_world.proofs.Owing.{AreClients}
@@ -61,14 +61,14 @@ not_popped None (Pushes k n) render fits = absurd fits
 not_popped (Some m) Stays render fits = absurd fits
 not_popped (Some m) (Pops k n) render fits = absurd fits
 
-same_again : (ch : Channel) → same_channel ch ch ≡ true
+pub same_again : (ch : Channel) → same_channel ch ch ≡ true
 same_again channel.A = refl
 same_again channel.B = refl
 same_again channel.C = refl
 same_again channel.D = refl
 same_again channel.E = refl
 
-elsewhere : (c d : ℕ) (ch at : Channel) → (d ≡ c → at ≡ ch → ⊥) → ((d == c) && same_channel at ch) ≡ false
+pub elsewhere : (c d : ℕ) (ch at : Channel) → (d ≡ c → at ≡ ch → ⊥) → ((d == c) && same_channel at ch) ≡ false
 elsewhere c d ch at ne = go (d == c) (same_channel at ch) refl refl
   where
     go : (a b : Bool) → (d == c) ≡ a → same_channel at ch ≡ b → (a && b) ≡ false
@@ -94,11 +94,6 @@ popped-received {w} c ch pushes moves render s s' sys sys' received fits moved =
 
     head : IsHead (tokens_on ch (s.link c)) (tokens_on ch (s'.link c))
     head = popped_first (pushes c ch) (moves c ch) (render c) (tokens_on ch (s.link c)) (tokens_on ch (s'.link c)) (fits_by ((c == c) && same_channel ch ch) true (pushes c ch) (moves c ch) (render c) here (fits c ch)) (moved c ch)
-
-pub popped-taken : {w : ℕ} (c : ℕ) (ch : Channel) (x : Beat w) (queue : List (Beat w)) (pushes : ℕ → Channel → Option (Message w)) (moves : ℕ → Channel → Move) (render : ℕ → Kind → ℕ → Message w) (s s' : State (List ℕ)) (sys sys' : System w)
-    → IsTaken c ch x queue pushes sys sys' → ((d : ℕ) (at : Channel) → Fits ((d == c) && same_channel at ch) (pushes d at) (moves d at) (render d)) → ((d : ℕ) → AreMoved (moves d) (s.link d) (s'.link d))
-    → IsPopped c ch moves (unfinished_at sys) (unfinished_at sys') s s'
-popped-taken c ch x queue pushes moves render s s' sys sys' taken fits moved = popped-received c ch pushes moves render s s' sys sys' taken.rests fits moved
 
 -- ---- who has something open
 
@@ -142,9 +137,3 @@ first-left {w} ch c mail s sys x queue first =
     rw (kind_channel ch first.kind first.own, first.tokens, same_kind_again first.kind, same_number first.number, first.next.rest_is) (length-begun (message_of_kind first.kind mail s c first.number) first.next.k) in
     let within = first.next.within in
     omega (arith, taken, within)
-
-pub some-left : {w : ℕ} (ch : Channel) (c : ℕ) (mail : Mail w) (s : State (List ℕ)) (sys : System w) (x : Beat w) (queue : List (Beat w)) → (first : IsFirst ch c mail s sys x queue) → 1 ≤ beats_left mail s (unfinished_at sys) c first.kind first.number
-some-left ch c mail s sys x queue first =
-    let all = first-left ch c mail s sys x queue first in
-    let within = first.next.within in
-    omega (arith, all, within)

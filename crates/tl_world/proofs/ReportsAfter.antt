@@ -29,7 +29,7 @@ use Rattle.tl_world.specs.Step.{stepped}
 use Rattle.tl_world.specs.Sources.{IsFor}
 use Rattle.tl_world.specs.System.{System}
 use Rattle.tl_world.specs.Token.{ProbeAck, Release, ReleaseAck, Grant, Token}
-use Rattle.tl_world.specs.Whole.{IsMatched, IsRequest, IsServedWith, IsSourced, is_caching}
+use Rattle.tl_world.specs.Whole.{IsMatched, IsRequest, IsServedWith, is_caching}
 use Rattle.tl_world.proofs.Aside.{set_at-same}
 use Rattle.tl_world.proofs.BesideKinds.{IsWaiting, accesses_by, beside-report, beside_block, last_accesses, same_acquiring}
 use Rattle.tl_world.proofs.BesideRequests.{IsOnce, accesses-answer}
@@ -44,6 +44,7 @@ use Rattle.tl_world.proofs.ManagerFollowed.{client-of, followed-taken, step-take
 use Rattle.tl_world.proofs.ManagerTakes.{by-first_c}
 use Rattle.tl_world.proofs.RequestsTaken.{next_tracker}
 use Rattle.tl_world.proofs.Sized.{used-serving}
+use Rattle.tl_world.proofs.SizedAfter.{served-request}
 use Rattle.tl_world.proofs.Tokens.{holds-first}
 
 -- ---- which accesses are answered by what is handed out
@@ -86,9 +87,6 @@ report-answered {w} config c n r rest h for = go (some_below (length config.clie
     go false = last-answered config c n r (h.state.block n).service rest h for
 
 -- ---- the access that waits can be performed
-
-served-request : {w : ℕ} (config : Config) (q source n : ℕ) (m : Message w) (u : Use) → u ≡ InService n → IsSourced config q source m u → IsRequest config q source m
-served-request config q source n m u e h = rw e at h
 
 served-open : {w : ℕ} (q source n : ℕ) (h : Shadow w) (m : Machine w) (u : Use) → u ≡ InService n → IsOpened q source h.mail h.state u (m.opened q Requests source) → IsAccess source (h.mail.request q source) None (m.opened q Requests source)
 served-open q source n h m u e is = rw e at is

@@ -21,7 +21,6 @@ use Rattle.tl_manager.specs.Service.{services, is_in_service}
 use Rattle.tl_manager.specs.Slave as manager
 use Rattle.tl_manager.specs.Slave.{End, Passes, before_stall, must_wait, judged, offered, deed}
 use Rattle.tl_world.specs.Carried.{IsCarried}
-use Rattle.tl_world.specs.Invariant.{IsInvariant}
 use Rattle.tl_world.specs.declared.event.Event.TheVariants.{Deliver}
 use Rattle.tl_world.specs.declared.event.Outcome.TheVariants as outcome
 use Rattle.tl_world.specs.Follow as follow
@@ -51,7 +50,7 @@ use Rattle.tl_world.proofs.ManagersEnd.{at_manager-matched}
 use Rattle.tl_world.proofs.Requests.{IsUnwaited}
 use Rattle.tl_world.proofs.Steps.{manager-with_messages, stepped-empty, stepped-to-manager}
 use Rattle.tl_world.proofs.Tokens.{same_number}
-use Rattle.tl_world.proofs.RequestsTaken.{next_tracker, invariant-taken, IsAfterwards, unwaited-asked, ready-request, at_manager-request_taken, acquire_wanted, acquire_block, ready-acquire, at_manager-acquire_taken}
+use Rattle.tl_world.proofs.RequestsTaken.{next_tracker, IsAfterwards, unwaited-asked, ready-request, at_manager-request_taken, acquire_wanted, acquire_block, ready-acquire, at_manager-acquire_taken}
 
 -- ---- the request that is first
 
@@ -275,16 +274,6 @@ delivery-a {w} config log h sys c terms P width is client empty stalled moved = 
     go : (xs : List (Beat w)) → sys.channels c channel.A ≡ xs → P step
     go [] e = subst P (sym (stepped-empty config (link_of c) channel.A sys terms client e)) (empty e)
     go (x ∷ queue) e = taken_or_not x queue e (arrival-first config log h sys c x queue width is e) (must_wait config (link_of c) x sys.manager.trace) refl
-
--- the protocol keeps its invariant
-pub invariant-delivered_a : {w : ℕ} (config : Config) (log : Log w) (h : Shadow w) (sys : System w) (c : ℕ) (terms : Terms) → IsWidth w → IsMatched config log h.mail h.request h.state sys → terms_at config c ≡ Some terms
-    → IsInvariant (is_caching config) (followed config (Deliver (link_of c) channel.A) sys h).state
-invariant-delivered_a {w} config log h sys c terms width is client =
-    delivery-a config log h sys c terms (λ (step : Step w). IsInvariant (is_caching config) (delivered config c channel.A step.outcome sys h).state) width is client (λ e. is.invariant) (λ x queue e waits. is.invariant) (λ x queue beats arrives moves.
-    let comes = coming-arrival config log h sys c x queue width is beats arrives moves in
-    moved-a config h sys c x queue (λ (i : Shadow w). IsInvariant (is_caching config) i.state) beats arrives
-    (λ last. invariant-taken config log h sys c arrives.kind arrives.number arrives.rest is arrives.is_it.on_it (arrives.is_it.ready arrives.next.k comes last (rw arrives.next.beat_is at moves)))
-    (λ more. is.invariant))
 
 -- and what the manager knows is what the protocol says then
 pub at_manager-delivered_a : {w : ℕ} (config : Config) (log : Log w) (h : Shadow w) (sys : System w) (c : ℕ) (terms : Terms) → IsWidth w → IsMatched config log h.mail h.request h.state sys → terms_at config c ≡ Some terms

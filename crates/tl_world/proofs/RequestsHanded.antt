@@ -1,5 +1,5 @@
 -- What the manager hands out at the last beat of a request: the messages of the tokens that the protocol pushes.
-use Rattle.std.proofs.Common.{◌≡◌, ℕ, suc, ◌==◌, ◌*◌, Bool, true, false, not, ◌&&◌, List, [], ◌∷◌, refl, sym, ◌∙◌, ap, ap₂, inl, inr}
+use Rattle.std.proofs.Common.{◌≡◌, ℕ, suc, ◌*◌, Bool, true, false, not, ◌&&◌, List, [], ◌∷◌, refl, sym, ◌∙◌, ap, ap₂, inl, inr}
 use Rattle.std.specs.Prelude.{if◌then◌else◌, length}
 use Rattle.std.proofs.lemmas.Bool.{cases_eq}
 use Rattle.tl_beat.specs.declared.beat.Beat.TheVariants as beat
@@ -31,11 +31,11 @@ use Rattle.tl_world.specs.Follow.{acquire_opcode, answers, gift, is_unheld, prob
 use Rattle.tl_world.specs.Invariant.{IsWell, is_out}
 use Rattle.tl_world.specs.Log.{Log}
 use Rattle.tl_world.specs.Phase.{Pair}
-use Rattle.tl_world.specs.PhaseSteps.{after_served, after_grant_sent, is_above, is_granted_data}
-use Rattle.tl_world.specs.Protocol.{GrantSent, Block, State, view, is_granting, is_probed, served_block, granted_at_once}
-use Rattle.tl_world.specs.Render.{Mail, cap_sent, grant_of, rendered}
+use Rattle.tl_world.specs.PhaseSteps.{after_grant_sent, is_granted_data}
+use Rattle.tl_world.specs.Protocol.{GrantSent, Block, State, view, is_granting, granted_at_once}
+use Rattle.tl_world.specs.Render.{Mail, grant_of, rendered}
 use Rattle.tl_world.specs.System.{System}
-use Rattle.tl_world.specs.Token.{Probe, Grant}
+use Rattle.tl_world.specs.Token.{Grant}
 use Rattle.tl_world.specs.Whole.{IsMatched}
 use Rattle.tl_world.proofs.Arrivals.{link_of, with_beat, IsComing, service_for}
 use Rattle.tl_world.proofs.Fronts.{IsAsked, IsWanted, acquires-so}
@@ -58,18 +58,6 @@ handed-answered {w} config log mail request s sys c source k is asked comes last
     ap (λ (d : Deed w). d.handed) (deed-performed config log mail request s sys c k n false m is comes last asked.access refl none ∙ performed-access config (service_for c m e.trace) (with_beat c m k e.trace) e.memory asked.access)
     ∙ ap (λ (i : Message w). (link_of c, i) ∷ [])
     (ap (λ (r : memory.Reply). access_answer m (answer_of (message.A m) r)) (performed-reply (level_of config c) m e.memory comes.width asked.lawful) ∙ ap (answers m) bytes_are)
-
--- ---- a Probe
-
--- the Probe that goes to a client is that of its token
-pub probe-rendered : {w : ℕ} (r n source tracker : ℕ) (own : Bool) (j : Cap) (b : Block (List ℕ)) (d : ℕ) → is_probed r own j (b.pair d).recorded d ≡ true → rendered Probe d n (served_block r own source tracker j b) ≡ probe_of_block {w = w} n j
-unfolding rendered
-probe-rendered {w} r n source tracker own j b d above = go (own && (d == r)) (is_above j (b.pair d).recorded) refl above
-  where
-    go : (x y : Bool) → is_above j (b.pair d).recorded ≡ y → (not x && y) ≡ true → probe_of_block n (cap_sent (if x then b.pair d else after_served j (b.pair d)).probing) ≡ probe_of_block {w = w} n j
-    go true y e f = absurd cc
-    go false false e f = absurd cc
-    go false true e f = rw e refl
 
 -- ---- a Grant
 

@@ -101,10 +101,6 @@ showing-block {w} caching n b' moves mail mail' s s' inv inv' moved blocks alike
   answers = answers;
 }
 
--- a fact of one client's pair, where another client's changes
-alike-elsewhere : (c d : ℕ) (p : Pair) (b b' : Block (List ℕ)) → (d ≡ c → ⊥) → b'.pair ≡ set c p b.pair → b'.pair d ≡ b.pair d
-alike-elsewhere c d p b b' ne e = ap (λ (f : ℕ → Pair). f d) e ∙ set-other c d p b.pair ne
-
 -- ---- what carries bytes, by the phase
 
 abbrev pub is_told : Pair → Bool

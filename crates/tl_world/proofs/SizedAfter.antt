@@ -30,7 +30,7 @@ use Rattle.tl_world.specs.PhaseSteps.{after_acquire, after_release, after_served
 use Rattle.tl_world.specs.Protocol.{Service, Free, Waits, GrantSent, GrantTaken, Block, State, Use, Closed, Asked, InService, Replied, Acquires, token, on, acquiring_block, stored_block, performed_block, served_block, ended_block, granted_block, granted_pair, taken_block, granted_truth, freed_block}
 use Rattle.tl_world.specs.Token.{Kind, Request, Acquire, Probe, ProbeAck, Release, Answer, Grant, ReleaseAck, GrantAck, Token, set, set_at}
 use Rattle.tl_world.specs.Whole.{AreSized, IsRequest, IsSourced, is_storing}
-use Rattle.tl_world.proofs.Sized.{each-set_at}
+use Rattle.tl_world.proofs.Sized.{each-set_at, used-serving}
 use Rattle.tl_world.proofs.Tokens.{same_number, set-same, set-other, set-each, set-part, holds-first}
 
 -- ---- accesses and their sources
@@ -45,12 +45,16 @@ sourced_set config request c source u uses here before d i = each-set_at (λ j k
 asked_request : {w : ℕ} (config : Config) (c source : ℕ) (m : Message w) (u : Use) → u ≡ Asked → IsSourced config c source m u → IsRequest config c source m
 asked_request config c source m u e h = rw e at h
 
+-- and so has one that is in service
+pub served-request : {w : ℕ} (config : Config) (q source n : ℕ) (m : Message w) (u : Use) → u ≡ InService n → IsSourced config q source m u → IsRequest config q source m
+served-request config q source n m u e h = rw e at h
+
 sourced_access : {w : ℕ} (config : Config) (c source : ℕ) (m : MessageA w) (tracker : ℕ) (p : Bool) (o : Option Cap) (rest : List Token) (h : Shadow w) → h.state.uses c source ≡ Asked → AreSourced config h.mail.request h.state.uses
     → AreSourced config (access_taken c source m tracker p o rest h).mail.request (access_taken c source m tracker p o rest h).state.uses
 sourced_access config c source m tracker true (Some k) rest h used before =
     sourced_set config h.mail.request c source (InService (block_at m.address)) h.state.uses (asked_request config c source (h.mail.request c source) (h.state.uses c source) used (before c source)) before
-sourced_access config c source m tracker true None rest h used before = sourced_set config h.mail.request c source Replied h.state.uses tt before
-sourced_access config c source m tracker false o rest h used before = sourced_set config h.mail.request c source Replied h.state.uses tt before
+sourced_access config c source m tracker true None rest h used before = sourced_set config h.mail.request c source Replied h.state.uses (asked_request config c source (h.mail.request c source) (h.state.uses c source) used (before c source)) before
+sourced_access config c source m tracker false o rest h used before = sourced_set config h.mail.request c source Replied h.state.uses (asked_request config c source (h.mail.request c source) (h.state.uses c source) used (before c source)) before
 
 sourced_request : {w : ℕ} (config : Config) (clients c source : ℕ) (m : Message w) (tracker : ℕ) (rest : List Token) (h : Shadow w) → h.state.uses c source ≡ Asked → AreSourced config h.mail.request h.state.uses
     → AreSourced config (request_taken clients c source m tracker rest h).mail.request (request_taken clients c source m tracker rest h).state.uses
@@ -74,13 +78,14 @@ sourced_granted : {w : ℕ} (config : Config) (clients : ℕ) (p : Profile) (c q
 sourced_granted config clients p c q n r Calm rest h before = before
 sourced_granted config clients p c q n r (Wants whole g) rest h before = before
 
-sourced_last : {w : ℕ} (config : Config) (clients : ℕ) (p : Profile) (c n : ℕ) (r : Report) (v : Service) (rest : List Token) (h : Shadow w) → AreSourced config h.mail.request h.state.uses
+sourced_last : {w : ℕ} (config : Config) (clients : ℕ) (p : Profile) (c n : ℕ) (r : Report) (v : Service) (rest : List Token) (h : Shadow w) → ((q source : ℕ) (k : Cap) → v ≡ Waits q false source k → h.state.uses q source ≡ InService n) → AreSourced config h.mail.request h.state.uses
     → AreSourced config (last_taken clients p c n r v rest h).mail.request (last_taken clients p c n r v rest h).state.uses
-sourced_last config clients p c n r Free rest h before = before
-sourced_last config clients p c n r (Waits q true source k) rest h before = sourced_granted config clients p c q n r ((h.state.block n).pair q).acquiring rest h before
-sourced_last config clients p c n r (Waits q false source k) rest h before = sourced_set config h.mail.request q source Replied h.state.uses tt before
-sourced_last config clients p c n r (GrantSent q d k) rest h before = before
-sourced_last config clients p c n r (GrantTaken q) rest h before = before
+sourced_last config clients p c n r Free rest h used before = before
+sourced_last config clients p c n r (Waits q true source k) rest h used before = sourced_granted config clients p c q n r ((h.state.block n).pair q).acquiring rest h before
+sourced_last config clients p c n r (Waits q false source k) rest h used before =
+    sourced_set config h.mail.request q source Replied h.state.uses (served-request config q source n (h.mail.request q source) (h.state.uses q source) (used q source k refl) (before q source)) before
+sourced_last config clients p c n r (GrantSent q d k) rest h used before = before
+sourced_last config clients p c n r (GrantTaken q) rest h used before = before
 
 sourced_taken : {w : ℕ} (config : Config) (c n : ℕ) (v : Service) (rest : List Token) (h : Shadow w) → AreSourced config h.mail.request h.state.uses
     → AreSourced config (taken_by_client c n v rest h).mail.request (taken_by_client c n v rest h).state.uses
@@ -104,7 +109,7 @@ pub sourced-kind_taken : {w : ℕ} (caching : ℕ → Bool) (config : Config) (t
 sourced-kind_taken caching config tracker c Request i rest h inv first before = sourced_request config _ c i (h.mail.request c i) tracker rest h (first-asked caching c i rest h inv first) before
 sourced-kind_taken caching config tracker c Acquire i rest h inv first before = sourced_acquire config _ config.profile c i ((h.state.block i).pair c).acquiring tracker rest h before
 sourced-kind_taken caching config tracker c Probe i rest h inv first before = before
-sourced-kind_taken {w} caching config tracker c ProbeAck i rest h inv first before = either _ _ _ before (sourced_last config _ config.profile c i _ (h.state.block i).service rest h before)
+sourced-kind_taken {w} caching config tracker c ProbeAck i rest h inv first before = either _ _ _ before (sourced_last config _ config.profile c i _ (h.state.block i).service rest h (λ q source k e. used-serving caching h.state i q source k inv e) before)
   where
     either : (b : Bool) (s t : Shadow w) → AreSourced config s.mail.request s.state.uses → AreSourced config t.mail.request t.state.uses → AreSourced config (if b then s else t).mail.request (if b then s else t).state.uses
     either true s t f g = f

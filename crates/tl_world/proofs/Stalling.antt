@@ -1,7 +1,8 @@
 -- Which deliveries are stalled: a Probe while a Release of its block is outstanding, and the last beat of a request
 -- whose block is in service, or for which there is no tracker.
 use Rattle.std.proofs.Common.{◌≡◌, ℕ, Bool, true, false, List, [], ◌∷◌, refl, sym, ◌∙◌, ap}
-use Rattle.std.specs.Prelude.{not, ◌&&◌, if◌then◌else◌, Option, Some, None, is_none, option_map, Result, Ok, Err}
+use Rattle.std.specs.Prelude.{not, ◌&&◌, if◌then◌else◌, Option, Some, None, is_none, is_some, option_map, Result, Ok, Err}
+use Rattle.std.proofs.Math.Bool.{and-false}
 use Rattle.tl_beat.specs.declared.beat.Beat.{Beat}
 use Rattle.tl_beat.specs.declared.beat.Beat.TheVariants as beat
 use Rattle.tl_beat.specs.declared.beat.BeatB.{BeatB}
@@ -30,16 +31,18 @@ use Rattle.tl_manager.specs.Slave.{must_wait, Judgement, Breaks, Waits, Passes, 
 use Rattle.tl_manager.proofs.Stalls.{never-stalled}
 use Rattle.tl_world.specs.Beside.{IsLet}
 use Rattle.tl_world.specs.Coherent.{IsCoherent, started}
+use Rattle.tl_world.specs.declared.event.Event.TheVariants.{Deliver}
 use Rattle.tl_world.specs.Delivery.{IsExact, IsReleasing, Moves, is_emptiness, is_stall, outcome_of_delivery}
+use Rattle.tl_world.specs.Draining.{is_moving}
 use Rattle.tl_world.specs.Invariant.{is_of, releases_with}
 use Rattle.tl_world.specs.Log.{Log, after}
-use Rattle.tl_world.specs.Machine.{Open, Releases}
-use Rattle.tl_world.specs.Movable.{is_movable, stalls}
+use Rattle.tl_world.specs.Machine.{Open, Releases, is_client}
+use Rattle.tl_world.specs.Movable.{is_movable, moves, stalls}
 use Rattle.tl_world.specs.Phase.{is_kept}
 use Rattle.tl_world.specs.Protocol.{State}
 use Rattle.tl_world.specs.Remembered.{remembered}
 use Rattle.tl_world.specs.Render.{Mail}
-use Rattle.tl_world.specs.Step.{delivered, is_to_client, judged, manager_took, stepped}
+use Rattle.tl_world.specs.Step.{Step, delivered, is_to_client, judged, manager_took, stepped, stepped_at}
 use Rattle.tl_world.specs.System.{System, terms_at}
 use Rattle.tl_world.specs.Whole.{IsMatched}
 use Rattle.tl_world.proofs.Capacities.{source_of_release}
@@ -153,6 +156,48 @@ emptiness {w} config terms link ch (x ∷ rest) s = go (is_to_client ch)
     go : (b : Bool) → is_emptiness (if b then judged (offered terms ch x (s.clients link)).answer link ch x rest (offered terms ch x (s.clients link)).after s else manager_took link ch x rest (manager.offered config (record { 0 = link }) ch x s.manager) s).outcome ≡ false
     go true = of_client (offered terms ch x (s.clients link)).answer _
     go false = of_manager _
+
+-- one that is neither empty nor stalled moves a beat
+moving-else : {w : ℕ} (config : Config) (terms : Terms) (link : ℕ) (ch : Channel) (beats : List (Beat w)) (s : System w) → is_emptiness (delivered config terms link ch beats s).outcome ≡ false → is_stall (delivered config terms link ch beats s).outcome ≡ false
+    → is_moving (delivered config terms link ch beats s).outcome ≡ true
+moving-else config terms link ch [] s some unstalled = absurd cc
+moving-else {w} config terms link ch (x ∷ rest) s some unstalled = go (is_to_client ch) unstalled
+  where
+    of_client : (r : Result (Verdict × Option (Message w)) Rule) (e : client.End w) → is_stall (judged r link ch x rest e s).outcome ≡ false → is_moving (judged r link ch x rest e s).outcome ≡ true
+    of_client (Err rule) e f = absurd cc
+    of_client (Ok (verdict.Stalled, m)) e f = absurd cc
+    of_client (Ok (verdict.Taken, m)) e f = refl
+    of_client (Ok (verdict.Done source finish, m)) e f = refl
+
+    of_manager : (a : manager.Answer w × manager.End w) → is_stall (manager_took link ch x rest a s).outcome ≡ false → is_moving (manager_took link ch x rest a s).outcome ≡ true
+    of_manager (manager.Refused rule, e) f = absurd cc
+    of_manager (manager.Stalled, e) f = absurd cc
+    of_manager (manager.Sent handed, e) f = refl
+
+    step : Bool → Step w
+    step b = if b then judged (offered terms ch x (s.clients link)).answer link ch x rest (offered terms ch x (s.clients link)).after s else manager_took link ch x rest (manager.offered config (record { 0 = link }) ch x s.manager) s
+
+    go : (b : Bool) → is_stall (step b).outcome ≡ false → is_moving (step b).outcome ≡ true
+    go true f = of_client (offered terms ch x (s.clients link)).answer _ f
+    go false f = of_manager _ f
+
+-- a movable delivery moves a beat, where empty and stalled ones are what they should be
+pub movable-moves : {w : ℕ} (config : Config) (log : Log w) (c : ℕ) (ch : Channel) → (is_client config c ≡ true → IsExact config log c ch) → is_movable config c ch (after config log) ≡ true → is_moving (outcome_of_delivery config log c ch) ≡ true
+unfolding is_movable stepped
+movable-moves {w} config log c ch exactly movable = go (terms_at config c) refl ((after config log).channels c ch) refl movable
+  where
+    sys : System w
+    sys = after config log
+
+    go : (o : Option Terms) → terms_at config c ≡ o → (beats : List (Beat w)) → sys.channels c ch ≡ beats → moves config o c ch beats sys ≡ true → is_moving (outcome_of_delivery config log c ch) ≡ true
+    go None e beats f g = absurd cc
+    go (Some terms) e [] f g = absurd cc
+    go (Some terms) e (x ∷ rest) f g =
+        let is : IsExact config log c ch = exactly (ap is_some e) in
+        let same : outcome_of_delivery config log c ch ≡ (delivered config terms c ch (sys.channels c ch) sys).outcome = ap (λ (o : Option Terms). (stepped_at config o (Deliver (record { 0 = c }) ch) sys).outcome) e in
+        let some : is_emptiness (outcome_of_delivery config log c ch) ≡ false = is.empty ∙ ap is_empty f in
+        let unstalled : is_stall (outcome_of_delivery config log c ch) ≡ false = is.stalled ∙ ap (λ (b : Bool). not (is_empty (sys.channels c ch)) && not b) movable ∙ and-false (not (is_empty (sys.channels c ch))) in
+        ap is_moving same ∙ moving-else config terms c ch (sys.channels c ch) sys (sym (ap is_emptiness same) ∙ some) (sym (ap is_stall same) ∙ unstalled)
 
 -- ---- exact stalls
 

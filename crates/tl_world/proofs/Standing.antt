@@ -1,8 +1,9 @@
 -- Where no delivery is movable, nothing is on a channel; and where nothing is on a channel, none is movable.
-use Rattle.std.proofs.Common.{◌≡◌, ℕ, zero, suc, ◌+◌, ◌<◌, ◌≤◌, Bool, true, false, [], refl, inl, inr, arith}
+use Rattle.std.proofs.Common.{◌≡◌, ℕ, zero, suc, ◌+◌, ◌<◌, ◌≤◌, Bool, true, false, [], refl, subst, inl, inr, arith}
 use Rattle.std.specs.Prelude.{if◌then◌else◌, length, Option, Some, None, option_map, slice_get}
 use Rattle.std.proofs.lemmas.Bool.{cases_eq}
-use Rattle.std.proofs.lemmas.Option.{slice_get_within}
+use Rattle.std.proofs.lemmas.Option.{same_Some, slice_get_within}
+use Rattle.tl_beat.specs.declared.beat.Link.{Link}
 use Rattle.tl_beat.specs.declared.opcode.Channel.{Channel}
 use Rattle.tl_beat.specs.declared.opcode.Channel.TheVariants as channel
 use Rattle.tl_params.specs.declared.config.ClientConfig.{ClientConfig}
@@ -37,10 +38,6 @@ client_below config c terms is = go (slice_get config.clients.items c) refl is
     go : (o : Option ClientConfig) → slice_get config.clients.items c ≡ o → option_map (λ x. record { level = x.level; profile = config.profile; sources = x.sources; blocks = config.blocks }) o ≡ Some terms → c < length config.clients.items
     go None e f = absurd cc
     go (Some x) e f = slice_get_within config.clients.items c x e
-
--- one of these
-abbrev pub IsNone : {X : Type 0} → Option X → Type 0
-IsNone o = o ≡ None
 
 none-both : {X : Type 0} (a b : Option X) → or_later a b ≡ None → (a ≡ None) × (b ≡ None)
 none-both None b e = (refl, e)
@@ -78,7 +75,38 @@ no-next config s none =
     )
     (first-none config channel.A 0 (length config.clients.items) s (λ c. none c channel.A))
 
--- a channel without a beat
+-- ---- the delivery that is next is movable
+
+first-some : {w : ℕ} (config : Config) (ch : Channel) (link n : ℕ) (s : System w) (d : Link × Channel) → first_movable config ch link n s ≡ Some d → is_movable config d.0.0 d.1 s ≡ true
+unfolding first_movable
+first-some config ch link zero s d e = absurd cc
+first-some config ch link (suc n) s d e = go (is_movable config link ch s) refl e (λ f. first-some config ch (link + 1) n s d f)
+  where
+    go : (b : Bool) → is_movable config link ch s ≡ b → (if b then Some (record { 0 = link }, ch) else first_movable config ch (link + 1) n s) ≡ Some d
+        → (first_movable config ch (link + 1) n s ≡ Some d → is_movable config d.0.0 d.1 s ≡ true) → is_movable config d.0.0 d.1 s ≡ true
+    go true f g rest = subst (λ (i : Link × Channel). is_movable config i.0.0 i.1 s ≡ true) (same_Some (record { 0 = link }, ch) d g) f
+    go false f g rest = rest g
+
+by-either : {X : Type 0} (a b : Option X) (x : X) (P : Type 0) → (a ≡ Some x → P) → (b ≡ Some x → P) → or_later a b ≡ Some x → P
+by-either (Some y) b x P first later e = first e
+by-either None b x P first later e = later e
+
+pub next-movable : {w : ℕ} (config : Config) (s : System w) (d : Link × Channel) → next_delivery config s ≡ Some d → is_movable config d.0.0 d.1 s ≡ true
+unfolding next_delivery
+next-movable {w} config s d next =
+    by-either (movable_on config channel.E s) _ d IsIt (on channel.E)
+    (by-either (movable_on config channel.D s) _ d IsIt (on channel.D)
+    (by-either (movable_on config channel.C s) _ d IsIt (on channel.C)
+    (by-either (movable_on config channel.B s) _ d IsIt (on channel.B) (on channel.A)))) next
+  where
+    IsIt : Type 0
+    IsIt = is_movable config d.0.0 d.1 s ≡ true
+
+    on : (ch : Channel) → movable_on config ch s ≡ Some d → IsIt
+    on ch e = first-some config ch 0 (length config.clients.items) s d e
+
+-- ---- a channel without a beat
+
 pub empty-still : {w : ℕ} (config : Config) (s : System w) (c : ℕ) (ch : Channel) → s.channels c ch ≡ [] → is_movable config c ch s ≡ false
 unfolding is_movable
 empty-still config s c ch none = rw none (go (terms_at config c))

@@ -56,6 +56,11 @@ pub owns_ask : (p : Pair) (v : View) → ok p v ≡ true → is_owned v ≡ true
 unfolding each_phase asks_for_own
 owns_ask p v h = implied (is_owned v) (is_wanting p.acquiring) (of_phase asks_for_own refl p v h)
 
+pub not-sent : (x : Probing) → is_sent x ≡ true → is_quiet x ≡ false
+not-sent (Sent k) e = refl
+not-sent Quiet e = absurd cc
+not-sent (Answered r) e = absurd cc
+
 module _ {X : Type 0} (caching : ℕ → Bool) (s : State X) (inv : IsInvariant caching s) where
   -- a kind that is on no channel is shown nowhere
   not_shown : (c n : ℕ) (k : Kind) → is_transfer k ≡ true → on k (s.link c) ≡ [] → shown k c (s.block n) ≡ true → ⊥
@@ -137,11 +142,6 @@ module _ {X : Type 0} (caching : ℕ → Bool) (s : State X) (inv : IsInvariant 
   not_replied : (c n : ℕ) → is_replied (s.uses c n) ≡ true → IsClosed s → ⊥
   not_replied c n e closed = absurd (let no : is_replied (s.uses c n) ≡ false = rw (closed.uses c n) refl in cc)
 
-  not_sent : (x : Probing) → is_sent x ≡ true → is_quiet x ≡ false
-  not_sent (Sent k) e = refl
-  not_sent Quiet e = absurd cc
-  not_sent (Answered r) e = absurd cc
-
   not_answered : (x : Probing) → is_answered x ≡ true → is_quiet x ≡ false
   not_answered (Answered r) e = refl
   not_answered Quiet e = absurd cc
@@ -155,7 +155,7 @@ module _ {X : Type 0} (caching : ℕ → Bool) (s : State X) (inv : IsInvariant 
   nothing_shown c ch Grant n closed on_it other there = no_use c _ n (grant_named caching s c n inv (shown_there caching s c ch Grant n inv on_it there)) closed
   nothing_shown c ch Release n closed on_it other there = no_let c _ n (release_named caching s c n inv (shown_there caching s c ch Release n inv on_it there)) closed
   nothing_shown c ch ReleaseAck n closed on_it other there = no_let c _ n (release_ack_named caching s c n inv (shown_there caching s c ch ReleaseAck n inv on_it there)) closed
-  nothing_shown c ch Probe n closed on_it other there = probed-for c n (not_sent _ (shown_there caching s c ch Probe n inv on_it there)) closed
+  nothing_shown c ch Probe n closed on_it other there = probed-for c n (not-sent _ (shown_there caching s c ch Probe n inv on_it there)) closed
   nothing_shown c ch ProbeAck n closed on_it other there = probed-for c n (not_answered _ (shown_there caching s c ch ProbeAck n inv on_it there)) closed
   nothing_shown c ch GrantAck n closed on_it other there = absurd cc
 

@@ -1,9 +1,9 @@
--- Sums over numbers below a bound, and over the tokens of a channel.
-use Rattle.std.proofs.Common.{◌≡◌, ℕ, zero, suc, ◌+◌, ◌*◌, ◌<◌, ◌≤◌, Bool, true, false, List, [], ◌∷◌, refl, sym, ◌∙◌, ap, ◌⊎◌, inl, inr, arith}
-use Rattle.std.specs.Prelude.{◌==◌, ◌&&◌, if◌then◌else◌}
+-- Sums over numbers below a bound.
+use Rattle.std.proofs.Common.{◌≡◌, ℕ, zero, suc, ◌+◌, ◌*◌, ◌<◌, ◌≤◌, refl, ap, ◌⊎◌, inl, inr, arith}
+use Rattle.std.specs.Prelude.{◌==◌, if◌then◌else◌}
 use Rattle.std.proofs.lemmas.Bool.{cases_eq, ne_eqb}
 use Rattle.tl_world.specs.Potential.{total}
-use Rattle.tl_world.specs.Token.{Kind, Token, same_kind, is, one_if, count, set}
+use Rattle.tl_world.specs.Token.{set}
 use Rattle.tl_world.proofs.Tokens.{same_number, set-same, set-other}
 
 pub total-same : (n : ℕ) (f g : ℕ → ℕ) → ((i : ℕ) → i < n → f i ≡ g i) → total n f ≡ total n g
@@ -61,45 +61,7 @@ one-at-most (suc n) m v = go (cases_eq n m) (one-at-most n m v)
         rw (same, same_number m) (let z : total m (λ i. if i == m then v else 0) ≡ 0 = rw same at none in omega (arith, z))
     go (inr differs) rest = rw (ne_eqb n m differs) (omega (arith, rest))
 
--- ---- tokens of one kind
-
--- the sum of a weight over the tokens of this kind
-unfoldable pub weight : Kind → (ℕ → ℕ) → List Token → ℕ
-weight k f [] = 0
-weight k f (x ∷ xs) = (if same_kind x.kind k then f x.number else 0) + weight k f xs
-
--- each number is below a bound
-abbrev pub AreBelow : ℕ → List Token → Type 0
-AreBelow n [] = Unit {0}
-AreBelow n (x ∷ xs) = (x.number < n) × AreBelow n xs
-
--- is the sum over the numbers of how often each is there
-pub weight-count : (k : Kind) (f : ℕ → ℕ) (n : ℕ) (xs : List Token) → AreBelow n xs → weight k f xs ≡ total n (λ i. count k i xs * f i)
-unfolding weight count
-weight-count k f n [] below = sym (total-zero n (λ i. 0 * f i) (λ i lt. omega arith))
-weight-count k f n (x ∷ xs) below =
-    let rest = weight-count k f n xs below.1 in
-    let first : total n (λ i. one_if (is k i x) * f i) ≡ (if same_kind x.kind k then f x.number else 0) = one_of (same_kind x.kind k) in
-    let each : total n (λ i. (one_if (is k i x) + count k i xs) * f i) ≡ total n (λ i. one_if (is k i x) * f i + count k i xs * f i) =
-    total-same n (λ i. (one_if (is k i x) + count k i xs) * f i) (λ i. one_if (is k i x) * f i + count k i xs * f i) (λ i lt. spread (one_if (is k i x)) (count k i xs) (f i)) in
-    let both : total n (λ i. one_if (is k i x) * f i + count k i xs * f i) ≡ total n (λ i. one_if (is k i x) * f i) + total n (λ i. count k i xs * f i) =
-    total-plus n (λ i. one_if (is k i x) * f i) (λ i. count k i xs * f i) in
-    omega (arith, rest, first, each, both)
-  where
-    spread : (p q r : ℕ) → (p + q) * r ≡ p * r + q * r
-    spread p q r = grind arith
-
-    one_of : (b : Bool) → total n (λ i. one_if (b && (i == x.number)) * f i) ≡ (if b then f x.number else 0)
-    one_of false = total-zero n (λ i. 0 * f i) (λ i lt. omega arith)
-    one_of true =
-        total-same n (λ i. one_if (i == x.number) * f i) (λ i. if i == x.number then f x.number else 0) (λ i lt. at (cases_eq i x.number)) ∙ total-one n x.number (f x.number) below.0
-      where
-        at : {i : ℕ} → (i ≡ x.number) ⊎ (i ≡ x.number → ⊥) → one_if (i == x.number) * f i ≡ (if i == x.number then f x.number else 0)
-        at (inl e) = rw (e, same_number x.number) (omega arith)
-        at {i} (inr ne) = rw (ne_eqb i x.number ne) (omega arith)
-
--- ---- what the Probes of one service weigh: one for itself and one for its report, or a block's beats for the report of
--- a Trunk, which is probed alone
+-- ---- what the Probes of one service weigh: one for itself and one for its report
 
 pub total-const : (n v : ℕ) → total n (λ i. v) ≡ v * n
 unfolding total
@@ -109,12 +71,3 @@ total-const (suc n) v = let rest = total-const n v in grind (arith, rest)
 -- no one has a Trunk: at most two each
 pub probes-light : (clients : ℕ) (f : ℕ → ℕ) → clients ≤ 16 → ((i : ℕ) → i < clients → f i ≤ 2) → total clients f ≤ 32
 probes-light clients f few light = omega (arith, total-le clients f (λ i. 2) light, total-const clients 2, few)
-
--- one has: the others weigh nothing
-pub probes-alone : (clients owner v : ℕ) (f : ℕ → ℕ) → owner < clients → ((i : ℕ) → (i ≡ owner → ⊥) → f i ≡ 0) → f owner ≡ v → total clients f ≡ v
-probes-alone clients owner v f lt none here =
-    total-same clients f (λ i. if i == owner then v else 0) (λ i below. at i (cases_eq i owner)) ∙ total-one clients owner v lt
-  where
-    at : (i : ℕ) → (i ≡ owner) ⊎ (i ≡ owner → ⊥) → f i ≡ (if i == owner then v else 0)
-    at i (inl e) = rw (e, same_number owner) here
-    at i (inr ne) = rw (ne_eqb i owner ne) (none i ne)

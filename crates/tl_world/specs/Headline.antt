@@ -70,6 +70,11 @@ Headline w = (config : Config) (log : Log w) → IsGiven config log → IsSound 
 
 -- ---- parts of it
 
+-- The outcomes are a run of the one-memory machine, with which each event that comes next goes on.
+abbrev pub OneMemory : ℕ → Type 0
+OneMemory w = (config : Config) (log : Log w) → IsGiven config log →
+    Run config log (remembered config log) × ((x : Event w × Outcome w) → IsTyped x.0 → IsLog config (x ∷ log) → Continues config x log)
+
 -- No beat between a manager and its clients is refused.
 abbrev pub Unrefused : ℕ → Type 0
 Unrefused w = (config : Config) (log : Log w) → IsGiven config log → IsUnrefused (after config log)

@@ -85,13 +85,14 @@ AreLanes {w} (beat.C x) = IfSome x.lanes (λ lanes. length lanes ≡ w)
 AreLanes {w} (beat.D x) = IfSome x.lanes (λ lanes. length lanes ≡ w)
 AreLanes {w} (beat.E x) = Unit {0}
 
--- an access that is under way, or in service, is on channel A, has its source, and is zero where no beat carries anything
+-- an access that is under way, in service or answered is on channel A, has its source, and is zero where no beat carries anything
 abbrev pub IsRequest : {w : ℕ} → Config → ℕ → ℕ → Message w → Type 0
 IsRequest config c source m = (request_source m ≡ Some source) × (illegal_message_at (level_of config c) m ≡ None) × IsBlankAfter (beats_of m) m
 
 abbrev pub IsSourced : {w : ℕ} → Config → ℕ → ℕ → Message w → Use → Type 0
 IsSourced config c source m Asked = IsRequest config c source m
 IsSourced config c source m (InService n) = IsRequest config c source m
+IsSourced config c source m Replied = IsRequest config c source m
 IsSourced config c source m _ = Unit {0}
 
 -- the Acquire that waits is the one that its client has open

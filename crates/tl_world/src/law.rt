@@ -3,9 +3,10 @@
 ghost use Rattle.std.specs.Prelude.{◌≡◌, true};
 ghost use Rattle.tl_beat.specs.Width.{IsWidth};
 ghost use Rattle.tl_world.specs.Phase.{Pair, View, ok};
-ghost use Rattle.tl_world.specs.Delivery.{Carries, Channels, Stalls};
-ghost use Rattle.tl_world.specs.Draining.{Grants};
-ghost use Rattle.tl_world.specs.Headline.{Unrefused, Coherent, Moving};
+ghost use Rattle.tl_world.specs.Delivery.{Carries, Channels, Flows, Stalls};
+ghost use Rattle.tl_world.specs.Draining.{Alone, Bound, Drain, Grants};
+ghost use Rattle.tl_world.specs.Headline.{Headline, OneMemory, Unrefused, Coherent, Moving};
+ghost use Rattle.tl_world.specs.Theorem.{Theorem};
 ghost use Rattle.tl_world.specs.Facts.{IsBelow};
 
 /// In no phase does a client hold more than is recorded.
@@ -53,4 +54,46 @@ pub fn holds_what_it_is_granted<const W: usize>()
 pub fn moves_while_outstanding<const W: usize>()
     requires { IsWidth W }
     ensures { Moving W }
+{}
+
+/// The outcomes are a run of the one-memory machine, with which each event that comes next goes on.
+pub fn is_a_run_of_one_memory<const W: usize>()
+    requires { IsWidth W }
+    ensures { OneMemory W }
+{}
+
+/// One memory, coherent copies, no beat refused, and a delivery that can move exactly while something is outstanding.
+pub fn stays_sound<const W: usize>()
+    requires { IsWidth W }
+    ensures { Headline W }
+{}
+
+/// An Acquire that is started alone, and drained, brings what it asks for.
+pub fn brings_what_is_asked_alone<const W: usize>()
+    requires { IsWidth W }
+    ensures { Alone W }
+{}
+
+/// Deliveries move no more beats than the load before them.
+pub fn moves_at_most_the_load<const W: usize>()
+    requires { IsWidth W }
+    ensures { Bound W }
+{}
+
+/// What is outstanding ends after as many deliveries as the load at most, each the next one, and then no delivery is left.
+pub fn drains_within_the_load<const W: usize>()
+    requires { IsWidth W }
+    ensures { Drain W }
+{}
+
+/// What is delivered on each link breaks no rule: a monitor finds no fault in it.
+pub fn breaks_no_rule_on_a_link<const W: usize>()
+    requires { IsWidth W }
+    ensures { Flows W }
+{}
+
+/// All of this at once: whatever requests and deliveries come, of each manager and its clients.
+pub fn holds<const W: usize>()
+    requires { IsWidth W }
+    ensures { Theorem W }
 {}

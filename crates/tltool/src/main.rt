@@ -10,7 +10,7 @@ use tl_tool::command::Command;
 use tl_tool::put::write_open_fault;
 use tl_tool::status::{Status, ToolFault, exit_of};
 use tl_tool::tool::run_tool;
-use tl_tool::words::{WordsFault, invocation};
+use tl_tool::words::{WordsFault, invocation, usage_status};
 
 /// The exit status of a run, whose fault is told on standard error.
 fn told(rt: &HostRuntime, outcome: Result<Status, ToolFault>) -> u8
@@ -50,10 +50,8 @@ fn main(rt: HostRuntime) -> ExitCode {
             Err(WordsFault::Usage(error)) => {
                 if error.print(&rt).is_err() {
                     told(&rt, Err(ToolFault::Write))
-                } else if error.use_stderr() {
-                    2
                 } else {
-                    0
+                    usage_status(&error)
                 }
             }
         },

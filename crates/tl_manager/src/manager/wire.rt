@@ -1,8 +1,7 @@
 //! One link: the bursts that come on it, and what its messages are judged by.
 
 ghost use Rattle.std.specs.Prelude.{ℕ, ◌≡◌, ◌<◌, ◌≤◌, ◌==◌, ◌&&◌, length, false, true, is_some, IfSome, List, [], ◌∷◌};
-ghost use Rattle.tl_beat.specs.Width.{IsWidth};
-ghost use Rattle.tl_manager.specs.Width.{IsWidth-prop};
+ghost use Rattle.tl_beat.specs.Width.{IsWidth, IsWidth-prop};
 ghost use Rattle.tl_burst.specs.Burst.{IsBurst};
 ghost use Rattle.tl_burst.specs.Messages.{breaks_burst};
 ghost use Rattle.tl_burst.specs.Part.{IsTakeable, part_of, completes};

@@ -15,8 +15,5 @@ returns-clause-every_spelling g c = λ link beat s. c.whole_line.ensures ∙ lin
 pub returns-clause-fault : goal.returns-clause-fault
 returns-clause-fault g c = ap result_err (c.whole_line.ensures ∙ line_at-is g.row.W c.args.line.now) ∙ reading-fault g.row.W c.args.line.now
 
-pub returns-clause-reads : goal.returns-clause-reads
-returns-clause-reads g c = c.whole_line.ensures ∙ line_at-is g.row.W c.args.line.now
-
 pub returns-clause-one_beat : goal.returns-clause-one_beat
 returns-clause-one_beat g c = λ k l b d s t. one-beat c.args.line.now k l b d c.requires s t

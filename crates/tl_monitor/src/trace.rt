@@ -1,0 +1,47 @@
+//! What a whole trace is judged.
+
+ghost use Rattle.tl_beat.specs.Width.{IsWidth};
+ghost use Rattle.std.specs.Prelude.{◌≡◌};
+ghost use Rattle.tl_monitor.specs.Knows.{AnswersTrace, trace_fault_of};
+
+use crate::fault::{MonitorFault, TraceFault};
+use crate::monitor::Monitor;
+use std::alloc::Global;
+use tl_beat::beat::{Beat, Link};
+use tl_rules::level::Level;
+use tl_rules::profile::Profile;
+
+/// The fault of a trace whose beat `i` a monitor refuses, which no beat before it has closed.
+fn fault_at(i: usize, fault: MonitorFault) -> TraceFault
+    ensures { result ≡ trace_fault_of i fault }
+{
+    match fault {
+        MonitorFault::Broken(rule) => TraceFault::At(i, rule),
+        _ => TraceFault::Memory,
+    }
+}
+
+/// The first beat of a trace that breaks a rule after the earlier beats of its own link, if there
+/// is one. An unfinished burst at the end breaks none.
+pub fn check_trace<const W: usize>(
+    alloc: Global,
+    levels: &[Level],
+    profile: Profile,
+    trace: &[(Link, Beat<W>)],
+) -> Result<(), TraceFault>
+    requires { IsWidth W }
+    ensures { AnswersTrace levels.now profile trace.now result }
+{
+    let mut monitor = match Monitor::new(alloc, levels, profile) {
+        Ok(monitor) => monitor,
+        Err(MonitorFault::Levels) => return Err(TraceFault::Levels),
+        Err(_) => return Err(TraceFault::Memory),
+    };
+    for (i, (link, beat)) in trace.iter().enumerate() {
+        match monitor.push(*link, beat) {
+            Ok(()) => {}
+            Err(fault) => return Err(fault_at(i, fault)),
+        }
+    }
+    Ok(())
+}

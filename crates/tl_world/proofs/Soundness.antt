@@ -1,0 +1,18 @@
+-- One memory, coherent copies, and nothing that gets stuck.
+use Rattle.std.proofs.Common.{ℕ}
+use Rattle.tl_world.specs.Headline.{Headline, OneMemory}
+use Rattle.tl_world.proofs.Given.{coherent, unrefused}
+use Rattle.tl_world.proofs.Machined.{continues, run}
+use Rattle.tl_world.proofs.Progress.{moving}
+
+pub one_memory : {w : ℕ} → OneMemory w
+one_memory = λ config log given. (run config log given.width given.typed given.is_log, λ x typed logged. continues config log x given.width given.typed logged)
+
+pub headline : {w : ℕ} → Headline w
+headline = λ config log given. record {
+  run = run config log given.width given.typed given.is_log;
+  continues = λ x typed logged. continues config log x given.width given.typed logged;
+  coherent = coherent config log given;
+  unrefused = unrefused config log given;
+  moving = moving config log given;
+}

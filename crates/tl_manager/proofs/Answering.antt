@@ -1,7 +1,7 @@
 -- What is kept of the blocks after a request was performed and answered.
-use Rattle.std.proofs.Common.{◌≡◌, ◌≢◌, ℕ, ◌<◌, ◌==◌, ◌⊎◌, Bool, true, false, not, cond, ◌&&◌, List, [], ◌∷◌, Some, None, refl, sym, ap, subst, ◌∙◌, inl, inr}
+use Rattle.std.proofs.Common.{◌≡◌, ◌≢◌, ℕ, ◌==◌, ◌⊎◌, Bool, true, false, not, ◌&&◌, List, [], ◌∷◌, Some, None, refl, sym, ap, subst, ◌∙◌, inl, inr}
 use Rattle.std.specs.Prelude.{filter, if◌then◌else◌}
-use Rattle.std.proofs.lemmas.Bool.{cases_eq, eqb-true, eq-eqb, ne_eqb}
+use Rattle.std.proofs.lemmas.Bool.{cases_eq, eq-eqb, ne_eqb}
 use Rattle.tl_beat.specs.Width.{IsWidth}
 use Rattle.tl_beat.specs.declared.beat.Link.{Link}
 use Rattle.tl_burst.specs.declared.message.Message.{Message}
@@ -17,24 +17,23 @@ use Rattle.tl_rules.specs.Effect.{Memory, effect, answer_of}
 use Rattle.tl_rules.specs.History.{block_at, is_acquire, is_grant, or_perm, capped}
 use Rattle.tl_rules.specs.Legality.{is_one_of}
 use Rattle.tl_manager.specs.Blocks.{AreBlocks}
-use Rattle.tl_manager.specs.Handing.{Deed, Handed, with_handed, performed, grant, access_answer}
+use Rattle.tl_manager.specs.Handing.{Deed, with_handed, performed, grant, access_answer}
 use Rattle.tl_manager.specs.Holders.{recorded, is_missing}
-use Rattle.tl_manager.specs.Home.{IsHomeBut, IsHome, IsHomeWithout, IsDone, IsReadyAt}
+use Rattle.tl_manager.specs.Home.{IsHomeWithout, IsDone, IsReadyAt}
 use Rattle.tl_manager.specs.Pending.{is_granted}
 use Rattle.tl_manager.specs.Ready.{IsReady, IsWhole}
 use Rattle.tl_manager.specs.Record.{granted_by}
-use Rattle.tl_manager.specs.Service.{Service, services, serving, trackers_of, is_access_answer}
+use Rattle.tl_manager.specs.Service.{Service, services, serving, trackers_of}
 use Rattle.tl_manager.specs.Tracked.{service_with, IsTracked}
 use Rattle.tl_manager.specs.Trackers.{tracker_at}
 use Rattle.tl_manager.specs.declared.manager.home.Home.{Home}
 use Rattle.tl_manager.specs.declared.manager.tracker.Tracker.{Tracker}
-use Rattle.tl_manager.specs.declared.manager.tracker.Tracker.TheVariants.{Free, Granted}
+use Rattle.tl_manager.specs.declared.manager.tracker.Tracker.TheVariants.{Free}
 use Rattle.tl_manager.proofs.Accesses.{answer_kind, granted-still}
-use Rattle.tl_manager.proofs.Events.{performed-access, performed-acquire}
+use Rattle.tl_manager.proofs.Events.{performed-access}
 use Rattle.tl_manager.proofs.Free.{missing_filter}
-use Rattle.tl_manager.proofs.Granted.{IsGrant, granted-now, granted-elsewhere}
+use Rattle.tl_manager.proofs.Granted.{IsGrant, granted-elsewhere}
 use Rattle.tl_manager.proofs.Handed.{after_sent, recorded-sent}
-use Rattle.tl_manager.proofs.Lists.{never}
 use Rattle.tl_manager.proofs.Performed.{grant_is, answer_is, reply_of, performed-services, performed-serving}
 use Rattle.tl_manager.proofs.Replies.{reply-quiet}
 use Rattle.tl_manager.proofs.Trackers.{IsStill, tracked-still, other_block, tracker-ended}

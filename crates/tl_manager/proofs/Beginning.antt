@@ -1,9 +1,8 @@
 -- What is kept of the blocks after a request's Probes were handed out.
-use Rattle.std.proofs.Common.{◌≡◌, ◌≢◌, ℕ, ◌+◌, ◌<◌, ◌≤◌, ◌==◌, Bool, true, false, not, ◌&&◌, List, [], ◌∷◌, length, Option, Some, None, refl, sym, ap, subst, ◌∙◌, arith, inl, inr}
+use Rattle.std.proofs.Common.{◌≡◌, ◌≢◌, ℕ, ◌<◌, ◌≤◌, ◌==◌, Bool, true, false, not, ◌&&◌, List, [], ◌∷◌, length, Option, Some, refl, sym, ap, subst, ◌∙◌, arith, inl, inr}
 use Rattle.std.specs.Prelude.{if◌then◌else◌}
 use Rattle.std.specs.Int.{bit_at}
-use Rattle.std.proofs.lemmas.Bool.{cases_lt, lt-ltb, eqb-true, eq-eqb, ne_eqb}
-use Rattle.tl_beat.specs.declared.beat.Beat.{Beat}
+use Rattle.std.proofs.lemmas.Bool.{cases_lt, lt-ltb}
 use Rattle.tl_beat.specs.declared.beat.Beat.TheVariants as beat
 use Rattle.tl_beat.specs.declared.beat.Link.{Link}
 use Rattle.tl_burst.specs.declared.message.MessageA.{MessageA}
@@ -14,15 +13,14 @@ use Rattle.tl_params.specs.declared.param.Cap.{Cap}
 use Rattle.tl_params.specs.declared.param.Cap.TheVariants as cap
 use Rattle.tl_params.specs.declared.perm.Perm.{Perm}
 use Rattle.tl_params.specs.declared.perm.Perm.TheVariants as perm
-use Rattle.tl_rules.specs.Agent.{sent}
-use Rattle.tl_rules.specs.Conformance.{Trace, on_link}
+use Rattle.tl_rules.specs.Conformance.{Trace}
 use Rattle.tl_rules.specs.Effect.{Memory}
 use Rattle.tl_rules.specs.History.{block_at, is_acquire, pending, held, ends}
 use Rattle.tl_rules.specs.Legality.{is_one_of}
 use Rattle.tl_manager.specs.Bit.{bit_if}
-use Rattle.tl_manager.specs.Handing.{Deed, Handed, with_handed, probes, probe_of_block, probe_beat, performed}
-use Rattle.tl_manager.specs.Holders.{clients_from, clients_where, is_nobody, recorded, is_missing, is_above, is_spared, probed, has_copy}
-use Rattle.tl_manager.specs.Home.{IsHomeBut, IsHome, IsHomeWithout, IsDone, IsReadyAt}
+use Rattle.tl_manager.specs.Handing.{Deed, Handed, with_handed, probes, probe_beat, performed}
+use Rattle.tl_manager.specs.Holders.{clients_from, is_nobody, recorded, is_missing, is_above, is_spared, probed}
+use Rattle.tl_manager.specs.Home.{IsHomeWithout, IsDone, IsReadyAt}
 use Rattle.tl_manager.specs.Kept.{Each, IsSound}
 use Rattle.tl_manager.specs.Ready.{IsReady}
 use Rattle.tl_manager.specs.Service.{Service, services, serving, trackers_of}
@@ -30,7 +28,6 @@ use Rattle.tl_manager.specs.Slave.{probing_or, begun_with}
 use Rattle.tl_manager.specs.Tracked.{service_with, IsTracked}
 use Rattle.tl_manager.specs.Trackers.{tracker_at}
 use Rattle.tl_manager.specs.declared.manager.home.Home.{Home}
-use Rattle.tl_manager.specs.declared.manager.tracker.Tracker.{Tracker}
 use Rattle.tl_manager.specs.declared.manager.tracker.Tracker.TheVariants.{Probing}
 use Rattle.tl_manager.proofs.Answering.{tracker-changed}
 use Rattle.tl_manager.proofs.Clients.{among-where}
@@ -38,7 +35,7 @@ use Rattle.tl_manager.proofs.Probed.{probes-keep, granted-probes, missing-probed
 use Rattle.tl_manager.proofs.Probes.{probes-within, probes-beyond, services-probes}
 use Rattle.tl_manager.proofs.Probing.{missing-else_b}
 use Rattle.tl_manager.proofs.Recording.{recorded-past}
-use Rattle.tl_manager.proofs.Trackers.{IsStill, tracked-still, other_block}
+use Rattle.tl_manager.proofs.Trackers.{tracked-still, other_block}
 use Rattle.tl_manager.proofs.Words.{IsWord, word-nobody, word-clients}
 
 -- whom a request probes with a cap

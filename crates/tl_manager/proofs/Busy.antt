@@ -1,13 +1,13 @@
 -- Whether a request has to wait, read off the trackers.
-use Rattle.std.proofs.Common.{◌≡◌, ◌≢◌, ℕ, zero, suc, ◌+◌, ◌<◌, ◌≤◌, ◌==◌, ◌⊎◌, Bool, true, false, not, ◌&&◌, ◌||◌, List, [], ◌∷◌, length, map, Option, Some, None, refl, sym, ap, subst, ◌∙◌, arith, inl, inr}
+use Rattle.std.proofs.Common.{◌≡◌, ℕ, zero, suc, ◌+◌, ◌<◌, ◌≤◌, ◌==◌, ◌⊎◌, Bool, true, false, List, [], ◌∷◌, length, refl, sym, ap, subst, arith, inl, inr}
 use Rattle.std.specs.Prelude.{if◌then◌else◌, nat_le, is_some}
-use Rattle.std.proofs.lemmas.Bool.{cases_eq, cases_lt, eqb-true, eq-eqb, ne_eqb, or_parts, le-leb, lt-leb}
+use Rattle.std.proofs.lemmas.Bool.{cases_eq, eqb-true, eq-eqb, ne_eqb, or_parts, le-leb, lt-leb}
 use Rattle.std.proofs.lemmas.List.{length-map}
 use Rattle.tl_rules.specs.Conformance.{Trace}
 use Rattle.tl_rules.specs.History.{block_at}
 use Rattle.tl_rules.specs.Legality.{is_one_of}
 use Rattle.tl_manager.specs.Kept.{Each, AreApart}
-use Rattle.tl_manager.specs.Service.{Service, services, serving, is_in_service, trackers_of, free_from, least_free}
+use Rattle.tl_manager.specs.Service.{Service, services, is_in_service, trackers_of, free_from, least_free}
 use Rattle.tl_manager.specs.Tracked.{service_with, IsTracked}
 use Rattle.tl_manager.specs.Tracking.{is_of, is_free}
 use Rattle.tl_manager.specs.declared.manager.tracker.Tracker.{Tracker}

@@ -1,6 +1,6 @@
 -- The message of a client that is complete with a beat, and what is kept of the blocks after the beat.
-use Rattle.std.proofs.Common.{◌≡◌, ◌≢◌, ℕ, zero, suc, ◌<◌, ◌==◌, Bool, true, false, ◌&&◌, ◌||◌, List, [], ◌∷◌, length, Option, Some, None, refl, sym, ap, subst, ◌∙◌, arith}
-use Rattle.std.specs.Prelude.{if◌then◌else◌, nat_le}
+use Rattle.std.proofs.Common.{◌≡◌, ℕ, zero, suc, ◌<◌, ◌==◌, Bool, true, false, List, [], ◌∷◌, length, Some, None, refl, sym, ap, subst, ◌∙◌}
+use Rattle.std.specs.Prelude.{nat_le}
 use Rattle.std.proofs.lemmas.Bool.{eqb-true, ne_eqb, le-leb, or_parts}
 use Rattle.tl_beat.specs.Width.{IsWidth}
 use Rattle.tl_beat.specs.declared.beat.Beat.{Beat}
@@ -10,12 +10,11 @@ use Rattle.tl_beat.specs.declared.beat.BeatC.{BeatC}
 use Rattle.tl_beat.specs.declared.beat.BeatE.{BeatE}
 use Rattle.tl_beat.specs.declared.beat.Link.{Link}
 use Rattle.tl_beat.specs.declared.opcode.Channel.TheVariants as channel
-use Rattle.tl_burst.specs.declared.message.Message.{Message}
-use Rattle.tl_burst.specs.declared.message.Message.TheVariants.{A, B, C, D, E}
+use Rattle.tl_burst.specs.declared.message.Message.TheVariants.{A, C, E}
 use Rattle.tl_burst.specs.declared.message.MessageA.{MessageA}
 use Rattle.tl_burst.specs.declared.message.MessageC.{MessageC}
 use Rattle.tl_burst.specs.declared.message.MessageE.{MessageE}
-use Rattle.tl_burst.specs.Burst.{a_beat_of, c_beat_of, begun, beats_of, beat_of, burst_of, IsBurst}
+use Rattle.tl_burst.specs.Burst.{a_beat_of, c_beat_of, begun, beats_of, burst_of, IsBurst}
 use Rattle.tl_burst.specs.Messages.{on, unfinished}
 use Rattle.tl_params.specs.declared.config.Config.{Config}
 use Rattle.tl_params.specs.declared.key.Key.TheVariants.{ProbeOf}
@@ -26,10 +25,9 @@ use Rattle.tl_rules.specs.History.{ends, block_at, pending, or_perm}
 use Rattle.tl_rules.specs.Legality.{is_one_of}
 use Rattle.tl_rules.proofs.Payload.{payload-c}
 use Rattle.tl_manager.specs.Complete.{IsComplete}
-use Rattle.tl_manager.specs.Handing.{Deed, Handed, with_handed, nothing}
-use Rattle.tl_manager.specs.Holders.{is_missing, recorded, cap_probed}
-use Rattle.tl_manager.specs.Home.{IsHomeBut, IsHome, IsHomeWithout, IsDone, IsReadyAt, IsMessage}
-use Rattle.tl_manager.specs.Kept.{AreApart, blocks_of}
+use Rattle.tl_manager.specs.Handing.{Handed, with_handed}
+use Rattle.tl_manager.specs.Holders.{recorded, cap_probed}
+use Rattle.tl_manager.specs.Home.{IsHome, IsHomeWithout, IsDone, IsReadyAt, IsMessage}
 use Rattle.tl_manager.specs.Pending.{is_granted}
 use Rattle.tl_manager.specs.Ready.{IsReady, IsServed, IsTaken}
 use Rattle.tl_manager.specs.Record.{reported_by}

@@ -17,7 +17,7 @@ use Rattle.tl_rules.specs.Effect.{Memory, effect, answer_of}
 use Rattle.tl_rules.specs.History.{ends, block_at, is_acquire, is_probe_ack, is_release}
 use Rattle.tl_manager.specs.Handing.{nothing, probes, performed, grant, access_answer, release_ack}
 use Rattle.tl_manager.specs.Holders.{cap_probed, probed, is_settled}
-use Rattle.tl_manager.specs.Service.{Service, service_of, services, serving}
+use Rattle.tl_manager.specs.Service.{Service, services, serving}
 use Rattle.tl_manager.specs.Slave.{End, deed, written}
 use Rattle.tl_manager.specs.Ready.{IsServed}
 

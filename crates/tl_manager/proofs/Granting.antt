@@ -1,32 +1,28 @@
 -- What is kept of the blocks after a Grant was handed out.
-use Rattle.std.proofs.Common.{◌≡◌, ◌≢◌, ℕ, ◌*◌, ◌==◌, ◌⊎◌, Bool, true, false, not, ◌&&◌, List, [], ◌∷◌, Option, Some, None, refl, sym, ap, subst, ◌∙◌, inl, inr}
+use Rattle.std.proofs.Common.{◌≡◌, ◌≢◌, ℕ, ◌*◌, ◌==◌, ◌⊎◌, Bool, true, false, ◌&&◌, List, [], ◌∷◌, Option, Some, None, refl, sym, ap, subst, ◌∙◌, inl, inr}
 use Rattle.std.specs.Prelude.{if◌then◌else◌}
 use Rattle.std.proofs.lemmas.Bool.{cases_eq, eqb-true, eq-eqb, ne_eqb}
 use Rattle.tl_beat.specs.declared.beat.Link.{Link}
 use Rattle.tl_burst.specs.declared.message.Message.{Message}
-use Rattle.tl_burst.specs.declared.message.Message.TheVariants.{D}
 use Rattle.tl_burst.specs.declared.message.MessageA.{MessageA}
-use Rattle.tl_burst.specs.declared.message.MessageD.{MessageD}
 use Rattle.tl_params.specs.declared.config.Config.{Config}
 use Rattle.tl_params.specs.declared.param.Cap.{Cap}
 use Rattle.tl_params.specs.declared.perm.Perm.{Perm}
 use Rattle.tl_params.specs.Param.{cap_right}
 use Rattle.tl_rules.specs.Conformance.{Trace, on_link}
 use Rattle.tl_rules.specs.Effect.{Memory, bytes_from}
-use Rattle.tl_rules.specs.History.{block_at, is_acquire, is_grant, asks_for, request_of, or_perm, capped}
+use Rattle.tl_rules.specs.History.{block_at, is_acquire, asks_for, request_of, or_perm}
 use Rattle.tl_manager.specs.Blocks.{AreBlocks}
 use Rattle.tl_manager.specs.Granting.{grant_of}
 use Rattle.tl_manager.specs.Handing.{Deed, with_handed, performed, grant, grant_with, cap_granted, is_granted_data}
 use Rattle.tl_manager.specs.Holders.{recorded, is_unheld}
-use Rattle.tl_manager.specs.Home.{IsHomeBut, IsHome, IsHomeWithout, IsDone, IsReadyAt}
+use Rattle.tl_manager.specs.Home.{IsHomeWithout, IsDone, IsReadyAt}
 use Rattle.tl_manager.specs.Pending.{is_granted, IsNamed, HasFields}
-use Rattle.tl_manager.specs.Ready.{IsReady, IsWhole}
 use Rattle.tl_manager.specs.Record.{granted_by}
-use Rattle.tl_manager.specs.Service.{Service, services, serving}
+use Rattle.tl_manager.specs.Service.{Service, serving}
 use Rattle.tl_manager.specs.Tracked.{service_with, IsTracked}
 use Rattle.tl_manager.specs.Trackers.{tracker_at}
 use Rattle.tl_manager.specs.declared.manager.home.Home.{Home}
-use Rattle.tl_manager.specs.declared.manager.tracker.Tracker.{Tracker}
 use Rattle.tl_manager.specs.declared.manager.tracker.Tracker.TheVariants.{Granted}
 use Rattle.tl_manager.proofs.Answering.{tracked-performed, tracker-changed}
 use Rattle.tl_manager.proofs.Events.{performed-acquire}

@@ -15,7 +15,7 @@ use Rattle.tl_rules.specs.Agent.{is_outside, is_spoiled}
 use Rattle.tl_rules.specs.Conformance.{Trace, on_link, broken_in_order}
 use Rattle.tl_rules.specs.Legality.{illegal, breaks_l1, is_one_of, rule_if}
 use Rattle.tl_rules.proofs.Bursts.{next_rule}
-use Rattle.tl_manager.specs.Kept.{IsTyped, IsSound}
+use Rattle.tl_manager.specs.Kept.{IsTyped}
 use Rattle.tl_manager.specs.Slave.{End, Sent, Judgement, Passes, breaks_or, waits_or, unlawful, is_from_client, before_stall, must_wait, judged_at, judged_on, judged, level_of, open_level, deed, taken, offered_as, offered}
 use Rattle.tl_manager.specs.Ready.{IsPassed}
 

@@ -1,11 +1,10 @@
 -- How a beat is judged, from what a manager keeps.
-use Rattle.std.proofs.Common.{◌≡◌, ℕ, ◌<◌, ◌≤◌, ◌==◌, Bool, true, false, not, cond, ◌&&◌, ◌||◌, List, [], ◌∷◌, length, Option, Some, None, Ok, Err, refl, sym, ap, ◌∙◌, arith}
-use Rattle.std.specs.Prelude.{Result, OnOk, if◌then◌else◌, nat_le, is_some, IfSome}
+use Rattle.std.proofs.Common.{◌≡◌, ℕ, ◌<◌, Bool, true, false, not, cond, ◌||◌, List, [], ◌∷◌, length, Option, Some, None, Ok, Err, refl, sym, ap}
+use Rattle.std.specs.Prelude.{Result, OnOk, nat_le, is_some, IfSome}
 use Rattle.tl_beat.specs.declared.beat.Beat.{Beat}
 use Rattle.tl_beat.specs.declared.beat.Beat.TheVariants.{A, B, C, D, E}
 use Rattle.tl_beat.specs.declared.beat.Link.{Link}
 use Rattle.tl_beat.specs.declared.opcode.Channel.{Channel}
-use Rattle.tl_beat.specs.declared.opcode.Channel.TheVariants as channel
 use Rattle.tl_burst.specs.declared.part.Broken.{Broken}
 use Rattle.tl_burst.specs.declared.part.Broken.TheVariants as broken
 use Rattle.tl_burst.specs.declared.part.Part.{Part}
@@ -13,12 +12,11 @@ use Rattle.tl_burst.specs.declared.part.Part.TheVariants.{First, Middle, Last, O
 use Rattle.tl_burst.specs.Messages.{History, channel_of, unfinished, breaks_burst}
 use Rattle.tl_burst.specs.Part.{is_empty, completes, place, part_of}
 use Rattle.tl_params.specs.declared.config.Config.{Config}
-use Rattle.tl_params.specs.declared.level.Level.{Level}
 use Rattle.tl_params.specs.declared.rule.Rule.{Rule}
-use Rattle.tl_params.specs.declared.rule.Rule.TheVariants.{L1, S1, A3}
+use Rattle.tl_params.specs.declared.rule.Rule.TheVariants.{L1, S1}
 use Rattle.tl_rules.specs.Agent.{is_outside, is_spoiled}
 use Rattle.tl_rules.specs.Conformance.{Trace, on_link, broken_in_order, broken_order}
-use Rattle.tl_rules.specs.Legality.{illegal, is_one_of, verdict}
+use Rattle.tl_rules.specs.Legality.{illegal, verdict}
 use Rattle.tl_manager.specs.Admission.{admission_of, judged_by, judged_in_order}
 use Rattle.tl_manager.specs.BurstFor.{burst_for}
 use Rattle.tl_params.specs.declared.perm.Perm.{Perm}
@@ -27,9 +25,9 @@ use Rattle.tl_manager.specs.Service.{services, is_in_service}
 use Rattle.tl_manager.specs.Trackers.{tracker_at}
 use Rattle.tl_manager.specs.Tracking.{is_of, is_free}
 use Rattle.tl_manager.specs.declared.manager.links.Links.{Links}
-use Rattle.tl_manager.proofs.Busy.{served-among, unserved-among, all-taken, one-free}
+use Rattle.tl_manager.proofs.Busy.{unserved-among, all-taken, one-free}
 use Rattle.tl_manager.specs.PartIs.{IsPartOf, is_first_part, is_last_part}
-use Rattle.tl_manager.specs.Slave.{End, is_from_client, level_of, open_level, judged, judged_at, must_wait, breaks_or}
+use Rattle.tl_manager.specs.Slave.{End, is_from_client, open_level, judged, judged_at, must_wait, breaks_or}
 use Rattle.tl_manager.specs.Wire.{IsCarried, IsWire}
 use Rattle.tl_manager.specs.declared.manager.wire.Wire.{Wire}
 use Rattle.tl_manager.proofs.Links.{none-on_e}

@@ -1,25 +1,23 @@
 -- What is pending on a link, and which messages are open, read off the trackers.
-use Rattle.std.proofs.Common.{◌≡◌, ℕ, ◌+◌, ◌<◌, ◌≤◌, ◌==◌, ◌⊎◌, Bool, true, false, not, ◌&&◌, ◌||◌, List, [], ◌∷◌, length, Option, Some, None, is_some, refl, sym, ap, subst, ◌∙◌, arith, inl, inr}
+use Rattle.std.proofs.Common.{◌≡◌, ℕ, ◌+◌, ◌<◌, ◌==◌, Bool, true, false, ◌&&◌, ◌||◌, List, [], ◌∷◌, Option, Some, None, is_some, refl, sym, ap, subst, ◌∙◌, arith, inl, inr}
 use Rattle.std.specs.Prelude.{if◌then◌else◌}
-use Rattle.std.specs.Int.{bit_at}
-use Rattle.std.proofs.lemmas.Bool.{eqb-true, eq-eqb, ne_eqb, and_parts}
+use Rattle.std.proofs.lemmas.Bool.{eqb-true, eq-eqb, and_parts}
 use Rattle.tl_beat.specs.declared.beat.Link.{Link}
 use Rattle.tl_beat.specs.declared.opcode.Channel.TheVariants as channel
 use Rattle.tl_burst.specs.declared.message.MessageA.{MessageA}
 use Rattle.tl_burst.specs.Messages.{unfinished}
 use Rattle.tl_params.specs.declared.key.Key.TheVariants.{RequestSource, AcquireOf, GrantSink, GrantAckOf, ProbeOf}
 use Rattle.tl_rules.specs.Conformance.{Trace, on_link, comes_in_request}
-use Rattle.tl_rules.specs.History.{block_at, is_acquire, pending, request_of, probe_of}
+use Rattle.tl_rules.specs.History.{block_at, is_acquire, pending, request_of}
 use Rattle.tl_rules.specs.Legality.{is_one_of}
-use Rattle.tl_rules.specs.Open.{open_request, open_probe, request_fields, probe_fields}
-use Rattle.tl_manager.specs.Bit.{bit_if}
+use Rattle.tl_rules.specs.Open.{open_request, open_probe, request_fields}
 use Rattle.tl_manager.specs.Holders
 use Rattle.tl_manager.specs.Kept.{Each, AreApart, blocks_of}
 use Rattle.tl_manager.specs.Pending
 use Rattle.tl_manager.specs.Pending.{one_if, count_where, is_any, is_granted, IsAccounted, HasFields, IsProbed}
 use Rattle.tl_manager.specs.Probed.{probe_in}
 use Rattle.tl_manager.specs.Service.{Service, services, serving, trackers_of}
-use Rattle.tl_manager.specs.Tracked.{service_with, AreMissing, IsTracked, IsProbing, IsGranting}
+use Rattle.tl_manager.specs.Tracked.{service_with, AreMissing, IsTracked}
 use Rattle.tl_manager.specs.Trackers.{tracker_at, IsOfBlock, IsAsked}
 use Rattle.tl_manager.specs.Tracking
 use Rattle.tl_manager.specs.Tracking.{is_of, request_in}

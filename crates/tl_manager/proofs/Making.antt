@@ -13,10 +13,9 @@ use Rattle.tl_rules.specs.Conformance.{on_link}
 use Rattle.tl_rules.specs.History.{held}
 use Rattle.tl_manager.specs.Blocks.{AreBlocks}
 use Rattle.tl_manager.specs.Fresh.{fresh_wire}
-use Rattle.tl_manager.specs.Home.{IsHome}
 use Rattle.tl_manager.specs.Knows.{Knows}
 use Rattle.tl_manager.specs.Service.{services}
-use Rattle.tl_manager.specs.Slave.{fresh, level_of}
+use Rattle.tl_manager.specs.Slave.{fresh}
 use Rattle.tl_manager.specs.Trackers.{tracker_at}
 use Rattle.tl_manager.specs.Tracked.{IsTracked}
 use Rattle.tl_manager.specs.Wire.{IsWire}

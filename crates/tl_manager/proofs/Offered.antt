@@ -1,6 +1,5 @@
 -- How a beat is answered that was judged, and that a manager is one afterwards.
-use Rattle.std.proofs.Common.{◌≡◌, ℕ, ◌≤◌, length, Ok, Err, refl, sym, ap, ◌∙◌, arith}
-use Rattle.std.specs.Prelude.{Result}
+use Rattle.std.proofs.Common.{◌≡◌, ℕ, Ok, Err, refl, arith}
 use Rattle.tl_beat.specs.declared.beat.Beat.{Beat}
 use Rattle.tl_beat.specs.declared.beat.Link.{Link}
 use Rattle.tl_beat.specs.declared.opcode.Channel.{Channel}
@@ -9,7 +8,7 @@ use Rattle.tl_params.specs.declared.perm.Perm.{Perm}
 use Rattle.tl_params.specs.declared.rule.Rule.{Rule}
 use Rattle.tl_manager.specs.Admission.{admission_of}
 use Rattle.tl_manager.specs.Knows.{Knows, IsManager}
-use Rattle.tl_manager.specs.Slave.{End, Judgement, Breaks, Waits, Passes, Answer, Refused, Stalled, Sent, judged, deed, refused, taken, offered_as, offered}
+use Rattle.tl_manager.specs.Slave.{End, Judgement, Breaks, Waits, Passes, Refused, Stalled, Sent, judged, deed, refused, taken, offered_as, offered}
 use Rattle.tl_manager.specs.declared.manager.admission.Admission.{Admission}
 use Rattle.tl_manager.specs.declared.manager.admission.Admission.TheVariants as admission
 use Rattle.tl_manager.specs.declared.manager.links.Links.{Links}

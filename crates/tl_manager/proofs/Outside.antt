@@ -1,17 +1,15 @@
 -- Nothing is recorded of blocks outside of the map.
-use Rattle.std.proofs.Common.{◌≡◌, ℕ, ◌≤◌, ◌==◌, Bool, true, false, ◌&&◌, ◌||◌, List, [], ◌∷◌, Option, Some, None, refl, ap, ◌∙◌, arith}
+use Rattle.std.proofs.Common.{◌≡◌, ℕ, ◌≤◌, ◌==◌, Bool, true, false, ◌&&◌, ◌||◌, [], ◌∷◌, Some, None, refl, arith}
 use Rattle.std.specs.Prelude.{if◌then◌else◌, nat_le}
 use Rattle.std.proofs.lemmas.Bool.{ne_eqb, leb-false}
 use Rattle.tl_beat.specs.declared.beat.Beat.{Beat}
 use Rattle.tl_beat.specs.declared.beat.Beat.TheVariants as beat
-use Rattle.tl_beat.specs.declared.beat.BeatA.{BeatA}
 use Rattle.tl_beat.specs.declared.beat.Link.{Link}
 use Rattle.tl_burst.specs.Messages.{History}
 use Rattle.tl_params.specs.declared.config.Config.{Config}
-use Rattle.tl_params.specs.declared.perm.Perm.{Perm}
 use Rattle.tl_params.specs.declared.perm.Perm.TheVariants as perm
 use Rattle.tl_rules.specs.Conformance.{Trace, on_link}
-use Rattle.tl_rules.specs.History.{begins, ends, block_at, is_grant, is_probe_ack, is_release, asks_for, request_of, says_held, or_perm, held, reported, capped}
+use Rattle.tl_rules.specs.History.{begins, ends, block_at, is_grant, is_probe_ack, is_release, asks_for, request_of, says_held, or_perm, held}
 use Rattle.tl_manager.specs.Holders.{recorded}
 use Rattle.tl_manager.specs.Kept.{Each, IsSound}
 use Rattle.tl_manager.proofs.Lists.{never}

@@ -1,21 +1,16 @@
 -- What a link's past says, from what a manager keeps.
-use Rattle.std.proofs.Common.{◌≡◌, ℕ, ◌≤◌, ◌==◌, Bool, true, false, not, ◌&&◌, ◌||◌, [], ◌∷◌, length, Option, Some, None, refl, sym, ap, ◌∙◌}
-use Rattle.std.specs.Prelude.{List, if◌then◌else◌, is_some}
-use Rattle.tl_beat.specs.declared.beat.Beat.{Beat}
-use Rattle.tl_beat.specs.declared.beat.Beat.TheVariants as beat
+use Rattle.std.proofs.Common.{◌≡◌, ℕ, ◌≤◌, Bool, true, false, ◌&&◌, ◌||◌, length, Option, None, refl, sym, ap, ◌∙◌}
+use Rattle.std.specs.Prelude.{is_some}
 use Rattle.tl_beat.specs.declared.beat.Link.{Link}
 use Rattle.tl_burst.specs.declared.message.MessageA.{MessageA}
-use Rattle.tl_beat.specs.declared.opcode.Channel.TheVariants as channel
-use Rattle.tl_burst.specs.Messages.{History, unfinished}
-use Rattle.tl_params.specs.declared.key.Key.{Key}
-use Rattle.tl_params.specs.declared.key.Key.TheVariants.{RequestSource, ReleaseSource, AcquireOf, GrantSink, GrantAckOf, ProbeOf}
+use Rattle.tl_burst.specs.Messages.{History}
+use Rattle.tl_params.specs.declared.key.Key.TheVariants.{RequestSource, AcquireOf, GrantSink, GrantAckOf, ProbeOf}
 use Rattle.tl_params.specs.declared.perm.Perm.{Perm}
 use Rattle.tl_params.specs.declared.perm.Perm.TheVariants as perm
-use Rattle.tl_rules.specs.Conformance.{on_link, comes_in_request, comes_in_release}
-use Rattle.tl_rules.specs.History.{pending, held, release_of}
-use Rattle.tl_rules.specs.Open.{open_request, open_release, release_size, open_probe, has_open_grant}
+use Rattle.tl_rules.specs.Conformance.{on_link, comes_in_request}
+use Rattle.tl_rules.specs.History.{pending, held}
+use Rattle.tl_rules.specs.Open.{open_probe, has_open_grant}
 use Rattle.tl_manager.specs.Probed.{probe_in}
-use Rattle.tl_manager.specs.Releases.{comes_with}
 use Rattle.tl_manager.specs.Trackers.{tracker_at, IsOfBlock, IsAsked}
 use Rattle.tl_manager.specs.Tracking.{is_acquiring, is_granted_to, is_missing, request_in}
 use Rattle.tl_manager.specs.declared.manager.tracker.Tracker.{Tracker}

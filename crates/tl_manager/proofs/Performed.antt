@@ -1,8 +1,7 @@
 -- What is pending after a request was performed and answered.
-use Rattle.std.proofs.Common.{◌≡◌, ℕ, ◌==◌, Bool, true, false, not, ◌&&◌, ◌||◌, [], ◌∷◌, Some, None, refl, sym, ap, subst, ◌∙◌}
+use Rattle.std.proofs.Common.{◌≡◌, ℕ, ◌==◌, Bool, true, false, not, ◌&&◌, ◌||◌, [], ◌∷◌, None, refl, sym, ap, subst, ◌∙◌}
 use Rattle.std.specs.Prelude.{filter, if◌then◌else◌}
 use Rattle.std.proofs.lemmas.Bool.{eqb-true}
-use Rattle.tl_beat.specs.Width.{IsWidth}
 use Rattle.tl_burst.specs.declared.message.Message.{Message}
 use Rattle.tl_burst.specs.declared.message.Message.TheVariants.{A, D}
 use Rattle.tl_burst.specs.declared.message.MessageA.{MessageA}
@@ -11,14 +10,13 @@ use Rattle.tl_params.specs.declared.config.Config.{Config}
 use Rattle.tl_params.specs.declared.key.Key.TheVariants.{ProbeOf}
 use Rattle.tl_rules.specs.declared.answer.Answer.{Answer}
 use Rattle.tl_rules.specs.declared.answer.Answer.TheVariants as answer
-use Rattle.tl_rules.specs.Conformance.{Trace, on_link}
+use Rattle.tl_rules.specs.Conformance.{Trace}
 use Rattle.tl_rules.specs.Effect.{Memory, effect, answer_of}
-use Rattle.tl_rules.specs.History.{block_at, is_grant, is_acquire, is_release_ack, pending}
+use Rattle.tl_rules.specs.History.{block_at, is_grant, is_acquire, is_release_ack}
 use Rattle.tl_manager.specs.Handing.{Deed, with_handed, performed, grant, grant_opcode, is_granted_data, access_answer}
 use Rattle.tl_manager.specs.Holders.{recorded, is_settled}
-use Rattle.tl_manager.specs.Kept.{AreApart, blocks_of}
-use Rattle.tl_manager.specs.Pending.{is_granted, is_awaited, IsAccounted, IsSteady}
-use Rattle.tl_manager.specs.Service.{Service, services, serving, trackers_of, is_access_answer}
+use Rattle.tl_manager.specs.Pending.{is_awaited, IsSteady}
+use Rattle.tl_manager.specs.Service.{Service, services, serving, is_access_answer}
 use Rattle.tl_manager.proofs.Accesses.{answer_kind, granted-still, services-answer, accounted-answer}
 use Rattle.tl_manager.proofs.Counts.{serving-without}
 use Rattle.tl_manager.proofs.Granted.{IsGrant, granted-now, granted-elsewhere, services-grant, accounted-grant}
@@ -26,7 +24,7 @@ use Rattle.tl_manager.proofs.Handed.{after_sent}
 use Rattle.tl_manager.proofs.Replied.{IsReply}
 use Rattle.tl_manager.proofs.Replies.{reply-quiet}
 use Rattle.tl_manager.proofs.Unmoved.{awaited-same}
-use Rattle.tl_manager.specs.Ready.{IsReady, IsWhole}
+use Rattle.tl_manager.specs.Ready.{IsReady}
 
 -- ---- the answers
 

@@ -1,5 +1,5 @@
 -- A request in service can be performed and answered.
-use Rattle.std.proofs.Common.{◌≡◌, ℕ, zero, suc, ◌+◌, ◌<◌, ◌≤◌, ◌==◌, Bool, true, false, not, ◌||◌, List, [], ◌∷◌, length, Option, Some, None, refl, sym, ap, subst, ◌∙◌, arith}
+use Rattle.std.proofs.Common.{◌≡◌, ℕ, zero, suc, ◌+◌, ◌<◌, ◌≤◌, ◌==◌, Bool, true, false, not, ◌||◌, List, [], ◌∷◌, length, Option, Some, None, refl, sym, subst, ◌∙◌, arith}
 use Rattle.std.specs.Prelude.{slice_get, option_map, nat_le, if◌then◌else◌}
 use Rattle.std.proofs.lemmas.Bool.{le-leb, leb-false, leb-true, not-false, and_parts, eqb-true}
 use Rattle.std.proofs.lemmas.Option.{slice_get_within}
@@ -24,12 +24,11 @@ use Rattle.tl_params.specs.declared.config.NewFault.{NewFault}
 use Rattle.tl_params.specs.declared.perm.Perm.{Perm}
 use Rattle.tl_params.specs.declared.level.Level.{Level}
 use Rattle.tl_params.specs.declared.level.Level.TheVariants as level
-use Rattle.tl_params.specs.declared.rule.Rule.{Rule}
 use Rattle.tl_params.specs.declared.rule.Rule.TheVariants.{L1, L2, L3, L4}
 use Rattle.tl_rules.specs.Conformance.{on_link}
 use Rattle.tl_rules.specs.Control.{a_control, a_own}
 use Rattle.tl_rules.specs.History.{block_at, is_acquire}
-use Rattle.tl_rules.specs.Legality.{illegal, illegal_message, first_illegal, beats_from, or_else, is_aligned, a_of_level, a_has_param, a_has_size, is_one_of}
+use Rattle.tl_rules.specs.Legality.{illegal, first_illegal, beats_from, is_aligned, a_of_level, a_has_param, a_has_size, is_one_of}
 use Rattle.tl_rules.proofs.Bursts.{next_rule}
 use Rattle.tl_rules.proofs.Verdicts.{illegal_a}
 use Rattle.tl_manager.specs.Complete.{IsComplete, IsDue}

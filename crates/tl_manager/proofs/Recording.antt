@@ -1,5 +1,5 @@
 -- What the directory's words say of the clients after a trace.
-use Rattle.std.proofs.Common.{◌≡◌, ℕ, ◌<◌, ◌≤◌, ◌==◌, Bool, true, false, not, ◌&&◌, List, [], length, Some, None, refl, sym, ap, ◌∙◌}
+use Rattle.std.proofs.Common.{◌≡◌, ℕ, ◌≤◌, ◌==◌, length, refl, ap, ◌∙◌}
 use Rattle.std.specs.Int.{bit_at}
 use Rattle.tl_params.specs.declared.config.Config.{Config}
 use Rattle.tl_params.specs.declared.param.Cap.{Cap}
@@ -10,11 +10,11 @@ use Rattle.tl_params.specs.Param.{cap_code, cap_right}
 use Rattle.tl_rules.specs.Conformance.{Trace}
 use Rattle.tl_rules.specs.History.{held, capped}
 use Rattle.tl_manager.specs.Bit.{bit_if}
-use Rattle.tl_manager.specs.Holders.{recorded, has_copy, is_above, is_unheld, clients_where}
+use Rattle.tl_manager.specs.Holders.{recorded, has_copy, is_unheld}
 use Rattle.tl_manager.specs.Kept.{Each, IsSound}
-use Rattle.tl_manager.specs.Word.{copy_bit, trunk_bit}
+use Rattle.tl_manager.specs.Word.{copy_bit}
 use Rattle.tl_manager.proofs.Settled.{silent-past}
-use Rattle.tl_manager.proofs.Words.{IsWord, word-nobody}
+use Rattle.tl_manager.proofs.Words.{word-nobody}
 
 -- past the last client nothing is recorded
 pub recorded-past : {w : ℕ} (config : Config) (block c : ℕ) (t : Trace w) → Each (IsSound config) t → length config.clients.items ≤ c → recorded c block t ≡ perm.None

@@ -1,20 +1,18 @@
 -- What a manager knows after it refused a beat, and which links are closed.
-use Rattle.std.proofs.Common.{◌≡◌, ◌≢◌, ℕ, zero, suc, ◌<◌, ◌≤◌, ◌==◌, ◌⊎◌, Bool, true, false, ◌||◌, List, [], ◌∷◌, length, Option, Some, None, Ok, Err, refl, sym, ap, subst, ◌∙◌, arith, inl, inr}
-use Rattle.std.specs.Prelude.{slice_get, slice_set, is_none, if◌then◌else◌, option_map}
+use Rattle.std.proofs.Common.{◌≡◌, ◌≢◌, ℕ, zero, suc, ◌≤◌, ◌==◌, true, false, List, [], ◌∷◌, length, Some, refl, sym, ap, ◌∙◌, arith, inl, inr}
+use Rattle.std.specs.Prelude.{slice_get, slice_set}
 use Rattle.std.proofs.lemmas.Bool.{cases_eq, eq-eqb, ne_eqb}
-use Rattle.std.proofs.lemmas.Option.{slice_get_past, slice_get_within, slice_get_read}
-use Rattle.std.proofs.lemmas.List.{length-set, get_or-set_same, get_or-set_other}
+use Rattle.std.proofs.lemmas.Option.{slice_get_within}
+use Rattle.std.proofs.lemmas.List.{length-set}
 use Rattle.tl_beat.specs.declared.beat.Beat.{Beat}
 use Rattle.tl_beat.specs.declared.beat.Link.{Link}
 use Rattle.tl_beat.specs.declared.opcode.Channel.{Channel}
 use Rattle.tl_params.specs.declared.config.Config.{Config}
-use Rattle.tl_params.specs.declared.level.Level.{Level}
 use Rattle.tl_params.specs.declared.perm.Perm.{Perm}
-use Rattle.tl_rules.specs.Legality.{is_one_of}
 use Rattle.tl_manager.specs.Admission.{admission_of, is_stall}
 use Rattle.tl_manager.specs.Kept.{IsKept}
 use Rattle.tl_manager.specs.Knows.{Knows}
-use Rattle.tl_manager.specs.Slave.{End, Judgement, Breaks, Waits, Passes, judged, is_waiting, stalls, level_of, open_level, refused}
+use Rattle.tl_manager.specs.Slave.{End, Judgement, Breaks, Waits, Passes, judged, is_waiting, stalls, refused}
 use Rattle.tl_manager.specs.Wire.{IsWire}
 use Rattle.tl_manager.specs.declared.manager.links.Links.{Links}
 use Rattle.tl_manager.specs.declared.manager.wire.Wire.{Wire}

@@ -1,30 +1,29 @@
 -- What is kept of the blocks after a message of channel C was taken.
-use Rattle.std.proofs.Common.{◌≡◌, ◌≢◌, ℕ, ◌<◌, ◌≤◌, ◌==◌, ◌⊎◌, Bool, true, false, not, ◌&&◌, ◌||◌, List, [], ◌∷◌, length, Option, Some, None, refl, sym, ap, subst, ◌∙◌, arith, inl, inr}
+use Rattle.std.proofs.Common.{◌≡◌, ◌≢◌, ℕ, ◌==◌, Bool, true, false, not, ◌&&◌, List, [], ◌∷◌, Option, Some, None, refl, sym, ap, subst, ◌∙◌}
 use Rattle.std.specs.Prelude.{if◌then◌else◌}
 use Rattle.std.specs.Int.{bit_at}
-use Rattle.std.proofs.lemmas.Bool.{cases_eq, cases_lt, eqb-true, eq-eqb, ne_eqb}
+use Rattle.std.proofs.lemmas.Bool.{eqb-true, eq-eqb}
 use Rattle.tl_beat.specs.declared.beat.Beat.TheVariants as beat
 use Rattle.tl_beat.specs.declared.beat.BeatC.{BeatC}
 use Rattle.tl_beat.specs.declared.beat.Link.{Link}
 use Rattle.tl_burst.specs.declared.message.MessageA.{MessageA}
 use Rattle.tl_params.specs.declared.config.Config.{Config}
-use Rattle.tl_params.specs.declared.key.Key.TheVariants.{ProbeOf, GrantSink}
+use Rattle.tl_params.specs.declared.key.Key.TheVariants.{ProbeOf}
 use Rattle.tl_params.specs.declared.perm.Perm.{Perm}
 use Rattle.tl_rules.specs.Conformance.{Trace, on_link}
 use Rattle.tl_rules.specs.Effect.{Memory}
-use Rattle.tl_rules.specs.History.{ends, block_at, is_probe_ack, is_release, pending}
+use Rattle.tl_rules.specs.History.{ends, block_at, is_probe_ack, pending}
 use Rattle.tl_rules.specs.Legality.{is_one_of}
 use Rattle.tl_manager.specs.Bit.{bit_if}
-use Rattle.tl_manager.specs.Blocks.{AreBlocks}
 use Rattle.tl_manager.specs.Handing.{Deed, Handed, with_handed, nothing, performed}
-use Rattle.tl_manager.specs.Holders.{is_missing, is_settled, recorded}
-use Rattle.tl_manager.specs.Home.{IsHomeBut, IsHome, IsHomeWithout, IsReportedHome, IsDone, IsReadyAt, IsReport}
-use Rattle.tl_manager.specs.Kept.{Each, AreApart, IsSound}
+use Rattle.tl_manager.specs.Holders.{is_missing, is_settled}
+use Rattle.tl_manager.specs.Home.{IsHomeWithout, IsReportedHome, IsDone, IsReadyAt, IsReport}
+use Rattle.tl_manager.specs.Kept.{AreApart}
 use Rattle.tl_manager.specs.Pending.{is_granted}
 use Rattle.tl_manager.specs.Ready.{IsReady}
 use Rattle.tl_manager.specs.Service.{Service, services, serving, trackers_of}
 use Rattle.tl_manager.specs.Slave.{End, settled, performed_if_any}
-use Rattle.tl_manager.specs.Tracked.{service_with, AreMissing, IsTracked, IsProbing, IsGranting}
+use Rattle.tl_manager.specs.Tracked.{service_with, AreMissing, IsTracked, IsProbing}
 use Rattle.tl_manager.specs.Trackers.{tracker_at}
 use Rattle.tl_manager.specs.Tracking.{is_of}
 use Rattle.tl_manager.specs.declared.manager.home.Home.{Home}
@@ -38,8 +37,8 @@ use Rattle.tl_manager.proofs.Replied.{block_served}
 use Rattle.tl_manager.proofs.Serving.{some_is, tracker_among, one_tracker}
 use Rattle.tl_manager.proofs.Settled.{silent-past}
 use Rattle.tl_manager.proofs.SteadyReports.{granted_c, report-service, report-ready}
-use Rattle.tl_manager.proofs.Trackers.{IsStill, tracked-still, other_block}
-use Rattle.tl_manager.proofs.Words.{IsWord, word-nobody}
+use Rattle.tl_manager.proofs.Trackers.{tracked-still, other_block}
+use Rattle.tl_manager.proofs.Words.{word-nobody}
 
 -- ---- the service that a ProbeAck is for
 

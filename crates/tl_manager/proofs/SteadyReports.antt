@@ -19,9 +19,8 @@ use Rattle.tl_rules.specs.Conformance.{Trace, on_link}
 use Rattle.tl_rules.specs.History.{ends, block_at, is_probe_ack, is_release, is_release_ack, is_grant, pending}
 use Rattle.tl_manager.specs.Handing.{Deed, with_handed, release_ack}
 use Rattle.tl_manager.specs.Holders.{is_settled}
-use Rattle.tl_manager.specs.Kept.{AreApart, blocks_of, IsKept}
 use Rattle.tl_manager.specs.Pending.{is_granted, is_awaited, IsSteady}
-use Rattle.tl_manager.specs.Service.{Service, services, serving, trackers_of}
+use Rattle.tl_manager.specs.Service.{Service, services, serving}
 use Rattle.tl_manager.specs.Slave.{End, deed}
 use Rattle.tl_manager.proofs.Accepted.{granted-kept}
 use Rattle.tl_manager.proofs.Accesses.{granted-still, services-release_ack, accounted-release_ack}
@@ -35,7 +34,7 @@ use Rattle.tl_manager.proofs.Serving.{some_is}
 use Rattle.tl_manager.proofs.Settled.{settled-all}
 use Rattle.tl_manager.proofs.Unmoved.{awaited-same}
 use Rattle.tl_manager.proofs.Lists.{never}
-use Rattle.tl_manager.specs.Ready.{IsPassed, IsReady, IsTaken}
+use Rattle.tl_manager.specs.Ready.{IsReady, IsTaken}
 
 -- where nothing is handed out
 pub quietly : {w : ℕ} (config : Config) (link : Link) (x : Beat w) (e : End w) → (deed config link x e).handed ≡ [] → IsSteady config ((link, x) ∷ e.trace) → IsSteady config (with_handed (deed config link x e).handed ((link, x) ∷ e.trace))

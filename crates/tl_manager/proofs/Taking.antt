@@ -1,7 +1,7 @@
 -- What is kept of the blocks after a message of channel C or E was taken.
-use Rattle.std.proofs.Common.{◌≡◌, ◌≢◌, ℕ, ◌≤◌, ◌==◌, ◌⊎◌, Bool, true, false, not, ◌&&◌, ◌||◌, List, [], ◌∷◌, length, Option, Some, None, refl, sym, ap, subst, ◌∙◌, inl, inr}
+use Rattle.std.proofs.Common.{◌≡◌, ◌≢◌, ℕ, ◌==◌, ◌⊎◌, Bool, true, false, not, ◌&&◌, ◌||◌, List, [], ◌∷◌, Some, None, refl, sym, ap, subst, ◌∙◌}
 use Rattle.std.specs.Prelude.{if◌then◌else◌, filter, nat_le}
-use Rattle.std.proofs.lemmas.Bool.{cases_eq, eqb-true, eq-eqb, ne_eqb, or_parts, and_parts}
+use Rattle.std.proofs.lemmas.Bool.{eqb-true, eq-eqb, ne_eqb}
 use Rattle.tl_beat.specs.declared.beat.Beat.TheVariants as beat
 use Rattle.tl_beat.specs.declared.beat.BeatC.{BeatC}
 use Rattle.tl_beat.specs.declared.beat.BeatE.{BeatE}
@@ -16,29 +16,25 @@ use Rattle.tl_burst.specs.declared.message.MessageC.{MessageC}
 use Rattle.tl_burst.specs.declared.message.MessageD.{MessageD}
 use Rattle.tl_burst.specs.Messages.{unfinished}
 use Rattle.tl_params.specs.declared.config.Config.{Config}
-use Rattle.tl_params.specs.declared.key.Key.TheVariants.{ProbeOf, GrantSink}
+use Rattle.tl_params.specs.declared.key.Key.TheVariants.{ProbeOf}
 use Rattle.tl_params.specs.declared.level.Level.{Level}
 use Rattle.tl_params.specs.declared.perm.Perm.{Perm}
 use Rattle.tl_params.specs.declared.rule.Rule.TheVariants.{L1, L7}
-use Rattle.tl_rules.specs.Agent.{payload_of}
 use Rattle.tl_rules.specs.Conformance.{Trace, on_link}
-use Rattle.tl_rules.specs.Effect.{Memory}
-use Rattle.tl_rules.specs.History.{ends, block_at, is_acquire, is_probe_ack, is_release, is_release_ack, is_grant, pending, reported, or_perm, asks_for, request_of, capped}
+use Rattle.tl_rules.specs.History.{ends, block_at, is_acquire, is_probe_ack, is_release, is_release_ack, is_grant, pending, reported, or_perm, capped}
 use Rattle.tl_rules.specs.Legality.{illegal, breaks_l1, breaks_l7, is_one_of}
 use Rattle.tl_rules.proofs.Bursts.{next_rule}
 use Rattle.tl_manager.specs.Blocks.{AreBlocks}
 use Rattle.tl_manager.specs.Handing.{Deed, Handed, with_handed, release_ack}
-use Rattle.tl_manager.specs.Holders.{is_missing, recorded}
-use Rattle.tl_manager.specs.Home.{IsHomeBut, IsHome, IsReportedHome, IsDone, IsReport, IsMessage}
-use Rattle.tl_manager.specs.Kept.{AreApart, IsSound, is_granting}
+use Rattle.tl_manager.specs.Holders.{recorded}
+use Rattle.tl_manager.specs.Home.{IsHome, IsReportedHome, IsDone, IsReport, IsMessage}
+use Rattle.tl_manager.specs.Kept.{AreApart, is_granting}
 use Rattle.tl_manager.specs.Ready.{IsPassed, IsTaken}
-use Rattle.tl_manager.specs.Record.{reported_by, granted_by}
 use Rattle.tl_manager.specs.Service.{Service, services, serving, trackers_of, is_ended_by}
-use Rattle.tl_manager.specs.Slave.{End, deed, settled, with_block, written, level_of}
+use Rattle.tl_manager.specs.Slave.{End, deed, settled, with_block, level_of}
 use Rattle.tl_manager.specs.Tracked.{IsTracked}
 use Rattle.tl_manager.specs.Trackers.{tracker_at}
 use Rattle.tl_manager.specs.declared.manager.home.Home.{Home}
-use Rattle.tl_manager.specs.declared.manager.tracker.Tracker.{Tracker}
 use Rattle.tl_manager.specs.declared.manager.tracker.Tracker.TheVariants.{Free}
 use Rattle.tl_manager.proofs.Accesses.{granted-still, services-release_ack}
 use Rattle.tl_manager.proofs.Acked.{acked-sink, services-e, granted-left}
@@ -53,7 +49,7 @@ use Rattle.tl_manager.proofs.Replies.{reply-quiet}
 use Rattle.tl_manager.proofs.Serving.{if_passes, serving-filter}
 use Rattle.tl_manager.proofs.Sound.{leveled}
 use Rattle.tl_manager.proofs.SteadyReports.{granted_c, release_is, release_kind}
-use Rattle.tl_manager.proofs.Trackers.{IsStill, tracked-still}
+use Rattle.tl_manager.proofs.Trackers.{tracked-still}
 
 -- ---- the kinds of messages that come on channel C
 

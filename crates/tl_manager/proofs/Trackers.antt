@@ -1,17 +1,16 @@
 -- What trackers keep, where the trace grows.
-use Rattle.std.proofs.Common.{◌≡◌, ◌≢◌, ℕ, ◌<◌, ◌≤◌, ◌==◌, Bool, true, false, not, cond, ◌&&◌, ◌||◌, List, [], ◌∷◌, length, map, Option, Some, None, refl, sym, ap, subst, ◌∙◌, arith, inl, inr}
+use Rattle.std.proofs.Common.{◌≡◌, ◌≢◌, ℕ, ◌==◌, Bool, true, false, not, List, [], ◌∷◌, Some, refl, sym, ap, ◌∙◌}
 use Rattle.std.specs.Prelude.{filter, if◌then◌else◌}
-use Rattle.std.proofs.lemmas.Bool.{cases_eq, eqb-true, eq-eqb, ne_eqb, or_parts, and_parts}
-use Rattle.tl_beat.specs.declared.beat.Link.{Link}
+use Rattle.std.proofs.lemmas.Bool.{eqb-true, eq-eqb, ne_eqb}
 use Rattle.tl_rules.specs.Conformance.{Trace}
 use Rattle.tl_rules.specs.History.{block_at}
 use Rattle.tl_rules.specs.Legality.{is_one_of}
 use Rattle.tl_manager.specs.Bit.{bit_if}
 use Rattle.tl_manager.specs.Holders.{is_missing}
-use Rattle.tl_manager.specs.Kept.{Each, AreApart, blocks_of}
+use Rattle.tl_manager.specs.Kept.{Each, AreApart}
 use Rattle.tl_manager.specs.Pending.{is_granted}
 use Rattle.tl_manager.specs.Service.{Service, services, serving, trackers_of}
-use Rattle.tl_manager.specs.Tracked.{service_with, IsTracked, IsProbing, IsGranting}
+use Rattle.tl_manager.specs.Tracked.{service_with, IsTracked}
 use Rattle.tl_manager.specs.declared.manager.tracker.Tracker.{Tracker}
 use Rattle.tl_manager.specs.declared.manager.tracker.Tracker.TheVariants.{Free, Probing, Granted}
 use Rattle.tl_manager.proofs.Counts.{same_tracker}

@@ -1,5 +1,5 @@
 -- What a manager keeps of the blocks is true of them after a trace.
-use Rattle.std.specs.Prelude.{ℕ, Bool, true, false, ◌≡◌, ◌≢◌, ◌<◌, ◌≤◌, Some, None, Option, List, length, ◌∷◌}
+use Rattle.std.specs.Prelude.{ℕ, true, false, ◌≡◌, ◌≢◌, ◌<◌, None, ◌∷◌}
 use Rattle.tl_beat.specs.declared.beat.Beat.TheVariants as beat
 use Rattle.tl_beat.specs.declared.beat.BeatC.{BeatC}
 use Rattle.tl_beat.specs.declared.beat.Link.{Link}
@@ -7,7 +7,6 @@ use Rattle.tl_burst.specs.declared.message.MessageC.{MessageC}
 use Rattle.tl_burst.specs.Messages.{unfinished}
 use Rattle.tl_rules.specs.Agent.{payload_of}
 use Rattle.tl_beat.specs.declared.opcode.Channel.TheVariants as channel
-use Rattle.tl_burst.specs.declared.message.Message.{Message}
 use Rattle.tl_burst.specs.declared.message.Message.TheVariants.{A}
 use Rattle.tl_burst.specs.declared.message.MessageA.{MessageA}
 use Rattle.tl_burst.specs.Burst.{beats_of, IsBlankAfter}
@@ -24,7 +23,6 @@ use Rattle.tl_manager.specs.Holders.{recorded}
 use Rattle.tl_manager.specs.Kept.{Each, IsSound}
 use Rattle.tl_manager.specs.Ready.{IsReady, IsTaken}
 use Rattle.tl_manager.specs.Slave.{End}
-use Rattle.tl_manager.specs.Service.{Service}
 use Rattle.tl_manager.specs.Tracked.{IsTracked, service_with}
 use Rattle.tl_manager.specs.Trackers.{tracker_at}
 use Rattle.tl_manager.specs.declared.manager.home.Home.{Home}

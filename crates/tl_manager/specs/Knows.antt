@@ -1,5 +1,5 @@
 -- What a manager knows of its end.
-use Rattle.std.specs.Prelude.{ℕ, Some, None, List, ◌≡◌, ◌≤◌, length, slice_get}
+use Rattle.std.specs.Prelude.{ℕ, Some, None, ◌≡◌, ◌≤◌, length, slice_get}
 use Rattle.tl_beat.specs.Width.{IsWidth}
 use Rattle.tl_params.specs.declared.config.Config.{Config}
 use Rattle.tl_params.specs.declared.perm.Perm.{Perm}
@@ -8,7 +8,6 @@ use Rattle.tl_manager.specs.Home.{IsHome}
 use Rattle.tl_manager.specs.Kept.{IsKept}
 use Rattle.tl_manager.specs.Slave.{End}
 use Rattle.tl_manager.specs.Wire.{IsWire}
-use Rattle.tl_manager.specs.declared.manager.home.Home.{Home}
 use Rattle.tl_manager.specs.declared.manager.links.Links.{Links}
 use Rattle.tl_manager.specs.declared.manager.wire.Wire.{Wire}
 

@@ -1,5 +1,5 @@
 -- What is known of a beat that the manager takes, and of a request that it may perform.
-use Rattle.std.specs.Prelude.{ℕ, Bool, true, false, List, [], ◌∷◌, ◌==◌, ◌≡◌, Some, None}
+use Rattle.std.specs.Prelude.{ℕ, true, false, [], ◌∷◌, ◌==◌, ◌≡◌, Some, None}
 use Rattle.tl_beat.specs.Width.{IsWidth}
 use Rattle.tl_beat.specs.declared.beat.Beat.{Beat}
 use Rattle.tl_beat.specs.declared.beat.Beat.TheVariants as beat

@@ -23,6 +23,7 @@ mod limits;
 mod messages;
 mod order;
 mod refusals;
+mod sequence;
 mod transfers;
 
 /// A payload whose bytes from one place up to another have one value, and the others 0.

@@ -1,4 +1,3 @@
-use Rattle.std.proofs.Common.{sym}
 use Rattle.tl_manager.proofs.Messages.{same-d}
 use Rattle.tl_manager.proofs.manager.reply.grant_with.Goals as goal
 

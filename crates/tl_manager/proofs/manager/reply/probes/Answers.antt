@@ -1,5 +1,4 @@
-use Rattle.std.proofs.Common.{sym, ap, ◌∙◌, rules, arith, ◌==◌, ◌≡◌, ◌++◌, true, false, ◌≤◌, length}
-use Rattle.std.specs.Int.{bit_at}
+use Rattle.std.proofs.Common.{rules, arith}
 use Rattle.tl_manager.proofs.Messages.{probes-none, probes-sent, probes-unsent}
 use Rattle.tl_manager.proofs.manager.reply.probes.Goals as goal
 

@@ -1,4 +1,4 @@
-use Rattle.std.proofs.Common.{ℕ, ◌≡◌, ◌≤◌, length, ◌==◌}
+use Rattle.std.proofs.Common.{◌≡◌, ◌≤◌, length, ◌==◌}
 use Rattle.std.specs.Int.{bit_at}
 use Rattle.tl_manager.specs.Handing.{probes}
 use Rattle.tl_manager.specs.Holders.{clients_from}

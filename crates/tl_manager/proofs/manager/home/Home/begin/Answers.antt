@@ -1,4 +1,4 @@
-use Rattle.std.proofs.Common.{refl, rules, sym, ◌∙◌, ap, ◌/◌, ◌≡◌, ◌==◌, false}
+use Rattle.std.proofs.Common.{refl}
 use Rattle.std.proofs.lemmas.Bool.{eq-eqb, ne_eqb}
 use Rattle.tl_manager.specs.Tracked.{service_with}
 use Rattle.tl_rules.specs.History.{block_at}

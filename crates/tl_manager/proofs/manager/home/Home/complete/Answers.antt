@@ -1,4 +1,3 @@
-use Rattle.std.proofs.Common.{refl, rules, ◌≡◌, length}
 use Rattle.tl_manager.proofs.Completed.{done-reported, done-acked}
 use Rattle.tl_manager.proofs.manager.home.Home.complete.Goals as goal
 

@@ -1,4 +1,4 @@
-use Rattle.std.proofs.Common.{refl, rules, sym, ◌∙◌, ap, ◌/◌, ◌≡◌, ◌==◌, ℕ}
+use Rattle.std.proofs.Common.{◌∙◌, ap, ◌≡◌, ◌==◌}
 use Rattle.tl_manager.specs.Holders.{is_unheld}
 use Rattle.tl_manager.specs.declared.manager.tracker.Trackers.{Trackers}
 use Rattle.tl_rules.specs.History.{block_at}

@@ -1,4 +1,4 @@
-use Rattle.std.proofs.Common.{refl, rules}
+use Rattle.std.proofs.Common.{refl}
 use Rattle.tl_manager.proofs.Answering.{home-performed}
 use Rattle.tl_manager.proofs.manager.home.Home.perform.Goals as goal
 

@@ -1,4 +1,4 @@
-use Rattle.std.proofs.Common.{refl, rules, ◌≡◌, length}
+use Rattle.std.proofs.Common.{refl}
 use Rattle.tl_manager.specs.Trackers.{tracker_at}
 use Rattle.tl_manager.proofs.Completed.{has-room, done-served}
 use Rattle.tl_manager.proofs.manager.home.Home.serve.Goals as goal

@@ -1,4 +1,4 @@
-use Rattle.std.proofs.Common.{refl, rules, sym, ◌∙◌, ap, ◌≡◌, true, false}
+use Rattle.std.proofs.Common.{sym, ◌∙◌, ap, ◌≡◌, true, false}
 use Rattle.tl_rules.specs.History.{is_release}
 use Rattle.tl_manager.proofs.Events.{memory_with}
 use Rattle.tl_manager.proofs.Taking.{home-written, home-released, is_report, done-ack}

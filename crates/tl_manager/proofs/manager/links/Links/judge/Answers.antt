@@ -1,4 +1,4 @@
-use Rattle.std.proofs.Common.{refl, rules, sym, ◌∙◌, ap, ◌≡◌, ◌<◌, length, true, false, not, arith, Err, Ok, Some}
+use Rattle.std.proofs.Common.{refl, sym, ◌∙◌, ap, ◌≡◌, length, Err, Some}
 use Rattle.std.specs.Prelude.{slice_get}
 use Rattle.std.proofs.lemmas.Result.{err_from_is_err_and}
 use Rattle.std.proofs.lemmas.Option.{slice_get_within, slice_get_read}

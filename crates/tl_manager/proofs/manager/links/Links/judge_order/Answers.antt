@@ -1,4 +1,4 @@
-use Rattle.std.proofs.Common.{refl, rules, sym, ◌∙◌, ap, ◌≡◌, true, false, not, arith, Err, Ok, Some}
+use Rattle.std.proofs.Common.{refl, ◌∙◌}
 use Rattle.tl_rules.specs.Conformance.{on_link}
 use Rattle.tl_manager.specs.PartIs.{IsPartOf}
 use Rattle.tl_manager.proofs.Judging.{burst-is, breaks-off}

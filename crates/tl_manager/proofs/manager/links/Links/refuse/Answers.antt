@@ -1,4 +1,4 @@
-use Rattle.std.proofs.Common.{refl, sym, ◌∙◌, ap, ◌≡◌, ◌<◌, length, arith, Some}
+use Rattle.std.proofs.Common.{refl, ◌≡◌, length, arith, Some}
 use Rattle.std.specs.Prelude.{slice_get}
 use Rattle.std.proofs.lemmas.Option.{slice_get_read}
 use Rattle.tl_manager.proofs.Refusing.{knows-absent, knows-refused}

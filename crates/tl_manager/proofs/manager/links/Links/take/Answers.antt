@@ -1,8 +1,6 @@
-use Rattle.std.proofs.Common.{refl, rules, sym, ◌∙◌, ap, ◌≡◌, ◌<◌, length, true, false, arith, Some, subst}
+use Rattle.std.proofs.Common.{refl, rules, ◌∙◌, ◌≡◌, length, false, Some}
 use Rattle.std.specs.Prelude.{slice_get}
 use Rattle.std.proofs.lemmas.Option.{slice_get_read}
-use Rattle.tl_manager.specs.Complete.{IsComplete}
-use Rattle.tl_manager.specs.Ready.{IsPassed}
 use Rattle.tl_manager.proofs.Carrying.{goes-on, last-is, is-complete, knows-taken}
 use Rattle.tl_manager.proofs.Completed.{done-part}
 use Rattle.tl_manager.proofs.Judged.{passed}

@@ -1,5 +1,5 @@
-use Rattle.std.proofs.Common.{refl, rules, sym, ◌∙◌, ap, ◌≡◌, true, false, not, arith}
-use Rattle.tl_manager.proofs.Past.{sink-past, granted-whole}
+use Rattle.std.proofs.Common.{◌∙◌}
+use Rattle.tl_manager.proofs.Past.{granted-whole}
 use Rattle.tl_manager.proofs.Looking.{sink-looked}
 use Rattle.tl_manager.proofs.Past.{looked-past}
 use Rattle.tl_manager.proofs.manager.wire.LinkPastPast.has_grant.Goals as goal

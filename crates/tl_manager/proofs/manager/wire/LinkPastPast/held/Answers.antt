@@ -1,4 +1,4 @@
-use Rattle.std.proofs.Common.{refl, rules, sym, ◌∙◌, ap, ◌≡◌, true, false, not, arith}
+use Rattle.std.proofs.Common.{arith}
 use Rattle.tl_manager.proofs.Past.{held-outside}
 use Rattle.tl_manager.proofs.manager.wire.LinkPastPast.held.Goals as goal
 

@@ -1,4 +1,4 @@
-use Rattle.std.proofs.Common.{refl, rules, sym, ◌∙◌, ap, ◌≡◌, true, false, not, arith}
+use Rattle.std.proofs.Common.{sym, ◌∙◌}
 use Rattle.tl_manager.proofs.Past.{source-past, acquire-past, grant-past, probe-past, sink-past}
 use Rattle.tl_manager.proofs.manager.wire.LinkPastPast.is_pending.Goals as goal
 

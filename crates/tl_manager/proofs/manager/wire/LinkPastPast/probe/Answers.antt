@@ -1,5 +1,4 @@
-use Rattle.std.proofs.Common.{refl, rules, sym, ◌∙◌, ap, ◌≡◌, true, false, not, arith}
-use Rattle.std.proofs.lemmas.Bool.{not-false}
+use Rattle.std.proofs.Common.{sym, ◌∙◌}
 use Rattle.tl_manager.proofs.Past.{unprobed-past, probed-past}
 use Rattle.tl_manager.proofs.manager.wire.LinkPastPast.probe.Goals as goal
 

@@ -1,4 +1,4 @@
-use Rattle.std.proofs.Common.{refl, rules, sym, ◌∙◌, ap, ◌≡◌, true, false, not, arith}
+use Rattle.std.proofs.Common.{sym, ◌∙◌, ap}
 use Rattle.tl_rules.specs.Open.{open_request}
 use Rattle.tl_manager.proofs.Looking.{request-unasked, request-asked}
 use Rattle.tl_manager.proofs.Past.{looked-past}

@@ -2,8 +2,10 @@
 -- block has, and which request that is. This is for all of its events alike.
 use Rattle.std.proofs.Common.{◌≡◌, ℕ, ◌==◌, Bool, true, false, not, ◌&&◌, ◌||◌, List, [], ◌∷◌, Option, Some, None, refl, sym, ◌∙◌, ap, inl, inr}
 use Rattle.std.specs.Prelude.{if◌then◌else◌}
-use Rattle.std.proofs.Math.Bool.{or_comm}
+use Rattle.std.specs.Cmp.Derive.{one_truth}
+use Rattle.std.proofs.Math.Bool.{or_comm, or-true}
 use Rattle.std.proofs.lemmas.Bool.{cases_eq, ne_eqb, eqb-true}
+use Rattle.std.proofs.lemmas.Option.{same_Some}
 use Rattle.tl_burst.specs.declared.message.MessageA.{MessageA}
 use Rattle.tl_burst.specs.Burst.{a_beat_of}
 use Rattle.tl_beat.specs.declared.opcode.Channel.TheVariants as channel
@@ -36,11 +38,6 @@ use Rattle.tl_world.proofs.Tokens.{same_number}
 
 -- ---- truth values
 
-same_truth : (a b : Bool) → (a ≡ true → b ≡ true) → (b ≡ true → a ≡ true) → a ≡ b
-same_truth true b f g = sym (f refl)
-same_truth false true f g = g refl
-same_truth false false f g = refl
-
 pub eqb-swap : (m n : ℕ) → (m == n) ≡ (n == m)
 eqb-swap m n = elim (cases_eq m n) [
   | inl same ↦ rw same refl
@@ -53,13 +50,9 @@ pub any-of : {w : ℕ} (n : ℕ) (test : manager.Service w → Bool) (ss : List 
 any-of n test [] v e f = absurd cc
 any-of {w} n test (s ∷ ss) v e f = go (block_at s.request.address == n) (λ g. any-of n test ss v g f) e
   where
-    either : (b : Bool) → (b || true) ≡ true
-    either true = refl
-    either false = refl
-
     go : (b : Bool) → (serving n ss ≡ Some v → is_any test ss ≡ true) → (if b then Some s else serving n ss) ≡ Some v → (test s || is_any test ss) ≡ true
     go true more g = let here : test s ≡ true = rw (some_is s v g) f in rw here refl
-    go false more g = rw (more g) (either (test s))
+    go false more g = rw (more g) (or-true (test s))
 
 -- a service that passes, and the block that it is of
 pub record IsFound {w : ℕ} (test : manager.Service w → Bool) (ss : List (manager.Service w)) : Type 0 where
@@ -232,11 +225,8 @@ asking-served caching request s c source n tracker (GrantSent q d k) inv f for u
 asking-served caching request s c source n tracker (GrantTaken q) inv f for ungranted r client same here = absurd cc
 asking-served {w} {X} caching request s c source n tracker (Waits q own src k) inv f for ungranted r client same here = go own refl
   where
-    some_number : (i j : ℕ) → Some i ≡ Some j → i ≡ j
-    some_number i j e = cc
-
     q_is : q ≡ c
-    q_is = some_number q r client ∙ eqb-true r c same
+    q_is = same_Some q r client ∙ eqb-true r c same
 
     src_is : src ≡ source
     src_is = sym for.1 ∙ eqb-true (request n).source source here
@@ -307,7 +297,7 @@ served-waits {X} caching s c source (Acquires n) inv f e = go (s.block n).servic
 
 sources-traced : {w : ℕ} {X : Type 0} (caching : ℕ → Bool) (config : Config) (request : ℕ → MessageA w) (s : State X) (e : End w) → IsInvariant caching s → IsKept config e → IsTraced request s e.trace
     → (c source : ℕ) → is_any (is_asking c source e.trace) (services e.trace) ≡ is_served c (s.uses c source) s
-sources-traced {w} {X} caching config request s e inv kept is c source = same_truth _ _ asking serving_it
+sources-traced {w} {X} caching config request s e inv kept is c source = one_truth _ _ asking serving_it
   where
     t : Trace w
     t = e.trace
@@ -375,14 +365,11 @@ granted-to c (GrantTaken q) e = let same = eqb-true c q (own (c == q) e) in (ref
 to-granted : (c : ℕ) (service : Service) → is_granted_in service ≡ true → client_in service ≡ Some c → is_grant_to c service ≡ true
 to-granted c Free e f = absurd cc
 to-granted c (Waits r own source k) e f = absurd cc
-to-granted c (GrantSent q d k) e f = let same : q ≡ c = some_number q c f in rw (same, same_number c) refl
+to-granted c (GrantSent q d k) e f = let same : q ≡ c = same_Some q c f in rw (same, same_number c) refl
   where
-    some_number : (i j : ℕ) → Some i ≡ Some j → i ≡ j
-    some_number i j g = cc
-to-granted c (GrantTaken q) e f = let same : q ≡ c = some_number q c f in rw (same, same_number c) refl
-  where
-    some_number : (i j : ℕ) → Some i ≡ Some j → i ≡ j
-    some_number i j g = cc
+    same_Some : (i j : ℕ) → Some i ≡ Some j → i ≡ j
+    same_Some i j g = cc
+to-granted c (GrantTaken q) e f = let same : q ≡ c = same_Some q c f in rw (same, same_number c) refl
 
 busy-granted : (service : Service) → is_granted_in service ≡ true → is_busy service ≡ true
 busy-granted Free e = absurd cc
@@ -392,7 +379,7 @@ busy-granted (GrantTaken q) e = refl
 
 sinks-traced : {w : ℕ} {X : Type 0} (caching : ℕ → Bool) (config : Config) (request : ℕ → MessageA w) (s : State X) (e : End w) → IsInvariant caching s → IsKept config e → IsTraced request s e.trace
     → (c sink : ℕ) → is_any (is_granted_with c sink e.trace) (services e.trace) ≡ is_granted c (s.tracked sink) s
-sinks-traced {w} {X} caching config request s e inv kept is c sink = same_truth _ _ granted_with (with_granted (s.tracked sink) refl)
+sinks-traced {w} {X} caching config request s e inv kept is c sink = one_truth _ _ granted_with (with_granted (s.tracked sink) refl)
   where
     t : Trace w
     t = e.trace
@@ -430,10 +417,7 @@ sinks-traced {w} {X} caching config request s e inv kept is c sink = same_truth 
 
 cap-of : {w : ℕ} (service : Service) (n : ℕ) (m : MessageA w) (k : Cap) → IsFor service n m → is_granted_in service ≡ false → (service ≡ Free → ⊥) → cap_probed m.opcode m.param ≡ Some k → k ≡ cap_waited service
 cap-of Free n m k for ungranted busy e = absurd (busy refl)
-cap-of (Waits r own source j) n m k for ungranted busy e = some_cap k j (sym e ∙ for.3)
-  where
-    some_cap : (i j : Cap) → Some i ≡ Some j → i ≡ j
-    some_cap i j f = cc
+cap-of (Waits r own source j) n m k for ungranted busy e = same_Some k j (sym e ∙ for.3)
 cap-of (GrantSent q d j) n m k for ungranted busy e = absurd cc
 cap-of (GrantTaken q) n m k for ungranted busy e = absurd cc
 

@@ -1,5 +1,6 @@
 -- Which clients' ends are left alone as a message is taken, and as a client is asked: all of that is what `followed` does.
 use Rattle.std.proofs.Common.{◌≡◌, ℕ, Bool, true, false, not, List, ◌∷◌, Option, Some, None, length, refl, ◌∙◌, ap, inl}
+use Rattle.std.proofs.lemmas.Bool.{and_from}
 use Rattle.std.specs.Prelude.{◌==◌, ◌&&◌, if◌then◌else◌}
 use Rattle.tl_burst.specs.declared.message.Message.{Message}
 use Rattle.tl_burst.specs.declared.message.Message.TheVariants as message
@@ -112,10 +113,7 @@ leaves-ack : {w : ℕ} (caching : ℕ → Bool) (clients : ℕ) (p : Profile) (c
 leaves-ack {w} caching clients p c n r rest h d inv = go (some_below clients (λ i. not (i == c) && not (is_quiet ((h.state.block n).pair i).probing)))
   where
     served : (q source : ℕ) (k : Cap) → (h.state.block n).service ≡ Waits q false source k → is_access (h.state.uses q source) ≡ true
-    served q source k e = served_access n (h.state.uses q source) (inv.named.serves q source n ∙ ap (λ (x : Service). is_serving q source x) e ∙ both (q == q) (source == source) (same_number q) (same_number source))
-      where
-        both : (x y : Bool) → x ≡ true → y ≡ true → (x && y) ≡ true
-        both x y e f = rw (e, f) refl
+    served q source k e = served_access n (h.state.uses q source) (inv.named.serves q source n ∙ ap (λ (x : Service). is_serving q source x) e ∙ and_from (q == q) (source == source) (same_number q) (same_number source))
 
     go : (x : Bool) → Leaves d h (if x then with_state (report_taken c n r rest h.state) h else last_taken clients p c n r (h.state.block n).service rest h)
     go true = aside-report_taken c n d r rest h.mail h.state

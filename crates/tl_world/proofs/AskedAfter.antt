@@ -1,6 +1,6 @@
 -- An operation that a client is asked for: the channels and the one memory afterwards.
 use Rattle.std.proofs.Common.{◌≡◌, ℕ, Bool, true, false, ◌||◌, List, [], ◌∷◌, Option, Some, None, refl, sym, ◌∙◌, ap, subst, inl, inr}
-use Rattle.std.proofs.lemmas.Bool.{cases_eq}
+use Rattle.std.proofs.lemmas.Bool.{cases_eq, or_right}
 use Rattle.tl_beat.specs.Width.{IsWidth}
 use Rattle.tl_beat.specs.declared.opcode.Channel.TheVariants as channel
 use Rattle.tl_beat.specs.declared.opcode.OpA.TheVariants as a
@@ -149,13 +149,9 @@ carried_asked {w} config log h sys c o r width is may_be = reply-cases (CarriesA
     low : (n : ℕ) → same_perm ((s.block n).pair c).held perm.Trunk ≡ true → (d : ℕ) → (same_perm ((s.block n).pair d).held perm.Trunk || same_perm ((s.block n).pair d).recorded perm.None) ≡ true
     low n trunk d = elim (cases_eq d c) [
       | inl same ↦ rw (same, trunk) refl
-      | inr other ↦ either (same_perm ((s.block n).pair d).held perm.Trunk) (same_perm ((s.block n).pair d).recorded perm.None) ((is.invariant.blocks n).one_owner c d (owned n trunk) other)
+      | inr other ↦ or_right (same_perm ((s.block n).pair d).held perm.Trunk) (same_perm ((s.block n).pair d).recorded perm.None) ((is.invariant.blocks n).one_owner c d (owned n trunk) other)
     ]
       where
-        either : (x y : Bool) → y ≡ true → (x || y) ≡ true
-        either true y e = refl
-        either false y e = e
-
         owned : (n : ℕ) → same_perm ((s.block n).pair c).held perm.Trunk ≡ true → same_perm ((s.block n).pair c).recorded perm.Trunk ≡ true
         owned n trunk = and_left (same_perm ((s.block n).pair c).recorded perm.Trunk) _ (trunk_held ((s.block n).pair c) (view (s.block n).service c) ((is.invariant.blocks n).phases c) trunk)
 

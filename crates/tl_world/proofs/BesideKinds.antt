@@ -2,6 +2,7 @@
 use Rattle.std.proofs.Common.{◌≡◌, subst, ℕ, ◌≤◌, Bool, true, false, not, ◌&&◌, List, [], ◌∷◌, Option, Some, None, length, refl, sym, ◌∙◌, ap, ◌⊎◌, inl, inr}
 use Rattle.std.specs.Prelude.{◌==◌, if◌then◌else◌}
 use Rattle.std.proofs.lemmas.Bool.{cases_eq, ne_eqb}
+use Rattle.std.proofs.Math.Bool.{and-false}
 use Rattle.tl_burst.specs.declared.message.Message.{Message}
 use Rattle.tl_burst.specs.declared.message.Message.TheVariants as message
 use Rattle.tl_burst.specs.declared.message.MessageA.{MessageA}
@@ -286,12 +287,8 @@ only_source : (caching : ℕ → Bool) (s : State (List ℕ)) (c n i : ℕ) → 
 only_source caching s c n i inv ne e =
     let yes : acquires_of n (s.uses c i) ≡ true = ap (acquires_of n) e ∙ same_number n in
     let named : acquires_of n (s.uses c i) ≡ (is_wanting ((s.block n).pair c).acquiring && (i == (s.block n).source c)) = inv.named.acquires c i n in
-    let no : (is_wanting ((s.block n).pair c).acquiring && (i == (s.block n).source c)) ≡ false = ap (λ (b : Bool). is_wanting ((s.block n).pair c).acquiring && b) (ne_eqb i ((s.block n).source c) ne) ∙ never (is_wanting ((s.block n).pair c).acquiring) in
+    let no : (is_wanting ((s.block n).pair c).acquiring && (i == (s.block n).source c)) ≡ false = ap (λ (b : Bool). is_wanting ((s.block n).pair c).acquiring && b) (ne_eqb i ((s.block n).source c) ne) ∙ and-false (is_wanting ((s.block n).pair c).acquiring) in
     let differ : true ≡ false = sym yes ∙ named ∙ no in cc
-  where
-    never : (b : Bool) → (b && false) ≡ false
-    never true = refl
-    never false = refl
 
 pub beside-grant : {w : ℕ} (caching : ℕ → Bool) (c n : ℕ) (d : Bool) (k : Cap) (rest : List Token) (mail : Mail w) (s : State (List ℕ)) (m : Machine w) → IsInvariant caching s → is_wanting ((s.block n).pair c).acquiring ≡ true → IsBeside mail s m
     → IsBeside mail (grant_taken c n (is_whole ((s.block n).pair c).acquiring) d k rest s) (after_end c Requests ((s.block n).source c) (m.opened c Requests ((s.block n).source c)) m)

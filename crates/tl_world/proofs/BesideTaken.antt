@@ -2,7 +2,7 @@
 -- operation ends.
 use Rattle.std.proofs.Common.{◌≡◌, subst, ℕ, ◌^◌, ◌≤◌, Bool, true, false, not, ◌&&◌, List, [], ◌∷◌, Some, None, length, refl, sym, ◌∙◌, ap, ◌⊎◌, inl, inr}
 use Rattle.std.specs.Prelude.{◌==◌, if◌then◌else◌}
-use Rattle.std.proofs.lemmas.Bool.{cases_eq, cases_lt}
+use Rattle.std.proofs.lemmas.Bool.{cases_eq, cases_lt, not-true}
 use Rattle.tl_beat.specs.Width.{IsWidth}
 use Rattle.tl_beat.specs.declared.opcode.OpA.{OpA}
 use Rattle.tl_beat.specs.declared.opcode.OpA.TheVariants as a
@@ -111,10 +111,6 @@ low_recorded : (p : Pair) (v : View) → ok p v ≡ true → (is_other v && (not
 unfolding low_test
 low_recorded p v h e = implies_is (is_other v && (not (same_perm (report_left (report_told p.probing)) perm.Trunk) && not (is_sent p.probing))) (not (same_perm p.recorded perm.Trunk)) (of_phase low_test low_all p v h) e
 
-not_true : (b : Bool) → not b ≡ true → b ≡ false
-not_true false e = refl
-not_true true e = absurd cc
-
 -- the last report has been told
 pub memory-reported : (caching : ℕ → Bool) (c q source : ℕ) (r : Report) (k : Cap) (b : Block (List ℕ)) → IsWell caching b → b.service ≡ Waits q false source k → (b.pair c).probing ≡ Answered r → ((d : ℕ) → (d ≡ c → ⊥) → is_quiet (b.pair d).probing ≡ true)
     → written r b.truth b.memory ≡ b.truth
@@ -132,7 +128,7 @@ memory-reported caching c q source r k b well waits answered settled = go (same_
     told_low e = rw (answered, e) refl
 
     low : (d : ℕ) → same_perm (report_left r) perm.Trunk ≡ false → same_perm (b.pair d).recorded perm.Trunk ≡ false
-    low d e = not_true (same_perm (b.pair d).recorded perm.Trunk) (low_recorded (b.pair d) (view b.service d) (well.phases d) (both d (cases_eq d c)))
+    low d e = not-true (same_perm (b.pair d).recorded perm.Trunk) (low_recorded (b.pair d) (view b.service d) (well.phases d) (both d (cases_eq d c)))
       where
         both : (d : ℕ) → (d ≡ c) ⊎ (d ≡ c → ⊥) → (is_other (view b.service d) && (not (same_perm (report_left (report_told (b.pair d).probing)) perm.Trunk) && not (is_sent (b.pair d).probing))) ≡ true
         both d (inl same) = rw (seen d) (ap (λ (j : ℕ). not (same_perm (report_left (report_told (b.pair j).probing)) perm.Trunk) && not (is_sent (b.pair j).probing)) same ∙ told_low e)

@@ -1,7 +1,7 @@
 -- Sources and trackers that are used are below the numbers that the configuration gives.
 use Rattle.std.proofs.Common.{◌≡◌, ℕ, ◌<◌, Bool, true, false, List, [], ◌∷◌, refl, sym, ◌∙◌, ap}
 use Rattle.std.specs.Prelude.{◌==◌, ◌||◌, Option, Some, is_some}
-use Rattle.std.proofs.lemmas.Bool.{eqb-true}
+use Rattle.std.proofs.lemmas.Bool.{eqb-true, and_parts}
 use Rattle.tl_burst.specs.declared.message.Message.{Message}
 use Rattle.tl_burst.specs.declared.message.Message.TheVariants as message
 use Rattle.tl_burst.specs.declared.message.MessageA.{MessageA}
@@ -25,7 +25,6 @@ use Rattle.tl_world.specs.Log.{Log}
 use Rattle.tl_world.specs.System.{System, terms_at}
 use Rattle.tl_world.specs.Whole.{IsMatched, asked_by, first_of, request_source, IsSourced}
 use Rattle.tl_world.proofs.Capacities.{AreBounded}
-use Rattle.tl_world.proofs.Distinct.{both-parts}
 use Rattle.tl_world.proofs.Tokens.{same_number}
 
 -- a client's sources that are pending are its own
@@ -87,7 +86,7 @@ module _ {w : ℕ} (config : Config) (log : Log w) (mail : Mail w) (request : �
   tracker_below : (i n : ℕ) → s.tracked i ≡ Some n → i < config.trackers
   tracker_below i n e =
       let named : tracks_with i (s.block n) ≡ true = sym (matched.invariant.named.trackers i n) ∙ rw e (same_number n) in
-      let parts = both-parts (is_busy (s.block n).service) (i == (s.block n).tracker) named in
+      let parts = and_parts (is_busy (s.block n).service) (i == (s.block n).tracker) named in
       let q = someone (s.block n).service parts.0 in
       let is : serving n (services sys.manager.trace) ≡ Some (record { tracker = (s.block n).tracker; link = record { 0 = q.0 }; request = request n }) =
       matched.managed.serving_is n ∙ ap (λ (o : Option ℕ). service_with o (s.block n).tracker (request n)) q.1 in

@@ -39,6 +39,8 @@ use Rattle.tl_world.proofs.Moved.{carried-part, manager-heard}
 use Rattle.std.proofs.Common.{◌≡◌, ℕ, Bool, true, false, ◌||◌, List, [], ◌∷◌, Option, Some, None, length, refl, sym, ◌∙◌, ap, subst, ◌⊎◌, inl, inr}
 use Rattle.std.specs.Prelude.{◌==◌, if◌then◌else◌, map}
 use Rattle.std.proofs.lemmas.Bool.{cases_eq}
+use Rattle.std.proofs.Math.Bool.{or-true}
+use Rattle.std.proofs.lemmas.Option.{same_Some}
 use Rattle.tl_beat.specs.Width.{IsWidth}
 use Rattle.tl_beat.specs.declared.beat.Beat.{Beat}
 use Rattle.tl_beat.specs.declared.opcode.Channel.{Channel}
@@ -78,10 +80,6 @@ least perm.None e = refl
 least perm.Branch e = absurd cc
 least perm.Trunk e = absurd cc
 
-either : (b : Bool) → (b || true) ≡ true
-either true = refl
-either false = refl
-
 -- a service that probes toN, with its last ProbeAck: nobody is recorded then
 unrecorded : (caching : ℕ → Bool) (c q source : ℕ) (r : Report) (f : List ℕ → List ℕ) (b : Block (List ℕ)) → IsWell caching b → b.service ≡ Waits q false source cap.ToN → (b.pair c).probing ≡ Answered r
     → ((d : ℕ) → (d ≡ c → ⊥) → is_quiet (b.pair d).probing ≡ true) → (d : ℕ) → same_perm ((ended_block c r f b).pair d).recorded perm.None ≡ true
@@ -98,14 +96,11 @@ pub ended-bytes : {w : ℕ} (caching : ℕ → Bool) (c q source : ℕ) (r : Rep
     → (j : Kind) (i : ℕ) → shown j i b ≡ true → shown j i (ended_block c r (performs m) b) ≡ true → (carries j i b ≡ false) ⊎ (performs m b.truth ≡ b.truth)
 ended-bytes {w} caching c q source r k m b before after waits answered settled access low long j i shown_now shown_after = elim (leaves-bytes m b.truth access long) [
   | inl same ↦ inr same
-  | inr all ↦ inl (kept j shown_after ∙ none-carried caching new after (λ d. rw (unrecorded caching c q source r (performs m) b before (rw (cap_is k cap.ToN (sym low ∙ all)) at waits) answered settled d) (either (same_perm (new.pair d).held perm.Trunk))) j i)
+  | inr all ↦ inl (kept j shown_after ∙ none-carried caching new after (λ d. rw (unrecorded caching c q source r (performs m) b before (rw (same_Some k cap.ToN (sym low ∙ all)) at waits) answered settled d) (or-true (same_perm (new.pair d).held perm.Trunk))) j i)
 ]
   where
     new : Block (List ℕ)
     new = ended_block c r (performs m) b
-
-    cap_is : (x y : Cap) → Some x ≡ Some y → x ≡ y
-    cap_is x y e = cc
 
     -- what is shown then was so before
     kept : (x : Kind) → shown x i new ≡ true → carries x i b ≡ carries x i new

@@ -2,6 +2,7 @@
 use Rattle.std.proofs.Common.{◌≡◌, ℕ, suc, ◌≤◌, ◌==◌, Bool, true, false, not, ◌&&◌, ◌||◌, List, [], ◌∷◌, Option, Some, None, length, refl, sym, subst, ◌∙◌, ap, ◌⊎◌, inl, inr, arith}
 use Rattle.std.specs.Prelude.{if◌then◌else◌}
 use Rattle.std.proofs.lemmas.Bool.{cases_lt}
+use Rattle.std.proofs.Math.Bool.{and_comm}
 use Rattle.tl_beat.specs.declared.beat.Beat.{Beat}
 use Rattle.tl_beat.specs.declared.beat.Beat.TheVariants as beat
 use Rattle.tl_beat.specs.declared.beat.BeatA.{BeatA}
@@ -108,12 +109,6 @@ carried-more {w} config log mail request s sys c k m queue is comes beats part =
 
 -- ---- its last beat: others are probed
 
-probed_is : (x y : Bool) → (x && y) ≡ (y && x)
-probed_is true true = refl
-probed_is true false = refl
-probed_is false true = refl
-probed_is false false = refl
-
 nothing_above : (j : Cap) (own : Bool) → (not own && is_above j perm.None) ≡ false
 nothing_above cap.ToT true = refl
 nothing_above cap.ToT false = refl
@@ -139,7 +134,7 @@ taken-probing {w} config log mail request s sys c k n own j m queue is comes bea
     pushes = probe_pushes n j test
 
     same : (i : ℕ) → (holders.is_above j (recorded i (block_at m.address) (with_beat c m k sys.manager.trace)) && not (is_spared (service_for c m sys.manager.trace) i)) ≡ test i
-    same i = rw (block, recorded-beat c k m sys.manager.trace i n, is.managed.recorded_is i n, kind, same_above j ((s.block n).pair i).recorded, eqb-swap c i) (probed_is (is_above j ((s.block n).pair i).recorded) (not (own && (i == c))))
+    same i = rw (block, recorded-beat c k m sys.manager.trace i n, is.managed.recorded_is i n, kind, same_above j ((s.block n).pair i).recorded, eqb-swap c i) (and_comm (is_above j ((s.block n).pair i).recorded) (not (own && (i == c))))
 
     none : (d : ℕ) → length config.clients.items ≤ d → test d ≡ false
     none d past = rw (beyond-none config log mail request s sys n is d past) (nothing_above j (own && (d == c)))

@@ -2,6 +2,7 @@
 use Rattle.std.proofs.Common.{◌≡◌, subst, ℕ, Bool, true, false, not, ◌&&◌, cond, List, ◌∷◌, Option, Some, None, refl, sym, ◌∙◌, ap, ◌⊎◌, inl, inr}
 use Rattle.std.specs.Prelude.{◌==◌, ◌*◌}
 use Rattle.std.proofs.lemmas.Bool.{cases_eq, eqb-true, ne_eqb}
+use Rattle.std.proofs.Math.Bool.{and-false}
 use Rattle.tl_beat.specs.Width.{IsWidth}
 use Rattle.tl_beat.specs.declared.beat.Beat.TheVariants as beat
 use Rattle.tl_beat.specs.declared.beat.BeatA.{BeatA}
@@ -290,11 +291,7 @@ end-grant_taken {w} c n whole data_too g k x payload rest mail s e f width named
         and_true : (u : Bool) → u ≡ true → (u && true) ≡ true
         and_true u p = rw p refl
     copy_here i false true a b same = chosen (i == block_at (64 * n)) (Some payload) (e.copies i) (here i same) ∙ ap Some (is.bytes b)
-    copy_here i false false a b same = passed ((i == block_at (64 * n)) && false) (e.waiting i) (e.copies i) (and_false (i == block_at (64 * n))) ∙ ap e.copies same ∙ end.copies n (is.has_copy a b)
-      where
-        and_false : (u : Bool) → (u && false) ≡ false
-        and_false true = refl
-        and_false false = refl
+    copy_here i false false a b same = passed ((i == block_at (64 * n)) && false) (e.waiting i) (e.copies i) (and-false (i == block_at (64 * n))) ∙ ap e.copies same ∙ end.copies n (is.has_copy a b)
 
     copy_else : (i : ℕ) (z : Bool) → (i ≡ n → ⊥) → copy_granted (grant_opcode z) (Some r) payload i e ≡ e.copies i
     copy_else i true ne = passed (i == block_at r.address) (Some payload) (e.copies i) (elsewhere i ne)

@@ -1,5 +1,6 @@
 -- A beat of channel D that is delivered to a client is taken.
 use Rattle.std.proofs.Common.{◌≡◌, subst, ℕ, zero, suc, Bool, cond, true, false, not, ◌&&◌, ◌||◌, List, [], ◌∷◌, Option, Some, None, refl, sym, ◌∙◌, ap, arith}
+use Rattle.std.proofs.lemmas.Bool.{not-true}
 use Rattle.std.specs.Prelude.{All, is_some, slice_get, option_map}
 use Rattle.tl_beat.specs.declared.beat.Beat.{Beat}
 use Rattle.tl_beat.specs.declared.beat.BeatA.{BeatA}
@@ -197,11 +198,7 @@ pub fitting : (recorded held : Perm) (data_too : Bool) (k : Cap) (whole : Bool) 
 fitting recorded held data_too k whole g fits =
     let more = and_right _ _ fits in
     let rest = and_right _ _ more in
-    record { cap_is = and_left _ _ more; bare = not_true (whole && data_too) (and_left _ _ rest); carried = and_right _ _ rest }
-  where
-    not_true : (b : Bool) → not b ≡ true → b ≡ false
-    not_true true e = absurd cc
-    not_true false e = refl
+    record { cap_is = and_left _ _ more; bare = not-true (whole && data_too) (and_left _ _ rest); carried = and_right _ _ rest }
 
 pub has_data : (whole data_too : Bool) (q : Perm) → (whole || (data_too || same_perm q perm.Branch)) ≡ true
     → (is_grant_without_data (grant_opcode data_too) && (is_acquire_block (acquire_opcode whole) && not (same_perm q perm.Branch))) ≡ false

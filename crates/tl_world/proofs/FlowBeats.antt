@@ -1,7 +1,8 @@
 -- What of a message was delivered before and after one of its beats.
 use Rattle.std.proofs.Common.{◌≡◌, ℕ, zero, suc, ◌<◌, Bool, true, false, not, ◌&&◌, List, [], ◌∷◌, Some, refl, sym, ◌∙◌, ap, arith, inl, inr}
 use Rattle.std.specs.Prelude.{◌==◌, if◌then◌else◌}
-use Rattle.std.proofs.lemmas.Bool.{cases_eq, ne_eqb}
+use Rattle.std.proofs.lemmas.Bool.{cases_eq, ne_eqb, and_right}
+use Rattle.std.proofs.lemmas.Option.{same_Some}
 use Rattle.tl_beat.specs.declared.beat.Beat.{Beat}
 use Rattle.tl_burst.specs.declared.message.Message.{Message}
 use Rattle.tl_burst.specs.Burst.{beats_of, begun}
@@ -16,7 +17,6 @@ use Rattle.tl_world.specs.Protocol.{State, is_wanting, is_answered}
 use Rattle.tl_world.specs.Token.{set_at}
 use Rattle.tl_world.proofs.Aside.{set_at-same, set_at-else}
 use Rattle.tl_world.proofs.Carried.{IsNext}
-use Rattle.tl_world.proofs.FlowReleased.{with_false}
 use Rattle.tl_world.proofs.Tokens.{same_number}
 
 -- a test of what was delivered, which no beats pass, and all beginnings of the message alike
@@ -72,9 +72,6 @@ same_perms perm.Branch perm.Trunk e = absurd cc
 same_perms perm.Trunk perm.None e = absurd cc
 same_perms perm.Trunk perm.Branch e = absurd cc
 
-pub some_is : (i j : ℕ) → Some i ≡ Some j → i ≡ j
-some_is i j e = cc
-
 pub first_false : (p q : Bool) → p ≡ false → (p && q) ≡ false
 first_false p q e = rw e refl
 
@@ -85,7 +82,7 @@ quiet_unanswered (Answered r) e = absurd cc
 
 -- the source of a client's Acquire of a block is of no other
 pub unused-else : {X : Type 0} (c n i : ℕ) (s : State X) → AreNamed s → ((s.block n).source c == i) ≡ false → acquires_of n (s.uses c i) ≡ false
-unused-else c n i s named e = named.acquires c i n ∙ with_false (is_wanting ((s.block n).pair c).acquiring) (i == (s.block n).source c) (ne_eqb i ((s.block n).source c) apart)
+unused-else c n i s named e = named.acquires c i n ∙ and_right (is_wanting ((s.block n).pair c).acquiring) (i == (s.block n).source c) (ne_eqb i ((s.block n).source c) apart)
   where
     apart : i ≡ (s.block n).source c → ⊥
     apart same = let no : ((s.block n).source c == (s.block n).source c) ≡ false = rw same at e in let yes : true ≡ false = sym (same_number ((s.block n).source c)) ∙ no in cc

@@ -1,7 +1,7 @@
 -- What is delivered on a link, as a beat of channel D is: of an answer, a Grant or a ReleaseAck.
 use Rattle.std.proofs.Common.{◌≡◌, subst, ℕ, Bool, true, false, not, ◌&&◌, List, [], ◌∷◌, Option, None, refl, sym, ◌∙◌, ap, inl}
 use Rattle.std.specs.Prelude.{◌==◌, if◌then◌else◌}
-use Rattle.std.proofs.lemmas.Bool.{ne_eqb, eqb-true}
+use Rattle.std.proofs.lemmas.Bool.{ne_eqb, eqb-true, and_right as with_false}
 use Rattle.tl_beat.specs.declared.beat.Beat.{Beat}
 use Rattle.tl_beat.specs.declared.beat.Beat.TheVariants as beat
 use Rattle.tl_beat.specs.declared.beat.BeatA.{BeatA}
@@ -46,7 +46,6 @@ use Rattle.tl_world.proofs.FlowAsking.{rest_at}
 use Rattle.tl_world.proofs.FlowBeats.{came-so, comes-so, one-beat, set_at-if, same_perms, unused-else, first_false}
 use Rattle.tl_world.proofs.FlowGranted.{seen_after, flowed-grant}
 use Rattle.tl_world.proofs.FlowResponses.{grant_quiet, grant_tracked}
-use Rattle.tl_world.proofs.FlowReleased.{with_false}
 use Rattle.tl_world.proofs.FlowStep.{held_by}
 use Rattle.tl_world.proofs.FollowKept.{acked-is}
 use Rattle.tl_world.proofs.Phases.{and_right}

@@ -1,7 +1,7 @@
 -- What is delivered on a link, as a beat of a Grant is.
 use Rattle.std.proofs.Common.{◌≡◌, ℕ, Bool, true, false, not, ◌&&◌, ◌||◌, ◌∷◌, Option, Some, None, refl, sym, ◌∙◌, ap, List}
 use Rattle.std.specs.Prelude.{◌==◌, if◌then◌else◌, option_map}
-use Rattle.std.proofs.lemmas.Bool.{ne_eqb}
+use Rattle.std.proofs.lemmas.Bool.{ne_eqb, and_right}
 use Rattle.tl_beat.specs.declared.beat.Beat.{Beat}
 use Rattle.tl_beat.specs.declared.beat.Beat.TheVariants as beat
 use Rattle.tl_beat.specs.declared.beat.BeatA.{BeatA}
@@ -26,7 +26,7 @@ use Rattle.tl_world.proofs.FlowAlone.{AreRests}
 use Rattle.tl_world.proofs.FlowAnswered.{released-of, requested-of, probed-of, unclosed, closes_last}
 use Rattle.tl_world.proofs.FlowAside.{let_by-same}
 use Rattle.tl_world.proofs.FlowReport.{unclosed as not_last}
-use Rattle.tl_world.proofs.FlowReleased.{AreElsewhere, each-block, part-block, opened, with_true, with_false}
+use Rattle.tl_world.proofs.FlowReleased.{AreElsewhere, each-block, part-block, opened, with_true}
 use Rattle.tl_world.proofs.FlowStep.{flowed-next, held_by, acquired_by, let_of, granted_by, step, step_quiet}
 use Rattle.tl_world.proofs.Tokens.{same_number}
 
@@ -188,7 +188,7 @@ flowed-grant {w} {X} c n d k y first last asked asked' rest rest' s s' t first_i
     grants_other : (m : ℕ) → (m ≡ n → ⊥) → granted_by c m asked' (rest' channel.D) (s.block m) ≡ granted_by c m asked (rest channel.D) (s.block m)
     grants_other m ne =
         ap (λ (z : Bool). is_acknowledging (view (s.block m).service c) || z)
-        (is.grants m ∙ with_false (not last) (n == m) (ne_eqb n m (λ e. ne (sym e))) ∙ sym (is.granted m ∙ with_false (not first) (n == m) (ne_eqb n m (λ e. ne (sym e)))))
+        (is.grants m ∙ and_right (not last) (n == m) (ne_eqb n m (λ e. ne (sym e))) ∙ sym (is.granted m ∙ and_right (not first) (n == m) (ne_eqb n m (λ e. ne (sym e)))))
 
     use_at : (i : ℕ) → is_requested c i (rest' channel.A) (s'.uses c i) s' ≡ is_requested c i (rest channel.A) (if last && (y.source == i) then Closed else s.uses c i) s'
     use_at i = ap (λ (l : List (Beat w)). is_requested c i l (s'.uses c i) s') (rests channel.A) ∙ ap (λ (u : Use). is_requested c i (rest channel.A) u s') (is.uses i)
@@ -230,11 +230,11 @@ flowed-grant {w} {X} c n d k y first last asked asked' rest rest' s s' t first_i
 
         then_sunk : is_sunk c i (rest channel.D) o s ≡ not first
         then_sunk = ap (λ (p : Option ℕ). is_sunk c i (rest channel.D) p s) at_n ∙ ap (λ (v : View). is_acknowledging v || (is_granting v && comes_in_grant i (rest channel.D))) is.seen ∙ is.came i ∙ with_true (not first) (y.sink == i) e
-    sinks i false None e f = sym (unbegun first last (is_grant y.opcode && (y.sink == i)) false (with_false (is_grant y.opcode) (y.sink == i) e))
+    sinks i false None e f = sym (unbegun first last (is_grant y.opcode && (y.sink == i)) false (and_right (is_grant y.opcode) (y.sink == i) e))
     sinks i false (Some m) e f =
         ap (λ (z : Block X). is_acknowledging (view z.service c) || (is_granting (view z.service c) && comes_in_grant i (rest' channel.D))) (is.elsewhere m (λ g. let h : (n == n) ≡ false = sym (rw (f, g) refl) ∙ is.tracks_not i e in let j : true ≡ false = sym (same_number n) ∙ h in cc))
-        ∙ ap (λ (z : Bool). is_acknowledging (view (s.block m).service c) || (is_granting (view (s.block m).service c) && z)) (is.comes i ∙ with_false (not last) (y.sink == i) e ∙ sym (is.came i ∙ with_false (not first) (y.sink == i) e))
-        ∙ sym (unbegun first last (is_grant y.opcode && (y.sink == i)) (is_sunk c i (rest channel.D) (Some m) s) (with_false (is_grant y.opcode) (y.sink == i) e))
+        ∙ ap (λ (z : Bool). is_acknowledging (view (s.block m).service c) || (is_granting (view (s.block m).service c) && z)) (is.comes i ∙ and_right (not last) (y.sink == i) e ∙ sym (is.came i ∙ and_right (not first) (y.sink == i) e))
+        ∙ sym (unbegun first last (is_grant y.opcode && (y.sink == i)) (is_sunk c i (rest channel.D) (Some m) s) (and_right (is_grant y.opcode) (y.sink == i) e))
 
     answered : (m : ℕ) → is_answered ((s'.block m).pair c).probing ≡ is_answered ((s.block m).pair c).probing
     answered = part-block (λ (z : Block X). is_answered (z.pair c).probing) n s s' is.elsewhere is.answered

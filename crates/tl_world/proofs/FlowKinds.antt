@@ -3,6 +3,7 @@
 use Rattle.std.proofs.Common.{◌≡◌, subst, ℕ, Bool, true, false, not, ◌&&◌, List, ◌∷◌, Option, Some, None, length, refl, sym, ◌∙◌, ap, inl}
 use Rattle.std.specs.Prelude.{◌==◌, if◌then◌else◌}
 use Rattle.std.proofs.lemmas.Bool.{ne_eqb}
+use Rattle.std.proofs.lemmas.Option.{same_Some}
 use Rattle.tl_beat.specs.declared.beat.Beat.{Beat}
 use Rattle.tl_beat.specs.declared.beat.BeatA.{BeatA}
 use Rattle.tl_beat.specs.declared.opcode.Channel.{Channel}
@@ -35,7 +36,7 @@ use Rattle.tl_world.proofs.Facts.{quiet_at_rest, own_alone, own_wants, answered_
 use Rattle.tl_world.proofs.FlowApart.{replied, left-replied, left-served, left-acquire_granted, left-probe_taken, left-report_taken, left-release_taken, left-answer_taken, left-grant_taken, left-release_ack_taken, left-grant_ack_taken, left-access_answered, left-access_served, left-report_answers, left-report_grants}
 use Rattle.tl_world.proofs.FlowAside.{is_heard, IsComing, flowed-aside, flowed-asks}
 use Rattle.tl_world.proofs.FlowAsking.{rest_at, asks-left}
-use Rattle.tl_world.proofs.FlowBeats.{same_perms, some_is, quiet_unanswered}
+use Rattle.tl_world.proofs.FlowBeats.{same_perms, quiet_unanswered}
 use Rattle.tl_world.proofs.FlowComing.{coming-granting, coming-sink}
 use Rattle.tl_world.proofs.FollowKept.{IsReady, answered-is, acknowledging-is, settled_all}
 use Rattle.tl_world.proofs.ManagedEndings.{tracker-of}
@@ -123,7 +124,7 @@ module _ {w : ℕ} (config : Config) (log : Log w) (h : Shadow w) (sys : System 
             go false f = refl
             go true f =
                 let of = coming-sink config log h.mail h.request s sys d i is f in
-                let here : of.0 ≡ n = some_is of.0 n (sym of.2 ∙ tracks) in
+                let here : of.0 ≡ n = same_Some of.0 n (sym of.2 ∙ tracks) in
                 absurd (let no : GrantSent d of.1.data_too of.1.k ≡ Waits q true source k = sym of.1.service ∙ ap (λ (j : ℕ). (s.block j).service) here ∙ waits in cc)
 
         granted : (q source : ℕ) (k : Cap) → (s.block n).service ≡ Waits q true source k → ((i : ℕ) → (i ≡ c → ⊥) → is_quiet ((s.block n).pair i).probing ≡ true) → (a : Acquiring) → not (is_calm a) ≡ true

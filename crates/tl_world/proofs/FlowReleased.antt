@@ -1,7 +1,7 @@
 -- What is delivered on a link, as the beats of a Release are.
 use Rattle.std.proofs.Common.{◌≡◌, ℕ, Bool, true, false, not, ◌&&◌, ◌||◌, ◌∷◌, Option, Some, None, refl, sym, ◌∙◌, ap, List, ◌⊎◌, inl, inr}
 use Rattle.std.specs.Prelude.{◌==◌, if◌then◌else◌, option_map}
-use Rattle.std.proofs.lemmas.Bool.{cases_eq, ne_eqb, eqb-true}
+use Rattle.std.proofs.lemmas.Bool.{cases_eq, ne_eqb, eqb-true, and_right}
 use Rattle.tl_beat.specs.declared.beat.Beat.{Beat}
 use Rattle.tl_beat.specs.declared.beat.Beat.TheVariants as beat
 use Rattle.tl_beat.specs.declared.beat.BeatA.{BeatA}
@@ -102,10 +102,6 @@ pub with_true : (p q : Bool) → q ≡ true → (p && q) ≡ p
 with_true true q e = e
 with_true false q e = refl
 
-pub with_false : (p q : Bool) → q ≡ false → (p && q) ≡ false
-with_false true q e = e
-with_false false q e = refl
-
 pub is_same : (n : ℕ) (o : Option ℕ) → is_of n o ≡ true → o ≡ Some n
 is_same n None e = absurd cc
 is_same n (Some m) e = ap Some (sym (eqb-true n m e))
@@ -189,7 +185,7 @@ flowed-release {w} {X} c n r y first last asked rest rest' s s' t first_is last_
     another i ne = ne_eqb y.source i (λ e. ne (sym e))
 
     comes_other : (i : ℕ) → (i ≡ y.source → ⊥) → comes_in_release i (rest' channel.C) ≡ comes_in_release i (rest channel.C)
-    comes_other i ne = is.comes i ∙ with_false (not last) (y.source == i) (another i ne) ∙ sym (is.came i ∙ with_false (not first) (y.source == i) (another i ne))
+    comes_other i ne = is.comes i ∙ and_right (not last) (y.source == i) (another i ne) ∙ sym (is.came i ∙ and_right (not first) (y.source == i) (another i ne))
 
     open_other : (m : ℕ) → (m ≡ n → ⊥) → (i : ℕ) → i ≡ (s.block m).release_source c → is_kept ((s.block m).pair c).letting ≡ false → i ≡ y.source → ⊥
     open_other m ne i at begun same = ne (both_some m n (s.lets c i) (is_same m (s.lets c i) (named i m ∙ rw (begun, at) (same_number ((s.block m).release_source c)))) (of_block i same))

@@ -2,6 +2,8 @@
 use Rattle.std.proofs.Common.{◌≡◌, subst, ℕ, Bool, true, false, not, ◌&&◌, List, [], ◌∷◌, Option, Some, None, refl, sym, ◌∙◌, ap, ◌⊎◌, inl, inr}
 use Rattle.std.specs.Prelude.{◌==◌, if◌then◌else◌}
 use Rattle.std.proofs.lemmas.Bool.{cases_eq, eqb-true}
+use Rattle.std.proofs.Math.Bool.{and-false}
+use Rattle.std.proofs.lemmas.Option.{same_Some}
 use Rattle.tl_beat.specs.declared.beat.Beat.{Beat}
 use Rattle.tl_beat.specs.declared.beat.Beat.TheVariants as beat
 use Rattle.tl_beat.specs.declared.beat.BeatA.{BeatA}
@@ -34,7 +36,7 @@ use Rattle.tl_world.proofs.FlowAcquired.{flowed-acquire}
 use Rattle.tl_world.proofs.FlowAlone.{AreRests}
 use Rattle.tl_world.proofs.FlowApart.{replied}
 use Rattle.tl_world.proofs.FlowAsking.{rest_at}
-use Rattle.tl_world.proofs.FlowBeats.{came-so, comes-so, first-zero, one-beat, set_at-if, same_perms, unused-else, some_is, quiet_unanswered}
+use Rattle.tl_world.proofs.FlowBeats.{came-so, comes-so, first-zero, one-beat, set_at-if, same_perms, unused-else, quiet_unanswered}
 use Rattle.tl_world.proofs.FlowComing.{coming-sink, coming-granting}
 use Rattle.tl_world.proofs.FlowStep.{held_by}
 use Rattle.tl_world.proofs.FlowSunk.{sunk_in, sunk-elsewhere, IsWithin, tracked-new}
@@ -185,7 +187,7 @@ module _ {w : ℕ} (config : Config) (log : Log w) (h : Shadow w) (sys : System 
             go true f = absurd (elim (cases_eq i tracker) [
               | inl same ↦ let no : None ≡ Some of.0 = sym unused ∙ sym (ap s.tracked same) ∙ of.2 in cc
               | inr other ↦
-                  let here : of.0 ≡ n = some_is of.0 n (sym of.2 ∙ sym (set-other tracker i (Some n) s.tracked other) ∙ e) in
+                  let here : of.0 ≡ n = same_Some of.0 n (sym of.2 ∙ sym (set-other tracker i (Some n) s.tracked other) ∙ e) in
                   let no : GrantSent c of.1.data_too of.1.k ≡ Free = sym of.1.service ∙ ap (λ (j : ℕ). (s.block j).service) here ∙ free in
                   cc
             ])
@@ -194,11 +196,7 @@ module _ {w : ℕ} (config : Config) (log : Log w) (h : Shadow w) (sys : System 
                 of = coming-sink config log h.mail h.request s sys c i is f
 
         unsunk : (i : ℕ) → set tracker (Some n) s.tracked i ≡ Some n → sunk_in c i (rest_at sys c channel.D) (s'.block n) ≡ false
-        unsunk i e = rw (ap (λ (b : Block (List ℕ)). is_acknowledging (view b.service c)) now ∙ taken.waits_so, none_comes i e) (never (is_granting (view (s'.block n).service c)))
-          where
-            never : (p : Bool) → (p && false) ≡ false
-            never true = refl
-            never false = refl
+        unsunk i e = rw (ap (λ (b : Block (List ℕ)). is_acknowledging (view b.service c)) now ∙ taken.waits_so, none_comes i e) (and-false (is_granting (view (s'.block n).service c)))
 
     held_free : held_by c (s.block n) ≡ ((s.block n).pair c).recorded
     held_free = ap (λ (q : Service). if is_granting (view q c) then ((s.block n).pair c).held else ((s.block n).pair c).recorded) free

@@ -1,7 +1,8 @@
 -- A response that is delivered breaks no rule of order after what was delivered on its link.
 use Rattle.std.proofs.Common.{◌≡◌, subst, ℕ, zero, suc, Bool, true, false, not, ◌&&◌, ◌||◌, List, [], ◌∷◌, Option, Some, None, refl, sym, ◌∙◌, ap}
 use Rattle.std.specs.Prelude.{◌==◌, if◌then◌else◌, map}
-use Rattle.std.proofs.lemmas.Bool.{eqb-true}
+use Rattle.std.proofs.lemmas.Bool.{eqb-true, and_from}
+use Rattle.std.proofs.lemmas.Option.{same_Some}
 use Rattle.tl_beat.specs.Width.{IsWidth}
 use Rattle.tl_beat.specs.declared.beat.Beat.{Beat}
 use Rattle.tl_beat.specs.declared.beat.BeatA.{BeatA}
@@ -54,7 +55,6 @@ use Rattle.tl_world.proofs.Due.{IsAnswerDue, answer-due, IsGrantDue, grant-due, 
 use Rattle.tl_world.proofs.Facts.{granting_alone}
 use Rattle.tl_world.proofs.FirstToken.{IsFirst, first-token, own_kind}
 use Rattle.tl_world.proofs.Fronts.{asked-first, rendered-acquire}
-use Rattle.tl_world.proofs.FlowBeats.{some_is}
 use Rattle.tl_world.proofs.FlowLawful.{lawful-beat}
 use Rattle.tl_world.proofs.FollowKept.{wanting-is}
 use Rattle.tl_world.proofs.Moves.{is_of-is}
@@ -258,16 +258,13 @@ not-coming_c {w} config log mail request s sys c n h let_ acked = go (s.link c).
     open_release Kept e = absurd cc
     open_release Acked e = absurd cc
 
-    both : (x y : Bool) → x ≡ true → y ≡ true → (x && y) ≡ true
-    both x y e f = rw (e, f) refl
-
     differ : (i : ℕ) → is_releasing ((s.block i).pair c).letting ≡ true → (b : Bool) → ((s.block i).release_source c == source) ≡ b → b ≡ false
     differ i releasing false e = refl
     differ i releasing true e =
         let open_ = open_release ((s.block i).pair c).letting releasing in
         let lets : s.lets c ((s.block i).release_source c) ≡ Some i = is_of-is i (s.lets c ((s.block i).release_source c))
-        (h.invariant.named.releases c ((s.block i).release_source c) i ∙ both (not (is_kept ((s.block i).pair c).letting)) ((s.block i).release_source c == (s.block i).release_source c) open_ (same_number ((s.block i).release_source c))) in
-        let same : i ≡ n = some_is i n (sym lets ∙ ap (s.lets c) (eqb-true ((s.block i).release_source c) source e) ∙ let_) in
+        (h.invariant.named.releases c ((s.block i).release_source c) i ∙ and_from (not (is_kept ((s.block i).pair c).letting)) ((s.block i).release_source c == (s.block i).release_source c) open_ (same_number ((s.block i).release_source c))) in
+        let same : i ≡ n = same_Some i n (sym lets ∙ ap (s.lets c) (eqb-true ((s.block i).release_source c) source e) ∙ let_) in
         absurd (apart ((s.block n).pair c).letting acked (sym (ap (λ (j : ℕ). is_releasing ((s.block j).pair c).letting) same) ∙ releasing))
 
     each : (k : Kind) (i : ℕ) (rest : List Token) → (s.link c).c ≡ token k i ∷ rest → is_on channel.C k ≡ true → IsUnreleased source (message_of_kind k mail s c i)

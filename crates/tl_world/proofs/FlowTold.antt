@@ -1,5 +1,6 @@
 -- What is delivered on a link, as a beat of channel C or E is: of a ProbeAck, a Release or a GrantAck.
 use Rattle.std.proofs.Common.{◌≡◌, subst, ℕ, Bool, true, false, not, ◌&&◌, List, [], ◌∷◌, Option, refl, sym, ◌∙◌, ap, length}
+use Rattle.std.proofs.lemmas.Bool.{and_right as with_false}
 use Rattle.std.specs.Prelude.{◌==◌, if◌then◌else◌}
 use Rattle.tl_beat.specs.Width.{IsWidth}
 use Rattle.tl_beat.specs.declared.beat.Beat.{Beat}
@@ -42,7 +43,7 @@ use Rattle.tl_world.proofs.FlowAsking.{rest_at}
 use Rattle.tl_world.proofs.FlowBeats.{came-so, comes-so, one-beat, first_false}
 use Rattle.tl_world.proofs.FlowComing.{coming-granting}
 use Rattle.tl_world.proofs.FlowLawful.{other_ungranted}
-use Rattle.tl_world.proofs.FlowReleased.{letting_after, flowed-release, with_false}
+use Rattle.tl_world.proofs.FlowReleased.{letting_after, flowed-release}
 use Rattle.tl_world.proofs.FlowReport.{flowed-report_part}
 use Rattle.tl_world.proofs.FlowReported.{flowed-report}
 use Rattle.tl_world.proofs.FlowStep.{held_by}

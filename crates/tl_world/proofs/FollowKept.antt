@@ -2,7 +2,8 @@
 -- invariant give what its event asks for.
 use Rattle.std.proofs.Common.{◌≡◌, subst, ℕ, zero, suc, ◌+◌, ◌*◌, ◌<◌, ◌≤◌, Bool, true, false, not, ◌&&◌, ◌||◌, List, [], ◌∷◌, Option, Some, None, length, refl, sym, ◌∙◌, ap, ◌⊎◌, inl, inr, arith}
 use Rattle.std.specs.Prelude.{◌==◌, if◌then◌else◌, slice_index}
-use Rattle.std.proofs.lemmas.Bool.{cases_lt, ne_eqb, eqb-true}
+use Rattle.std.proofs.lemmas.Bool.{cases_lt, ne_eqb, eqb-true, not-true, not-false}
+use Rattle.std.proofs.lemmas.Option.{same_Some}
 use Rattle.tl_beat.specs.declared.opcode.OpA.{OpA}
 use Rattle.tl_beat.specs.declared.opcode.OpA.TheVariants as a
 use Rattle.tl_burst.specs.declared.message.Message.TheVariants as message
@@ -94,13 +95,9 @@ spares_none perm.Trunk e = absurd cc
 pub settled_all : (clients : ℕ) (caching : ℕ → Bool) (c : ℕ) (pair : ℕ → Pair) → ((d : ℕ) → clients ≤ d → caching d ≡ false) → AreOutside caching pair
     → some_below clients (λ d. not (d == c) && not (is_quiet (pair d).probing)) ≡ false → (d : ℕ) → (d ≡ c → ⊥) → is_quiet (pair d).probing ≡ true
 settled_all clients caching c pair plain outside none d ne = elim (cases_lt d clients) [
-  | inl lt ↦ let e : (not (d == c) && not (is_quiet (pair d).probing)) ≡ false = some-none clients (λ i. not (i == c) && not (is_quiet (pair i).probing)) none d lt in twice (is_quiet (pair d).probing) (rw (ne_eqb d c ne) at e)
+  | inl lt ↦ let e : (not (d == c) && not (is_quiet (pair d).probing)) ≡ false = some-none clients (λ i. not (i == c) && not (is_quiet (pair i).probing)) none d lt in not-false (is_quiet (pair d).probing) (rw (ne_eqb d c ne) at e)
   | inr le ↦ rw (outside d (plain d le)) refl
 ]
-  where
-    twice : (b : Bool) → not b ≡ false → b ≡ true
-    twice true e = refl
-    twice false e = absurd cc
 
 -- ---- what accesses do to the bytes of a block
 
@@ -239,17 +236,9 @@ gift_trunk profile.Two false grow.NtoB held false e f = absurd cc
 unheld_none : (clients : ℕ) (caching : ℕ → Bool) (pair : ℕ → Pair) → ((d : ℕ) → clients ≤ d → caching d ≡ false) → AreOutside caching pair → is_unheld clients pair ≡ true → (d : ℕ)
     → same_perm (pair d).recorded perm.None ≡ true
 unheld_none clients caching pair plain outside e d = elim (cases_lt d clients) [
-  | inl lt ↦ twice (same_perm (pair d).recorded perm.None) (some-none clients (λ i. not (same_perm (pair i).recorded perm.None)) (once (some_below clients (λ i. not (same_perm (pair i).recorded perm.None))) e) d lt)
+  | inl lt ↦ not-false (same_perm (pair d).recorded perm.None) (some-none clients (λ i. not (same_perm (pair i).recorded perm.None)) (not-true (some_below clients (λ i. not (same_perm (pair i).recorded perm.None))) e) d lt)
   | inr le ↦ rw (outside d (plain d le)) refl
 ]
-  where
-    once : (b : Bool) → not b ≡ true → b ≡ false
-    once true f = absurd cc
-    once false f = refl
-
-    twice : (b : Bool) → not b ≡ false → b ≡ true
-    twice true f = refl
-    twice false f = absurd cc
 
 pub acquire_taken-kept : {w : ℕ} (caching : ℕ → Bool) (clients : ℕ) (p : Profile) (c n tracker : ℕ) (rest : List Token) (h : Shadow w) → IsInvariant caching h.state
     → ((d : ℕ) → clients ≤ d → caching d ≡ false)
@@ -351,10 +340,6 @@ ack_taken-kept {w} caching clients p c n rest h inv plain first long serving = o
     inside : caching c ≡ false → ⊥
     inside = busy-inside caching c b.pair (λ x. is_answered x.probing) refl (rw answered refl) (inv.blocks n).outside
 
-    falls : (x : Bool) → not x ≡ true → x ≡ false
-    falls true e = absurd cc
-    falls false e = refl
-
     apart : (d : ℕ) → (not (d == c) && not (is_quiet (b.pair d).probing)) ≡ true → d ≡ c → ⊥
     apart d e f = let g : false ≡ true = rw (f, same_number c) at e in cc
 
@@ -397,9 +382,6 @@ ack_taken-kept {w} caching clients p c n rest h inv plain first long serving = o
         wanting_again Calm e = absurd cc
         wanting_again (Wants whole g) e = refl
 
-    some_injective : (k j : Cap) → Some k ≡ Some j → k ≡ j
-    some_injective k j e = cc
-
     last : ((d : ℕ) → (d ≡ c → ⊥) → is_quiet (b.pair d).probing ≡ true) → (service : Service) → b.service ≡ service → IsInvariant caching (last_taken clients p c n r service rest h).state
     last quiet Free e = absurd (let other : false ≡ true = rw e at seen in cc)
     last quiet (GrantSent q d k) e = absurd (let one : is_other (view (GrantSent q d k) c) ≡ true = rw e at seen in let none = not_other (c == q) (Granting d k) GrantedOther refl refl in let no : false ≡ true = sym none ∙ one in cc)
@@ -415,7 +397,7 @@ ack_taken-kept {w} caching clients p c n rest h inv plain first long serving = o
           settled = quiet;
           spares = elim (leaves-bytes (h.request n) b.truth for.0 long) [
             | inl same ↦ inl same
-            | inr all ↦ inr (some_injective k cap.ToN (sym for.1 ∙ all))
+            | inr all ↦ inr (same_Some k cap.ToN (sym for.1 ∙ all))
           ];
         })
 
@@ -423,7 +405,7 @@ ack_taken-kept {w} caching clients p c n rest h inv plain first long serving = o
         → IsInvariant caching (if x then with_state (report_taken c n r rest h.state) h else last_taken clients p c n r b.service rest h).state
     others true e =
         let one = some-one clients (λ d. not (d == c) && not (is_quiet (b.pair d).probing)) e in
-        report_taken-kept caching c n r rest h.state inv first answered one.0 (apart one.0 one.1) (falls (is_quiet (b.pair one.0).probing) (and_right (not (one.0 == c)) (not (is_quiet (b.pair one.0).probing)) one.1))
+        report_taken-kept caching c n r rest h.state inv first answered one.0 (apart one.0 one.1) (not-true (is_quiet (b.pair one.0).probing) (and_right (not (one.0 == c)) (not (is_quiet (b.pair one.0).probing)) one.1))
     others false e = last (settled e) b.service refl
 
 -- ---- Grants

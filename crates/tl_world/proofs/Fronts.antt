@@ -1,5 +1,6 @@
 -- The request whose beat is first on channel A of a link: an access that was asked, or an Acquire that is wanted.
 use Rattle.std.proofs.Common.{◌≡◌, ℕ, ◌-◌, ◌*◌, ◌^◌, ◌<◌, Bool, true, false, ◌&&◌, List, ◌∷◌, Some, None, refl, sym, ◌∙◌, ap, inl, inr, arith}
+use Rattle.std.proofs.lemmas.Option.{same_Some}
 use Rattle.std.specs.Prelude.{map}
 use Rattle.tl_beat.specs.Width.{IsWidth}
 use Rattle.tl_beat.specs.declared.beat.Beat.{Beat}
@@ -50,10 +51,7 @@ pub record IsOfSource {w : ℕ} (source : ℕ) (m : Message w) : Type 0 where
   pub source_is : request.source ≡ source
 
 of_source : {w : ℕ} (source : ℕ) (m : Message w) → request_source m ≡ Some source → IsOfSource source m
-of_source source (message.A m) e = record { request = m; is_it = refl; source_is = some_number m.source source e }
-  where
-    some_number : (i j : ℕ) → Some i ≡ Some j → i ≡ j
-    some_number i j f = cc
+of_source source (message.A m) e = record { request = m; is_it = refl; source_is = same_Some m.source source e }
 of_source source (message.B m) e = absurd cc
 of_source source (message.C m) e = absurd cc
 of_source source (message.D m) e = absurd cc

@@ -1,7 +1,7 @@
 -- Every delivery on channel D, and every one that moves no beat: the channels and the one memory afterwards.
 use Rattle.std.proofs.Common.{◌≡◌, ℕ, Bool, true, false, not, ◌||◌, List, [], ◌∷◌, Option, Some, None, refl, sym, ◌∙◌, ap, subst, ◌⊎◌, inl, inr}
 use Rattle.std.specs.Prelude.{◌==◌, if◌then◌else◌, map, Result, Ok, Err}
-use Rattle.std.proofs.lemmas.Bool.{cases_eq, ne_eqb}
+use Rattle.std.proofs.lemmas.Bool.{cases_eq, ne_eqb, not-true, or_right}
 use Rattle.tl_beat.specs.Width.{IsWidth}
 use Rattle.tl_beat.specs.declared.beat.Beat.{Beat}
 use Rattle.tl_beat.specs.declared.beat.Beat.TheVariants as beat
@@ -84,10 +84,6 @@ whole_fits perm.None held d cap.ToN grow.NtoB e = absurd cc
 whole_fits perm.None held d cap.ToN grow.NtoT e = absurd cc
 whole_fits perm.None held d cap.ToN grow.BtoT e = absurd cc
 
-not_true : (b : Bool) → not b ≡ true → b ≡ false
-not_true false e = refl
-not_true true e = absurd cc
-
 pub bare : {w : ℕ} (caching : ℕ → Bool) (c n : ℕ) (h : Shadow w) (due : IsGrantDue c n h.state) → IsInvariant caching h.state → IsBare c due.whole due.data_too due.k (h.state.block n)
 bare {w} caching c n h due inv j i before now = go due.whole refl
   where
@@ -100,14 +96,10 @@ bare {w} caching c n h due inv j i before now = go due.whole refl
         uncarried j i b (quiet fits.0 at) (ap is_given due.service ∙ fits.1)
       where
         quiet : same_perm (b.pair c).recorded perm.Trunk ≡ true → (i ≡ c) ⊎ (i ≡ c → ⊥) → is_told (b.pair i) ≡ false
-        quiet top (inl same) = not_true _ (granted-untold (b.pair i) (view b.service i) ((inv.blocks n).phases i) (rw same (ap (λ v. is_granting v) (own_view c due.data_too due.k b.service due.service))))
+        quiet top (inl same) = not-true _ (granted-untold (b.pair i) (view b.service i) ((inv.blocks n).phases i) (rw same (ap (λ v. is_granting v) (own_view c due.data_too due.k b.service due.service))))
         quiet top (inr other) =
             let none = (inv.blocks n).one_owner c i top other in
-            not_true _ (and_left _ _ (untold (b.pair i) (view b.service i) ((inv.blocks n).phases i) (either (same_perm (b.pair i).held perm.Trunk) (same_perm (b.pair i).recorded perm.None) none)))
-          where
-            either : (x y : Bool) → y ≡ true → (x || y) ≡ true
-            either true y e = refl
-            either false y e = e
+            not-true _ (and_left _ _ (untold (b.pair i) (view b.service i) ((inv.blocks n).phases i) (or_right (same_perm (b.pair i).held perm.Trunk) (same_perm (b.pair i).recorded perm.None) none)))
 
     go : (x : Bool) → due.whole ≡ x → (carries j i b ≡ false) ⊎ ((taken_block c due.whole due.data_too due.k b).truth ≡ b.truth)
     go true e = inl (told e (cases_eq i c))

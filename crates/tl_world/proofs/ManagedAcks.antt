@@ -2,6 +2,7 @@
 use Rattle.std.proofs.Common.{◌≡◌, ℕ, ◌==◌, Bool, true, false, not, ◌&&◌, ◌||◌, List, ◌∷◌, Option, Some, None, refl, sym, ◌∙◌, ap, inl, inr}
 use Rattle.std.specs.Prelude.{if◌then◌else◌}
 use Rattle.std.proofs.lemmas.Bool.{cases_eq, ne_eqb}
+use Rattle.std.proofs.lemmas.Option.{same_Some}
 use Rattle.tl_beat.specs.declared.beat.Beat.TheVariants as beat
 use Rattle.tl_beat.specs.declared.beat.BeatE.{BeatE}
 use Rattle.tl_beat.specs.declared.opcode.Channel.TheVariants as channel
@@ -105,10 +106,7 @@ serving-acked {w} c n x request s t is known i = passed ∙ elim (cases_eq i n) 
         let first = tracker-of i s is.named (client_busy (s.block i).service r e) in
         let second = tracker-of n s is.named (rw is.taken refl) in
         let both : Some i ≡ Some n = sym first ∙ ap s.tracked (same ∙ is.sink_is) ∙ second in
-        other (one i n both))
-      where
-        one : (a b : ℕ) → Some a ≡ Some b → a ≡ b
-        one a b e = cc
+        other (same_Some i n both))
 
     never : (a b : Bool) → (a && (b && false)) ≡ false
     never true true = refl

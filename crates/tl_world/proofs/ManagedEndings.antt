@@ -1,7 +1,7 @@
 -- What the manager knows after the last ProbeAck that an access waited for, whose answer is handed out.
 use Rattle.std.proofs.Common.{◌≡◌, ℕ, ◌+◌, ◌==◌, Bool, true, false, ◌&&◌, ◌||◌, List, ◌∷◌, Option, Some, None, refl, sym, ◌∙◌, ap, inl, inr, arith}
 use Rattle.std.specs.Prelude.{if◌then◌else◌}
-use Rattle.std.proofs.lemmas.Bool.{cases_eq, eqb-true, ne_eqb}
+use Rattle.std.proofs.lemmas.Bool.{cases_eq, eqb-true, ne_eqb, and_parts}
 use Rattle.tl_beat.specs.declared.beat.Beat.TheVariants as beat
 use Rattle.tl_beat.specs.declared.beat.BeatC.{BeatC}
 use Rattle.tl_beat.specs.declared.opcode.Channel.TheVariants as channel
@@ -178,16 +178,12 @@ are_served-ended {w} {X} request c q n source k r f rest x m s t is known = reco
     sources_now : (d i : ℕ) (b : Bool) → ((q == d) && (source == i)) ≡ b
         → pending (key.RequestSource i) (on_link d v) ≡ (is_served d (set_at q source Replied s.uses d i) z || comes_in_request i (unfinished channel.A (on_link d v)))
     sources_now d i true e =
-        let p = both (q == d) (source == i) e in
+        let p = and_parts (q == d) (source == i) e in
         let client : q ≡ d = eqb-true q d p.0 in
         let mine : source ≡ i = eqb-true source i p.1 in
         let free : pending (key.RequestSource i) (on_link d v) ≡ false = source_now d i ∙ rw e refl in
         let none : comes_in_request i (unfinished channel.A (on_link d v)) ≡ false = no-burst d i v (accounted-answer n (service_for q n request s) m u is.reply is.answers is.access is.accounted) free in
         rw (free, none, ← client, ← mine, set_at-same q source Replied s.uses) refl
-      where
-        both : (a b : Bool) → (a && b) ≡ true → (a ≡ true) × (b ≡ true)
-        both true b f = (refl, f)
-        both false b f = absurd cc
     sources_now d i false e =
         source_now d i ∙ rw (e, set_at-other q source Replied s.uses d i e, served_now d (s.uses d i), burst-reply (record { 0 = q }) m u d, (quiet-c (record { 0 = c }) x t).bursts d)
         ((quiet-c (record { 0 = c }) x t).sources d i ∙ known.sources d i)

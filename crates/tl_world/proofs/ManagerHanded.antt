@@ -1,7 +1,8 @@
 -- What the manager hands out at a beat of channel C or E: the messages of the tokens that the protocol pushes.
 use Rattle.std.proofs.Common.{◌≡◌, ℕ, Bool, true, false, not, ◌&&◌, List, refl, sym, ◌∙◌, ap, inl, inr}
 use Rattle.std.specs.Prelude.{◌==◌, if◌then◌else◌}
-use Rattle.std.proofs.lemmas.Bool.{cases_eq}
+use Rattle.std.proofs.lemmas.Bool.{cases_eq, false_from_ne_true}
+use Rattle.std.proofs.Math.Bool.{and-false}
 use Rattle.tl_params.specs.declared.config.Config.{Config}
 use Rattle.tl_params.specs.declared.param.Cap.{Cap}
 use Rattle.tl_params.specs.declared.param.Grow.{Grow}
@@ -55,16 +56,8 @@ granted-memory caching c q r d k b some well = well.memory nobody
     granting : (x : Bool) → x ≡ true → is_granting (if x then Granting d k else GrantedOther) ≡ true
     granting x e = rw e refl
 
-    never : (x : Bool) → (x && false) ≡ false
-    never true = refl
-    never false = refl
-
-    falls : (x : Bool) → (x ≡ true → ⊥) → x ≡ false
-    falls true f = absurd (f refl)
-    falls false f = refl
-
     not_trunk : (e : ℕ) → (e ≡ q → ⊥) → same_perm (new.pair e).recorded perm.Trunk ≡ false
-    not_trunk e other = falls (same_perm (new.pair e).recorded perm.Trunk) (λ top.
+    not_trunk e other = false_from_ne_true (same_perm (new.pair e).recorded perm.Trunk) (λ top.
         let alone : same_perm (new.pair q).recorded perm.None ≡ true = well.one_owner e q top (λ f. other (sym f)) in
         let none : same_perm (cap_right k) perm.None ≡ true = rw given at alone in
         let differ : false ≡ true = sym some ∙ none in
@@ -72,7 +65,7 @@ granted-memory caching c q r d k b some well = well.memory nobody
 
     nobody : (e : ℕ) → is_out (new.pair e) (view new.service e) ≡ false
     nobody e = elim (cases_eq e q) [
-      | inl same ↦ rw same (ap (λ x. same_perm (new.pair q).recorded perm.Trunk && not x) (granting (q == q) (same_number q)) ∙ never (same_perm (new.pair q).recorded perm.Trunk))
+      | inl same ↦ rw same (ap (λ x. same_perm (new.pair q).recorded perm.Trunk && not x) (granting (q == q) (same_number q)) ∙ and-false (same_perm (new.pair q).recorded perm.Trunk))
       | inr other ↦ ap (λ x. x && not (is_granting (view new.service e))) (not_trunk e other)
     ]
 

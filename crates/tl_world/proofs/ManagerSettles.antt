@@ -12,7 +12,7 @@ use Rattle.tl_world.specs.Render.{grant_of}
 use Rattle.tl_params.specs.declared.param.Grow.{Grow}
 use Rattle.std.proofs.Common.{◌≡◌, ℕ, Bool, true, false, not, ◌&&◌, List, [], ◌∷◌, Some, length, refl, sym, ◌∙◌, ap, ap₂, subst, inl, inr}
 use Rattle.std.specs.Prelude.{◌==◌, if◌then◌else◌}
-use Rattle.std.proofs.lemmas.Bool.{cases_eq, ne_eqb}
+use Rattle.std.proofs.lemmas.Bool.{cases_eq, ne_eqb, not-false}
 use Rattle.tl_beat.specs.declared.beat.Beat.TheVariants as beat
 use Rattle.tl_beat.specs.declared.beat.BeatC.{BeatC}
 use Rattle.tl_beat.specs.declared.opcode.Channel.TheVariants as channel
@@ -111,11 +111,7 @@ settling-quiet config c q n source k own low r m h e at d other =
     let now = missing-last c n (report_right r) (c_beat_of m k) e.trace (settling-last config c q n source k own low r m h e at) at.end.about.reports d n in
     let none : (if (c == d) && (n == n) then false else pending (key.ProbeOf n) (on_link d e.trace)) ≡ false = sym now ∙ (settling-ready config c q n source k own low r m h e at).settled d in
     let before : pending (key.ProbeOf n) (on_link d e.trace) ≡ false = rw (ne_eqb c d differ) at none in
-    twice (is_quiet ((h.state.block n).pair d).probing) (sym (at.is.managed.probes d n) ∙ before)
-  where
-    twice : (b : Bool) → not b ≡ false → b ≡ true
-    twice true f = refl
-    twice false f = absurd cc
+    not-false (is_quiet ((h.state.block n).pair d).probing) (sym (at.is.managed.probes d n) ∙ before)
 
 -- the request is lawful
 settling-lawful : {w : ℕ} (config : Config) (c q n source k : ℕ) (own : Bool) (low : Cap) (r : Report) (m : MessageC w) (h : Shadow w) (e : End w) → IsSettling config c q n source k own low r m h e

@@ -1,7 +1,7 @@
 -- The one memory, block by block: after an access, a Store, and a store of a whole block.
 use Rattle.std.proofs.Common.{◌≡◌, ℕ, zero, suc, ◌+◌, ◌-◌, ◌*◌, ◌/◌, ◌%◌, ◌^◌, ◌<◌, ◌≤◌, Bool, true, false, ◌&&◌, List, [], ◌∷◌, Option, Some, None, length, refl, sym, ◌∙◌, ap, ◌⊎◌, inl, inr, arith}
 use Rattle.std.specs.Prelude.{◌≢◌, if◌then◌else◌, slice_index, get_or, nat_le, nat_lt}
-use Rattle.std.proofs.lemmas.Bool.{cases_lt, ne_eqb, le-leb, lt-ltb, leb-true, ltb-true}
+use Rattle.std.proofs.lemmas.Bool.{cases_lt, ne_eqb, le-leb, lt-ltb, leb-true, ltb-true, and_parts}
 use Rattle.tl_beat.specs.Width.{IsWidth}
 use Rattle.tl_beat.specs.declared.opcode.OpA.{OpA}
 use Rattle.tl_beat.specs.declared.opcode.OpA.TheVariants as a
@@ -136,13 +136,8 @@ block-stored address size value copy f room long is i lt = go (reaches address s
     outside : (i < address % 64) ⊎ (address % 64 + 2 ^ size ≤ i) → f x ≡ slice_index new i
     outside side = is i lt ∙ get_slice copy i (omega (arith, lt, long)) ∙ sym (slice_new ∙ stored-outside address size value i copy long room side)
 
-    both : (y z : Bool) → (y && z) ≡ true → (y ≡ true) × (z ≡ true)
-    both true true e = (refl, refl)
-    both true false e = absurd cc
-    both false z e = absurd cc
-
     go : (b : Bool) → reaches address size x ≡ b → (if b then byte_of value (x - address) else f x) ≡ slice_index new i
-    go true e = let parts = both (nat_le address x) (nat_lt x (address + 2 ^ size)) e in inside (leb-true address x parts.0) (ltb-true x (address + 2 ^ size) parts.1)
+    go true e = let parts = and_parts (nat_le address x) (nat_lt x (address + 2 ^ size)) e in inside (leb-true address x parts.0) (ltb-true x (address + 2 ^ size) parts.1)
     go false e = elim (cases_lt x address) [
       | inl below ↦ outside (inl (omega (arith, lt, below)))
       | inr from ↦ elim (cases_lt x (address + 2 ^ size)) [
@@ -154,15 +149,10 @@ block-stored address size value copy f room long is i lt = go (reaches address s
 pub block-unstored : (address size value k : ℕ) (old : List ℕ) (f : Memory) → address % 64 + 2 ^ size ≤ 64 → (k ≡ block_at address → ⊥) → IsBlock f k old → IsBlock (with_number address size value f) k old
 block-unstored address size value k old f room ne is i lt = go (reaches address size (64 * k + i)) refl
   where
-    both : (y z : Bool) → (y && z) ≡ true → (y ≡ true) × (z ≡ true)
-    both true true e = (refl, refl)
-    both true false e = absurd cc
-    both false z e = absurd cc
-
     go : (b : Bool) → reaches address size (64 * k + i) ≡ b → (if b then byte_of value (64 * k + i - address) else f (64 * k + i)) ≡ slice_index old i
     go false e = is i lt
     go true e =
-        let parts = both (nat_le address (64 * k + i)) (nat_lt (64 * k + i) (address + 2 ^ size)) e in
+        let parts = and_parts (nat_le address (64 * k + i)) (nat_lt (64 * k + i) (address + 2 ^ size)) e in
         let from = leb-true address (64 * k + i) parts.0 in
         let to = ltb-true (64 * k + i) (address + 2 ^ size) parts.1 in
         absurd (ne (omega (arith, lt, from, to, room)))

@@ -2,7 +2,7 @@
 -- protocol.
 use Rattle.std.proofs.Common.{◌≡◌, subst, ℕ, zero, suc, ◌<◌, Bool, true, false, not, ◌&&◌, cond, List, [], ◌∷◌, Option, Some, None, refl, sym, ◌∙◌, ap, arith}
 use Rattle.std.specs.Prelude.{◌==◌, map, nat_le}
-use Rattle.std.proofs.lemmas.Bool.{eqb-true}
+use Rattle.std.proofs.lemmas.Bool.{eqb-true, and_right}
 use Rattle.tl_beat.specs.Width.{IsWidth}
 use Rattle.tl_beat.specs.declared.beat.Beat.{Beat}
 use Rattle.tl_beat.specs.declared.beat.Beat.TheVariants as beat
@@ -90,10 +90,6 @@ not_granted caching c n i rest s inv first sent = go (i == n) refl
         let loud : is_quiet ((s.block i).pair c).probing ≡ false = ap (λ j. is_quiet ((s.block j).pair c).probing) (eqb-true i n e) ∙ not_quiet ((s.block n).pair c).probing sent in
         absurd (let no : true ≡ false = sym quiet ∙ loud in cc)
 
-never : (a b : Bool) → b ≡ false → (a && b) ≡ false
-never true b e = e
-never false b e = refl
-
 plain : {w : ℕ} (n : ℕ) (asked : ℕ → Option (BeatA w)) (o : OpD) (source : ℕ) → is_grant o ≡ false → (is_grant o && asks_for n (asked source)) ≡ false
 plain n asked o source e = rw e refl
 
@@ -111,7 +107,7 @@ else_grant {w} config log mail request s sys c n i rest h first sent =
     let due = grant-due (is_caching config) c i rest s h.invariant first in
     let asks = asks-acquire c ((s.block i).source c) i ((s.block i).source c) due.whole due.g mail s due.used due.wants refl in
     let elsewhere : asks_for n (asked_by mail s c ((s.block i).source c)) ≡ false = ap (asks_for n) asks ∙ ap (λ (j : ℕ). j == n) (same_block i) ∙ not_granted (is_caching config) c n i rest s h.invariant first sent in
-    (grant_message due.data_too due.k ((s.block i).source c) (s.block i).tracker (s.block i).truth, grant-rendered c i s due, never (is_grant (grant_opcode due.data_too)) (asks_for n (asked_by mail s c ((s.block i).source c))) elsewhere)
+    (grant_message due.data_too due.k ((s.block i).source c) (s.block i).tracker (s.block i).truth, grant-rendered c i s due, and_right (is_grant (grant_opcode due.data_too)) (asks_for n (asked_by mail s c ((s.block i).source c))) elsewhere)
 
 else_ack : {w : ℕ} (mail : Mail w) (s : State (List ℕ)) (c n i : ℕ) → IsElse n (asked_by mail s c) (rendered ReleaseAck c i (s.block i))
 unfolding IsElse rendered

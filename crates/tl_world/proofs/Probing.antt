@@ -2,6 +2,7 @@
 use Rattle.std.proofs.Common.{◌≡◌, ℕ, suc, ◌≤◌, ◌==◌, Bool, true, false, not, ◌&&◌, List, [], ◌∷◌, Option, Some, length, refl, sym, ◌∙◌, ap, inl, inr, arith}
 use Rattle.std.specs.Prelude.{if◌then◌else◌}
 use Rattle.std.proofs.lemmas.Bool.{cases_lt, ne_eqb}
+use Rattle.std.proofs.Math.Bool.{and-false}
 use Rattle.tl_beat.specs.declared.beat.Beat.TheVariants as beat
 use Rattle.tl_beat.specs.declared.opcode.Channel.TheVariants as channel
 use Rattle.tl_burst.specs.declared.message.Message.TheVariants.{A}
@@ -141,11 +142,7 @@ traced-probing {w} {X} config request c k n own source j m s u e blocks is known
     probed_or d false = missing_before d
 
     quiet_now : (d : ℕ) (b : Bool) → (is_above j ((s.block n).pair d).recorded && not b) ≡ not (is_quiet (if b then (s.block n).pair d else after_served j ((s.block n).pair d)).probing)
-    quiet_now d true = never (is_above j ((s.block n).pair d).recorded) ∙ sym (ap not (is.quiet d))
-      where
-        never : (b : Bool) → (b && false) ≡ false
-        never true = refl
-        never false = refl
+    quiet_now d true = and-false (is_above j ((s.block n).pair d).recorded) ∙ sym (ap not (is.quiet d))
     quiet_now d false = sent_or (is_above j ((s.block n).pair d).recorded)
       where
         sent_or : (b : Bool) → (b && true) ≡ not (is_quiet (if b then Sent j else ((s.block n).pair d).probing))

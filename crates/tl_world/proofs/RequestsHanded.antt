@@ -1,7 +1,8 @@
 -- What the manager hands out at the last beat of a request: the messages of the tokens that the protocol pushes.
 use Rattle.std.proofs.Common.{◌≡◌, ℕ, suc, ◌*◌, Bool, true, false, not, ◌&&◌, List, [], ◌∷◌, refl, sym, ◌∙◌, ap, ap₂, inl, inr}
 use Rattle.std.specs.Prelude.{if◌then◌else◌, length}
-use Rattle.std.proofs.lemmas.Bool.{cases_eq}
+use Rattle.std.proofs.lemmas.Bool.{cases_eq, false_from_ne_true}
+use Rattle.std.proofs.Math.Bool.{and-false}
 use Rattle.tl_beat.specs.declared.beat.Beat.TheVariants as beat
 use Rattle.tl_burst.specs.declared.message.Message.{Message}
 use Rattle.tl_burst.specs.declared.message.Message.TheVariants as message
@@ -66,16 +67,8 @@ pub memory-granted : (caching : ℕ → Bool) (q : ℕ) (d : Bool) (k : Cap) (ne
     → new.memory ≡ new.truth
 memory-granted caching q d k new well granted given some = well.memory nobody
   where
-    never : (x : Bool) → (x && false) ≡ false
-    never true = refl
-    never false = refl
-
-    falls : (x : Bool) → (x ≡ true → ⊥) → x ≡ false
-    falls true f = absurd (f refl)
-    falls false f = refl
-
     not_trunk : (i : ℕ) → (i ≡ q → ⊥) → same_perm (new.pair i).recorded perm.Trunk ≡ false
-    not_trunk i other = falls (same_perm (new.pair i).recorded perm.Trunk) (λ top.
+    not_trunk i other = false_from_ne_true (same_perm (new.pair i).recorded perm.Trunk) (λ top.
         let alone : same_perm (new.pair q).recorded perm.None ≡ true = well.one_owner i q top (λ f. other (sym f)) in
         let none : same_perm (cap_right k) perm.None ≡ true = rw given at alone in
         let differ : false ≡ true = sym some ∙ none in
@@ -86,7 +79,7 @@ memory-granted caching q d k new well granted given some = well.memory nobody
 
     nobody : (i : ℕ) → is_out (new.pair i) (view new.service i) ≡ false
     nobody i = elim (cases_eq i q) [
-      | inl same ↦ rw same (ap (λ x. same_perm (new.pair q).recorded perm.Trunk && not x) own_view ∙ never (same_perm (new.pair q).recorded perm.Trunk))
+      | inl same ↦ rw same (ap (λ x. same_perm (new.pair q).recorded perm.Trunk && not x) own_view ∙ and-false (same_perm (new.pair q).recorded perm.Trunk))
       | inr other ↦ ap (λ x. x && not (is_granting (view new.service i))) (not_trunk i other)
     ]
 

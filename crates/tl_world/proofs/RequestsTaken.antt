@@ -2,6 +2,7 @@
 use Rattle.std.proofs.Common.{◌≡◌, subst, ℕ, suc, ◌*◌, ◌≤◌, ◌==◌, Bool, true, false, not, ◌&&◌, List, ◌∷◌, Option, Some, None, length, refl, sym, ◌∙◌, ap, arith}
 use Rattle.std.specs.Prelude.{if◌then◌else◌, nat_le}
 use Rattle.std.proofs.lemmas.Bool.{or_parts}
+use Rattle.std.proofs.Math.Bool.{and_comm}
 use Rattle.tl_beat.specs.declared.beat.Beat.TheVariants as beat
 use Rattle.tl_burst.specs.declared.message.Message.{Message}
 use Rattle.tl_burst.specs.declared.message.Message.TheVariants as message
@@ -82,19 +83,13 @@ invariant-taken config log h sys c k i rest is first ready =
 
 -- ---- who is probed
 
-and_swap : (x y : Bool) → (x && y) ≡ (y && x)
-and_swap true true = refl
-and_swap true false = refl
-and_swap false true = refl
-and_swap false false = refl
-
 -- somebody is probed, as the manager's record says, where the protocol says so
 pub probed-some : {w : ℕ} (config : Config) (log : Log w) (mail : Mail w) (request : ℕ → MessageA w) (s : State (List ℕ)) (sys : System w) (c k n : ℕ) (own : Bool) (j : Cap) (m : MessageA w)
     → IsMatched config log mail request s sys → is_acquire m.opcode ≡ own → block_at m.address ≡ n
     → is_nobody (probed config (service_for c m sys.manager.trace) j (with_beat c m k sys.manager.trace)) ≡ not (some_below (length config.clients.items) (λ d. is_probed c own j ((s.block n).pair d).recorded d))
 probed-some {w} config log mail request s sys c k n own j m is kind block =
     nobody-same config (λ d. holders.is_above j (recorded d (block_at m.address) (with_beat c m k sys.manager.trace)) && not (is_spared (service_for c m sys.manager.trace) d)) (λ d. is_probed c own j ((s.block n).pair d).recorded d)
-    (λ d. rw (block, recorded-beat c k m sys.manager.trace d n, is.managed.recorded_is d n, kind, same_above j ((s.block n).pair d).recorded, eqb-swap c d) (and_swap (is_above j ((s.block n).pair d).recorded) (not (own && (d == c)))))
+    (λ d. rw (block, recorded-beat c k m sys.manager.trace d n, is.managed.recorded_is d n, kind, same_above j ((s.block n).pair d).recorded, eqb-swap c d) (and_comm (is_above j ((s.block n).pair d).recorded) (not (own && (d == c)))))
 
 copies_so : (p : Perm) → holders.has_copy p ≡ not (same_perm p perm.None)
 copies_so perm.None = refl

@@ -3,6 +3,7 @@
 use Rattle.std.proofs.Common.{◌≡◌, ℕ, Bool, true, false, List, [], ◌∷◌, refl, sym, ◌∙◌, ap}
 use Rattle.std.specs.Prelude.{not, ◌&&◌, if◌then◌else◌, Option, Some, None, is_none, is_some, option_map, Result, Ok, Err}
 use Rattle.std.proofs.Math.Bool.{and-false}
+use Rattle.std.proofs.lemmas.Bool.{not-true, not-false}
 use Rattle.tl_beat.specs.declared.beat.Beat.{Beat}
 use Rattle.tl_beat.specs.declared.beat.Beat.TheVariants as beat
 use Rattle.tl_beat.specs.declared.beat.BeatB.{BeatB}
@@ -95,17 +96,13 @@ second : (a b : Bool) → (a && b) ≡ true → a ≡ true
 second true b e = refl
 second false b e = absurd cc
 
-not_true : (b : Bool) → not b ≡ true → b ≡ false
-not_true true e = absurd cc
-not_true false e = refl
-
 module _ {w : ℕ} (config : Config) (log : Log w) (mail : Mail w) (request : ℕ → MessageA w) (s : State (List ℕ)) (matched : IsMatched config log mail request s (after config log))
     (coherent : IsCoherent (after config log) log (remembered config log)) (c n : ℕ) where
   pub releasing-started : pending (ReleaseOf n) ((after config log).clients c).past ≡ true → IsReleasing c n log
   releasing-started p = let found = of_let (rw let_by at (matched.beside.releases c source)) in (source, found.0, found.1)
     where
       not_kept : is_kept ((s.block n).pair c).letting ≡ false
-      not_kept = not_true (is_kept ((s.block n).pair c).letting) (sym ((matched.known c).releases n) ∙ p)
+      not_kept = not-true (is_kept ((s.block n).pair c).letting) (sym ((matched.known c).releases n) ∙ p)
 
       source : ℕ
       source = (s.block n).release_source c
@@ -231,12 +228,8 @@ module _ {w : ℕ} (config : Config) (log : Log w) (mail : Mail w) (request : �
       waits : is_movable config c channel.B (after config log) ≡ not (pending (ReleaseOf (block_at y.address)) ((after config log).clients c).past)
       waits = movable-is channel.B (beat.B y) rest e ∙ ap not (stalled-as-it-waits terms channel.B (beat.B y) ((after config log).clients c) (first.taken.0 refl) ∙ rw (first.probes y refl) refl)
 
-      not_false : (b : Bool) → not b ≡ false → b ≡ true
-      not_false true h = refl
-      not_false false h = absurd cc
-
       there : is_movable config c channel.B (after config log) ≡ false → IsReleasing c (block_at y.address) log
-      there h = releasing-started config log mail request s matched coherent c (block_at y.address) (not_false _ (sym waits ∙ h))
+      there h = releasing-started config log mail request s matched coherent c (block_at y.address) (not-false _ (sym waits ∙ h))
 
       back : IsReleasing c (block_at y.address) log → is_movable config c channel.B (after config log) ≡ false
       back h = waits ∙ ap not (started-releasing config log mail request s matched coherent c (block_at y.address) h)

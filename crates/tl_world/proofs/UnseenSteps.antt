@@ -1,6 +1,7 @@
 -- Steps of the whole that the manager doesn't see: an event of a client that there isn't, a client that is asked, and a
 -- delivery to a client.
 use Rattle.std.proofs.Common.{◌≡◌, subst, ℕ, Bool, true, false, ◌&&◌, List, [], ◌∷◌, Option, Some, None, refl, sym, ◌∙◌, ap}
+use Rattle.std.proofs.lemmas.Bool.{true_from_ne_false}
 use Rattle.std.specs.Prelude.{if◌then◌else◌, Result, Ok, Err}
 use Rattle.tl_beat.specs.declared.beat.Beat.{Beat}
 use Rattle.tl_beat.specs.declared.beat.Link.{Link}
@@ -114,10 +115,6 @@ on-channel channel.D ReleaseAck l e = refl
 on-channel channel.E GrantAck l e = refl
 on-channel ch k l e = absurd cc
 
-on_true : (b : Bool) → (b ≡ false → ⊥) → b ≡ true
-on_true true off = refl
-on_true false off = absurd (off refl)
-
 -- where the invariant is kept, so is what is kept of the manager's end
 pub at_manager-to_client : {w : ℕ} (config : Config) (log : Log w) (h : Shadow w) (sys : System w) (link : Link) (ch : Channel) (terms : client.Terms) → IsMatched config log h.mail h.request h.state sys → terms_at config link.0 ≡ Some terms → is_to_client ch ≡ true
     → IsInvariant (is_caching config) (followed config (Deliver link ch) sys h).state
@@ -141,7 +138,7 @@ at_manager-to_client {w} config log h sys link ch terms is there up kept =
         here off = first_counts y ys (rw e at (is.invariant.own_kinds c ch y.kind y.number off))
 
         first : on y.kind (h.state.link c) ≡ token y.kind y.number ∷ ys
-        first = on-channel ch y.kind (h.state.link c) (on_true (is_on ch y.kind) here) ∙ e
+        first = on-channel ch y.kind (h.state.link c) (true_from_ne_false (is_on ch y.kind) here) ∙ e
 
     go : (b : Bool) → IsInvariant (is_caching config) (if b then token_taken config (next_tracker sys) c (tokens_on ch (h.state.link c)) h else h).state
         → IsAfterwards config (if b then token_taken config (next_tracker sys) c (tokens_on ch (h.state.link c)) h else h) sys.manager

@@ -36,7 +36,7 @@ use Rattle.tl_world.proofs.ManagerDelivered.{first_of, Delivered, channel_c-deli
 use Rattle.tl_world.proofs.ManagerFollowed.{client-of, step-taken, followed-taken}
 use Rattle.tl_world.proofs.ManagerTakes.{IsTakenUp, by-first_c}
 use Rattle.tl_world.proofs.Moved.{carried-part, manager-heard}
-use Rattle.std.proofs.Common.{◌≡◌, ℕ, Bool, true, false, ◌||◌, List, [], ◌∷◌, Option, Some, None, length, refl, sym, ◌∙◌, ap, subst, ◌⊎◌, inl, inr}
+use Rattle.std.proofs.Common.{◌≡◌, ℕ, Bool, true, false, List, [], ◌∷◌, Option, Some, None, length, refl, sym, ◌∙◌, ap, subst, ◌⊎◌, inl, inr}
 use Rattle.std.specs.Prelude.{◌==◌, if◌then◌else◌, map}
 use Rattle.std.proofs.lemmas.Bool.{cases_eq}
 use Rattle.std.proofs.Math.Bool.{or-true}

@@ -32,9 +32,9 @@ use Rattle.tl_world.specs.Managed.{IsManaged, is_own, client_in, service_with}
 use Rattle.tl_world.specs.Sources.{AreServed, IsFor, is_served, is_granted, cap_waited}
 use Rattle.tl_world.specs.Render.{probe_beat}
 use Rattle.tl_world.proofs.Facts.{is_other, own_wants}
-use Rattle.tl_world.proofs.Moves.{is_of-is, acquires_of-is, serves_of-is}
 use Rattle.tl_world.proofs.Phases.{each_phase, of_phase, and_left, and_right}
 use Rattle.tl_world.proofs.Tokens.{same_number}
+use Rattle.tl_world.proofs.Parts.{is_of-is, acquires_of-is, serves_of-is, not-calm, not-other}
 
 -- ---- truth values
 
@@ -112,15 +112,11 @@ pub record IsTraced {w : ℕ} {X : Type 0} (request : ℕ → MessageA w) (s : S
 abbrev at_service : {w : ℕ} → ℕ → ℕ → MessageA w → manager.Service w
 at_service r tracker m = record { tracker = tracker; link = record { 0 = r }; request = m }
 
-not_waiting : (x : Bool) (u v : View) → is_other u ≡ false → is_other v ≡ false → is_other (if x then u else v) ≡ false
-not_waiting true u v e f = e
-not_waiting false u v e f = f
-
 granted_views : (s : Service) (c : ℕ) → is_granted_in s ≡ true → is_other (view s c) ≡ false
 granted_views Free c e = absurd cc
 granted_views (Waits r own source k) c e = absurd cc
-granted_views (GrantSent q d k) c e = not_waiting (c == q) (Granting d k) GrantedOther refl refl
-granted_views (GrantTaken q) c e = not_waiting (c == q) Acknowledging GrantedOther refl refl
+granted_views (GrantSent q d k) c e = not-other (c == q) (Granting d k) GrantedOther refl refl
+granted_views (GrantTaken q) c e = not-other (c == q) Acknowledging GrantedOther refl refl
 
 -- a request is granted exactly where the protocol says so
 pub granted-is : {w : ℕ} {X : Type 0} (caching : ℕ → Bool) (config : Config) (request : ℕ → MessageA w) (s : State X) (e : End w) → IsInvariant caching s → IsKept config e → IsTraced request s e.trace
@@ -236,13 +232,9 @@ asking-served {w} {X} caching request s c source n tracker (Waits q own src k) i
         let waits_so : (s.block n).service ≡ Waits c true source k = f ∙ rw (q_is, src_is, g) refl in
         let sourced : IsOwnSource (Waits c true source k) (s.block n).source = rw waits_so at (inv.blocks n).own_source in
         let own_view : view (s.block n).service c ≡ Own = rw (waits_so, same_number c) refl in
-        let wants : is_wanting ((s.block n).pair c).acquiring ≡ true = wanting ((s.block n).pair c).acquiring (own_wants ((s.block n).pair c) (view (s.block n).service c) ((inv.blocks n).phases c) own_view) in
+        let wants : is_wanting ((s.block n).pair c).acquiring ≡ true = not-calm ((s.block n).pair c).acquiring (own_wants ((s.block n).pair c) (view (s.block n).service c) ((inv.blocks n).phases c) own_view) in
         let used = acquires_of-is n (s.uses c source) (inv.named.acquires c source n ∙ rw (wants, ← sourced, same_number source) refl) in
         rw (used, own_view) refl
-      where
-        wanting : (x : Acquiring) → not (is_calm x) ≡ true → is_wanting x ≡ true
-        wanting Calm e = absurd cc
-        wanting (Wants whole grow) e = refl
     go false g =
         let waits_so : (s.block n).service ≡ Waits c false source k = f ∙ rw (q_is, src_is, g) refl in
         let used = serves_of-is n (s.uses c source) (inv.named.serves c source n ∙ rw (waits_so, same_number c, same_number source) refl) in

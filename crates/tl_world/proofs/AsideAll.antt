@@ -26,6 +26,7 @@ use Rattle.tl_world.specs.Token.{Kind, Request, Acquire, Probe, ProbeAck, Releas
 use Rattle.tl_world.proofs.Aside.{aside-access_asked, aside-acquire_asked, aside-release_asked, aside-block_stored, aside-access_answered, aside-acquire_granted, aside-acquire_served, aside-access_served, aside-probe_taken, aside-report_taken, aside-report_answers, aside-report_grants, aside-release_taken, aside-answer_taken, aside-grant_taken, aside-release_ack_taken, aside-grant_ack_taken}
 use Rattle.tl_world.proofs.ClientEnd.{is_access, IsAside}
 use Rattle.tl_world.proofs.Tokens.{same_number, holds-first}
+use Rattle.tl_world.proofs.Parts.{releasing-open}
 
 -- the client's end is left alone
 abbrev pub Leaves : {w : ℕ} → ℕ → Shadow w → Shadow w → Type 0
@@ -129,11 +130,6 @@ is_for_manager Release = true
 is_for_manager GrantAck = true
 is_for_manager _ = false
 
-releasing_open : (x : Letting) → is_releasing x ≡ true → is_kept x ≡ false
-releasing_open (Releasing r) e = refl
-releasing_open Kept e = absurd cc
-releasing_open Acked e = absurd cc
-
 pub leaves-at_manager : {w : ℕ} (caching : ℕ → Bool) (config : Config) (tracker c : ℕ) (k : Kind) (i : ℕ) (rest : List Token) (h : Shadow w) (d : ℕ) → is_for_manager k ≡ true → IsInvariant caching h.state
     → on k (h.state.link c) ≡ token k i ∷ rest
     → Leaves d h (kind_taken config tracker c k i rest h)
@@ -144,7 +140,7 @@ leaves-at_manager caching config tracker c Acquire n rest h d for inv first = le
 leaves-at_manager caching config tracker c ProbeAck n rest h d for inv first = leaves-ack caching (length config.clients.items) config.profile c n (report_told ((h.state.block n).pair c).probing) rest h d inv
 leaves-at_manager caching config tracker c Release n rest h d for inv first =
     aside-release_taken c n d (prune_told ((h.state.block n).pair c).letting) rest h.mail h.state
-    (releasing_open ((h.state.block n).pair c).letting (holds-first Release (h.state.link c).c rest (token Release n) (λ j. shown Release c (h.state.block j)) first refl (inv.transfers c Release refl)))
+    (releasing-open ((h.state.block n).pair c).letting (holds-first Release (h.state.link c).c rest (token Release n) (λ j. shown Release c (h.state.block j)) first refl (inv.transfers c Release refl)))
 leaves-at_manager caching config tracker c GrantAck n rest h d for inv first = aside-grant_ack_taken c n d rest h.mail h.state
 leaves-at_manager caching config tracker c Probe n rest h d for inv first = absurd cc
 leaves-at_manager caching config tracker c Answer n rest h d for inv first = absurd cc

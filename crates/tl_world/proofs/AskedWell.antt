@@ -56,17 +56,9 @@ use Rattle.tl_world.proofs.BesideAsked.{IsReply}
 use Rattle.tl_world.proofs.FollowKept.{IsAskable}
 use Rattle.tl_world.proofs.Goods.{level-terms}
 use Rattle.tl_world.proofs.SizedAfter.{IsSourcedAsk, IsSizedAsk}
+use Rattle.tl_world.proofs.Parts.{calm-is, kept-letting}
 
 -- ---- what the protocol has, by what the end has
-
-calm_is : (x : Acquiring) → is_wanting x ≡ false → x ≡ Calm
-calm_is Calm e = refl
-calm_is (Wants whole g) e = absurd cc
-
-kept_is : (x : Letting) → not (is_kept x) ≡ false → x ≡ Kept
-kept_is Kept e = refl
-kept_is (Releasing r) e = absurd cc
-kept_is Acked e = absurd cc
 
 none_is : (o : Option ℕ) → is_some o ≡ false → o ≡ None
 none_is None e = refl
@@ -213,7 +205,7 @@ asked-well {w} config log h sys c terms o width is known = asked-cases terms o e
     transfers : (n : ℕ) → (pending (AcquireOf n) e.past || pending (ReleaseOf n) e.past) ≡ false → (((s.block n).pair c).acquiring ≡ Calm) × (((s.block n).pair c).letting ≡ Kept)
     transfers n none =
         let parts = or_parts (pending (AcquireOf n) e.past) (pending (ReleaseOf n) e.past) none in
-        (calm_is ((s.block n).pair c).acquiring (sym ((is.known c).acquires n) ∙ parts.0), kept_is ((s.block n).pair c).letting (sym ((is.known c).releases n) ∙ parts.1))
+        (calm-is ((s.block n).pair c).acquiring (sym ((is.known c).acquires n) ∙ parts.0), kept-letting ((s.block n).pair c).letting (sym ((is.known c).releases n) ∙ parts.1))
 
     caching : not (has_transfers terms.level) ≡ false → is_caching config c ≡ true
     caching four = caching_is config c terms.level level_is (not-false (has_transfers terms.level) four)

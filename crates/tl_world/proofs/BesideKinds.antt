@@ -28,9 +28,9 @@ use Rattle.tl_world.specs.Token.{Kind, Request, ProbeAck, Answer, Grant, Release
 use Rattle.tl_world.proofs.Beside.{IsSameAcquire, open-here, open-there, open-releases, open-requests, beside-still, beside-used, beside-let}
 use Rattle.tl_world.proofs.BesideAsked.{acquires-else}
 use Rattle.tl_world.proofs.BesideTaken.{IsPerformed, beside-performed, memory-unprobed, memory-reported, intent-reply, low_cap}
-use Rattle.tl_world.proofs.Moves.{acquires_of-is, is_of-is}
 use Rattle.tl_world.proofs.OneMemory.{block-whole, block-besides}
 use Rattle.tl_world.proofs.Tokens.{same_number, set-same, set-other, set-part}
+use Rattle.tl_world.proofs.Parts.{is_of-is, acquires_of-is}
 
 -- ---- which accesses are performed, and what ends
 

@@ -64,16 +64,12 @@ use Rattle.tl_world.specs.Protocol.{Service, Waits, Block, ended_block, shown, v
 use Rattle.tl_world.specs.Render.{prune_told, message_of, rendered, report_told}
 use Rattle.tl_world.specs.Token.{Kind, Request, Acquire, Probe, ProbeAck, Release, Answer, Grant, ReleaseAck, GrantAck, set, Token}
 use Rattle.tl_world.proofs.Facts.{reported_within, spared_within, answered_other, is_other, own_wants}
-use Rattle.tl_world.proofs.FollowKept.{leaves-bytes, answered-is, settled_all}
+use Rattle.tl_world.proofs.FollowKept.{leaves-bytes, settled_all}
 use Rattle.tl_world.proofs.Showing.{carries, none-carried}
 use Rattle.tl_world.proofs.Tokens.{same_number, set-same, set-other, set-part, holds-first}
+use Rattle.tl_world.proofs.Parts.{answered-is, taken-unseen, quiet-is, granted-unseen}
 
 -- ---- an access that ends leaves the bytes on their way, or there are none
-
-quiet_is : (p : Probing) → is_quiet p ≡ true → p ≡ Quiet
-quiet_is Quiet e = refl
-quiet_is (Sent k) e = absurd cc
-quiet_is (Answered r) e = absurd cc
 
 least : (p : Perm) → perm_le p perm.None ≡ true → same_perm p perm.None ≡ true
 least perm.None e = refl
@@ -88,7 +84,7 @@ unrecorded caching c q source r f b well waits answered settled d = elim (cases_
       rw (same, set-same c (after_report r (b.pair c)) b.pair) (least (report_right r) (reported_within cap.ToN r (b.pair c) (view b.service c) (well.phases c) (rw waits refl) answered))
   | inr other ↦
       rw (set-other c d (after_report r (b.pair c)) b.pair other)
-      (least (b.pair d).recorded (spared_within cap.ToN (b.pair d) (view b.service d) (well.phases d) (rw waits refl) (quiet_is (b.pair d).probing (settled d other))))
+      (least (b.pair d).recorded (spared_within cap.ToN (b.pair d) (view b.service d) (well.phases d) (rw waits refl) (quiet-is (b.pair d).probing (settled d other))))
 ]
 
 pub ended-bytes : {w : ℕ} (caching : ℕ → Bool) (c q source : ℕ) (r : Report) (k : Cap) (m : MessageA w) (b : Block (List ℕ)) → IsWell caching b → IsWell caching (ended_block c r (performs m) b) → b.service ≡ Waits q false source k
@@ -242,16 +238,8 @@ reports-last {w} config log h sys c n rest x queue at tokens whole handed =
     last : some_below (length config.clients.items) (others_probed c b.pair) ≡ false → (service : Service) → b.service ≡ service → IsInvariant (is_caching config) (last_taken (length config.clients.items) config.profile c n r service rest h).state
         → Hands (pushed_last n service (last_taken (length config.clients.items) config.profile c n r service rest h)) → CarriesAfter config c channel.C sys (last_taken (length config.clients.items) config.profile c n r service rest h)
     last alone Free f later one = absurd (let other : false ≡ true = rw f at seen in cc)
-    last alone (GrantSent q d low) f later one = absurd (unseen_sent (c == q) d low (rw f at seen))
-      where
-        unseen_sent : (y d : Bool) (low : Cap) → is_other (if y then Granting d low else GrantedOther) ≡ true → ⊥
-        unseen_sent true d low g = cc
-        unseen_sent false d low g = cc
-    last alone (GrantTaken q) f later one = absurd (unseen_taken (c == q) (rw f at seen))
-      where
-        unseen_taken : (y : Bool) → is_other (if y then Acknowledging else GrantedOther) ≡ true → ⊥
-        unseen_taken true g = cc
-        unseen_taken false g = cc
+    last alone (GrantSent q d low) f later one = absurd (granted-unseen (c == q) d low (rw f at seen))
+    last alone (GrantTaken q) f later one = absurd (taken-unseen (c == q) (rw f at seen))
     last alone (Waits q false source low) f later one =
         report_answers-carried (is_caching config) c q n source r low (performs v) rest said h.mail h.state sys after x queue at.width inv later tokens f
         (rw (used-serving (is_caching config) h.state n q source low inv f) refl)

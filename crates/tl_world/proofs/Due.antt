@@ -20,9 +20,8 @@ use Rattle.tl_world.specs.Render.{Mail, rendered}
 use Rattle.tl_world.specs.Token.{Answer, Grant, ReleaseAck, Token}
 use Rattle.tl_world.specs.Whole.{IsAnswered}
 use Rattle.tl_world.proofs.Facts.{grant_is_fit, granting_asks}
-use Rattle.tl_world.proofs.FollowKept.{is_replied-is}
-use Rattle.tl_world.proofs.Moves.{is_of-is, acquires_of-is}
 use Rattle.tl_world.proofs.Tokens.{same_number, holds-first}
+use Rattle.tl_world.proofs.Parts.{is_of-is, acquires_of-is, is_replied-is}
 
 -- ---- an answer
 

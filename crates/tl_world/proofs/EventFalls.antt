@@ -34,6 +34,7 @@ use Rattle.tl_world.proofs.ResponseFalls.{answer-falls, grant-taken-falls, relea
 use Rattle.tl_world.proofs.Shown.{IsShown}
 use Rattle.tl_world.proofs.Tokens.{same_number, set-same, set-other, set-part}
 use Rattle.tl_world.proofs.Weights.{IsLeft}
+use Rattle.tl_world.proofs.Parts.{acked-is}
 
 -- ---- the token that is taken
 
@@ -101,11 +102,6 @@ releasing_with : (x : Letting) → is_releasing x ≡ true → (r : Prune) × (x
 releasing_with (Releasing r) e = (r, refl)
 releasing_with Kept e = absurd cc
 releasing_with Acked e = absurd cc
-
-acked_is : (x : Letting) → is_acked x ≡ true → x ≡ Acked
-acked_is Acked e = refl
-acked_is Kept e = absurd cc
-acked_is (Releasing r) e = absurd cc
 
 module _ {w : ℕ} (config : Config) (caching : ℕ → Bool) (size : ℕ) (answer : ℕ → ℕ → ℕ) (mail : Mail w) (s : State (List ℕ)) (sys sys' : System w) (pushes : ℕ → Channel → Option (Message w))
     (all : AreClients config s) (carried : AreCarried mail s sys) where
@@ -223,7 +219,7 @@ module _ {w : ℕ} (config : Config) (caching : ℕ → Bool) (size : ℕ) (answ
     release_ack_taken-falls shown taken first =
         let it = shown-first caching channel.D c ReleaseAck n tokens s shown.showing.before refl first in
         release-ack-falls config caching n shown.moves mail mail s (release_ack_taken c n tokens s) shown.showing c channel.D (unfinished_at sys) (unfinished_at sys') (popped n c channel.D mail (release_ack_taken c n tokens s) shown taken) size answer all
-        ((s.block n).release_source c) (release_ack_named caching s c n shown.showing.before it) (set_at-same c ((s.block n).release_source c) None s.lets) (acked_is ((s.block n).pair c).letting it) (set-same n (let_go_block c (s.block n)) s.block)
+        ((s.block n).release_source c) (release_ack_named caching s c n shown.showing.before it) (set_at-same c ((s.block n).release_source c) None s.lets) (acked-is ((s.block n).pair c).letting it) (set-same n (let_go_block c (s.block n)) s.block)
         (λ d i. refl) (λ d i ne. set_at-unlike c ((s.block n).release_source c) None s.lets d i ne) (acks_set c (record (s.link c) { d = tokens }) s.link refl)
 
     pub grant_taken-falls : (whole d : Bool) (k : Cap) → (shown : IsShown caching n c channel.D pushes mail mail s (grant_taken c n whole d k tokens s)) → IsReceived c channel.D sys sys' → (s.link c).d ≡ token Grant n ∷ tokens

@@ -23,9 +23,10 @@ use Rattle.tl_world.specs.Render.{probe_beat}
 use Rattle.tl_world.specs.Sources.{cap_waited}
 use Rattle.tl_world.proofs.FlowAlone.{AreRests}
 use Rattle.tl_world.proofs.FlowAside.{requested-blocks, let_by-same}
-use Rattle.tl_world.proofs.FlowReleased.{AreElsewhere, each-block, part-block, is_same}
+use Rattle.tl_world.proofs.FlowReleased.{AreElsewhere, each-block, part-block}
 use Rattle.tl_world.proofs.FlowStep.{flowed-next, held_by, acquired_by, let_of, granted_by, step, step_quiet}
 use Rattle.tl_world.proofs.Tokens.{same_number}
+use Rattle.tl_world.proofs.Parts.{is_of-is}
 
 pub released-of : {w : ℕ} (i : ℕ) (y : BeatD w) (t : History w) → release_of i (beat.D y ∷ t) ≡ release_of i t
 unfolding release_of
@@ -196,7 +197,7 @@ flowed-let_go {w} {X} c n y asked asked' rest rest' s s' t first_is last_is rest
     b = s.block n
 
     of_block : s.lets c y.source ≡ Some n
-    of_block = is_same n (s.lets c y.source) (named y.source n ∙ rw (is.letting, is.source) (same_number (b.release_source c)))
+    of_block = is_of-is n (s.lets c y.source) (named y.source n ∙ rw (is.letting, is.source) (same_number (b.release_source c)))
 
     was_let : pending (ReleaseSource y.source) t ≡ true
     was_let = before.release_sources y.source ∙ ap (λ (o : Option ℕ). is_let_by c y.source (rest channel.C) o s) of_block ∙ ap (is_let y.source (rest channel.C)) is.letting

@@ -17,6 +17,7 @@ use Rattle.tl_world.specs.Token.{set_at}
 use Rattle.tl_world.proofs.Aside.{set_at-same, set_at-else}
 use Rattle.tl_world.proofs.Carried.{IsNext}
 use Rattle.tl_world.proofs.Tokens.{same_number}
+use Rattle.tl_world.proofs.Parts.{quiet_unanswered}
 
 -- a test of what was delivered, which no beats pass, and all beginnings of the message alike
 pub came-so : {w : ℕ} (f : List (Beat w) → Bool) (m : Message w) (x : Beat w) (rest : List (Beat w)) (ms : List (Message w)) (queue : List (Beat w)) (v : Bool) → IsNext x rest m ms queue → f [] ≡ false → ((j : ℕ) → f (begun m (suc j)) ≡ v)
@@ -73,11 +74,6 @@ same_perms perm.Trunk perm.Branch e = absurd cc
 
 pub first_false : (p q : Bool) → p ≡ false → (p && q) ≡ false
 first_false p q e = rw e refl
-
-pub quiet_unanswered : (x : Probing) → is_quiet x ≡ true → is_answered x ≡ false
-quiet_unanswered Quiet e = refl
-quiet_unanswered (Sent k) e = refl
-quiet_unanswered (Answered r) e = absurd cc
 
 -- the source of a client's Acquire of a block is of no other
 pub unused-else : {X : Type 0} (c n i : ℕ) (s : State X) → AreNamed s → ((s.block n).source c == i) ≡ false → acquires_of n (s.uses c i) ≡ false

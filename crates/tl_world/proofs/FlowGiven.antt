@@ -47,9 +47,9 @@ use Rattle.tl_world.proofs.FlowBeats.{came-so, comes-so, one-beat, set_at-if, sa
 use Rattle.tl_world.proofs.FlowGranted.{seen_after, flowed-grant}
 use Rattle.tl_world.proofs.FlowResponses.{grant_quiet, grant_tracked}
 use Rattle.tl_world.proofs.FlowStep.{held_by}
-use Rattle.tl_world.proofs.FollowKept.{acked-is}
 use Rattle.tl_world.proofs.Phases.{and_right}
 use Rattle.tl_world.proofs.Tokens.{same_number, set-same, set-other, holds-first}
+use Rattle.tl_world.proofs.Parts.{acked-is}
 
 -- ---- numbers and opcodes
 

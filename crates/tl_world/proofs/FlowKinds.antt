@@ -36,17 +36,14 @@ use Rattle.tl_world.proofs.Facts.{quiet_at_rest, own_alone, own_wants, answered_
 use Rattle.tl_world.proofs.FlowApart.{replied, left-replied, left-served, left-acquire_granted, left-probe_taken, left-report_taken, left-release_taken, left-answer_taken, left-grant_taken, left-release_ack_taken, left-grant_ack_taken, left-access_answered, left-access_served, left-report_answers, left-report_grants}
 use Rattle.tl_world.proofs.FlowAside.{is_heard, IsComing, flowed-aside, flowed-asks}
 use Rattle.tl_world.proofs.FlowAsking.{rest_at, asks-left}
-use Rattle.tl_world.proofs.FlowBeats.{same_perms, quiet_unanswered}
+use Rattle.tl_world.proofs.FlowBeats.{same_perms}
 use Rattle.tl_world.proofs.FlowComing.{coming-granting, coming-sink}
-use Rattle.tl_world.proofs.FollowKept.{IsReady, answered-is, acknowledging-is, settled_all}
+use Rattle.tl_world.proofs.FollowKept.{IsReady, settled_all}
 use Rattle.tl_world.proofs.ManagedEndings.{tracker-of}
 use Rattle.tl_world.proofs.Phases.{and_right}
 use Rattle.tl_world.proofs.Sized.{used-serving}
 use Rattle.tl_world.proofs.Tokens.{same_number, holds-first}
-
-not_other : (x : Bool) (u v : View) → is_other u ≡ false → is_other v ≡ false → is_other (if x then u else v) ≡ false
-not_other true u v e f = e
-not_other false u v e f = f
+use Rattle.tl_world.proofs.Parts.{answered-is, quiet_unanswered, acknowledging-is, not-other}
 
 module _ {w : ℕ} (config : Config) (log : Log w) (h : Shadow w) (sys : System w) (c : ℕ) (is : IsMatched config log h.mail h.request h.state sys) (tracker : ℕ) where
   abbrev s : State (List ℕ)
@@ -150,8 +147,8 @@ module _ {w : ℕ} (config : Config) (log : Log w) (h : Shadow w) (sys : System 
         last : ((i : ℕ) → (i ≡ c → ⊥) → is_quiet ((s.block n).pair i).probing ≡ true) → (service : Service) → (s.block n).service ≡ service → Leaves d h (last_taken (length config.clients.items) config.profile c n r service toks h)
             → FlowedAs (last_taken (length config.clients.items) config.profile c n r service toks h)
         last quiet Free e l = absurd (let no : false ≡ true = rw e at seen in cc)
-        last quiet (GrantSent q x k) e l = absurd (let one : is_other (view (GrantSent q x k) c) ≡ true = rw e at seen in let none = not_other (c == q) (Granting x k) GrantedOther refl refl in let no : false ≡ true = sym none ∙ one in cc)
-        last quiet (GrantTaken q) e l = absurd (let one : is_other (view (GrantTaken q) c) ≡ true = rw e at seen in let none = not_other (c == q) Acknowledging GrantedOther refl refl in let no : false ≡ true = sym none ∙ one in cc)
+        last quiet (GrantSent q x k) e l = absurd (let one : is_other (view (GrantSent q x k) c) ≡ true = rw e at seen in let none = not-other (c == q) (Granting x k) GrantedOther refl refl in let no : false ≡ true = sym none ∙ one in cc)
+        last quiet (GrantTaken q) e l = absurd (let one : is_other (view (GrantTaken q) c) ≡ true = rw e at seen in let none = not-other (c == q) Acknowledging GrantedOther refl refl in let no : false ≡ true = sym none ∙ one in cc)
         last quiet (Waits q true source k) e l =
             granted q source k e quiet ((s.block n).pair q).acquiring (own_wants ((s.block n).pair q) (view (s.block n).service q) ((is.invariant.blocks n).phases q) (rw (e, same_number q) refl)) l
         last quiet (Waits q false source k) e l =

@@ -38,13 +38,12 @@ use Rattle.tl_world.proofs.ClientTakes.{sound-beat}
 use Rattle.tl_world.proofs.Facts.{acknowledging_quiet, answered_other, granting_alone, is_other, release_alone, release_begins, report_first, report_fits}
 use Rattle.tl_world.proofs.FirstToken.{IsFirst, first-token}
 use Rattle.tl_world.proofs.FlowOrders.{beat-flows, probe-flows, report-flows, release-flows}
-use Rattle.tl_world.proofs.FollowKept.{answered-is, releasing-is}
 use Rattle.tl_world.proofs.ManagerTakes.{by-first_c, same_report-is, seen_cap, unanswered, answered_same}
-use Rattle.tl_world.proofs.Moves.{is_of-is}
 use Rattle.tl_world.proofs.Phases.{and_left, and_right}
 use Rattle.tl_world.proofs.ProbeDelivered.{not_coming}
 use Rattle.tl_world.proofs.Reporting.{IsAbout, report-about, release-about}
 use Rattle.tl_world.proofs.Tokens.{same_number, holds-first}
+use Rattle.tl_world.proofs.Parts.{is_of-is, answered-is, releasing-is}
 
 -- the next beat of a message whose first breaks no rule of order
 pub next-flows : {w : ℕ} (l : Level) (p : Profile) (m : Message w) (x : Beat w) (rest : List (Beat w)) (ms : List (Message w)) (queue : List (Beat w)) (t : History w) → illegal l (channel_of x) x ≡ None → IsNext x rest m ms queue → unfinished (channel_in m) t ≡ rest

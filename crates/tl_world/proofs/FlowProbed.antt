@@ -28,10 +28,10 @@ use Rattle.tl_world.proofs.FlowAlone.{AreRests}
 use Rattle.tl_world.proofs.FlowAside.{comes-same}
 use Rattle.tl_world.proofs.FlowAsking.{rest_at}
 use Rattle.tl_world.proofs.FlowProbe.{flowed-probe}
-use Rattle.tl_world.proofs.FollowKept.{sent-is}
 use Rattle.tl_world.proofs.Phases.{and_left}
 use Rattle.tl_world.proofs.ProbeDelivered.{probe-beat}
 use Rattle.tl_world.proofs.Tokens.{holds-first}
+use Rattle.tl_world.proofs.Parts.{sent-is}
 
 -- ---- who is probed
 

@@ -28,6 +28,7 @@ use Rattle.tl_world.proofs.FlowReport.{requested-of, probed-of, sunk-of}
 use Rattle.tl_world.proofs.FlowReported.{unsaid}
 use Rattle.tl_world.proofs.FlowStep.{flowed-next, held_by, acquired_by, let_of, granted_by, step, step_quiet}
 use Rattle.tl_world.proofs.Tokens.{same_number}
+use Rattle.tl_world.proofs.Parts.{is_of-is}
 
 -- ---- another value of one block
 
@@ -102,10 +103,6 @@ pub with_true : (p q : Bool) → q ≡ true → (p && q) ≡ p
 with_true true q e = e
 with_true false q e = refl
 
-pub is_same : (n : ℕ) (o : Option ℕ) → is_of n o ≡ true → o ≡ Some n
-is_same n None e = absurd cc
-is_same n (Some m) e = ap Some (sym (eqb-true n m e))
-
 let_other : {w : ℕ} (i : ℕ) (rest rest' : List (Beat w)) (l : Letting) → (is_kept l ≡ false → comes_in_release i rest' ≡ comes_in_release i rest) → is_let i rest' l ≡ is_let i rest l
 let_other i rest rest' Kept h = refl
 let_other i rest rest' (Releasing r) h = h refl
@@ -176,7 +173,7 @@ flowed-release {w} {X} c n r y first last asked rest rest' s s' t first_is last_
 
     -- the source is that of the block's Release, and of no other
     of_block : (i : ℕ) → i ≡ y.source → s.lets c i ≡ Some n
-    of_block i e = is_same n (s.lets c i) (named i n ∙ rw (is.letting, e, is.source) (same_number (b.release_source c)))
+    of_block i e = is_of-is n (s.lets c i) (named i n ∙ rw (is.letting, e, is.source) (same_number (b.release_source c)))
 
     of_no_block : (i : ℕ) → (i ≡ y.source → ⊥) → is_of n (s.lets c i) ≡ false
     of_no_block i ne = named i n ∙ rw is.letting (ne_eqb i (b.release_source c) (λ e. ne (e ∙ sym is.source)))
@@ -188,7 +185,7 @@ flowed-release {w} {X} c n r y first last asked rest rest' s s' t first_is last_
     comes_other i ne = is.comes i ∙ and_right (not last) (y.source == i) (another i ne) ∙ sym (is.came i ∙ and_right (not first) (y.source == i) (another i ne))
 
     open_other : (m : ℕ) → (m ≡ n → ⊥) → (i : ℕ) → i ≡ (s.block m).release_source c → is_kept ((s.block m).pair c).letting ≡ false → i ≡ y.source → ⊥
-    open_other m ne i at begun same = ne (both_some m n (s.lets c i) (is_same m (s.lets c i) (named i m ∙ rw (begun, at) (same_number ((s.block m).release_source c)))) (of_block i same))
+    open_other m ne i at begun same = ne (both_some m n (s.lets c i) (is_of-is m (s.lets c i) (named i m ∙ rw (begun, at) (same_number ((s.block m).release_source c)))) (of_block i same))
 
     let_rest : (m : ℕ) → (m ≡ n → ⊥) → let_of c (rest' channel.C) (s.block m) ≡ let_of c (rest channel.C) (s.block m)
     let_rest m ne =

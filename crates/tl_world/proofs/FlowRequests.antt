@@ -38,6 +38,7 @@ use Rattle.tl_world.proofs.Fronts.{acquires-so, IsAsked, asked-first, IsWanted, 
 use Rattle.tl_world.proofs.Phases.{and_left, and_right}
 use Rattle.tl_world.proofs.RequestsDelivered.{ends-burst}
 use Rattle.tl_world.proofs.RequestsTaken.{acquire_wanted, acquire_block}
+use Rattle.tl_world.proofs.Parts.{kept-is}
 
 access-lawful : {w : ℕ} (config : Config) (log : Log w) (mail : Mail w) (request : ℕ → MessageA w) (s : State (List ℕ)) (sys : System w) (c source : ℕ) (l : Level) (x : Beat w) (ms : List (Message w)) (queue : List (Beat w))
     → IsMatched config log mail request s sys → AreFlowed log mail s sys → illegal l (channel_of x) x ≡ None → IsAsked config c source mail s → IsNext x (unfinished channel.A (on_link c sys.manager.trace)) (mail.request c source) ms queue
@@ -55,7 +56,7 @@ acquire-lawful : {w : ℕ} (config : Config) (log : Log w) (mail : Mail w) (requ
 acquire-lawful {w} config log mail request s sys c n l x ms queue is flowed lawful wanted next moves =
     next-flows l config.profile (message.A m) x (unfinished channel.A (on_link c sys.manager.trace)) ms queue (flow c log) lawful next ((flowed c).rest_is channel.A)
     (λ none. acquire-flows config.profile c n (a_beat_of m 0) (asked_by mail s c) (λ ch. unfinished ch (receiver ch c sys)) s (flow c log) (flowed c) none (acquires-so wanted.whole) (acquire_block n) wanted.used idle
-    (kept_is p.letting (and_right (is_quiet p.probing) (is_kept p.letting) (and_left (is_quiet p.probing && is_kept p.letting) (same_perm p.recorded p.held) settled)))
+    (kept-is p.letting (and_right (is_quiet p.probing) (is_kept p.letting) (and_left (is_quiet p.probing && is_kept p.letting) (same_perm p.recorded p.held) settled)))
     (grows wanted.grow p.recorded p.held wanted.whole (acquire_fits wanted.whole wanted.grow p (view (s.block n).service c) well wanted.wants) (and_right (is_quiet p.probing && is_kept p.letting) (same_perm p.recorded p.held) settled)))
   where
     m : MessageA w
@@ -80,11 +81,6 @@ acquire-lawful {w} config log mail request s sys c n l x ms queue is flowed lawf
 
     settled : ((is_quiet p.probing && is_kept p.letting) && same_perm p.recorded p.held) ≡ true
     settled = first_three (is_quiet p.probing) (is_kept p.letting) (same_perm p.recorded p.held) _ (asked_alone wanted.whole wanted.grow p (view (s.block n).service c) well idle wanted.wants)
-
-    kept_is : (y : Letting) → is_kept y ≡ true → y ≡ Kept
-    kept_is Kept e = refl
-    kept_is (Releasing r) e = absurd cc
-    kept_is Acked e = absurd cc
 
 pub flows-a : {w : ℕ} (config : Config) (log : Log w) (mail : Mail w) (request : ℕ → MessageA w) (s : State (List ℕ)) (sys : System w) (c : ℕ) (l : Level) (x : Beat w) (queue : List (Beat w)) → IsWidth w → IsMatched config log mail request s sys → AreFlowed log mail s sys
     → sys.channels c channel.A ≡ x ∷ queue → level_of config c ≡ Some l → must_wait config (record { 0 = c }) x sys.manager.trace ≡ false → broken_after l config.profile x (flow c log) ≡ None

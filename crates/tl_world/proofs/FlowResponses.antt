@@ -56,11 +56,10 @@ use Rattle.tl_world.proofs.Facts.{granting_alone}
 use Rattle.tl_world.proofs.FirstToken.{IsFirst, first-token, own_kind}
 use Rattle.tl_world.proofs.Fronts.{asked-first, rendered-acquire}
 use Rattle.tl_world.proofs.FlowLawful.{lawful-beat}
-use Rattle.tl_world.proofs.FollowKept.{wanting-is}
-use Rattle.tl_world.proofs.Moves.{is_of-is}
 use Rattle.tl_world.proofs.Phases.{and_left, and_right}
 use Rattle.tl_world.proofs.ResponseOrder.{answer-legal, grant-legal, ack-legal}
 use Rattle.tl_world.proofs.Tokens.{same_number, holds-first}
+use Rattle.tl_world.proofs.Parts.{is_of-is, wanting-is, quiet_unanswered}
 
 -- ---- what is half taken on channel A
 
@@ -163,11 +162,6 @@ grant_quiet caching c n s inv due =
     let mine = own_view c due.data_too due.k (s.block n).service due.service in
     let alone = granting_alone due.data_too due.k ((s.block n).pair c) (view (s.block n).service c) ((inv.blocks n).phases c) mine in
     quiet_unanswered ((s.block n).pair c).probing (and_left _ _ alone)
-  where
-    quiet_unanswered : (x : Probing) → is_quiet x ≡ true → is_answered x ≡ false
-    quiet_unanswered Quiet e = refl
-    quiet_unanswered (Sent k) e = refl
-    quiet_unanswered (Answered r) e = absurd cc
 
 -- the tracker of a Grant is of its block
 pub grant_tracked : (caching : ℕ → Bool) (c n : ℕ) (s : State (List ℕ)) → IsInvariant caching s → IsGrantDue c n s → s.tracked (s.block n).tracker ≡ Some n

@@ -38,10 +38,10 @@ use Rattle.tl_world.proofs.FirstToken.{first-token, own_kind}
 use Rattle.tl_world.proofs.FlowBeats.{first_false}
 use Rattle.tl_world.proofs.FlowLawful.{lawful-beat, next-flows}
 use Rattle.tl_world.proofs.FlowOrders.{grant_ack-flows}
-use Rattle.tl_world.proofs.FollowKept.{acknowledging-is}
 use Rattle.tl_world.proofs.ManagedEndings.{tracker-of}
 use Rattle.tl_world.proofs.ManagerTakes.{by-first_e}
 use Rattle.tl_world.proofs.Tokens.{holds-first}
+use Rattle.tl_world.proofs.Parts.{acknowledging-is}
 
 -- the message is no Grant with this sink
 IsElse : {w : ℕ} → ℕ → Message w → Type 0

@@ -47,10 +47,10 @@ use Rattle.tl_world.proofs.FlowReleased.{letting_after, flowed-release}
 use Rattle.tl_world.proofs.FlowReport.{flowed-report_part}
 use Rattle.tl_world.proofs.FlowReported.{flowed-report}
 use Rattle.tl_world.proofs.FlowStep.{held_by}
-use Rattle.tl_world.proofs.FollowKept.{answered-is, releasing-is}
 use Rattle.tl_world.proofs.Phases.{and_left, and_right}
 use Rattle.tl_world.proofs.Reporting.{IsAbout, report-about, release-about, reported-report, reported-prune}
 use Rattle.tl_world.proofs.Tokens.{set-same, set-other, holds-first}
+use Rattle.tl_world.proofs.Parts.{answered-is, releasing-is}
 
 -- ---- what the messages say
 

@@ -50,6 +50,7 @@ use Rattle.tl_world.proofs.Ended.{report_answers-kept}
 use Rattle.tl_world.proofs.Reported.{report_taken-kept, release_taken-kept}
 use Rattle.tl_world.proofs.TakenAll.{grant_taken-kept}
 use Rattle.tl_world.proofs.Acknowledged.{release_ack_taken-kept, grant_ack_taken-kept}
+use Rattle.tl_world.proofs.Parts.{is_asked-is, is_replied-is, wanting-is, sent-is, answered-is, releasing-is, acked-is, acknowledging-is, not-other, not-calm, granting-own}
 
 -- ---- clients that pass a test
 
@@ -156,13 +157,6 @@ low_probed a.LogicalData param cap.ToT e = absurd cc
 
 -- ---- requests
 
-is_asked-is : (u : Use) → is_asked u ≡ true → u ≡ Asked
-is_asked-is Asked e = refl
-is_asked-is Closed e = absurd cc
-is_asked-is (InService n) e = absurd cc
-is_asked-is Replied e = absurd cc
-is_asked-is (Acquires n) e = absurd cc
-
 pub request_taken-kept : {w : ℕ} (caching : ℕ → Bool) (clients c source tracker : ℕ) (m : MessageA w) (rest : List Token) (h : Shadow w) → IsInvariant caching h.state
     → ((d : ℕ) → clients ≤ d → caching d ≡ false)
     → (h.state.link c).a ≡ token Request source ∷ rest → is_acquire m.opcode ≡ false → length (h.state.block (block_at m.address)).truth ≡ 64
@@ -200,10 +194,6 @@ request_taken-kept {w} caching clients c source tracker m rest h inv plain first
     go false (Some k) e f = access_answered-kept caching c n source (performs m) rest h.state inv first asked (spares (Some k) f (rw f at e))
 
 -- ---- Acquires
-
-pub wanting-is : (x : Acquiring) → is_wanting x ≡ true → (whole : Bool) × (g : Grow) × (x ≡ Wants whole g)
-wanting-is Calm e = absurd cc
-wanting-is (Wants whole g) e = (whole, g, refl)
 
 -- what is granted fits what was asked for
 gift_fits : (p : Profile) (whole : Bool) (g : Grow) (held : Perm) (unheld : Bool) → grow_fits held (Wants whole g) ≡ true → cap_fits whole g (gift p whole g unheld) ≡ true
@@ -290,35 +280,10 @@ acquire_taken-kept {w} caching clients p c n tracker rest h inv plain first free
 
 -- ---- Probes, ProbeAcks and Releases
 
-pub sent-is : (x : Probing) → is_sent x ≡ true → x ≡ Sent (cap_sent x)
-sent-is Quiet e = absurd cc
-sent-is (Sent k) e = refl
-sent-is (Answered r) e = absurd cc
-
-pub answered-is : (x : Probing) → is_answered x ≡ true → x ≡ Answered (report_told x)
-answered-is Quiet e = absurd cc
-answered-is (Sent k) e = absurd cc
-answered-is (Answered r) e = refl
-
-pub releasing-is : (x : Letting) → is_releasing x ≡ true → x ≡ Releasing (prune_told x)
-releasing-is Kept e = absurd cc
-releasing-is (Releasing r) e = refl
-releasing-is Acked e = absurd cc
-
-pub acked-is : (x : Letting) → is_acked x ≡ true → x ≡ Acked
-acked-is Kept e = absurd cc
-acked-is (Releasing r) e = absurd cc
-acked-is Acked e = refl
-
 -- the access that has a block in service is one, and probes with the cap of the service
 abbrev pub IsServing : {w : ℕ} → Service → MessageA w → Type 0
 IsServing (Waits q false source k) m = (is_acquire m.opcode ≡ false) × (cap_probed m.opcode m.param ≡ Some k)
 IsServing _ m = Unit {0}
-
--- who sees another's service sees no Grant
-not_other : (x : Bool) (u v : View) → is_other u ≡ false → is_other v ≡ false → is_other (if x then u else v) ≡ false
-not_other true u v e f = e
-not_other false u v e f = f
 
 pub ack_taken-kept : {w : ℕ} (caching : ℕ → Bool) (clients : ℕ) (p : Profile) (c n : ℕ) (rest : List Token) (h : Shadow w) → IsInvariant caching h.state → ((d : ℕ) → clients ≤ d → caching d ≡ false)
     → (h.state.link c).c ≡ token ProbeAck n ∷ rest → length (h.state.block n).truth ≡ 64 → IsServing (h.state.block n).service (h.request n)
@@ -376,16 +341,12 @@ ack_taken-kept {w} caching clients p c n rest h inv plain first long serving = o
         differ e = let other : false ≡ true = rw (waits, e, same_number q) at seen in cc
 
     own_wanting : (q source : ℕ) (k : Cap) → b.service ≡ Waits q true source k → is_wanting (b.pair q).acquiring ≡ true
-    own_wanting q source k waits = wanting_again (b.pair q).acquiring (own_wants (b.pair q) (view b.service q) ((inv.blocks n).phases q) (rw (waits, same_number q) refl))
-      where
-        wanting_again : (x : Acquiring) → not (is_calm x) ≡ true → is_wanting x ≡ true
-        wanting_again Calm e = absurd cc
-        wanting_again (Wants whole g) e = refl
+    own_wanting q source k waits = not-calm (b.pair q).acquiring (own_wants (b.pair q) (view b.service q) ((inv.blocks n).phases q) (rw (waits, same_number q) refl))
 
     last : ((d : ℕ) → (d ≡ c → ⊥) → is_quiet (b.pair d).probing ≡ true) → (service : Service) → b.service ≡ service → IsInvariant caching (last_taken clients p c n r service rest h).state
     last quiet Free e = absurd (let other : false ≡ true = rw e at seen in cc)
-    last quiet (GrantSent q d k) e = absurd (let one : is_other (view (GrantSent q d k) c) ≡ true = rw e at seen in let none = not_other (c == q) (Granting d k) GrantedOther refl refl in let no : false ≡ true = sym none ∙ one in cc)
-    last quiet (GrantTaken q) e = absurd (let one : is_other (view (GrantTaken q) c) ≡ true = rw e at seen in let none = not_other (c == q) Acknowledging GrantedOther refl refl in let no : false ≡ true = sym none ∙ one in cc)
+    last quiet (GrantSent q d k) e = absurd (let one : is_other (view (GrantSent q d k) c) ≡ true = rw e at seen in let none = not-other (c == q) (Granting d k) GrantedOther refl refl in let no : false ≡ true = sym none ∙ one in cc)
+    last quiet (GrantTaken q) e = absurd (let one : is_other (view (GrantTaken q) c) ≡ true = rw e at seen in let none = not-other (c == q) Acknowledging GrantedOther refl refl in let no : false ≡ true = sym none ∙ one in cc)
     last quiet (Waits q true source k) e =
         let wants = wanting-is (b.pair q).acquiring (own_wanting q source k e) in
         subst (λ (x : Acquiring). IsInvariant caching (granted_after clients p c q n r x rest h).state) (sym wants.2) (granted q source k e quiet wants.0 wants.1 wants.2)
@@ -420,17 +381,9 @@ grant_followed-kept {w} caching c n rest h inv first = go b.service refl
     seen : is_granting (view b.service c) ≡ true
     seen = holds-first Grant (h.state.link c).d rest (token Grant n) (λ i. shown Grant c (h.state.block i)) first refl (inv.transfers c Grant refl)
 
-    wanting_again : (x : Acquiring) → not (is_calm x) ≡ true → is_wanting x ≡ true
-    wanting_again Calm e = absurd cc
-    wanting_again (Wants whole g) e = refl
-
     never : (x : Bool) (u v : View) → is_granting u ≡ false → is_granting v ≡ false → is_granting (if x then u else v) ≡ false
     never true u v e f = e
     never false u v e f = f
-
-    own : (x : Bool) (d : Bool) (k : Cap) → is_granting (if x then Granting d k else GrantedOther) ≡ true → x ≡ true
-    own true d k e = refl
-    own false d k e = absurd cc
 
     go : (service : Service) → b.service ≡ service → IsInvariant caching (taken_by_client c n service rest h).state
     go Free e = absurd (let no : false ≡ true = rw e at seen in cc)
@@ -438,10 +391,10 @@ grant_followed-kept {w} caching c n rest h inv first = go b.service refl
     go (GrantTaken q) e = absurd (let one : is_granting (view (GrantTaken q) c) ≡ true = rw e at seen in let none = never (c == q) Acknowledging GrantedOther refl refl in let no : false ≡ true = sym none ∙ one in cc)
     go (GrantSent q d k) e =
         let one : is_granting (view (GrantSent q d k) c) ≡ true = rw e at seen in
-        let same : c ≡ q = eqb-true c q (own (c == q) d k one) in
+        let same : c ≡ q = eqb-true c q (granting-own (c == q) d k one) in
         let here : b.service ≡ GrantSent c d k = rw same e in
         let asks = granting_asks d k (b.pair c) (view b.service c) ((inv.blocks n).phases c) (rw (here, same_number c) refl) in
-        let wants = wanting-is (b.pair c).acquiring (wanting_again (b.pair c).acquiring asks) in
+        let wants = wanting-is (b.pair c).acquiring (not-calm (b.pair c).acquiring asks) in
         let is : is_whole (b.pair c).acquiring ≡ wants.0 = ap is_whole wants.2 in
         subst (λ (z : Bool). IsInvariant caching (grant_taken c n z d k rest h.state)) (sym is) (grant_taken-kept caching c n d wants.0 wants.1 k rest h.state inv first here wants.2)
 
@@ -454,32 +407,6 @@ IsReady {w} tracker c Request source h =
 IsReady tracker c Acquire n h = ((h.state.block n).service ≡ Free) × (h.state.tracked tracker ≡ None)
 IsReady tracker c Probe n h = ((h.state.block n).pair c).letting ≡ Kept
 IsReady tracker c _ n h = Unit {0}
-
-pub is_replied-is : (u : Use) → is_replied u ≡ true → u ≡ Replied
-is_replied-is Replied e = refl
-is_replied-is Closed e = absurd cc
-is_replied-is Asked e = absurd cc
-is_replied-is (InService n) e = absurd cc
-is_replied-is (Acquires n) e = absurd cc
-
--- who sees its GrantAck under way
-pub acknowledging-is : (s : Service) (c : ℕ) → is_acknowledging (view s c) ≡ true → s ≡ GrantTaken c
-acknowledging-is Free c e = absurd cc
-acknowledging-is (Waits q o source k) c e = absurd (never (o && (c == q)) e)
-  where
-    never : (x : Bool) → is_acknowledging (if x then Own else Other k) ≡ true → ⊥
-    never true f = cc
-    never false f = cc
-acknowledging-is (GrantSent q d k) c e = absurd (never (c == q) e)
-  where
-    never : (x : Bool) → is_acknowledging (if x then Granting d k else GrantedOther) ≡ true → ⊥
-    never true f = cc
-    never false f = cc
-acknowledging-is (GrantTaken q) c e = let same : c ≡ q = eqb-true c q (own (c == q) e) in rw same refl
-  where
-    own : (x : Bool) → is_acknowledging (if x then Acknowledging else GrantedOther) ≡ true → x ≡ true
-    own true f = refl
-    own false f = absurd cc
 
 pub kind_taken-kept : {w : ℕ} (caching : ℕ → Bool) (config : Config) (tracker c : ℕ) (k : Kind) (i : ℕ) (rest : List Token) (h : Shadow w) → IsInvariant caching h.state
     → ((d : ℕ) → length config.clients.items ≤ d → caching d ≡ false) → ((n : ℕ) → length (h.state.block n).truth ≡ 64) → ((n : ℕ) → IsServing (h.state.block n).service (h.request n))

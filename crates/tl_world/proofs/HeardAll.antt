@@ -62,6 +62,7 @@ use Rattle.tl_world.proofs.Phases.{and_left}
 use Rattle.tl_world.proofs.RequestsTaken.{next_tracker}
 use Rattle.tl_world.proofs.Showing.{is_given, is_told, carries, untold, uncarried, granted-untold}
 use Rattle.tl_world.proofs.Tokens.{same_number, holds-first}
+use Rattle.tl_world.proofs.Parts.{acked-open}
 
 -- ---- a Grant of a whole block
 
@@ -288,11 +289,6 @@ part_d {w} config log link h terms x queue mm k width is first x_is part t same 
         ∙ ap (λ (v : Verdict). handing (step.outcome_of x v) (handed_by link.0 t.message) (with_client link.0 (offer.taken x e).after (with_channel link.0 channel.D queue sys))) same_parts.0
         ∙ ap (λ (m : Option (Message w)). handing (outcome.Moved x) (handed_by link.0 m) (with_client link.0 (offer.taken x e).after (with_channel link.0 channel.D queue sys))) same_parts.1
 
-acked_kept : (x : Letting) → is_acked x ≡ true → is_kept x ≡ false
-acked_kept Acked e = refl
-acked_kept Kept e = absurd cc
-acked_kept (Releasing r) e = absurd cc
-
 pub rendered_release_ack : {w : ℕ} (c n : ℕ) (b : Block (List ℕ)) → rendered {w = w} ReleaseAck c n b ≡ message.D (ack_message (b.release_source c))
 unfolding rendered
 rendered_release_ack c n b = refl
@@ -350,7 +346,7 @@ delivered-d {w} config log link h terms x queue width is known beats moving = ki
     kinds ReleaseAck n tokens own next =
         let acked_there = holds-first ReleaseAck (h.state.link c).d first.rest (token ReleaseAck n) (λ i. shown ReleaseAck c (h.state.block i)) tokens refl (is.invariant.transfers c ReleaseAck refl) in
         by_message ReleaseAck n (ack_message ((h.state.block n).release_source c)) tokens (rendered_release_ack c n (h.state.block n)) next
-        (λ last. responded-release_ack config log h sys c n first.rest x queue width is tokens (acked_kept ((h.state.block n).pair c).letting acked_there) last)
+        (λ last. responded-release_ack config log h sys c n first.rest x queue width is tokens (acked-open ((h.state.block n).pair c).letting acked_there) last)
     kinds Request i tokens own next = absurd cc
     kinds Acquire i tokens own next = absurd cc
     kinds Probe i tokens own next = absurd cc

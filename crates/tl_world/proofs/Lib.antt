@@ -152,6 +152,7 @@ mod OwedReports
 mod OwedRequests
 mod Owing
 mod Owned
+pub mod Parts
 pub mod Passes
 pub mod Passing
 pub mod Performing

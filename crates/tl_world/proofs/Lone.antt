@@ -28,15 +28,15 @@ use Rattle.tl_world.proofs.Beside.{IsElsewhere, place-cases, set_at-here}
 use Rattle.tl_world.proofs.Capacities.{source_of_acquire}
 use Rattle.tl_world.proofs.ClientEnd.{is_access}
 use Rattle.tl_world.proofs.Due.{IsGrantDue, grant-due}
-use Rattle.tl_world.proofs.FollowKept.{is_replied-is}
 use Rattle.tl_world.proofs.GivenKept.{AreGiven}
 use Rattle.tl_world.proofs.Granting.{held_granted}
 use Rattle.tl_world.proofs.ManagerAfter.{others_probed}
 use Rattle.tl_world.proofs.Phases.{and_left, and_right}
 use Rattle.tl_world.proofs.Sized.{each-set_at, used-serving}
 use Rattle.tl_world.proofs.SizedAfter.{first-asked}
-use Rattle.tl_world.proofs.Still.{is_other, not-sent, owns_ask, serves_another}
+use Rattle.tl_world.proofs.Still.{is_other, owns_ask, serves_another}
 use Rattle.tl_world.proofs.Tokens.{same_number, set-each, set-other, set-same, holds-first}
+use Rattle.tl_world.proofs.Parts.{is_replied-is, not-sent, taken-unseen, granted-unseen}
 
 -- what an Acquire has brought so far, by the use of its source: it is still wanted, or what it was granted is held
 abbrev pub Brings : Profile → ℕ → Grow → Use → Pair → Type 0
@@ -159,16 +159,8 @@ module _ (p : Profile) (c n source : ℕ) (g : Grow) where
     where
       go : (service : Service) → (s.block n).service ≡ service → is_other (view service c) ≡ true → ⊥
       go Free e other = absurd cc
-      go (GrantSent q d k) e other = never (c == q) other
-        where
-          never : (b : Bool) → is_other (if b then Granting d k else GrantedOther) ≡ true → ⊥
-          never true f = absurd cc
-          never false f = absurd cc
-      go (GrantTaken q) e other = never (c == q) other
-        where
-          never : (b : Bool) → is_other (if b then Acknowledging else GrantedOther) ≡ true → ⊥
-          never true f = absurd cc
-          never false f = absurd cc
+      go (GrantSent q d k) e other = granted-unseen (c == q) d k other
+      go (GrantTaken q) e other = taken-unseen (c == q) other
       go (Waits r false i k) e other = no_access s r i (InService n) is (used-serving caching s n r i k inv e) refl
       go (Waits r true i k) e other =
           let own : view (s.block n).service r ≡ Own = rw (e, same_number r) refl in

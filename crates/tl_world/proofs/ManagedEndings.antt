@@ -35,6 +35,7 @@ use Rattle.tl_world.specs.Token.{Token, set, set_at}
 use Rattle.tl_world.proofs.Quieted.{quiet-c, IsLastOf, recorded-answer, pair-part}
 use Rattle.tl_world.proofs.ManagedReports.{reported-records, reported-missing, reported-probing}
 use Rattle.tl_world.proofs.Tokens.{same_number, set-same, set-other, set-part}
+use Rattle.tl_world.proofs.Parts.{is_of-is}
 
 -- ---- one place of two numbers
 
@@ -52,13 +53,9 @@ set_at-other c k x f d i other = elim (cases_eq d c) [
 
 -- ---- a tracker
 
-of_is : (n : ℕ) (o : Option ℕ) → is_of n o ≡ true → o ≡ Some n
-of_is n None e = absurd cc
-of_is n (Some m) e = ap Some (sym (eqb-true n m e))
-
 -- the tracker of a block that is in service is of the block, and no other one is
 pub tracker-of : {X : Type 0} (n : ℕ) (s : State X) → AreNamed s → is_busy (s.block n).service ≡ true → s.tracked (s.block n).tracker ≡ Some n
-tracker-of n s named busy = of_is n (s.tracked (s.block n).tracker) (named.trackers (s.block n).tracker n ∙ rw (busy, same_number (s.block n).tracker) refl)
+tracker-of n s named busy = is_of-is n (s.tracked (s.block n).tracker) (named.trackers (s.block n).tracker n ∙ rw (busy, same_number (s.block n).tracker) refl)
 
 pub tracker-alone : {X : Type 0} (n i : ℕ) (s : State X) → AreNamed s → s.tracked i ≡ Some n → i ≡ (s.block n).tracker
 tracker-alone n i s named e = eqb-true i (s.block n).tracker (later (is_busy (s.block n).service) (sym (named.trackers i n) ∙ rw (e, same_number n) refl))

@@ -1,6 +1,5 @@
 -- The manager's end after any beat that is delivered on channel C or E: it takes the beat, and all that is kept of it
 -- is kept as the protocol follows.
-use Rattle.tl_world.proofs.Moves.{acquires_of-is}
 use Rattle.tl_world.proofs.FirstToken.{first-token}
 use Rattle.tl_world.specs.PhaseSteps.{is_granted_data}
 use Rattle.tl_world.specs.Protocol as protocol
@@ -51,13 +50,13 @@ use Rattle.tl_world.specs.Token.{Kind, ProbeAck, Release, GrantAck, Acquire, Tok
 use Rattle.tl_world.specs.Whole.{IsMatched, IsAcquireOf, is_caching}
 use Rattle.tl_world.proofs.Carried.{IsNext}
 use Rattle.tl_world.proofs.Facts.{answered_other, is_other, own_wants}
-use Rattle.tl_world.proofs.FollowKept.{acknowledging-is, answered-is, releasing-is}
 use Rattle.tl_world.proofs.ManagedAcks.{IsAcked}
 use Rattle.tl_world.proofs.ManagerAfter.{IsManagerOf, left, IsEnd, others_probed, report_part-left, reported-left, released-left, acked-left, deed-reported, deed-released}
 use Rattle.tl_world.proofs.ManagerSettles.{IsWanted, IsSettling, ended-left, conceded-left, deed-ended, deed-conceded, gift_after}
 use Rattle.tl_world.proofs.ManagerTakes.{IsTakenUp, ack-order, by-first_c, by-first_e, release-order, report-order, takes}
 use Rattle.tl_world.proofs.Reporting.{IsAbout, report-about, release-about}
 use Rattle.tl_world.proofs.Tokens.{holds-first, same_number, set-same}
+use Rattle.tl_world.proofs.Parts.{acquires_of-is, answered-is, releasing-is, acknowledging-is, not-calm}
 
 pub first_of : {X : Type 0} (P : X → Type 0) (x : X) (xs ys : List X) → ys ≡ x ∷ xs → All P ys → P x
 first_of P x xs ys e all = let whole : All P (x ∷ xs) = rw e at all in whole 0 x (omega arith)
@@ -137,10 +136,6 @@ reported-last {w} config log h sys c n k rest m is tokens answered up end =
     unseen true u v f g i = cc
     unseen false u v f g i = cc
 
-    wanting_again : (x : Acquiring) → not (is_calm x) ≡ true → is_wanting x ≡ true
-    wanting_again Calm f = absurd cc
-    wanting_again (Wants whole g) f = refl
-
     last : some_below (length config.clients.items) (others_probed c b.pair) ≡ false → (service : Service) → b.service ≡ service → IsInvariant (is_caching config) (last_taken (length config.clients.items) config.profile c n r service rest h).state
         → Result (last_taken (length config.clients.items) config.profile c n r service rest h) (pushed_last n service (last_taken (length config.clients.items) config.profile c n r service rest h))
     last alone Free f inv = absurd (let other : false ≡ true = rw f at seen in cc)
@@ -155,7 +150,7 @@ reported-last {w} config log h sys c n k rest m is tokens answered up end =
         own_source = let here : IsOwnSource (Waits q true source low) b.source = rw f at ((is.invariant.blocks n).own_source) in here
 
         wants : is_wanting (b.pair q).acquiring ≡ true
-        wants = wanting_again (b.pair q).acquiring (own_wants (b.pair q) (view b.service q) ((is.invariant.blocks n).phases q) (rw (f, same_number q) refl))
+        wants = not-calm (b.pair q).acquiring (own_wants (b.pair q) (view b.service q) ((is.invariant.blocks n).phases q) (rw (f, same_number q) refl))
 
         used : h.state.uses q source ≡ Acquires n
         used = acquires_of-is n (h.state.uses q source) (is.invariant.named.acquires q source n ∙ rw (wants, ← own_source, same_number source) refl)

@@ -57,6 +57,7 @@ use Rattle.tl_world.proofs.FirstToken.{IsFirst, first-token, own_kind}
 use Rattle.tl_world.proofs.KnownProbed.{probe-taken}
 use Rattle.tl_world.proofs.Phases.{and_left}
 use Rattle.tl_world.proofs.Tokens.{holds-first}
+use Rattle.tl_world.proofs.Parts.{not-sent}
 
 -- ---- no Grant of a block that is probed has begun to come
 
@@ -76,18 +77,13 @@ comes_else n asked m k rest e is = ap (comes_granting n asked) e ∙ ap (λ y. c
 not_granted : (caching : ℕ → Bool) (c n i : ℕ) (rest : List Token) (s : State (List ℕ)) → IsInvariant caching s → (s.link c).d ≡ token Grant i ∷ rest → is_sent ((s.block n).pair c).probing ≡ true → (i == n) ≡ false
 not_granted caching c n i rest s inv first sent = go (i == n) refl
   where
-    not_quiet : (x : Probing) → is_sent x ≡ true → is_quiet x ≡ false
-    not_quiet (Sent k) e = refl
-    not_quiet Quiet e = absurd cc
-    not_quiet (Answered r) e = absurd cc
-
     go : (z : Bool) → (i == n) ≡ z → z ≡ false
     go false e = refl
     go true e =
         let due = grant-due caching c i rest s inv first in
         let alone = granting_alone due.data_too due.k ((s.block i).pair c) (view (s.block i).service c) ((inv.blocks i).phases c) (own_view c due.data_too due.k (s.block i).service due.service) in
         let quiet : is_quiet ((s.block i).pair c).probing ≡ true = and_left _ _ alone in
-        let loud : is_quiet ((s.block i).pair c).probing ≡ false = ap (λ j. is_quiet ((s.block j).pair c).probing) (eqb-true i n e) ∙ not_quiet ((s.block n).pair c).probing sent in
+        let loud : is_quiet ((s.block i).pair c).probing ≡ false = ap (λ j. is_quiet ((s.block j).pair c).probing) (eqb-true i n e) ∙ not-sent ((s.block n).pair c).probing sent in
         absurd (let no : true ≡ false = sym quiet ∙ loud in cc)
 
 plain : {w : ℕ} (n : ℕ) (asked : ℕ → Option (BeatA w)) (o : OpD) (source : ℕ) → is_grant o ≡ false → (is_grant o && asks_for n (asked source)) ≡ false

@@ -57,6 +57,7 @@ use Rattle.tl_world.proofs.Moved.{IsTakenByClient, client-moves, client-heard}
 use Rattle.tl_world.proofs.ProbeDelivered.{IsProbed, probe-delivered}
 use Rattle.tl_world.proofs.RequestsTaken.{next_tracker, invariant-taken}
 use Rattle.tl_world.proofs.Tokens.{set-same, holds-first}
+use Rattle.tl_world.proofs.Parts.{kept-is, sent-is}
 
 -- ---- the answer to a Probe
 
@@ -117,16 +118,6 @@ on_b y channel.B = refl
 on_b y channel.C = refl
 on_b y channel.D = refl
 on_b y channel.E = refl
-
-kept_is : (x : Letting) → is_kept x ≡ true → x ≡ Kept
-kept_is Kept e = refl
-kept_is (Releasing r) e = absurd cc
-kept_is Acked e = absurd cc
-
-sent_is : (x : Probing) → is_sent x ≡ true → x ≡ Sent (cap_sent x)
-sent_is (Sent k) e = refl
-sent_is Quiet e = absurd cc
-sent_is (Answered r) e = absurd cc
 
 taken_stalls : verdict.Taken ≡ verdict.Stalled → ⊥
 taken_stalls f = absurd cc
@@ -198,7 +189,7 @@ delivered-b {w} config log link h terms x queue width is known beats moving = ki
             ∙ ap (λ (m : Option (Message w)). handing (outcome.Moved x) (handed_by c m) (with_client c (offer.taken x e).after (with_channel c channel.B queue sys))) message_is
 
         sent : b_pair.probing ≡ Sent k
-        sent = sent_is b_pair.probing (holds-first Probe (h.state.link c).b first.rest (token Probe n) (λ i. shown Probe c (h.state.block i)) tokens refl (is.invariant.transfers c Probe refl))
+        sent = sent-is b_pair.probing (holds-first Probe (h.state.link c).b first.rest (token Probe n) (λ i. shown Probe c (h.state.block i)) tokens refl (is.invariant.transfers c Probe refl))
 
         taken : IsTaken c channel.B x queue (pushes_at c (pushes_of (Some ack))) sys now.after
         taken =
@@ -213,7 +204,7 @@ delivered-b {w} config log link h terms x queue width is known beats moving = ki
 
         by_letting : (b : Bool) → is_kept b_pair.letting ≡ b → IsDelivered config log link channel.B h
         by_letting true kept =
-            let inv = invariant-taken config log h sys c Probe n first.rest is tokens (kept_is b_pair.letting kept) in
+            let inv = invariant-taken config log h sys c Probe n first.rest is tokens (kept-is b_pair.letting kept) in
             delivered_as config log link channel.B h (kind_taken config (next_tracker sys) c Probe n first.rest h) follows
             (subst (λ (z : Step w). AreCarried h.mail (probe_taken c n k first.rest h.state) z.after) (sym step_is)
             (probe_taken-carried (is_caching config) c n k first.rest ack h.mail h.state sys now.after x queue width is.invariant inv tokens sent (ack_channel w b_pair.held (report_at k b_pair.held) n (h.state.block n).truth)

@@ -36,7 +36,7 @@ use Rattle.tl_world.proofs.BesideRequests.{IsOnce, accesses-answer}
 use Rattle.tl_world.proofs.CarriedReports.{carried-followed_c}
 use Rattle.tl_world.proofs.Choices.{plain-past}
 use Rattle.tl_world.proofs.FirstToken.{first-token}
-use Rattle.tl_world.proofs.FollowKept.{answered-is, settled_all}
+use Rattle.tl_world.proofs.FollowKept.{settled_all}
 use Rattle.tl_world.proofs.HeardAll.{IsDelivered, remembered_after}
 use Rattle.tl_world.proofs.ManagerAfter.{others_probed}
 use Rattle.tl_world.proofs.ManagerDelivered.{channel_c-delivered, pushed, pushed_last, releases-delivered, reports-delivered}
@@ -46,6 +46,7 @@ use Rattle.tl_world.proofs.RequestsTaken.{next_tracker}
 use Rattle.tl_world.proofs.Sized.{used-serving}
 use Rattle.tl_world.proofs.SizedAfter.{served-request}
 use Rattle.tl_world.proofs.Tokens.{holds-first}
+use Rattle.tl_world.proofs.Parts.{answered-is}
 
 -- ---- which accesses are answered by what is handed out
 

@@ -22,8 +22,8 @@ use Rattle.tl_world.specs.Phase.{Acquiring, Calm, Wants}
 use Rattle.tl_world.specs.Protocol.{Service, Free, Waits, GrantSent, GrantTaken, State, Use, Closed, Asked, InService, Replied, Acquires}
 use Rattle.tl_world.specs.System.{terms_at}
 use Rattle.tl_world.specs.Token.{Kind, Request, Acquire, Probe, ProbeAck, Release, Answer, Grant, ReleaseAck, GrantAck, Token, set_at}
-use Rattle.tl_world.proofs.Moves.{serves_of-is}
 use Rattle.tl_world.proofs.Tokens.{same_number, set-each}
+use Rattle.tl_world.proofs.Parts.{serves_of-is}
 
 -- ---- one place of two numbers
 

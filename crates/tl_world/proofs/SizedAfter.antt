@@ -32,6 +32,7 @@ use Rattle.tl_world.specs.Token.{Kind, Request, Acquire, Probe, ProbeAck, Releas
 use Rattle.tl_world.specs.Whole.{AreSized, IsRequest, IsSourced, is_storing}
 use Rattle.tl_world.proofs.Sized.{each-set_at, used-serving}
 use Rattle.tl_world.proofs.Tokens.{same_number, set-same, set-other, set-each, set-part, holds-first}
+use Rattle.tl_world.proofs.Parts.{is_asked-is}
 
 -- ---- accesses and their sources
 
@@ -94,15 +95,8 @@ sourced_taken config c n (Waits q own source k) rest h before = before
 sourced_taken config c n (GrantSent q d k) rest h before = sourced_set config h.mail.request c ((h.state.block n).source c) Closed h.state.uses tt before
 sourced_taken config c n (GrantTaken q) rest h before = before
 
-is_asked_is : (u : Use) → is_asked u ≡ true → u ≡ Asked
-is_asked_is Asked e = refl
-is_asked_is Closed e = absurd cc
-is_asked_is (InService n) e = absurd cc
-is_asked_is Replied e = absurd cc
-is_asked_is (Acquires n) e = absurd cc
-
 pub first-asked : {w : ℕ} (caching : ℕ → Bool) (c i : ℕ) (rest : List Token) (h : Shadow w) → IsInvariant caching h.state → on Request (h.state.link c) ≡ token Request i ∷ rest → h.state.uses c i ≡ Asked
-first-asked caching c i rest h inv first = is_asked_is (h.state.uses c i) (holds-first Request (h.state.link c).a rest (token Request i) (λ j. is_asked (h.state.uses c j)) first refl (inv.requests c))
+first-asked caching c i rest h inv first = is_asked-is (h.state.uses c i) (holds-first Request (h.state.link c).a rest (token Request i) (λ j. is_asked (h.state.uses c j)) first refl (inv.requests c))
 
 pub sourced-kind_taken : {w : ℕ} (caching : ℕ → Bool) (config : Config) (tracker c : ℕ) (k : Kind) (i : ℕ) (rest : List Token) (h : Shadow w) → IsInvariant caching h.state → on k (h.state.link c) ≡ token k i ∷ rest
     → AreSourced config h.mail.request h.state.uses → AreSourced config (kind_taken config tracker c k i rest h).mail.request (kind_taken config tracker c k i rest h).state.uses

@@ -13,6 +13,7 @@ use Rattle.tl_world.proofs.Distinct.{IsThere, first-there}
 use Rattle.tl_world.proofs.Phases.{each_phase, of_phase, and_left}
 use Rattle.tl_world.proofs.Quiet.{IsSilent, free-when_silent}
 use Rattle.tl_world.proofs.Tokens.{same_number}
+use Rattle.tl_world.proofs.Parts.{not-sent, not-answered, taken-unseen, granted-unseen}
 
 -- ---- nothing is on a channel
 
@@ -55,11 +56,6 @@ serves_another p v h = or_second (is_quiet p.probing) (is_other v) (of_phase pro
 pub owns_ask : (p : Pair) (v : View) → ok p v ≡ true → is_owned v ≡ true → is_wanting p.acquiring ≡ true
 unfolding each_phase asks_for_own
 owns_ask p v h = implied (is_owned v) (is_wanting p.acquiring) (of_phase asks_for_own refl p v h)
-
-pub not-sent : (x : Probing) → is_sent x ≡ true → is_quiet x ≡ false
-not-sent (Sent k) e = refl
-not-sent Quiet e = absurd cc
-not-sent (Answered r) e = absurd cc
 
 module _ {X : Type 0} (caching : ℕ → Bool) (s : State X) (inv : IsInvariant caching s) where
   -- a kind that is on no channel is shown nowhere
@@ -109,16 +105,8 @@ module _ {X : Type 0} (caching : ℕ → Bool) (s : State X) (inv : IsInvariant 
     where
       go : (service : Service) → (s.block n).service ≡ service → is_other (view service c) ≡ true → ⊥
       go Free e is = absurd cc
-      go (GrantSent q d k) e is = never (c == q) is
-        where
-          never : (b : Bool) → is_other (if b then Granting d k else GrantedOther) ≡ true → ⊥
-          never true f = absurd cc
-          never false f = absurd cc
-      go (GrantTaken q) e is = never (c == q) is
-        where
-          never : (b : Bool) → is_other (if b then Acknowledging else GrantedOther) ≡ true → ⊥
-          never true f = absurd cc
-          never false f = absurd cc
+      go (GrantSent q d k) e is = granted-unseen (c == q) d k is
+      go (GrantTaken q) e is = taken-unseen (c == q) is
       go (Waits r true source k) e is =
           let own : view (s.block n).service r ≡ Own = rw (e, same_number r) refl in
           let wants = owns_ask ((s.block n).pair r) (view (s.block n).service r) ((inv.blocks n).phases r) (rw own refl) in
@@ -142,11 +130,6 @@ module _ {X : Type 0} (caching : ℕ → Bool) (s : State X) (inv : IsInvariant 
   not_replied : (c n : ℕ) → is_replied (s.uses c n) ≡ true → IsClosed s → ⊥
   not_replied c n e closed = absurd (let no : is_replied (s.uses c n) ≡ false = rw (closed.uses c n) refl in cc)
 
-  not_answered : (x : Probing) → is_answered x ≡ true → is_quiet x ≡ false
-  not_answered (Answered r) e = refl
-  not_answered Quiet e = absurd cc
-  not_answered (Sent k) e = absurd cc
-
   -- no kind but a GrantAck is shown
   nothing_shown : (c : ℕ) (ch : Channel) (k : Kind) (n : ℕ) → IsClosed s → is_on ch k ≡ true → is_on channel.E k ≡ false → 0 < count k n (tokens_on ch (s.link c)) → ⊥
   nothing_shown c ch Request n closed on_it other there = not_asked c n (shown_there caching s c ch Request n inv on_it there) closed
@@ -156,7 +139,7 @@ module _ {X : Type 0} (caching : ℕ → Bool) (s : State X) (inv : IsInvariant 
   nothing_shown c ch Release n closed on_it other there = no_let c _ n (release_named caching s c n inv (shown_there caching s c ch Release n inv on_it there)) closed
   nothing_shown c ch ReleaseAck n closed on_it other there = no_let c _ n (release_ack_named caching s c n inv (shown_there caching s c ch ReleaseAck n inv on_it there)) closed
   nothing_shown c ch Probe n closed on_it other there = probed-for c n (not-sent _ (shown_there caching s c ch Probe n inv on_it there)) closed
-  nothing_shown c ch ProbeAck n closed on_it other there = probed-for c n (not_answered _ (shown_there caching s c ch ProbeAck n inv on_it there)) closed
+  nothing_shown c ch ProbeAck n closed on_it other there = probed-for c n (not-answered _ (shown_there caching s c ch ProbeAck n inv on_it there)) closed
   nothing_shown c ch GrantAck n closed on_it other there = absurd cc
 
   empty_list : (xs : List Token) → ((x : Token) → IsThere x xs → ⊥) → xs ≡ []

@@ -31,6 +31,7 @@ use Rattle.tl_world.proofs.FollowKept.{IsAskable, asked-kept}
 use Rattle.tl_world.proofs.ManagersEnd.{IsAtManager, at_manager-same}
 use Rattle.tl_world.proofs.RequestsTaken.{IsAfterwards}
 use Rattle.tl_world.proofs.Tokens.{set-same, set-other, set-part, holds-first}
+use Rattle.tl_world.proofs.Parts.{granting-own, sent-is}
 
 -- ---- one block changes, and not to the manager
 
@@ -193,15 +194,6 @@ at_manager-asked {w} caching config c o r h e inv may is = go o r may (asked-kep
 
 -- ---- a client takes a message
 
-sent_so : (x : Probing) → is_sent x ≡ true → x ≡ Sent (cap_sent x)
-sent_so Quiet e = absurd cc
-sent_so (Sent k) e = refl
-sent_so (Answered r) e = absurd cc
-
-granting_so : (b d : Bool) (k : Cap) → is_granting (if b then Granting d k else GrantedOther) ≡ true → b ≡ true
-granting_so true d k e = refl
-granting_so false d k e = absurd cc
-
 -- the kinds that clients take
 abbrev pub is_to_clients : Kind → Bool
 is_to_clients Probe = true
@@ -220,7 +212,7 @@ at_manager-client_taken caching config tracker c Release n rest h e kind inv fir
 at_manager-client_taken caching config tracker c GrantAck n rest h e kind inv first after is = absurd cc
 at_manager-client_taken caching config tracker c Probe n rest h e kind inv first after is =
     let k = cap_sent ((h.state.block n).pair c).probing in
-    let sent = sent_so ((h.state.block n).pair c).probing (holds-first Probe (h.state.link c).b rest (token Probe n) (λ i. shown Probe c (h.state.block i)) first refl (inv.transfers c Probe refl)) in
+    let sent = sent-is ((h.state.block n).pair c).probing (holds-first Probe (h.state.link c).b rest (token Probe n) (λ i. shown Probe c (h.state.block i)) first refl (inv.transfers c Probe refl)) in
     at_manager-unseen caching config h.mail h.request n (probed_block c k (h.state.block n)) h.state (probe_taken c n k rest h.state) e after (λ i. refl) (same-probed c k k (h.state.block n) sent) is
 at_manager-client_taken caching config tracker c Answer n rest h e kind inv first after is =
     at_manager-untouched caching config h.mail h.request h.state (answer_taken c n rest h.state) e after (λ i. refl) is
@@ -234,6 +226,6 @@ at_manager-client_taken {w} caching config tracker c Grant n rest h e kind inv f
     go (GrantTaken q) f kept = is
     go (GrantSent q d k) f kept =
         let seen : is_granting (view (GrantSent q d k) c) ≡ true = rw f at (holds-first Grant (h.state.link c).d rest (token Grant n) (λ i. shown Grant c (h.state.block i)) first refl (inv.transfers c Grant refl)) in
-        let same : c ≡ q = eqb-true c q (granting_so (c == q) d k seen) in
+        let same : c ≡ q = eqb-true c q (granting-own (c == q) d k seen) in
         let whole = is_whole ((h.state.block n).pair c).acquiring in
         at_manager-unseen caching config h.mail h.request n (taken_block c whole d k (h.state.block n)) h.state (grant_taken c n whole d k rest h.state) e kept (λ i. refl) (same-taken c whole d k k (h.state.block n) (f ∙ rw same refl)) is

@@ -25,7 +25,7 @@ use Rattle.tl_manager.specs.Slave.{End}
 use Rattle.tl_manager.proofs.Serving.{some_is, none_of_block}
 use Rattle.tl_manager.proofs.Settled.{all-settled}
 use Rattle.tl_manager.proofs.Sources.{source-pending, sink-pending}
-use Rattle.tl_world.specs.Phase.{Pair, View, Own, Other, Granting, Acknowledging, GrantedOther, is_quiet, is_calm, Acquiring, Calm, Wants, ok}
+use Rattle.tl_world.specs.Phase.{Pair, View, Own, Other, Granting, Acknowledging, GrantedOther, is_quiet, ok}
 use Rattle.tl_world.specs.Protocol.{Service, Free, Waits, GrantSent, GrantTaken, State, Use, Closed, Asked, InService, Replied, Acquires, view, is_granting, is_acknowledging, is_wanting}
 use Rattle.tl_world.specs.Invariant.{IsInvariant, IsAwaited, IsOwnSource, is_serving, tracks_with, is_busy}
 use Rattle.tl_world.specs.Managed.{IsManaged, is_own, client_in, service_with}

@@ -1,7 +1,5 @@
 -- A GrantAck that is delivered to the manager: the channels and the one memory afterwards.
-use Rattle.std.proofs.Common.{◌≡◌, ℕ, Bool, true, false, ◌&&◌, List, [], ◌∷◌, Some, None, refl, sym, ◌∙◌, ap, subst}
-use Rattle.std.specs.Prelude.{◌==◌, if◌then◌else◌}
-use Rattle.std.proofs.lemmas.Bool.{eqb-true}
+use Rattle.std.proofs.Common.{◌≡◌, ℕ, Bool, true, false, List, [], ◌∷◌, Some, None, refl, sym, ◌∙◌, ap, subst}
 use Rattle.tl_beat.specs.Width.{IsWidth}
 use Rattle.tl_beat.specs.declared.beat.Beat.{Beat}
 use Rattle.tl_beat.specs.declared.beat.BeatE.{BeatE}
@@ -22,8 +20,7 @@ use Rattle.tl_world.specs.Follow.{Shadow, kind_taken}
 use Rattle.tl_world.specs.Log.{Log, after}
 use Rattle.tl_world.specs.Matched.{AreCarried}
 use Rattle.tl_world.specs.Beside.{IsBeside}
-use Rattle.tl_world.specs.Phase.{Own, Other, Granting, Acknowledging, GrantedOther}
-use Rattle.tl_world.specs.Protocol.{Service, Free, Waits, GrantSent, GrantTaken, token, is_on, is_acknowledging, shown, view, freed_block, grant_ack_taken}
+use Rattle.tl_world.specs.Protocol.{GrantTaken, token, is_on, shown, freed_block, grant_ack_taken}
 use Rattle.tl_world.specs.Remembered.{remembered, performing, accesses_answered}
 use Rattle.tl_world.specs.Render.{rendered, message_of_kind}
 use Rattle.tl_world.specs.Step.{stepped}

@@ -18,9 +18,9 @@ use Rattle.tl_client.specs.Send.{access}
 use Rattle.tl_manager.specs.Holders.{cap_probed}
 use Rattle.tl_world.specs.Follow.{Shadow, with_state, asked, answers, performs, probes_some, some_below, access_taken, request_taken, is_unheld, gift, acquire_taken, granted_after, last_taken, ack_taken, is_whole, taken_by_client, kind_taken}
 use Rattle.tl_world.specs.Invariant.{cap_asked, is_asked, serves_of, is_serving, IsInvariant}
-use Rattle.tl_world.specs.Phase.{Letting, Kept, Releasing, Acked, Acquiring, Calm, Wants, is_quiet, is_kept}
+use Rattle.tl_world.specs.Phase.{Acquiring, Calm, Wants, is_quiet}
 use Rattle.tl_world.specs.PhaseSteps.{is_granted_data, after_report}
-use Rattle.tl_world.specs.Protocol.{Service, Free, Waits, GrantSent, GrantTaken, Block, Use, Closed, Asked, InService, Replied, Acquires, token, on, shown, is_probed, is_releasing, written, acquire_served, acquire_granted, report_taken}
+use Rattle.tl_world.specs.Protocol.{Service, Free, Waits, GrantSent, GrantTaken, Block, Use, Closed, Asked, InService, Replied, Acquires, token, on, shown, is_probed, written, acquire_served, acquire_granted, report_taken}
 use Rattle.tl_world.specs.Render.{cap_sent, report_told, prune_told}
 use Rattle.tl_world.specs.Token.{Kind, Request, Acquire, Probe, ProbeAck, Release, Answer, Grant, ReleaseAck, GrantAck, Token, set, set_at}
 use Rattle.tl_world.proofs.Aside.{aside-access_asked, aside-acquire_asked, aside-release_asked, aside-block_stored, aside-access_answered, aside-acquire_granted, aside-acquire_served, aside-access_served, aside-probe_taken, aside-report_taken, aside-report_answers, aside-report_grants, aside-release_taken, aside-answer_taken, aside-grant_taken, aside-release_ack_taken, aside-grant_ack_taken}

@@ -1,5 +1,5 @@
 -- What a client is asked for and starts, the protocol allows: its sources are free, and nothing of the block is open.
-use Rattle.std.proofs.Common.{◌≡◌, ℕ, Bool, true, false, not, List, Option, Some, None, refl, sym, ◌∙◌, ap}
+use Rattle.std.proofs.Common.{◌≡◌, ℕ, Bool, true, false, List, Option, Some, None, refl, sym, ◌∙◌, ap}
 use Rattle.std.specs.Prelude.{is_some}
 use Rattle.std.proofs.lemmas.Bool.{or_parts, not-false}
 use Rattle.tl_burst.specs.declared.message.Message.{Message}
@@ -27,8 +27,8 @@ use Rattle.tl_client.proofs.Free.{least_free-some}
 use Rattle.tl_manager.specs.Slave.{level_of}
 use Rattle.tl_world.specs.Follow.{Shadow}
 use Rattle.tl_world.specs.Log.{Log}
-use Rattle.tl_world.specs.Phase.{Letting, Kept, Releasing, Acked, Acquiring, Calm, Wants, is_kept}
-use Rattle.tl_world.specs.Protocol.{State, Use, Closed, Asked, InService, Replied, Acquires, is_wanting}
+use Rattle.tl_world.specs.Phase.{Acquiring, Calm, Wants}
+use Rattle.tl_world.specs.Protocol.{State, Use, Closed, Asked, InService, Replied, Acquires}
 use Rattle.tl_world.specs.Render.{Mail, acquire_of, rendered}
 use Rattle.tl_world.specs.System.{System, terms_at}
 use Rattle.tl_world.specs.Token.{Acquire}

@@ -44,8 +44,8 @@ use Rattle.tl_world.specs.Beside.{IsOpened, IsLet}
 use Rattle.tl_world.specs.Follow.{Shadow}
 use Rattle.tl_world.specs.Log.{Log}
 use Rattle.tl_world.specs.Machine.{Machine, Requests, Releases, Replies}
-use Rattle.tl_world.specs.Phase.{Acquiring, Calm, Wants, Letting, Kept, Releasing, Acked, is_kept}
-use Rattle.tl_world.specs.Protocol.{Block, State, Use, Closed, Asked as AskedUse, InService, Replied, Acquires, is_wanting}
+use Rattle.tl_world.specs.Phase.{Acquiring, Calm, Wants, Kept}
+use Rattle.tl_world.specs.Protocol.{Block, State, Use, Closed, Asked as AskedUse, InService, Replied, Acquires}
 use Rattle.tl_world.specs.Remembered.{remembered}
 use Rattle.tl_world.specs.Render.{Mail, acquire_of, rendered}
 use Rattle.tl_world.specs.Token.{Acquire}

@@ -1,13 +1,13 @@
 -- How many messages a channel holds: as many at most as there are sources, trackers, or both.
 use Rattle.std.proofs.Common.{◌≡◌, ℕ, ◌+◌, ◌<◌, ◌≤◌, Bool, true, false, refl, sym, ◌∙◌, ap, subst, arith}
 use Rattle.std.specs.Prelude.{◌||◌, not, length, Option, Some, None}
-use Rattle.std.proofs.lemmas.Bool.{eqb-true, and_parts}
+use Rattle.std.proofs.lemmas.Bool.{and_parts}
 use Rattle.tl_beat.specs.declared.opcode.Channel.{Channel}
 use Rattle.tl_beat.specs.declared.opcode.Channel.TheVariants as channel
-use Rattle.tl_world.specs.Phase.{Pair, View, Probing, Letting, Quiet, Sent, Answered, Kept, Releasing, Acked, Other, Idle, Own, Granting, Acknowledging, GrantedOther, is_kept, is_quiet, is_idle, ok}
+use Rattle.tl_world.specs.Phase.{Pair, View, Other, Idle, Own, Granting, Acknowledging, GrantedOther, is_kept, is_quiet, is_idle, ok}
 use Rattle.tl_world.specs.Token.{Kind, Request, Acquire, Probe, ProbeAck, Release, Answer, Grant, ReleaseAck, GrantAck, Token, same_kind, is, one_if, count}
-use Rattle.tl_world.specs.Protocol.{Service, Free, Waits, GrantSent, GrantTaken, Link, State, Use, Closed, Asked, InService, Replied, Acquires, token, view, on, tokens_on, is_on, is_wanting, is_sent, is_answered, is_releasing, is_acked, is_granting, is_acknowledging, shown}
-use Rattle.tl_world.specs.Invariant.{IsInvariant, is_asked, is_replied, is_of, acquires_of, is_busy}
+use Rattle.tl_world.specs.Protocol.{Service, Free, Waits, GrantSent, GrantTaken, Link, State, Use, Closed, Asked, Replied, Acquires, token, view, on, tokens_on, is_on, is_wanting, is_granting, is_acknowledging, shown}
+use Rattle.tl_world.specs.Invariant.{IsInvariant, is_asked, is_replied, is_busy}
 use Rattle.tl_world.proofs.Distinct.{passing, pass-or-not, all-pass, few, IsThere}
 use Rattle.tl_world.proofs.Tokens.{same_number}
 use Rattle.tl_world.proofs.Phases.{each_phase, of_phase}

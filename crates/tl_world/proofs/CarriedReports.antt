@@ -58,7 +58,7 @@ use Rattle.tl_rules.specs.History.{is_acquire}
 use Rattle.tl_manager.specs.Holders.{cap_probed}
 use Rattle.tl_world.specs.Follow.{Shadow, performs, ack_taken, answers, followed, granted_after, last_taken, some_below, token_taken, with_state}
 use Rattle.tl_world.specs.Invariant.{IsWell, IsInvariant}
-use Rattle.tl_world.specs.Phase.{Pair, Probing, Quiet, Sent, Answered, is_quiet, perm_le, Acknowledging, Acquiring, Calm, GrantedOther, Granting, Wants}
+use Rattle.tl_world.specs.Phase.{Pair, Answered, is_quiet, perm_le, Acquiring, Calm, Wants}
 use Rattle.tl_world.specs.PhaseSteps.{after_report, is_granted_data}
 use Rattle.tl_world.specs.Protocol.{Service, Waits, Block, ended_block, shown, view, Free, GrantSent, GrantTaken, granted_block, let_block, release_taken, report_taken, token}
 use Rattle.tl_world.specs.Render.{prune_told, message_of, rendered, report_told}

@@ -10,7 +10,7 @@ use Rattle.tl_manager.specs.Holders.{clients_where, is_nobody}
 use Rattle.tl_manager.proofs.Clients.{among-where, nobody-is, nobody-where, where-same}
 use Rattle.tl_world.specs.Follow.{some_below}
 use Rattle.tl_world.specs.Invariant.{IsInvariant, IsOwnSource}
-use Rattle.tl_world.specs.Phase.{Own, Acquiring, Calm, Wants, is_calm}
+use Rattle.tl_world.specs.Phase.{Own}
 use Rattle.tl_world.specs.Protocol.{Waits, State, Acquires, InService, view, is_wanting}
 use Rattle.tl_world.specs.Whole.{is_caching}
 use Rattle.tl_world.proofs.Facts.{own_wants}

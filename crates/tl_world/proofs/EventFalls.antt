@@ -17,7 +17,7 @@ use Rattle.tl_world.specs.Matched.{AreCarried}
 use Rattle.tl_world.specs.Move.{channel_for}
 use Rattle.tl_world.specs.Phase.{Probing, Quiet, Sent, Answered, Letting, Kept, Releasing, Acked}
 use Rattle.tl_world.specs.Potential.{potential}
-use Rattle.tl_world.specs.Protocol.{Free, Waits, GrantSent, GrantTaken, Block, State, Link, Closed, Asked, InService, Replied, Acquires, token, tokens_on, is_on, is_answered, is_releasing, is_acked, with_d, with_probe, is_probed, popped_link, probed_block, probed_link, probe_taken, reported_block, report_taken, ended_block, ended_link, report_answers, granted_block, granted_link, report_grants, performed_block, answered_link, access_answered, granted_at_once, acquire_granted, served_block, served_link, acquire_served, access_served, let_block, let_link, release_taken, answer_taken, taken_block, taken_link, grant_taken, let_go_block, release_ack_taken, freed_block, grant_ack_taken}
+use Rattle.tl_world.specs.Protocol.{Free, Waits, GrantSent, GrantTaken, Block, State, Link, Closed, Asked, InService, Replied, Acquires, token, tokens_on, is_on, is_answered, is_releasing, with_d, with_probe, is_probed, popped_link, probed_block, probed_link, probe_taken, reported_block, report_taken, ended_block, ended_link, report_answers, granted_block, granted_link, report_grants, performed_block, answered_link, access_answered, granted_at_once, acquire_granted, served_block, served_link, acquire_served, access_served, let_block, let_link, release_taken, answer_taken, taken_block, taken_link, grant_taken, let_go_block, release_ack_taken, freed_block, grant_ack_taken}
 use Rattle.tl_world.specs.Render.{Mail, message_of, message_of_kind}
 use Rattle.tl_world.specs.System.{System}
 use Rattle.tl_world.specs.Token.{Kind, Request, Acquire, ProbeAck, Release, Answer, Grant, ReleaseAck, GrantAck, Token, set, set_at}

@@ -11,13 +11,11 @@ use Rattle.tl_params.specs.declared.perm.Perm.{Perm}
 use Rattle.tl_params.specs.declared.perm.Perm.TheVariants as perm
 use Rattle.tl_rules.specs.Conformance.{same_perm}
 use Rattle.tl_world.specs.Invariant.{AreNamed, acquires_of}
-use Rattle.tl_world.specs.Phase.{Probing, Quiet, Sent, Answered, is_quiet}
-use Rattle.tl_world.specs.Protocol.{State, is_wanting, is_answered}
+use Rattle.tl_world.specs.Protocol.{State, is_wanting}
 use Rattle.tl_world.specs.Token.{set_at}
 use Rattle.tl_world.proofs.Aside.{set_at-same, set_at-else}
 use Rattle.tl_world.proofs.Carried.{IsNext}
 use Rattle.tl_world.proofs.Tokens.{same_number}
-use Rattle.tl_world.proofs.Parts.{quiet_unanswered}
 
 -- a test of what was delivered, which no beats pass, and all beginnings of the message alike
 pub came-so : {w : ℕ} (f : List (Beat w) → Bool) (m : Message w) (x : Beat w) (rest : List (Beat w)) (ms : List (Message w)) (queue : List (Beat w)) (v : Bool) → IsNext x rest m ms queue → f [] ≡ false → ((j : ℕ) → f (begun m (suc j)) ≡ v)

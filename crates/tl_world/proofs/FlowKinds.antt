@@ -22,7 +22,7 @@ use Rattle.tl_world.specs.Flowed.{IsFlowed}
 use Rattle.tl_world.specs.Follow.{Shadow, with_state, some_below, performs, probes_some, access_taken, request_taken, is_unheld, gift, acquire_taken, granted_after, last_taken, ack_taken, is_whole, taken_by_client, kind_taken}
 use Rattle.tl_world.specs.Invariant.{cap_asked}
 use Rattle.tl_world.specs.Log.{Log}
-use Rattle.tl_world.specs.Phase.{View, Own, Granting, Acknowledging, GrantedOther, Answered, Acquiring, Calm, Wants, is_calm, is_quiet, is_kept}
+use Rattle.tl_world.specs.Phase.{Own, Granting, Acknowledging, GrantedOther, Answered, Acquiring, Calm, Wants, is_calm, is_quiet, is_kept}
 use Rattle.tl_world.specs.PhaseSteps.{is_granted_data, after_report}
 use Rattle.tl_world.specs.Protocol.{Service, Free, Waits, GrantSent, GrantTaken, Block, State, token, on, shown, view, is_answered, is_probed, acquire_served, acquire_granted, report_taken, report_grants}
 use Rattle.tl_world.specs.Render.{cap_sent, report_told, prune_told}

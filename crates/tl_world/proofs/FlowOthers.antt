@@ -6,7 +6,7 @@ use Rattle.tl_params.specs.declared.param.Cap.{Cap}
 use Rattle.tl_params.specs.declared.param.Grow.{Grow}
 use Rattle.tl_params.specs.declared.param.Prune.{Prune}
 use Rattle.tl_params.specs.declared.param.Report.{Report}
-use Rattle.tl_world.specs.Phase.{Pair, View, Idle, Own, Other, Granting, Acknowledging, GrantedOther, Probing, Quiet, Sent, Answered, is_quiet}
+use Rattle.tl_world.specs.Phase.{Pair, View, Idle, Own, Other, Granting, Acknowledging, GrantedOther, Probing, Sent, is_quiet}
 use Rattle.tl_world.specs.PhaseSteps.{after_acquire, after_release, is_above, after_served, after_grant_sent, after_probe, after_report, after_release_taken, after_grant, after_release_ack}
 use Rattle.tl_world.specs.Protocol.{Service, Free, Waits, GrantSent, GrantTaken, Block, view, is_granting, is_acknowledging, is_answered, is_wanting, is_unserved, acquiring_block, releasing_block, stored_block, performed_block, granted_at_once, served_block, served_pair, probed_block, reported_block, ended_block, granted_block, let_block, taken_block, let_go_block, freed_block}
 use Rattle.tl_world.specs.Sources.{cap_waited}

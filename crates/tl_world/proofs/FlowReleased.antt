@@ -1,7 +1,7 @@
 -- What is delivered on a link, as the beats of a Release are.
 use Rattle.std.proofs.Common.{◌≡◌, ℕ, Bool, true, false, not, ◌&&◌, ◌||◌, ◌∷◌, Option, Some, None, refl, sym, ◌∙◌, ap, List, ◌⊎◌, inl, inr}
 use Rattle.std.specs.Prelude.{◌==◌, if◌then◌else◌, option_map}
-use Rattle.std.proofs.lemmas.Bool.{cases_eq, ne_eqb, eqb-true, and_right}
+use Rattle.std.proofs.lemmas.Bool.{cases_eq, ne_eqb, and_right}
 use Rattle.tl_beat.specs.declared.beat.Beat.{Beat}
 use Rattle.tl_beat.specs.declared.beat.Beat.TheVariants as beat
 use Rattle.tl_beat.specs.declared.beat.BeatA.{BeatA}

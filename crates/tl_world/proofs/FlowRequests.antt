@@ -22,7 +22,7 @@ use Rattle.tl_manager.specs.Slave.{level_of, must_wait}
 use Rattle.tl_world.specs.Flow.{flow}
 use Rattle.tl_world.specs.Log.{Log}
 use Rattle.tl_world.specs.Matched.{receiver}
-use Rattle.tl_world.specs.Phase.{Pair, Idle, Letting, Kept, Releasing, Acked, is_kept, is_quiet, ok}
+use Rattle.tl_world.specs.Phase.{Pair, Idle, is_kept, is_quiet, ok}
 use Rattle.tl_world.specs.Protocol.{Free, State, token, view, is_on}
 use Rattle.tl_world.specs.Render.{Mail, message_of, message_of_kind}
 use Rattle.tl_world.specs.System.{System}

@@ -41,7 +41,7 @@ use Rattle.tl_world.specs.Flowed.{is_requested, is_sunk, is_let, is_let_by}
 use Rattle.tl_world.specs.Follow.{acquire_opcode}
 use Rattle.tl_world.specs.Invariant.{is_busy, IsInvariant}
 use Rattle.tl_world.specs.Log.{Log}
-use Rattle.tl_world.specs.Phase.{View, Probing, Quiet, Sent, Answered, Letting, Kept, Releasing, Acked, Acquiring, Wants, is_quiet, is_kept}
+use Rattle.tl_world.specs.Phase.{View, Letting, Kept, Releasing, Acked, Acquiring, Wants, is_kept}
 use Rattle.tl_world.specs.Protocol.{Service, GrantSent, is_answered, is_acked, is_releasing, is_granting, is_acknowledging, State, Use, Asked, Acquires, view, token, shown, is_on, is_unserved, is_wanting}
 use Rattle.tl_world.specs.Render.{Mail, report_told, prune_told, rendered, message_of, message_of_kind}
 use Rattle.tl_world.specs.System.{System}

@@ -30,9 +30,9 @@ use Rattle.tl_client.specs.Ask.{stored, whole_grow}
 use Rattle.tl_manager.specs.Holders.{cap_probed}
 use Rattle.tl_world.specs.Follow.{Shadow, with_state, asked, some_below, bytes_at, performs, probes_some, access_taken, request_taken, is_unheld, gift, acquire_taken, granted_after, last_taken, ack_taken, is_whole, taken_by_client, kind_taken}
 use Rattle.tl_world.specs.Invariant.{cap_asked, is_asked, is_replied, IsInvariant, AreOutside}
-use Rattle.tl_world.specs.Phase.{Pair, View, Own, Other, Granting, Acknowledging, GrantedOther, is_calm, Probing, Quiet, Sent, Answered, Letting, Kept, Releasing, Acked, Acquiring, Calm, Wants, same_cap, is_quiet, cap_fits, grow_fits}
+use Rattle.tl_world.specs.Phase.{Pair, View, Own, Other, Granting, Acknowledging, GrantedOther, Answered, Kept, Acquiring, Calm, Wants, same_cap, is_quiet, cap_fits, grow_fits}
 use Rattle.tl_world.specs.PhaseSteps.{is_above, is_granted_data, after_report}
-use Rattle.tl_world.specs.Protocol.{Service, Free, Waits, GrantSent, GrantTaken, Block, Use, Closed, Asked, InService, Replied, Acquires, view, token, shown, is_wanting, is_unserved, is_granting, is_acknowledging, is_sent, is_answered, is_releasing, is_acked, is_probed, on, acquire_served, acquire_granted, report_taken, grant_taken}
+use Rattle.tl_world.specs.Protocol.{Service, Free, Waits, GrantSent, GrantTaken, Block, Closed, Asked, view, token, shown, is_wanting, is_unserved, is_granting, is_answered, is_probed, on, acquire_served, acquire_granted, report_taken, grant_taken}
 use Rattle.tl_world.specs.Render.{cap_sent, report_told, prune_told}
 use Rattle.tl_world.specs.Token.{Kind, Request, Acquire, Probe, ProbeAck, Release, Answer, Grant, ReleaseAck, GrantAck, Token, set}
 use Rattle.tl_world.proofs.Phases.{and_left, and_right}

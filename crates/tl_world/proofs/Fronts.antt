@@ -24,8 +24,8 @@ use Rattle.tl_world.specs.Carried.{IsCarried}
 use Rattle.tl_world.specs.Follow.{acquire_opcode}
 use Rattle.tl_world.specs.Invariant.{is_asked}
 use Rattle.tl_world.specs.Log.{Log}
-use Rattle.tl_world.specs.Phase.{Acquiring, Calm, Wants}
-use Rattle.tl_world.specs.Protocol.{Block, State, Use, Closed, Asked, InService, Replied, Acquires, token, shown, is_wanting, is_unserved, view}
+use Rattle.tl_world.specs.Phase.{Wants}
+use Rattle.tl_world.specs.Protocol.{Block, State, Asked, Acquires, token, shown, is_wanting, is_unserved, view}
 use Rattle.tl_world.specs.Render.{Mail, rendered, message_of, messages_on}
 use Rattle.tl_world.specs.System.{System}
 use Rattle.tl_world.specs.Token.{Request, Acquire, Token}

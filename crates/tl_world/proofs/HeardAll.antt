@@ -41,8 +41,8 @@ use Rattle.tl_world.specs.Invariant.{IsInvariant}
 use Rattle.tl_world.specs.Log.{Log, after}
 use Rattle.tl_world.specs.Machine.{Machine, moved}
 use Rattle.tl_world.specs.Matched.{AreCarried, receiver}
-use Rattle.tl_world.specs.Phase.{Letting, Kept, Releasing, Acked, Wants, is_kept, grant_fits}
-use Rattle.tl_world.specs.Protocol.{Block, State, token, is_on, is_acked, is_granting, shown, view, taken_block}
+use Rattle.tl_world.specs.Phase.{Wants, grant_fits}
+use Rattle.tl_world.specs.Protocol.{Block, State, token, is_on, is_granting, shown, view, taken_block}
 use Rattle.tl_world.specs.Remembered.{remembered, performing, accesses_answered}
 use Rattle.tl_world.specs.Render.{Mail, rendered, message_of, message_of_kind, messages_on}
 use Rattle.tl_world.specs.Step.{Step, stepped, stepped_at, handing, handed_by, only, judged, client_took, manager_took, is_to_client}

@@ -18,7 +18,7 @@ use Rattle.tl_rules.specs.Conformance.{same_perm}
 use Rattle.tl_world.specs.Draining.{grown_to}
 use Rattle.tl_world.specs.Follow.{Shadow, acquire_taken, gift, granted_after, is_unheld, kind_taken, last_taken, some_below, taken_by_client, with_state}
 use Rattle.tl_world.specs.Invariant.{IsInvariant, cap_asked, is_replied}
-use Rattle.tl_world.specs.Phase.{Pair, Own, Other, Granting, Acknowledging, GrantedOther, Acquiring, Calm, Wants, cap_fits, grant_fits}
+use Rattle.tl_world.specs.Phase.{Pair, Own, Other, Acquiring, Calm, Wants, cap_fits, grant_fits}
 use Rattle.tl_world.specs.PhaseSteps.{after_grant_sent, after_probe, after_report, is_granted_data}
 use Rattle.tl_world.specs.Protocol.{Service, Free, Waits, GrantSent, GrantTaken, Block, State, Use, Closed, Asked, InService, Replied, Acquires, view, token, on, shown, is_probed, is_sent, acquire_granted, acquire_served, granted_at_once, granted_pair, probe_taken, report_taken, reported_block, served_block, served_pair}
 use Rattle.tl_world.specs.Render.{report_told}

@@ -24,7 +24,7 @@ use Rattle.tl_manager.proofs.Counts.{serving-without}
 use Rattle.tl_manager.proofs.Handed.{after_sent}
 use Rattle.tl_manager.proofs.Replied.{IsReply, source-reply}
 use Rattle.tl_manager.proofs.Replies.{reply-quiet, burst-reply, request-reply, probe-reply}
-use Rattle.tl_world.specs.Invariant.{AreNamed, is_of, is_busy}
+use Rattle.tl_world.specs.Invariant.{AreNamed, is_busy}
 use Rattle.tl_world.specs.Managed.{IsManaged, is_own}
 use Rattle.tl_world.specs.Phase.{is_quiet}
 use Rattle.tl_world.specs.PhaseSteps.{after_report}

@@ -9,7 +9,7 @@ use Rattle.tl_world.proofs.ManagersEnd.{at_manager-matched}
 use Rattle.tl_world.proofs.ManagerHanded.{grant-rendered}
 use Rattle.tl_manager.proofs.Events.{deed-part, deed-ack}
 use Rattle.tl_manager.specs.Handing.{Deed, Handed, release_ack}
-use Rattle.std.proofs.Common.{[], ◌≡◌, ℕ, ◌+◌, Bool, true, false, not, ◌&&◌, List, ◌∷◌, None, length, refl, sym, ◌∙◌, ap, subst, arith}
+use Rattle.std.proofs.Common.{[], ◌≡◌, ℕ, ◌+◌, Bool, true, false, ◌&&◌, List, ◌∷◌, None, length, refl, sym, ◌∙◌, ap, subst, arith}
 use Rattle.std.specs.Prelude.{◌==◌, if◌then◌else◌, All, map}
 use Rattle.std.proofs.lemmas.Bool.{eqb-true}
 use Rattle.tl_beat.specs.Width.{IsWidth}
@@ -42,7 +42,7 @@ use Rattle.tl_manager.specs.Slave.{End, deed}
 use Rattle.tl_world.specs.Follow.{Shadow, acquire_opcode, ack_taken, granted_after, last_taken, some_below, token_taken, with_state, answers}
 use Rattle.tl_world.specs.Invariant.{IsInvariant, IsOwnSource, IsWell}
 use Rattle.tl_world.specs.Log.{Log}
-use Rattle.tl_world.specs.Phase.{View, Own, Other, Granting, Acknowledging, GrantedOther, Answered, Releasing, Acquiring, Calm, Wants, is_calm}
+use Rattle.tl_world.specs.Phase.{View, Own, Other, Granting, Acknowledging, GrantedOther, Answered, Releasing, Acquiring, Calm, Wants}
 use Rattle.tl_world.specs.Protocol.{Service, Free, Waits, GrantSent, GrantTaken, Block, Use, Acquires, is_wanting, report_taken, release_taken, grant_ack_taken, shown, token, view, granted_block, let_block}
 use Rattle.tl_world.specs.Render.{message_of, prune_told, rendered, report_told}
 use Rattle.tl_world.specs.System.{System}

@@ -1,7 +1,6 @@
 -- What is owed in a world falls as the last beat of a message on channels B, D and E, or of a Release, is taken.
 use Rattle.std.proofs.Common.{◌≡◌, ℕ, ◌+◌, ◌<◌, ◌≤◌, Bool, true, false, List, ◌∷◌, refl, sym, ◌∙◌, ap, subst}
-use Rattle.std.specs.Prelude.{◌==◌, ◌&&◌, if◌then◌else◌, length}
-use Rattle.std.proofs.lemmas.Bool.{eqb-true}
+use Rattle.std.specs.Prelude.{if◌then◌else◌, length}
 use Rattle.tl_beat.specs.Width.{IsWidth}
 use Rattle.tl_beat.specs.declared.opcode.Channel.TheVariants as channel
 use Rattle.tl_params.specs.declared.config.Config.{Config}
@@ -9,9 +8,9 @@ use Rattle.tl_params.specs.declared.param.Grow.{Grow}
 use Rattle.tl_world.specs.Follow.{Shadow, kind_taken, taken_by_client, acquire_taken, some_below, gift, is_unheld, is_whole}
 use Rattle.tl_world.specs.Invariant.{cap_asked}
 use Rattle.tl_world.specs.Log.{Log, after}
-use Rattle.tl_world.specs.Phase.{Own, Other, Granting, Acknowledging, GrantedOther, Probing, Quiet, Sent, Answered, Acquiring, Calm, Wants}
+use Rattle.tl_world.specs.Phase.{Acquiring, Calm, Wants}
 use Rattle.tl_world.specs.PhaseSteps.{is_granted_data}
-use Rattle.tl_world.specs.Protocol.{Service, Free, Waits, GrantSent, GrantTaken, Block, State, token, view, is_sent, is_acknowledging, is_wanting, is_probed, acquire_served, acquire_granted, grant_taken}
+use Rattle.tl_world.specs.Protocol.{Service, Free, Block, State, token, is_wanting, is_probed, acquire_served, acquire_granted, grant_taken}
 use Rattle.tl_world.specs.Render.{cap_sent, prune_told}
 use Rattle.tl_world.specs.System.{System}
 use Rattle.tl_world.specs.Token.{Kind, Acquire, Probe, Release, Answer, Grant, ReleaseAck, GrantAck, Token}

@@ -10,7 +10,7 @@ use Rattle.tl_params.specs.declared.param.Report.{Report}
 use Rattle.tl_world.specs.Follow.{Shadow, kind_taken, last_taken, granted_after, performs, answers, some_below, with_state}
 use Rattle.tl_world.specs.Invariant.{IsInvariant, IsWell}
 use Rattle.tl_world.specs.Log.{Log, after}
-use Rattle.tl_world.specs.Phase.{Granting, GrantedOther, Acknowledging, Acquiring, Calm, Wants, Answered}
+use Rattle.tl_world.specs.Phase.{Acquiring, Calm, Wants, Answered}
 use Rattle.tl_world.specs.PhaseSteps.{is_granted_data}
 use Rattle.tl_world.specs.Protocol as protocol
 use Rattle.tl_world.specs.Protocol.{Service, Free, Waits, GrantSent, GrantTaken, Block, State, token, view, ended_block, report_taken}

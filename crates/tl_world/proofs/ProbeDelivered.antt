@@ -39,7 +39,7 @@ use Rattle.tl_world.specs.Follow.{Shadow, token_taken, kind_taken}
 use Rattle.tl_world.specs.Invariant.{IsInvariant}
 use Rattle.tl_world.specs.Known.{comes_granting}
 use Rattle.tl_world.specs.Log.{Log}
-use Rattle.tl_world.specs.Phase.{Probing, Quiet, Sent, Answered, is_quiet, is_kept}
+use Rattle.tl_world.specs.Phase.{is_quiet, is_kept}
 use Rattle.tl_world.specs.Protocol.{State, token, shown, is_sent, is_on, view}
 use Rattle.tl_world.specs.Render.{Mail, cap_sent, rendered, probe_beat, message_of, message_of_kind}
 use Rattle.tl_world.specs.System.{System, terms_at}

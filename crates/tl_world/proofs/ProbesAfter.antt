@@ -34,9 +34,9 @@ use Rattle.tl_world.specs.Follow.{Shadow, followed, token_taken, kind_taken}
 use Rattle.tl_world.specs.Log.{Log, after}
 use Rattle.tl_world.specs.Machine.{Machine, moved}
 use Rattle.tl_world.specs.Matched.{AreCarried}
-use Rattle.tl_world.specs.Phase.{Pair, Probing, Quiet, Sent, Answered, Letting, Kept, Releasing, Acked, is_kept}
+use Rattle.tl_world.specs.Phase.{Pair, Sent, is_kept}
 use Rattle.tl_world.specs.PhaseSteps.{after_probe}
-use Rattle.tl_world.specs.Protocol.{Block, token, is_on, is_sent, shown, probed_block, probe_taken}
+use Rattle.tl_world.specs.Protocol.{Block, token, is_on, shown, probed_block, probe_taken}
 use Rattle.tl_world.specs.Remembered.{remembered, performing, accesses_answered}
 use Rattle.tl_world.specs.Render.{cap_sent, probe_beat, rendered, message_of, message_of_kind}
 use Rattle.tl_world.specs.Step.{Step, stepped, handing, handed_by}

@@ -1,12 +1,12 @@
 -- Where nothing is on a channel, nothing is open; and where nothing is open and no GrantAck is on its way, nothing is on
 -- a channel.
 use Rattle.std.proofs.Common.{◌≡◌, ℕ, ◌<◌, Bool, true, false, List, [], ◌∷◌, refl, sym, ◌∙◌, arith}
-use Rattle.std.specs.Prelude.{not, ◌==◌, ◌||◌, if◌then◌else◌, Option, Some, None}
+use Rattle.std.specs.Prelude.{not, ◌==◌, ◌||◌, Option, Some, None}
 use Rattle.tl_beat.specs.declared.opcode.Channel.{Channel}
 use Rattle.tl_beat.specs.declared.opcode.Channel.TheVariants as channel
-use Rattle.tl_world.specs.Phase.{Pair, View, Own, Other, Granting, Acknowledging, GrantedOther, Probing, Quiet, Sent, Answered, Letting, Kept, Releasing, Acked, is_quiet, is_kept, ok}
+use Rattle.tl_world.specs.Phase.{Pair, View, Own, Other, Letting, Kept, Releasing, Acked, is_quiet, is_kept, ok}
 use Rattle.tl_world.specs.Token.{Kind, Request, Acquire, Probe, ProbeAck, Release, Answer, Grant, ReleaseAck, GrantAck, Token, one_if, count}
-use Rattle.tl_world.specs.Protocol.{Service, Free, Waits, GrantSent, GrantTaken, State, Use, Closed, Asked, InService, Replied, Acquires, view, on, tokens_on, is_on, is_transfer, is_wanting, is_sent, is_answered, shown}
+use Rattle.tl_world.specs.Protocol.{Service, Free, Waits, GrantSent, GrantTaken, State, Use, Closed, Asked, InService, Replied, Acquires, view, on, tokens_on, is_on, is_transfer, is_wanting, shown}
 use Rattle.tl_world.specs.Invariant.{IsInvariant, acquires_of, serves_of, is_of, is_asked, is_replied, acquires_with, serves_with, releases_with}
 use Rattle.tl_world.proofs.Capacities.{implied, shown_there, kind_there, acquire_named, grant_named, release_named, release_ack_named, source_of_acquire}
 use Rattle.tl_world.proofs.Distinct.{IsThere, first-there}

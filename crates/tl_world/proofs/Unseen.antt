@@ -1,6 +1,5 @@
 -- Events that the manager doesn't see: clients that are asked, and beats that clients take. What it knows stays so.
 use Rattle.std.proofs.Common.{◌≡◌, ℕ, Bool, true, false, ◌==◌, List, ◌∷◌, refl, sym, ◌∙◌, ap, ap₂, inl, inr}
-use Rattle.std.specs.Prelude.{if◌then◌else◌}
 use Rattle.std.proofs.lemmas.Bool.{cases_eq, eqb-true}
 use Rattle.tl_burst.specs.declared.message.Message.{Message}
 use Rattle.tl_burst.specs.declared.message.Message.TheVariants as message
@@ -19,9 +18,9 @@ use Rattle.tl_client.specs.Send.{access}
 use Rattle.tl_manager.specs.Slave.{End}
 use Rattle.tl_world.specs.Follow.{Shadow, asked, is_whole, taken_by_client, kind_taken}
 use Rattle.tl_world.specs.Invariant.{IsInvariant}
-use Rattle.tl_world.specs.Phase.{Pair, Granting, GrantedOther, Probing, Quiet, Sent, Answered, is_quiet}
+use Rattle.tl_world.specs.Phase.{Pair, Sent, is_quiet}
 use Rattle.tl_world.specs.PhaseSteps.{after_acquire, after_release, after_probe, after_grant, after_release_ack}
-use Rattle.tl_world.specs.Protocol.{Service, Free, Waits, GrantSent, GrantTaken, Block, State, Closed, InService, on, token, shown, view, is_granting, is_sent, acquiring_block, releasing_block, stored_block, probed_block, taken_block, let_go_block, access_asked, acquire_asked, release_asked, block_stored, probe_taken, answer_taken, grant_taken, release_ack_taken}
+use Rattle.tl_world.specs.Protocol.{Service, Free, Waits, GrantSent, GrantTaken, Block, State, Closed, InService, on, token, shown, view, is_granting, acquiring_block, releasing_block, stored_block, probed_block, taken_block, let_go_block, access_asked, acquire_asked, release_asked, block_stored, probe_taken, answer_taken, grant_taken, release_ack_taken}
 use Rattle.tl_world.specs.Render.{Mail, cap_sent}
 use Rattle.tl_world.specs.Token.{Kind, Request, Acquire, Probe, ProbeAck, Release, Answer, Grant, ReleaseAck, GrantAck, Token, set, set_at}
 use Rattle.tl_world.specs.Whole.{IsServedWith}

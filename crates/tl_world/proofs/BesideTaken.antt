@@ -25,6 +25,7 @@ use Rattle.tl_client.specs.Send.{sourced}
 use Rattle.tl_manager.specs.Handing.{access_answer}
 use Rattle.tl_manager.specs.Holders.{cap_probed}
 use Rattle.tl_manager.specs.Slave.{level_of}
+use Rattle.tl_manager.proofs.Filled.{length-bytes}
 use Rattle.tl_world.specs.Beside.{IsAccess, IsReach, Answers, IsBeside}
 use Rattle.tl_world.specs.Follow.{some_below, bytes_at, performs, answers}
 use Rattle.tl_world.specs.Invariant.{is_out, IsWell}
@@ -41,7 +42,6 @@ use Rattle.tl_world.proofs.Facts.{is_other}
 use Rattle.tl_world.proofs.FollowKept.{some-none}
 use Rattle.tl_world.proofs.OneMemory.{blocks-performed, reply-performed, effect-sourced}
 use Rattle.tl_world.proofs.Phases.{each_phase, of_phase}
-use Rattle.tl_world.proofs.SizedAfter.{length-bytes_from}
 
 -- ---- the manager's memory is the one memory, where nobody has what he was given to write
 
@@ -162,9 +162,9 @@ unfolding effect
 reply_reach {w} x f = go x.opcode
   where
     go : (o : OpA) → IsReach x (memory.reply o x f)
-    go a.Get = length-bytes_from f x.address (2 ^ x.size)
-    go a.ArithmeticData = length-bytes_from f x.address (2 ^ x.size)
-    go a.LogicalData = length-bytes_from f x.address (2 ^ x.size)
+    go a.Get = length-bytes f x.address (2 ^ x.size)
+    go a.ArithmeticData = length-bytes f x.address (2 ^ x.size)
+    go a.LogicalData = length-bytes f x.address (2 ^ x.size)
     go a.Intent = tt
     go a.PutFullData = tt
     go a.PutPartialData = tt

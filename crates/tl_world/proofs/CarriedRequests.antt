@@ -28,6 +28,7 @@ use Rattle.tl_manager.specs.Holders as holders
 use Rattle.tl_manager.specs.Holders.{recorded, probed, cap_probed, is_spared}
 use Rattle.tl_rules.specs.History.{block_at, is_acquire}
 use Rattle.tl_rules.proofs.Sent.{is_last}
+use Rattle.tl_client.proofs.HeldAfter.{same_block}
 use Rattle.tl_manager.specs.Slave.{must_wait, deed}
 use Rattle.tl_manager.proofs.Events.{deed-part}
 use Rattle.tl_world.specs.declared.event.Outcome.TheVariants as outcome
@@ -55,7 +56,7 @@ use Rattle.tl_world.proofs.Fronts.{IsAsked, IsWanted, acquires-so}
 use Rattle.tl_world.proofs.ManagedServed.{same_above}
 use Rattle.tl_world.proofs.Requests.{recorded-beat}
 use Rattle.tl_world.proofs.RequestsHanded.{handed-answered, handed-granted}
-use Rattle.tl_world.proofs.RequestsTaken.{next_tracker, free-last, invariant-taken, probed-some, somebody-probed, beyond-none, caps_asked, acquire_wanted, acquire_block, ready-request, ready-acquire}
+use Rattle.tl_world.proofs.RequestsTaken.{next_tracker, free-last, invariant-taken, probed-some, somebody-probed, beyond-none, caps_asked, acquire_wanted, ready-request, ready-acquire}
 use Rattle.tl_world.proofs.Tokens.{set-same}
 use Rattle.tl_world.proofs.Channels.{behind, IsTaken, pushes_at}
 use Rattle.tl_world.proofs.Landed.{pushes_of, IsLanded, taken-landed, IsOn, HasTaken, landed-manager, channels-handed}
@@ -204,11 +205,11 @@ carried-acquire_taken {w} config log h sys c n k rest queue is first asked comes
 
     go : (x : Bool) → some_below clients (λ d. is_probed c true j (b.pair d).recorded d) ≡ x → IsInvariant (is_caching config) (state_of x) → AreCarried h.mail (state_of x) after
     go true f kept =
-        let some = somebody-probed config log h.mail h.request h.state sys c k n true m is (acquires-so asked.whole) (acquire_block n) (rw caps f) in
+        let some = somebody-probed config log h.mail h.request h.state sys c k n true m is (acquires-so asked.whole) (same_block n) (rw caps f) in
         acquire_served-carried (is_caching config) c n (b.source c) tracker j rest h.mail h.state sys after (beat.A (a_beat_of m k)) queue comes.width is.invariant kept first ready.0
-        (taken-probing config log h.mail h.request h.state sys c k n true j m queue is comes beats last (acquires-so asked.whole) (acquire_block n)
-        (ap (λ (d : Deed w). d.handed) (deed-probing config c k n j m sys.manager comes last (acquire_block n) caps
-        (probed-some config log h.mail h.request h.state sys c k n true j m is (acquires-so asked.whole) (acquire_block n) ∙ ap not f))))
+        (taken-probing config log h.mail h.request h.state sys c k n true j m queue is comes beats last (acquires-so asked.whole) (same_block n)
+        (ap (λ (d : Deed w). d.handed) (deed-probing config c k n j m sys.manager comes last (same_block n) caps
+        (probed-some config log h.mail h.request h.state sys c k n true j m is (acquires-so asked.whole) (same_block n) ∙ ap not f))))
         is.carried
     go false f kept =
         let new = granted_at_once c tracker data_too given b in

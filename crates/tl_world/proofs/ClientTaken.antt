@@ -30,6 +30,7 @@ use Rattle.tl_client.specs.Send.{acquisition, grant_ack}
 use Rattle.tl_client.proofs.AfterOffered.{granted_is}
 use Rattle.tl_client.proofs.HeldAfter.{same_block, swapped}
 use Rattle.tl_manager.specs.Handing.{grant_opcode}
+use Rattle.tl_manager.proofs.Recording.{cap-gives}
 use Rattle.tl_world.specs.Follow.{acquire_opcode}
 use Rattle.tl_world.specs.Phase.{Pair, Wants, is_kept}
 use Rattle.tl_world.specs.PhaseSteps.{after_grant, after_release_ack}
@@ -164,11 +165,6 @@ pub record IsGrantOf {w : ℕ} (c n : ℕ) (whole data_too : Bool) (g : Grow) (k
   pub has_copy : whole ≡ false → data_too ≡ false → same_perm ((s.block n).pair c).held perm.None ≡ false
   pub bytes : data_too ≡ true → payload ≡ (s.block n).truth
 
-pub capped_is : (k : Cap) → capped (cap_code k) ≡ cap_right k
-capped_is cap.ToT = refl
-capped_is cap.ToB = refl
-capped_is cap.ToN = refl
-
 pub grants_always : (data_too : Bool) → (is_grant (grant_opcode data_too) ≡ true) × (is_release_ack (grant_opcode data_too) ≡ false)
 grants_always true = (refl, refl)
 grants_always false = (refl, refl)
@@ -217,7 +213,7 @@ end-grant_taken {w} c n whole data_too g k x payload rest mail s e f width named
     let closes = grant_closes n x r e.past last (ap is_grant is.opcode ∙ kind.0) (ap is_release_ack is.opcode ∙ kind.1) request (same_block n) in
     let event : IsHeard c x e.past (cap_right k) (λ i. n == i) (λ i. false) (λ i. x.source == i) (λ i. false) (asked_by mail s c) (asked_by mail s' c) s s' = record {
       grants_is = closes.0;
-      gives = λ i here. ap capped is.param ∙ capped_is k;
+      gives = λ i here. ap capped is.param ∙ cap-gives k;
       releases_is = closes.1;
       source_is = closes.2;
       let_is = closes.3;

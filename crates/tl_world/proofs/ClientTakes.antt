@@ -32,6 +32,7 @@ use Rattle.tl_rules.specs.Conformance as rules
 use Rattle.tl_rules.specs.Conformance.{answers, fits_grow, is_acquire_block, is_grant_without_data, broken_in_order, same_perm}
 use Rattle.tl_rules.specs.History.{is_grant, is_release_ack, held, pending, request_of}
 use Rattle.tl_rules.specs.Legality.{illegal}
+use Rattle.tl_rules.proofs.Later.{later-legal}
 use Rattle.tl_client.specs.End.{Terms, End}
 use Rattle.tl_client.specs.Offer.{offered, taken, waits}
 use Rattle.tl_client.specs.Requests.{open_beat}
@@ -51,7 +52,6 @@ use Rattle.tl_world.specs.Whole.{IsMatched, gives_asked, asked_by}
 use Rattle.tl_world.proofs.Carried.{IsNext}
 use Rattle.tl_world.proofs.ClientEnd.{is_access, IsEnd, asks-access, asks-acquire}
 use Rattle.tl_world.proofs.Due.{IsAnswerDue, IsGrantDue, grant_message, ack_message}
-use Rattle.tl_world.proofs.Orders.{later-legal}
 use Rattle.tl_world.proofs.Passes.{client-takes}
 use Rattle.tl_world.proofs.Phases.{and_left, and_right}
 use Rattle.tl_world.proofs.ResponseOrder.{answer-legal, grant-legal, ack-legal}

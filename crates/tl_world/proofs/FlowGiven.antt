@@ -20,6 +20,7 @@ use Rattle.tl_rules.specs.Conformance.{comes_in_grant}
 use Rattle.tl_rules.specs.History.{is_grant, is_release_ack, asks_for}
 use Rattle.tl_client.proofs.HeldAfter.{same_block}
 use Rattle.tl_manager.specs.Handing.{grant_opcode}
+use Rattle.tl_manager.proofs.Recording.{cap-gives}
 use Rattle.tl_world.specs.Flowed.{IsFlowed}
 use Rattle.tl_world.specs.Follow.{Shadow}
 use Rattle.tl_world.specs.Invariant.{acquires_of, is_busy}
@@ -36,7 +37,7 @@ use Rattle.tl_world.proofs.Aside.{set_at-else}
 use Rattle.tl_world.proofs.Carried.{IsNext}
 use Rattle.tl_world.proofs.ClientDelivered.{ack_next}
 use Rattle.tl_world.proofs.ClientEnd.{asks-same, asks-acquire}
-use Rattle.tl_world.proofs.ClientTaken.{capped_is, grants_always}
+use Rattle.tl_world.proofs.ClientTaken.{grants_always}
 use Rattle.tl_world.proofs.ClientTakes.{access_kind}
 use Rattle.tl_world.proofs.Due.{IsAnswerDue, answer-due, IsGrantDue, grant-rendered, grant_message, ack_message, own_view}
 use Rattle.tl_world.proofs.Facts.{granting_alone}
@@ -239,7 +240,7 @@ module _ {w : ℕ} (config : Config) (log : Log w) (h : Shadow w) (sys : System 
         grant = grants_so due.data_too;
         ack = grants_no_ack due.data_too;
         sink = refl;
-        says = capped_is due.k;
+        says = cap-gives due.k;
         seen = seen;
         wants = ap is_wanting due.wants;
         quiet = grant_quiet (is_caching config) c n s is.invariant due;

@@ -15,6 +15,8 @@ use Rattle.tl_params.specs.declared.perm.Perm.{Perm}
 use Rattle.tl_params.specs.Param.{cap_right}
 use Rattle.tl_rules.specs.Conformance.{comes_in_request, comes_in_grant}
 use Rattle.tl_rules.specs.History.{begins, ends, block_at, pending, is_grant, is_release_ack, asks_for, request_of, release_of, probe_of, grant_sink, releases, capped, or_perm}
+use Rattle.tl_client.proofs.Opens.{request_of-d}
+use Rattle.tl_client.proofs.AccountedResponse.{release_of-d}
 use Rattle.tl_world.specs.Flowed.{IsFlowed, is_requested, is_let_by, is_sunk}
 use Rattle.tl_world.specs.Invariant.{is_of, acquires_of}
 use Rattle.tl_world.specs.Known.{comes_granting}
@@ -23,7 +25,7 @@ use Rattle.tl_world.specs.Protocol.{Block, State, Use, Closed, Asked, InService,
 use Rattle.tl_world.specs.Render.{probe_beat}
 use Rattle.tl_world.specs.Sources.{cap_waited}
 use Rattle.tl_world.proofs.FlowAlone.{AreRests}
-use Rattle.tl_world.proofs.FlowAnswered.{released-of, requested-of, probed-of, unclosed, closes_last}
+use Rattle.tl_world.proofs.FlowAnswered.{probed-of, unclosed, closes_last}
 use Rattle.tl_world.proofs.FlowAside.{let_by-same}
 use Rattle.tl_world.proofs.FlowReport.{unclosed as not_last}
 use Rattle.tl_world.proofs.FlowReleased.{AreElsewhere, each-block, part-block, opened, with_true}
@@ -150,8 +152,8 @@ flowed-grant {w} {X} c n d k y first last asked asked' rest rest' s s' t first_i
           (now_acquired last d k (view new.service c) (is_wanting (new.pair c).acquiring) is.seen_is is.wants_is ∙ sym (ended first last (grants_at n) (acquired_by c b) (names n ∙ same_number n) (rw (is.wants, is.seen) refl)))
           (λ m ne. sym (unended first last (grants_at m) (acquired_by c (s.block m)) (apart m ne)));
       release_sources = λ i. lets i ∙ sym (unclosed first last (is_release_ack y.opcode) (y.source == i) (is_let_by c i (rest channel.C) (s.lets c i) s) is.ack);
-      released = λ i m e f. ap (option_map (λ z. block_at z.address)) (released-of i y t) ∙ before.released i m (sym (is.lets i) ∙ e) (before.release_sources i ∙ sym (lets i) ∙ f);
-      sizes = λ i m e f. ap (option_map (λ z. z.size)) (released-of i y t) ∙ before.sizes i m (sym (is.lets i) ∙ e) (before.release_sources i ∙ sym (lets i) ∙ f);
+      released = λ i m e f. ap (option_map (λ z. block_at z.address)) (release_of-d i y t) ∙ before.released i m (sym (is.lets i) ∙ e) (before.release_sources i ∙ sym (lets i) ∙ f);
+      sizes = λ i m e f. ap (option_map (λ z. z.size)) (release_of-d i y t) ∙ before.sizes i m (sym (is.lets i) ∙ e) (before.release_sources i ∙ sym (lets i) ∙ f);
       releases = λ m. ap (λ (l : List (Beat w)). let_of c l (s'.block m)) (rests channel.C) ∙ let_same m ∙ sym (unclosed first last (is_release_ack y.opcode) (releases m (release_of y.source t)) (let_of c (rest channel.C) (s.block m)) is.ack);
       sinks = λ i. ap (λ (o : Option ℕ). is_sunk c i (rest' channel.D) o s') (is.tracked i) ∙ sinks i (y.sink == i) (s.tracked i) refl refl;
       grants = each-block (λ m z. granted_by c m asked' (rest' channel.D) z ≡ step first last (is_grant y.opcode && asks_for m (request_of y.source t)) false (granted_by c m asked (rest channel.D) (s.block m))) n s s' is.elsewhere
@@ -208,7 +210,7 @@ flowed-grant {w} {X} c n d k y first last asked asked' rest rest' s s' t first_i
     asked_still : (i : ℕ) → is_requested c i (rest' channel.A) (s'.uses c i) s' ≡ true → (z : Bool) → (last && (y.source == i)) ≡ z → request_of i (beat.D y ∷ t) ≡ asked' i
     asked_still i e true f = absurd (let g : false ≡ true = sym (use_at i ∙ ap (λ (z : Bool). is_requested c i (rest channel.A) (if z then Closed else s.uses c i) s') f) ∙ e in cc)
     asked_still i e false f =
-        requested-of i y t
+        request_of-d i y t
         ∙ before.asked_is i (was_pending i (sym (use_at i ∙ ap (λ (z : Bool). is_requested c i (rest channel.A) (if z then Closed else s.uses c i) s') f) ∙ e) (y.source == i) refl)
         ∙ sym (is.asked_is i f)
 

@@ -21,6 +21,7 @@ use Rattle.tl_params.specs.Param.{prune_code, prune_left, report_at, report_code
 use Rattle.tl_rules.specs.Conformance.{on_link, broken_in_order, broken_after, same_perm}
 use Rattle.tl_rules.specs.History.{block_at}
 use Rattle.tl_rules.specs.Legality.{illegal}
+use Rattle.tl_client.proofs.HeldAfter.{same_block}
 use Rattle.tl_manager.specs.Kept.{illegal_at}
 use Rattle.tl_manager.specs.Slave.{level_of}
 use Rattle.tl_world.specs.Flow.{flow}
@@ -55,9 +56,6 @@ next-flows {w} l p m x rest ms queue t lawful next is first =
 pub lawful-beat : {w : ℕ} (config : Config) (log : Log w) (mail : Mail w) (request : ℕ → MessageA w) (s : State (List ℕ)) (sys : System w) (c : ℕ) (ch : Channel) (l : Level) (x : Beat w) (queue : List (Beat w)) → IsMatched config log mail request s sys
     → sys.channels c ch ≡ x ∷ queue → level_of config c ≡ Some l → illegal l (channel_of x) x ≡ None
 lawful-beat {w} config log mail request s sys c ch l x queue is beats level = sym (ap (λ (o : Option Level). illegal_at o x) level) ∙ (sound-beat config log mail request s sys c ch x queue is beats).lawful
-
-same_block : (n : ℕ) → block_at (64 * n) ≡ n
-same_block n = omega arith
 
 -- ---- channel C
 

@@ -12,6 +12,7 @@ use Rattle.tl_burst.specs.Messages.{History}
 use Rattle.tl_params.specs.declared.param.Cap.{Cap}
 use Rattle.tl_rules.specs.Conformance.{comes_in_grant}
 use Rattle.tl_rules.specs.History.{begins, ends, block_at, is_probe, request_of, release_of, probe_of, grant_sink}
+use Rattle.tl_client.proofs.Opens.{request_of-b}
 use Rattle.tl_world.specs.Flowed.{IsFlowed, is_requested, is_let, is_let_by, is_sunk}
 use Rattle.tl_world.specs.Known.{comes_granting}
 use Rattle.tl_world.specs.Phase.{View, Other, Pair}
@@ -28,10 +29,6 @@ use Rattle.tl_world.proofs.Tokens.{same_number, set-same, set-each, set-part}
 released-of : {w : ℕ} (i : ℕ) (y : BeatB w) (t : History w) → release_of i (beat.B y ∷ t) ≡ release_of i t
 unfolding release_of
 released-of i y t = refl
-
-requested-of : {w : ℕ} (i : ℕ) (y : BeatB w) (t : History w) → request_of i (beat.B y ∷ t) ≡ request_of i t
-unfolding request_of
-requested-of i y t = refl
 
 sunk-of : {w : ℕ} (n : ℕ) (y : BeatB w) (t : History w) → grant_sink n (beat.B y ∷ t) ≡ grant_sink n t
 unfolding grant_sink
@@ -58,7 +55,7 @@ flowed-probe {w} {X} c n k toks asked asked' rest rest' s t first last rests ask
           (ap (λ (v : View). if is_granting v then (new.pair c).held else (new.pair c).recorded) seen ∙ part_of (λ (p : Pair). p.recorded) c (after_probe k (b.pair c)) b.pair refl
           ∙ sym (ap (λ (v : View). if is_granting v then (b.pair c).held else (b.pair c).recorded) seen));
       requests = requests;
-      asked_is = λ i e. requested-of i y t ∙ before.asked_is i (before.requests i ∙ sym (requests i) ∙ e) ∙ sym (asks i);
+      asked_is = λ i e. request_of-b i y t ∙ before.asked_is i (before.requests i ∙ sym (requests i) ∙ e) ∙ sym (asks i);
       acquires = set-part (acquired_by c) n new s.block (ap (λ (z : Bool). z && not (is_unserved (view b.service c))) (part_of (λ (p : Pair). is_wanting p.acquiring) c (after_probe k (b.pair c)) b.pair refl));
       release_sources = lets;
       released = λ i m e f. ap (option_map (λ z. block_at z.address)) (released-of i y t) ∙ before.released i m e (before.release_sources i ∙ sym (lets i) ∙ f);

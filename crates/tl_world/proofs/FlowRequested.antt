@@ -17,6 +17,7 @@ use Rattle.tl_burst.specs.Part.{is_empty, completes}
 use Rattle.tl_params.specs.declared.config.Config.{Config}
 use Rattle.tl_params.specs.declared.param.Cap.{Cap}
 use Rattle.tl_rules.specs.Conformance.{comes_in_request, comes_in_grant, same_perm}
+use Rattle.tl_client.proofs.HeldAfter.{same_block}
 use Rattle.tl_world.specs.Flowed.{IsFlowed}
 use Rattle.tl_world.specs.Follow.{Shadow}
 use Rattle.tl_world.specs.Log.{Log}
@@ -42,7 +43,7 @@ use Rattle.tl_world.proofs.FlowStep.{held_by}
 use Rattle.tl_world.proofs.FlowSunk.{sunk_in, sunk-elsewhere, IsWithin, tracked-new}
 use Rattle.tl_world.proofs.Fronts.{acquires-so, acquisition_beats, IsAsked, IsWanted}
 use Rattle.tl_world.proofs.Phases.{and_left, and_right}
-use Rattle.tl_world.proofs.RequestsTaken.{acquire_wanted, acquire_block}
+use Rattle.tl_world.proofs.RequestsTaken.{acquire_wanted}
 use Rattle.tl_world.proofs.Tokens.{same_number, set-same, set-other}
 use Rattle.tl_world.proofs.Parts.{quiet_unanswered}
 
@@ -136,7 +137,7 @@ module _ {w : ℕ} (config : Config) (log : Log w) (h : Shadow w) (sys : System 
         subst (λ (z : Beat w). IsFlowed asked' rest' c s' (z ∷ t)) (sym x_is)
         (flowed-acquire c n y (asked_by h.mail s c) asked' (rest_at sys c) rest' s s' t (ap is_empty (flowed.rest_is channel.A ∙ one.1)) (ap (completes (beat.A y)) (flowed.rest_is channel.A) ∙ last_y) rests_y (record {
           acquire = acquires-so wanted.whole;
-          at = acquire_block n;
+          at = same_block n;
           use_is = λ i e. ap (s.uses c) (sym (eqb-true ((s.block n).source c) i e)) ∙ wanted.used;
           no_use = λ i e. unused-else c n i s is.invariant.named e;
           asks = λ i e. ap (asked_by h.mail s c) (sym (eqb-true ((s.block n).source c) i e)) ∙ asks-acquire c ((s.block n).source c) n ((s.block n).source c) wanted.whole wanted.grow h.mail s wanted.used wanted.wants refl;

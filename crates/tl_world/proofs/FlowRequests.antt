@@ -17,6 +17,7 @@ use Rattle.tl_rules.specs.History.{block_at, ends}
 use Rattle.tl_rules.specs.Legality.{illegal}
 use Rattle.tl_rules.proofs.Sent.{is_last}
 use Rattle.std.proofs.lemmas.Bool.{or_parts}
+use Rattle.tl_client.proofs.HeldAfter.{same_block}
 use Rattle.tl_manager.specs.Service.{services, is_in_service}
 use Rattle.tl_manager.specs.Slave.{level_of, must_wait}
 use Rattle.tl_world.specs.Flow.{flow}
@@ -37,7 +38,7 @@ use Rattle.tl_world.proofs.FlowOrders.{acquire-flows, request-flows}
 use Rattle.tl_world.proofs.Fronts.{acquires-so, IsAsked, asked-first, IsWanted, wanted-first, acquisition_beats}
 use Rattle.tl_world.proofs.Phases.{and_left, and_right}
 use Rattle.tl_world.proofs.RequestsDelivered.{ends-burst}
-use Rattle.tl_world.proofs.RequestsTaken.{acquire_wanted, acquire_block}
+use Rattle.tl_world.proofs.RequestsTaken.{acquire_wanted}
 use Rattle.tl_world.proofs.Parts.{kept-is}
 
 access-lawful : {w : ℕ} (config : Config) (log : Log w) (mail : Mail w) (request : ℕ → MessageA w) (s : State (List ℕ)) (sys : System w) (c source : ℕ) (l : Level) (x : Beat w) (ms : List (Message w)) (queue : List (Beat w))
@@ -55,7 +56,7 @@ acquire-lawful : {w : ℕ} (config : Config) (log : Log w) (mail : Mail w) (requ
     → must_wait config (record { 0 = c }) x sys.manager.trace ≡ false → broken_after l config.profile x (flow c log) ≡ None
 acquire-lawful {w} config log mail request s sys c n l x ms queue is flowed lawful wanted next moves =
     next-flows l config.profile (message.A m) x (unfinished channel.A (on_link c sys.manager.trace)) ms queue (flow c log) lawful next ((flowed c).rest_is channel.A)
-    (λ none. acquire-flows config.profile c n (a_beat_of m 0) (asked_by mail s c) (λ ch. unfinished ch (receiver ch c sys)) s (flow c log) (flowed c) none (acquires-so wanted.whole) (acquire_block n) wanted.used idle
+    (λ none. acquire-flows config.profile c n (a_beat_of m 0) (asked_by mail s c) (λ ch. unfinished ch (receiver ch c sys)) s (flow c log) (flowed c) none (acquires-so wanted.whole) (same_block n) wanted.used idle
     (kept-is p.letting (and_right (is_quiet p.probing) (is_kept p.letting) (and_left (is_quiet p.probing && is_kept p.letting) (same_perm p.recorded p.held) settled)))
     (grows wanted.grow p.recorded p.held wanted.whole (acquire_fits wanted.whole wanted.grow p (view (s.block n).service c) well wanted.wants) (and_right (is_quiet p.probing && is_kept p.letting) (same_perm p.recorded p.held) settled)))
   where
@@ -74,7 +75,7 @@ acquire-lawful {w} config log mail request s sys c n l x ms queue is flowed lawf
         let moves_so : must_wait config (record { 0 = c }) (beat.A (a_beat_of m next.k)) sys.manager.trace ≡ false = rw next.beat_is at moves in
         let ended : ends (beat.A (a_beat_of m next.k)) (on_link c sys.manager.trace) ≡ true = ends-burst c next.k m sys.manager next.rest_is ∙ is_last next.k (beats_of (message.A m)) (omega (arith, next.within, one)) in
         let free_at = unserved-free request s sys.manager.trace (block_at m.address) is.managed (or_parts (is_in_service (block_at m.address) (services sys.manager.trace)) (nat_le config.trackers (length (services sys.manager.trace))) (rw ended at moves_so)).0 in
-        ap (λ i. (s.block i).service) (sym (acquire_block n)) ∙ free_at
+        ap (λ i. (s.block i).service) (sym (same_block n)) ∙ free_at
 
     idle : view (s.block n).service c ≡ Idle
     idle = rw free refl

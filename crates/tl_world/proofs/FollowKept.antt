@@ -28,6 +28,7 @@ use Rattle.tl_client.specs.declared.reply.Reply.{Reply}
 use Rattle.tl_client.specs.declared.reply.Reply.TheVariants as reply
 use Rattle.tl_client.specs.Ask.{stored, whole_grow}
 use Rattle.tl_manager.specs.Holders.{cap_probed}
+use Rattle.tl_manager.proofs.Written.{bytes_are}
 use Rattle.tl_world.specs.Follow.{Shadow, with_state, asked, some_below, bytes_at, performs, probes_some, access_taken, request_taken, is_unheld, gift, acquire_taken, granted_after, last_taken, ack_taken, is_whole, taken_by_client, kind_taken}
 use Rattle.tl_world.specs.Invariant.{cap_asked, is_asked, is_replied, IsInvariant, AreOutside}
 use Rattle.tl_world.specs.Phase.{Pair, View, Own, Other, Granting, Acknowledging, GrantedOther, Answered, Kept, Acquiring, Calm, Wants, same_cap, is_quiet, cap_fits, grow_fits}
@@ -102,17 +103,8 @@ settled_all clients caching c pair plain outside none d ne = elim (cases_lt d cl
 
 -- ---- what accesses do to the bytes of a block
 
--- (To stand in tl_rules.)
-bytes_again : (f : Memory) (x : ℕ) (bytes : List ℕ) → ((i : ℕ) → i < length bytes → f (x + i) ≡ slice_index bytes i) → bytes_from f x (length bytes) ≡ bytes
-unfolding bytes_from
-bytes_again f x [] same = refl
-bytes_again f x (y ∷ ys) same =
-    let first : f x ≡ y = ap f (omega arith) ∙ same 0 (omega arith) in
-    let more : (i : ℕ) → i < length ys → f (x + 1 + i) ≡ slice_index ys i = λ i lt. ap f (omega arith) ∙ same (suc i) (omega (arith, lt)) in
-    rw (first, bytes_again f (x + 1) ys more) refl
-
 block_again : (n : ℕ) (bytes : List ℕ) → length bytes ≡ 64 → bytes_from (bytes_at n bytes) (64 * n) 64 ≡ bytes
-block_again n bytes e = rw e at (bytes_again (bytes_at n bytes) (64 * n) bytes (λ i lt. ap (slice_index bytes) (omega arith)))
+block_again n bytes e = rw e at (bytes_are (bytes_at n bytes) (64 * n) bytes (λ i lt. ap (slice_index bytes) (omega arith)))
 
 -- an access that doesn't probe all leaves the memory
 leaves_memory : {w : ℕ} (m : MessageA w) (memory : Memory) → is_acquire m.opcode ≡ false → (cap_probed m.opcode m.param ≡ Some cap.ToN) ⊎ ((effect (message.A m) memory).0 ≡ memory)

@@ -18,6 +18,7 @@ use Rattle.tl_rules.proofs.Bursts.{has_beats}
 use Rattle.tl_client.specs.Requests.{open_beat}
 use Rattle.tl_client.specs.Kept.{acquires}
 use Rattle.tl_client.specs.Send.{acquisition}
+use Rattle.tl_client.proofs.HeldAfter.{same_block}
 use Rattle.tl_manager.specs.Kept.{illegal_message_at}
 use Rattle.tl_manager.specs.Slave.{level_of}
 use Rattle.tl_world.specs.Carried.{IsCarried}
@@ -67,9 +68,6 @@ rendered-acquire {w} c n b false g e = rw e refl
 pub acquires-so : (whole : Bool) → is_acquire (acquire_opcode whole) ≡ true
 acquires-so true = refl
 acquires-so false = refl
-
-same_block : (n : ℕ) → block_at (64 * n) ≡ n
-same_block n = omega arith
 
 -- an access that was asked is no Acquire: the client has one Acquire of a block open at most, and that is another one
 asked-access : {w : ℕ} (config : Config) (log : Log w) (mail : Mail w) (request : ℕ → MessageA w) (s : State (List ℕ)) (sys : System w) (c source : ℕ) (m : MessageA w)

@@ -34,7 +34,7 @@ use Rattle.tl_client.specs.End.{Terms, End, zeros, copy_at, held_at, with_past, 
 use Rattle.tl_client.specs.Offer.{silent, offered, broken_before, broken_later, waits, judged, judged_later, taken, probed, report_for}
 use Rattle.tl_client.specs.declared.verdict.Verdict.TheVariants as verdict
 use Rattle.tl_client.specs.Send.{about, probe_ack}
-use Rattle.tl_client.proofs.HeldAfter.{held-probe_ack, kept_past}
+use Rattle.tl_client.proofs.HeldAfter.{held-probe_ack, kept_past, same_block}
 use Rattle.tl_rules.proofs.Sent.{pending-quiet}
 use Rattle.tl_client.proofs.Opens.{open_beat-b, open_beat-c}
 use Rattle.tl_rules.proofs.Sent.{held_unsaid}
@@ -46,12 +46,9 @@ use Rattle.tl_world.specs.Render.{probe_beat}
 use Rattle.tl_world.specs.Known.{IsKnown}
 use Rattle.tl_world.specs.Sources.{AreOpen}
 use Rattle.tl_world.proofs.Tokens.{same_number, set-same, set-other}
-use Rattle.tl_world.proofs.Whole.{pending-whole, release_of-sent}
+use Rattle.tl_rules.proofs.Handed.{pending-whole, release_of-whole}
 
 -- ---- the Probe
-
-same_block : (block : ℕ) → block_at (64 * block) ≡ block
-same_block block = omega arith
 
 cap_again : (k : Cap) → cap_of (cap_code k) ≡ Some k
 cap_again cap.ToT = refl
@@ -225,7 +222,7 @@ known-probed {w} {X} asked burst c n k rest s e width none known =
 same_release : {w : ℕ} (source : ℕ) (x : BeatB w) (m : MessageC w) (t : History w) → IsWidth w → is_release m.opcode ≡ false → unfinished channel.C t ≡ []
     → release_of source (after x m t) ≡ release_of source t
 unfolding release_of
-same_release source x m t width off none = release_of-sent source m (beat.B x ∷ t) (still_whole x t ∙ none) (has_beats (message.C m) width) ∙ rw off refl
+same_release source x m t width off none = release_of-whole source (message.C m) (beat.B x ∷ t) (still_whole x t ∙ none) (has_beats (message.C m) width) ∙ rw off refl
 
 -- no source is opened or closed
 pub opened-probed : {w : ℕ} {X : Type 0} (asked : ℕ → Option (BeatA w)) (c n : ℕ) (k : Cap) (rest : List Token) (s : State X) (e : End w) → IsWidth w → unfinished channel.C e.past ≡ []

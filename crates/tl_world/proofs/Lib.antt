@@ -112,10 +112,8 @@ pub mod InvariantAtClients
 pub mod InvariantKept
 pub mod KnownProbed
 pub mod Landed
-pub mod Lawful
 mod Leftover
 mod Lessening
-pub mod Local
 mod Lone
 pub mod Machined
 pub mod ManagedAcks
@@ -205,4 +203,3 @@ pub mod Unseen
 pub mod UnseenSteps
 pub mod Waiting
 mod Weights
-pub mod Whole

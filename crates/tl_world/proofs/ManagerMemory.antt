@@ -24,10 +24,10 @@ use Rattle.tl_manager.specs.Kept.{IsKept, illegal_message_at}
 use Rattle.tl_manager.specs.Slave as slave
 use Rattle.tl_manager.specs.Slave.{with_block, written, offered}
 use Rattle.tl_manager.proofs.Memories.{memory-elsewhere}
+use Rattle.tl_manager.proofs.Written.{block-written}
 use Rattle.tl_world.specs.Follow.{answers, bytes_at, performs}
 use Rattle.tl_world.specs.Protocol.{Block, State}
 use Rattle.tl_world.specs.Token.{set}
-use Rattle.tl_world.proofs.Lawful.{block-written}
 use Rattle.tl_world.proofs.Tokens.{set-same, set-other}
 
 -- ---- the bytes of a block

@@ -44,6 +44,7 @@ use Rattle.tl_manager.proofs.Judged.{passed}
 use Rattle.tl_manager.proofs.Keeping.{is_taken}
 use Rattle.tl_manager.proofs.Replied.{IsReply}
 use Rattle.tl_manager.proofs.SteadyReports.{report-ready}
+use Rattle.tl_manager.proofs.Recording.{cap-gives}
 use Rattle.tl_world.specs.Follow.{Shadow, answers, performs, some_below, with_answer, with_state, acquire_opcode, gift, is_unheld}
 use Rattle.tl_world.specs.Invariant.{AreNamed}
 use Rattle.tl_world.specs.Managed.{IsManaged}
@@ -262,11 +263,6 @@ given_is : {w : ℕ} (q : ℕ) (d : Bool) (k : Cap) (source sink : ℕ) (payload
     → (m : MessageD w) × (grant_of (GrantSent q d k) source sink payload ≡ message.D m) × (is_grant m.opcode ≡ true) × (is_release_ack m.opcode ≡ false) × (m.source ≡ source) × (m.sink ≡ sink) × (m.param ≡ cap_code k)
 given_is q d k source sink payload = let kinds = grant_kinds d in (_, refl, kinds.0, kinds.1, refl, refl, refl)
 
-pub capped_again : (k : Cap) → capped (cap_code k) ≡ cap_right k
-capped_again cap.ToT = refl
-capped_again cap.ToB = refl
-capped_again cap.ToN = refl
-
 -- what is recorded of the block before the Grant
 abbrev pub pairs_after : ℕ → Report → (ℕ → Pair) → ℕ → Pair
 pairs_after c r pair = set c (after_report r (pair c)) pair
@@ -389,7 +385,7 @@ conceded-left {w} config c q n source k low r whole g rest m h e at wanted =
       source_is = for.1;
       block_is = for.2;
       asked = at.is.served.asked n q source true low at.waits;
-      cap_is = ap capped reply.6 ∙ capped_again given;
+      cap_is = ap capped reply.6 ∙ cap-gives given;
     }
 
     still : (i : ℕ) → IsServedWith h.mail (after.block i).service (h.request i)

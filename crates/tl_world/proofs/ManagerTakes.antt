@@ -27,6 +27,7 @@ use Rattle.tl_params.specs.Param.{prune_code, prune_left, prune_of, report_at, r
 use Rattle.tl_rules.specs.Conformance.{on_link, broken_in_order, broken_order, prunes_from, same_perm}
 use Rattle.tl_rules.specs.History.{held, pending}
 use Rattle.tl_rules.specs.Legality.{rule_if}
+use Rattle.tl_rules.proofs.Later.{later-legal}
 use Rattle.tl_manager.specs.Kept.{IsSound, IsKept, illegal_at}
 use Rattle.tl_manager.specs.Slave as slave
 use Rattle.tl_manager.specs.Slave.{End, Passes, is_from_client, judged, level_of, must_wait, open_level, unlawful, offered, deed, taken}
@@ -42,7 +43,7 @@ use Rattle.tl_world.specs.System.{System}
 use Rattle.tl_world.specs.Token.{Kind, Request, Acquire, Probe, ProbeAck, Release, Answer, Grant, ReleaseAck, GrantAck, Token, is, one_if, count}
 use Rattle.tl_world.proofs.Carried.{IsNext}
 use Rattle.tl_world.proofs.Facts.{is_other, report_fits, own_alone, release_begins}
-use Rattle.tl_world.proofs.Orders.{report-legal, later-legal}
+use Rattle.tl_world.proofs.Orders.{report-legal}
 use Rattle.tl_world.proofs.Phases.{and_left, and_right}
 use Rattle.tl_world.proofs.PhaseSteps as steps
 use Rattle.tl_world.proofs.PhaseSteps.{on_other}

@@ -19,6 +19,7 @@ use Rattle.tl_client.specs.Send.{sourced}
 use Rattle.tl_client.proofs.Stores.{stored-inside, stored-outside, length-stored}
 use Rattle.tl_manager.specs.Kept.{illegal_message_at}
 use Rattle.tl_manager.specs.Slave.{with_block}
+use Rattle.tl_manager.proofs.Written.{bytes_are}
 use Rattle.tl_world.specs.Follow.{bytes_at, performs}
 use Rattle.tl_world.specs.Machine.{with_number}
 use Rattle.tl_world.proofs.Memories.{performed-block, performed-reply}
@@ -35,16 +36,8 @@ byte_in f x (suc n) (suc i) lt = byte_in f (x + 1) n i (omega (arith, lt)) ∙ a
 pub block-of-bytes : (f : Memory) (n : ℕ) (bytes : List ℕ) → bytes_from f (64 * n) 64 ≡ bytes → IsBlock f n bytes
 block-of-bytes f n bytes e i lt = sym (ap (λ (b : List ℕ). slice_index b i) (sym e) ∙ byte_in f (64 * n) 64 i lt)
 
-bytes_again : (f : Memory) (x : ℕ) (bytes : List ℕ) → ((i : ℕ) → i < length bytes → f (x + i) ≡ slice_index bytes i) → bytes_from f x (length bytes) ≡ bytes
-unfolding bytes_from
-bytes_again f x [] same = refl
-bytes_again f x (y ∷ ys) same =
-    let first : f x ≡ y = ap f (omega arith) ∙ same 0 (omega arith) in
-    let more : (i : ℕ) → i < length ys → f (x + 1 + i) ≡ slice_index ys i = λ i lt. ap f (omega arith) ∙ same (suc i) (omega (arith, lt)) in
-    rw (first, bytes_again f (x + 1) ys more) refl
-
 pub bytes-of-block : (f : Memory) (n : ℕ) (bytes : List ℕ) → IsBlock f n bytes → length bytes ≡ 64 → bytes_from f (64 * n) 64 ≡ bytes
-bytes-of-block f n bytes is long = rw long at (bytes_again f (64 * n) bytes (λ i lt. is i (omega (arith, lt, long))))
+bytes-of-block f n bytes is long = rw long at (bytes_are f (64 * n) bytes (λ i lt. is i (omega (arith, lt, long))))
 
 -- ---- an access
 

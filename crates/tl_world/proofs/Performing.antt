@@ -35,6 +35,7 @@ use Rattle.tl_manager.proofs.Handed.{after_sent, own_link, other_link, whole-tak
 use Rattle.tl_manager.proofs.Links.{sent-keeps}
 use Rattle.tl_manager.proofs.Performed.{performed-serving}
 use Rattle.tl_manager.proofs.Replies.{reply-quiet, request-reply}
+use Rattle.tl_manager.proofs.Recording.{cap-gives}
 use Rattle.tl_world.specs.PhaseSteps.{after_grant_sent}
 use Rattle.tl_world.specs.Token.{set}
 use Rattle.tl_world.specs.Protocol.{Free, Waits, GrantSent, Block, State, performed_block, granted_at_once}
@@ -142,16 +143,11 @@ pub record IsGranting {w : ℕ} {X : Type 0} (config : Config) (c k n : ℕ) (j 
   pub given : cap_granted config.profile m.opcode m.param (holders.is_unheld config n (with_beat c m k e.trace)) ≡ j
   pub unwaited : IsUnwaited c m.source s
 
-capped-cap : (j : Cap) → capped (cap_code j) ≡ cap_right j
-capped-cap cap.ToT = refl
-capped-cap cap.ToB = refl
-capped-cap cap.ToN = refl
-
 -- a Grant, with the cap that it names
 grant_of_d : {w : ℕ} (config : Config) (n : ℕ) (j : Cap) (s : Service w) (t : Trace w) (memory : Memory) → block_at s.request.address ≡ n → cap_granted config.profile s.request.opcode s.request.param (holders.is_unheld config n t) ≡ j
     → (m : MessageD w) × (grant config s t memory ≡ D m) × (is_grant m.opcode ≡ true) × (m.source ≡ s.request.source) × (capped m.param ≡ cap_right j)
 grant_of_d config n j s t memory block given =
-    (_, refl, grants_so (is_granted_data s.request.opcode s.request.param (recorded s.link.0 (block_at s.request.address) t)), refl, rw (block, given) (capped-cap j))
+    (_, refl, grants_so (is_granted_data s.request.opcode s.request.param (recorded s.link.0 (block_at s.request.address) t)), refl, rw (block, given) (cap-gives j))
 
 pub traced-granted : {w : ℕ} {X : Type 0} (config : Config) (request : ℕ → MessageA w) (c k n : ℕ) (b : Bool) (j : Cap) (m : MessageA w) (s u : State X) (memory : Memory) (e : End w)
     → ((i : ℕ) → u.block i ≡ set n (granted_at_once c (least_free (trackers_of (services e.trace))) b j (s.block n)) s.block i)

@@ -26,6 +26,7 @@ use Rattle.tl_client.specs.End.{zeros, copy_at, held_at}
 use Rattle.tl_client.specs.Offer as offer
 use Rattle.tl_client.specs.Offer.{report_for}
 use Rattle.tl_client.specs.Send.{probe_ack}
+use Rattle.tl_client.proofs.HeldAfter.{same_block}
 use Rattle.tl_world.specs.declared.event.Event.TheVariants.{Deliver}
 use Rattle.tl_world.specs.declared.event.Outcome.TheVariants as outcome
 use Rattle.tl_world.specs.Beside.{IsBeside}
@@ -60,9 +61,6 @@ use Rattle.tl_world.proofs.Tokens.{set-same, holds-first}
 use Rattle.tl_world.proofs.Parts.{kept-is, sent-is}
 
 -- ---- the answer to a Probe
-
-same_block : (n : ℕ) → block_at (64 * n) ≡ n
-same_block n = omega arith
 
 cap_again : (k : Cap) → cap_of (cap_code k) ≡ Some k
 cap_again cap.ToT = refl

@@ -17,6 +17,7 @@ use Rattle.tl_rules.specs.Conformance.{on_link, broken_in_order}
 use Rattle.tl_rules.specs.History.{ends, block_at}
 use Rattle.tl_rules.proofs.Sent.{is_last, not_last}
 use Rattle.tl_client.specs.End.{Terms}
+use Rattle.tl_client.proofs.HeldAfter.{same_block}
 use Rattle.tl_manager.specs.Service.{services, is_in_service}
 use Rattle.tl_manager.specs.Slave as manager
 use Rattle.tl_manager.specs.Slave.{End, Passes, before_stall, must_wait, judged, offered, deed}
@@ -50,7 +51,7 @@ use Rattle.tl_world.proofs.ManagersEnd.{at_manager-matched}
 use Rattle.tl_world.proofs.Requests.{IsUnwaited}
 use Rattle.tl_world.proofs.Steps.{manager-with_messages, stepped-empty, stepped-to-manager}
 use Rattle.tl_world.proofs.Tokens.{same_number}
-use Rattle.tl_world.proofs.RequestsTaken.{next_tracker, IsAfterwards, unwaited-asked, ready-request, at_manager-request_taken, acquire_wanted, acquire_block, ready-acquire, at_manager-acquire_taken}
+use Rattle.tl_world.proofs.RequestsTaken.{next_tracker, IsAfterwards, unwaited-asked, ready-request, at_manager-request_taken, acquire_wanted, ready-acquire, at_manager-acquire_taken}
 
 -- ---- the request that is first
 
@@ -122,7 +123,7 @@ on_link-acquire {w} config log h sys c n rest width is first asked = record {
         let one = acquisition_beats w asked.whole asked.grow ((h.state.block n).source c) n in
         let ended : ends (beat.A (a_beat_of m k)) (on_link c sys.manager.trace) ≡ true = ends-burst c k m sys.manager burst ∙ is_last k (beats_of (message.A m)) (omega (arith, lt, one)) in
         let free_at = unserved-free h.request h.state sys.manager.trace (block_at m.address) is.managed (or_parts (is_in_service (block_at m.address) (services sys.manager.trace)) (nat_le config.trackers (length (services sys.manager.trace))) (rw ended at moves)).0 in
-        ap (λ i. (h.state.block i).service) (sym (acquire_block n)) ∙ free_at
+        ap (λ i. (h.state.block i).service) (sym (same_block n)) ∙ free_at
 
 -- ---- what is first on the channel
 

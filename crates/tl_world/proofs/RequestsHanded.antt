@@ -25,6 +25,7 @@ use Rattle.tl_manager.specs.Handing.{Handed, Deed, probes, probe_of_block, perfo
 use Rattle.tl_manager.specs.Holders as holders
 use Rattle.tl_manager.specs.Holders.{recorded, probed, cap_probed}
 use Rattle.tl_rules.specs.Conformance.{Trace, same_perm}
+use Rattle.tl_client.proofs.HeldAfter.{same_block}
 use Rattle.tl_manager.specs.Service as manager
 use Rattle.tl_manager.specs.Slave.{End, level_of, deed}
 use Rattle.tl_manager.proofs.Events.{performed-access, performed-acquire}
@@ -42,7 +43,7 @@ use Rattle.tl_world.proofs.Arrivals.{link_of, with_beat, IsComing, service_for}
 use Rattle.tl_world.proofs.Fronts.{IsAsked, IsWanted, acquires-so}
 use Rattle.tl_world.proofs.Memories.{performed-reply}
 use Rattle.tl_world.proofs.Requests.{recorded-beat}
-use Rattle.tl_world.proofs.RequestsTaken.{next_tracker, deed-performed, acquire_wanted, acquire_block, unheld-same}
+use Rattle.tl_world.proofs.RequestsTaken.{next_tracker, deed-performed, acquire_wanted, unheld-same}
 use Rattle.tl_world.proofs.Tokens.{same_number, set-same}
 
 -- ---- an access that is answered
@@ -127,10 +128,10 @@ pub handed-granted : {w : ℕ} (config : Config) (log : Log w) (mail : Mail w) (
     ≡ (link_of c, rendered Grant c n (granted_at_once c (next_tracker sys) (is_granted_data asked.whole asked.grow ((s.block n).pair c).recorded) (gift config.profile asked.whole asked.grow (is_unheld (length config.clients.items) (s.block n).pair)) (s.block n))) ∷ []
 unfolding rendered
 handed-granted {w} config log mail request s sys caching c n k is asked comes last none well =
-    ap (λ (d : Deed w). d.handed) (deed-performed config log mail request s sys c k n true m is comes last (acquires-so asked.whole) (acquire_block n) none ∙ performed-acquire config (service_for c m e.trace) u e.memory (acquires-so asked.whole))
+    ap (λ (d : Deed w). d.handed) (deed-performed config log mail request s sys c k n true m is comes last (acquires-so asked.whole) (same_block n) none ∙ performed-acquire config (service_for c m e.trace) u e.memory (acquires-so asked.whole))
     ∙ ap (λ (i : Message w). (link_of c, i) ∷ [])
     (ap₂ (λ (j : Cap) (d : Bool). grant_with (service_for c m e.trace) j d e.memory) given carried
-    ∙ grant-is (service_for c m e.trace) c n (b.source c) (next_tracker sys) data_too gift_is e.memory b.truth refl refl (acquire_block n) (is.memory n ∙ memory-granted caching c data_too gift_is new well refl recorded_now (gives-some config.profile asked.whole asked.grow unheld)))
+    ∙ grant-is (service_for c m e.trace) c n (b.source c) (next_tracker sys) data_too gift_is e.memory b.truth refl refl (same_block n) (is.memory n ∙ memory-granted caching c data_too gift_is new well refl recorded_now (gives-some config.profile asked.whole asked.grow unheld)))
   where
     b : Block (List ℕ)
     b = s.block n
@@ -160,9 +161,9 @@ handed-granted {w} config log mail request s sys caching c n k is asked comes la
     recorded_now = ap (λ (p : Pair). p.recorded) (set-same c (after_grant_sent gift_is (b.pair c)) b.pair)
 
     given : cap_granted config.profile m.opcode m.param (holders.is_unheld config (block_at m.address) u) ≡ gift_is
-    given = ap (λ i. cap_granted config.profile m.opcode m.param (holders.is_unheld config i u)) (acquire_block n) ∙ ap (cap_granted config.profile m.opcode m.param) (unheld-same config log mail request s sys c k n m is)
+    given = ap (λ i. cap_granted config.profile m.opcode m.param (holders.is_unheld config i u)) (same_block n) ∙ ap (cap_granted config.profile m.opcode m.param) (unheld-same config log mail request s sys c k n m is)
 
     carried : handing.is_granted_data m.opcode m.param (recorded c (block_at m.address) u) ≡ data_too
     carried =
-        ap (λ i. handing.is_granted_data m.opcode m.param (recorded c i u)) (acquire_block n) ∙ ap (handing.is_granted_data m.opcode m.param) (recorded-beat c k m e.trace c n ∙ is.managed.recorded_is c n)
+        ap (λ i. handing.is_granted_data m.opcode m.param (recorded c i u)) (same_block n) ∙ ap (handing.is_granted_data m.opcode m.param) (recorded-beat c k m e.trace c n ∙ is.managed.recorded_is c n)
         ∙ data-same asked.whole asked.grow (b.pair c).recorded

@@ -18,6 +18,7 @@ use Rattle.tl_rules.specs.Conformance.{on_link, same_perm}
 use Rattle.tl_rules.specs.History.{ends, block_at, is_acquire}
 use Rattle.tl_rules.proofs.Sent.{is_last}
 use Rattle.tl_client.specs.Send.{acquisition}
+use Rattle.tl_client.proofs.HeldAfter.{same_block}
 use Rattle.tl_manager.specs.Handing.{performed, cap_granted}
 use Rattle.tl_manager.specs.Holders as holders
 use Rattle.tl_manager.specs.Holders.{recorded, is_nobody, probed, cap_probed, is_spared}
@@ -285,14 +286,11 @@ caps_asked w false grow.BtoT source n = refl
 abbrev pub acquire_wanted : {w : ℕ} (c n : ℕ) (s : State (List ℕ)) → IsWanted w c n s → MessageA w
 acquire_wanted c n s is = acquisition (acquire_opcode is.whole) is.grow ((s.block n).source c) n
 
-pub acquire_block : (n : ℕ) → block_at (64 * n) ≡ n
-acquire_block n = omega arith
-
 pub ready-acquire : {w : ℕ} (config : Config) (log : Log w) (h : Shadow w) (sys : System w) (c n k : ℕ) → IsMatched config log h.mail h.request h.state sys → (asked : IsWanted w c n h.state)
     → IsComing config c k (acquire_wanted c n h.state asked) sys.manager → beats_of (message.A (acquire_wanted c n h.state asked)) ≡ suc k → must_wait config (link_of c) (beat.A (a_beat_of (acquire_wanted c n h.state asked) k)) sys.manager.trace ≡ false
     → IsReady (next_tracker sys) c Acquire n h
 ready-acquire config log h sys c n k is asked comes last moves =
-    (ap (λ i. (h.state.block i).service) (sym (acquire_block n)) ∙ free-last config log h.mail h.request h.state sys c k (acquire_wanted c n h.state asked) is comes last moves, untracked-next config log h.mail h.request h.state sys is)
+    (ap (λ i. (h.state.block i).service) (sym (same_block n)) ∙ free-last config log h.mail h.request h.state sys c k (acquire_wanted c n h.state asked) is comes last moves, untracked-next config log h.mail h.request h.state sys is)
 
 -- after an Acquire that was taken
 pub at_manager-acquire_taken : {w : ℕ} (config : Config) (log : Log w) (h : Shadow w) (sys : System w) (c n k : ℕ) (rest : List Token) → IsMatched config log h.mail h.request h.state sys
@@ -341,7 +339,7 @@ at_manager-acquire_taken {w} config log h sys c n k rest is first asked comes la
     unwaited = unwaited-acquires config log h.mail h.request h.state sys c m.source n is asked.used ready.0
 
     nobody : is_nobody (probed config (service_for c m e.trace) j (with_beat c m k e.trace)) ≡ not (some_below clients (λ d. is_probed c true j (b.pair d).recorded d))
-    nobody = probed-some config log h.mail h.request h.state sys c k n true j m is acquires (acquire_block n)
+    nobody = probed-some config log h.mail h.request h.state sys c k n true j m is acquires (same_block n)
 
     given : Cap
     given = gift config.profile asked.whole asked.grow (is_unheld clients b.pair)
@@ -356,7 +354,7 @@ at_manager-acquire_taken {w} config log h sys c n k rest is first asked comes la
         (record {
           comes = comes;
           last = last;
-          for = (acquires, refl, acquire_block n, caps);
+          for = (acquires, refl, same_block n, caps);
           free = ready.0;
           quiet = quiet-free config log h.mail h.request h.state sys n is ready.0;
           beyond = beyond-none config log h.mail h.request h.state sys n is;
@@ -369,9 +367,9 @@ at_manager-acquire_taken {w} config log h sys c n k rest is first asked comes la
           comes = comes;
           last = last;
           acquires = acquires;
-          block = acquire_block n;
+          block = same_block n;
           given = ap (cap_granted config.profile m.opcode m.param) (unheld-same config log h.mail h.request h.state sys c k n m is);
           unwaited = unwaited;
         })
-        (deed-performed config log h.mail h.request h.state sys c k n true m is comes last acquires (acquire_block n) (rw caps f))
+        (deed-performed config log h.mail h.request h.state sys c k n true m is comes last acquires (same_block n) (rw caps f))
         (at_manager-matched config log h.mail h.request h.state sys is)

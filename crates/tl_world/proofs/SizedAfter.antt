@@ -22,6 +22,7 @@ use Rattle.tl_client.specs.declared.reply.Reply.TheVariants as reply
 use Rattle.tl_client.specs.Ask.{stored, is_word}
 use Rattle.tl_client.specs.Send.{access}
 use Rattle.tl_client.proofs.Stores.{word_room, length-stored}
+use Rattle.tl_manager.proofs.Filled.{length-bytes}
 use Rattle.tl_world.specs.Follow.{Shadow, asked, performs, access_taken, request_taken, acquire_taken, granted_after, last_taken, is_whole, taken_by_client, kind_taken}
 use Rattle.tl_world.specs.Headline.{IsTypedOp}
 use Rattle.tl_world.specs.Invariant.{is_asked, IsInvariant}
@@ -164,11 +165,6 @@ sourced-asked config c (op.Access (message.E m)) r h ask before = before
 
 -- ---- bytes
 
-pub length-bytes_from : (f : Memory) (x n : ℕ) → length (bytes_from f x n) ≡ n
-unfolding bytes_from
-length-bytes_from f x zero = refl
-length-bytes_from f x (suc n) = ap suc (length-bytes_from f (x + 1) n)
-
 abbrev pub AllSized : State (List ℕ) → Type 0
 AllSized s = (n : ℕ) → AreSized (s.block n)
 
@@ -229,7 +225,7 @@ sized_access {w} c source m tracker p o rest h before = go p o
     b = h.state.block n
 
     answered : (i : ℕ) → AreSized (set n (performed_block (performs m) b) h.state.block i)
-    answered i = sized_block n (performed_block (performs m) b) h.state.block (sized_same b (performed_block (performs m) b) (length-bytes_from _ (64 * n) 64) (λ j. refl) (λ j e. e) (before n)) before i
+    answered i = sized_block n (performed_block (performs m) b) h.state.block (sized_same b (performed_block (performs m) b) (length-bytes _ (64 * n) 64) (λ j. refl) (λ j e. e) (before n)) before i
 
     go : (p : Bool) (o : Option Cap) → AllSized (access_taken c source m tracker p o rest h).state
     go true (Some k) i = sized_block n (served_block c false source tracker k b) h.state.block (sized_served c false source tracker k b (before n)) before i
@@ -265,7 +261,7 @@ sized_last clients p c n r Free rest h before = before
 sized_last clients p c n r (Waits q true source k) rest h before = sized_granted clients p c q n r ((h.state.block n).pair q).acquiring rest h before
 sized_last clients p c n r (Waits q false source k) rest h before = λ i.
     sized_block n (ended_block c r (performs (h.request n)) (h.state.block n)) h.state.block
-    (sized_same (h.state.block n) (ended_block c r (performs (h.request n)) (h.state.block n)) (length-bytes_from _ (64 * block_at (h.request n).address) 64) (λ j. refl) (λ j e. still_acquires c (after_report r ((h.state.block n).pair c)) (h.state.block n).pair refl j e) (before n)) before i
+    (sized_same (h.state.block n) (ended_block c r (performs (h.request n)) (h.state.block n)) (length-bytes _ (64 * block_at (h.request n).address) 64) (λ j. refl) (λ j e. still_acquires c (after_report r ((h.state.block n).pair c)) (h.state.block n).pair refl j e) (before n)) before i
 sized_last clients p c n r (GrantSent q d k) rest h before = before
 sized_last clients p c n r (GrantTaken q) rest h before = before
 

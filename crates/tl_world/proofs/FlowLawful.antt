@@ -1,5 +1,5 @@
 -- A beat of channel B or C that is delivered breaks no rule after what was delivered before it.
-use Rattle.std.proofs.Common.{◌≡◌, ℕ, ◌*◌, true, false, List, [], ◌∷◌, Option, Some, None, refl, sym, ◌∙◌, ap, subst, arith}
+use Rattle.std.proofs.Common.{◌≡◌, ℕ, true, false, List, [], ◌∷◌, Option, Some, None, refl, sym, ◌∙◌, ap, subst}
 use Rattle.std.specs.Prelude.{map}
 use Rattle.tl_beat.specs.Width.{IsWidth}
 use Rattle.tl_beat.specs.declared.beat.Beat.{Beat}
@@ -19,7 +19,6 @@ use Rattle.tl_params.specs.declared.perm.Perm.TheVariants as perm
 use Rattle.tl_params.specs.declared.profile.Profile.{Profile}
 use Rattle.tl_params.specs.Param.{prune_code, prune_left, report_at, report_code, report_left}
 use Rattle.tl_rules.specs.Conformance.{on_link, broken_in_order, broken_after, same_perm}
-use Rattle.tl_rules.specs.History.{block_at}
 use Rattle.tl_rules.specs.Legality.{illegal}
 use Rattle.tl_client.proofs.HeldAfter.{same_block}
 use Rattle.tl_manager.specs.Kept.{illegal_at}

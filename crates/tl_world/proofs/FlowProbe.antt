@@ -11,7 +11,7 @@ use Rattle.tl_beat.specs.declared.opcode.Channel.TheVariants as channel
 use Rattle.tl_burst.specs.Messages.{History}
 use Rattle.tl_params.specs.declared.param.Cap.{Cap}
 use Rattle.tl_rules.specs.Conformance.{comes_in_grant}
-use Rattle.tl_rules.specs.History.{begins, ends, block_at, is_probe, request_of, release_of, probe_of, grant_sink}
+use Rattle.tl_rules.specs.History.{begins, ends, block_at, is_probe, release_of, probe_of, grant_sink}
 use Rattle.tl_client.proofs.Opens.{request_of-b}
 use Rattle.tl_world.specs.Flowed.{IsFlowed, is_requested, is_let, is_let_by, is_sunk}
 use Rattle.tl_world.specs.Known.{comes_granting}

@@ -1,7 +1,6 @@
 -- All that is kept of the manager's end, after the last ProbeAck that a request waited for.
 use Rattle.tl_manager.specs.Holders as holders
 use Rattle.tl_manager.specs.Handing as handing
-use Rattle.tl_params.specs.declared.param.Cap.TheVariants as cap
 use Rattle.tl_params.specs.declared.param.Grow.TheVariants as grow
 use Rattle.tl_manager.specs.Ready.{IsReady}
 use Rattle.tl_world.proofs.ManagedReports.{reported-records}
@@ -27,7 +26,7 @@ use Rattle.tl_params.specs.declared.key.Key.TheVariants as key
 use Rattle.tl_params.specs.declared.param.Cap.{Cap}
 use Rattle.tl_params.specs.declared.param.Report.{Report}
 use Rattle.tl_params.specs.declared.perm.Perm.TheVariants as perm
-use Rattle.tl_params.specs.Param.{report_code, report_left, report_right, cap_code, cap_right, grow_code}
+use Rattle.tl_params.specs.Param.{report_code, report_left, report_right, cap_code, grow_code}
 use Rattle.tl_rules.specs.declared.answer.Answer.{Answer}
 use Rattle.tl_rules.specs.declared.answer.Answer.TheVariants as answer
 use Rattle.tl_rules.specs.Conformance.{Trace, on_link, same_perm}

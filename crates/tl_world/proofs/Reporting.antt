@@ -1,5 +1,5 @@
 -- What the messages of channel C say that a client has in flight, and what the manager takes of them.
-use Rattle.std.proofs.Common.{◌≡◌, ℕ, ◌*◌, Bool, true, false, not, List, length, refl, inl, inr, arith, pow_pos}
+use Rattle.std.proofs.Common.{◌≡◌, ℕ, ◌*◌, Bool, true, false, not, List, length, refl, arith, pow_pos}
 use Rattle.std.proofs.Common.{lit<}
 use Rattle.std.proofs.lemmas.List.{drop_all}
 use Rattle.tl_beat.specs.Width.{IsWidth}

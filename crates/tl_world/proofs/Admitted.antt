@@ -56,11 +56,12 @@ use Rattle.tl_world.specs.Token.{Kind, Request, Acquire, Probe, ProbeAck, Releas
 use Rattle.tl_world.specs.Whole.{IsMatched, AreLanes}
 use Rattle.tl_world.proofs.Arrivals.{link_of}
 use Rattle.tl_world.proofs.Facts.{asked_alone, acquire_fits}
-use Rattle.tl_world.proofs.Fronts.{IsWanted, acquires-so}
+use Rattle.tl_world.proofs.Fronts.{IsWanted}
 use Rattle.tl_world.proofs.Orders.{acquire-legal}
 use Rattle.tl_world.proofs.Phases.{and_left, and_right}
 use Rattle.tl_world.proofs.Rendered.{same_kind_again}
 use Rattle.tl_world.proofs.Tokens.{same_number, holds-first}
+use Rattle.tl_world.proofs.Codes.{acquires-so}
 
 -- ---- a Release that is unfinished at the manager is on its way
 

@@ -33,6 +33,7 @@ use Rattle.tl_world.proofs.FollowKept.{IsAskable}
 use Rattle.tl_world.proofs.OneMemory.{block-stored, block-unstored}
 use Rattle.tl_world.proofs.SizedAfter.{IsSizedAsk}
 use Rattle.tl_world.proofs.Tokens.{same_number, set-same, set-other, set-part}
+use Rattle.tl_world.proofs.Perms.{trunk-some}
 
 -- ---- Acquires of other sources
 
@@ -85,11 +86,6 @@ IsReply (op.Access (message.C m)) (reply.Started source) = ⊥
 IsReply (op.Access (message.D m)) (reply.Started source) = ⊥
 IsReply (op.Access (message.E m)) (reply.Started source) = ⊥
 IsReply o r = Unit {0}
-
-trunk_some : (p : Perm) → same_perm p perm.Trunk ≡ true → same_perm p perm.None ≡ false
-trunk_some perm.Trunk e = refl
-trunk_some perm.None e = absurd cc
-trunk_some perm.Branch e = absurd cc
 
 truth_as : (f : Memory) (n i : ℕ) (new : Block (List ℕ)) (block : ℕ → Block (List ℕ)) → new.truth ≡ (block n).truth → IsBlock f i (block i).truth → IsBlock f i (set n new block i).truth
 truth_as f n i new block e h = subst (λ (bytes : List ℕ). IsBlock f i bytes) (sym (set-part (λ (b : Block (List ℕ)). b.truth) n new block e i)) h
@@ -189,7 +185,7 @@ beside-block_stored {w} caching c address size value mail s m inv sized word tru
     s' = block_stored c n (stored address size value copy) s
 
     same : copy ≡ (s.block n).truth
-    same = (inv.blocks n).copies c (trunk_some ((s.block n).pair c).held trunk)
+    same = (inv.blocks n).copies c (trunk-some ((s.block n).pair c).held trunk)
 
     here : IsBlock (with_number address size value m.memory) n (stored address size value copy)
     here = block-stored address size value copy m.memory (word_room address size word) (ap length same ∙ sized.truth) (subst (λ (b : List ℕ). IsBlock m.memory n b) (sym same) (h.memory n))

@@ -27,10 +27,11 @@ use Rattle.tl_world.specs.Render.{Mail}
 use Rattle.tl_world.specs.Token.{Kind, Request, ProbeAck, Answer, Grant, ReleaseAck, Token, set, set_at}
 use Rattle.tl_world.proofs.Beside.{IsSameAcquire, open-here, open-there, open-releases, open-requests, beside-still, beside-used, beside-let}
 use Rattle.tl_world.proofs.BesideAsked.{acquires-else}
-use Rattle.tl_world.proofs.BesideTaken.{IsPerformed, beside-performed, memory-unprobed, memory-reported, intent-reply, low_cap}
+use Rattle.tl_world.proofs.BesideTaken.{IsPerformed, beside-performed, memory-unprobed, memory-reported, intent-reply}
 use Rattle.tl_world.proofs.OneMemory.{block-whole, block-besides}
 use Rattle.tl_world.proofs.Tokens.{same_number, set-same, set-other, set-part}
 use Rattle.tl_world.proofs.Parts.{is_of-is, acquires_of-is}
+use Rattle.tl_world.proofs.Codes.{low_cap}
 
 -- ---- which accesses are performed, and what ends
 

@@ -36,9 +36,10 @@ use Rattle.tl_world.proofs.Beside.{done_at, performed-open, performing-one}
 use Rattle.tl_world.proofs.BesideKinds.{access_list, beside-request, beside-acquire}
 use Rattle.tl_world.proofs.BesideTaken.{IsPerformed}
 use Rattle.tl_world.proofs.Choices.{plain-past}
-use Rattle.tl_world.proofs.Fronts.{IsAsked, IsWanted, acquires-so}
+use Rattle.tl_world.proofs.Fronts.{IsAsked, IsWanted}
 use Rattle.tl_world.proofs.RequestsHanded.{handed-answered}
 use Rattle.tl_world.proofs.RequestsTaken.{next_tracker, probed-some, deed-performed, caps_asked, acquire_wanted}
+use Rattle.tl_world.proofs.Codes.{acquires-so}
 
 -- ---- which accesses are answered
 

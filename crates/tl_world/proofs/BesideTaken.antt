@@ -42,6 +42,8 @@ use Rattle.tl_world.proofs.Facts.{is_other}
 use Rattle.tl_world.proofs.FollowKept.{some-none}
 use Rattle.tl_world.proofs.OneMemory.{blocks-performed, reply-performed, effect-sourced}
 use Rattle.tl_world.proofs.Phases.{each_phase, of_phase}
+use Rattle.tl_world.proofs.Codes.{low_cap}
+use Rattle.tl_world.proofs.Perms.{nothing-above, not_out}
 
 -- ---- the manager's memory is the one memory, where nobody has what he was given to write
 
@@ -52,34 +54,6 @@ never_above k perm.Branch e f = refl
 never_above cap.ToB perm.Trunk e f = absurd cc
 never_above cap.ToN perm.Trunk e f = absurd cc
 
-above_none : (k : Cap) → is_above k perm.None ≡ false
-above_none cap.ToT = refl
-above_none cap.ToB = refl
-above_none cap.ToN = refl
-
-not_out : (p : Pair) (v : View) → same_perm p.recorded perm.Trunk ≡ false → is_out p v ≡ false
-not_out p v e = rw e refl
-
-pub low_cap : (o : OpA) (param : ℕ) (k : Cap) → cap_probed o param ≡ Some k → same_cap k cap.ToT ≡ false
-low_cap o param cap.ToB e = refl
-low_cap o param cap.ToN e = refl
-low_cap a.Get param cap.ToT e = absurd cc
-low_cap a.Intent param cap.ToT e = absurd cc
-low_cap a.AcquireBlock param cap.ToT e = absurd (never (param == 0) e)
-  where
-    never : (b : Bool) → Some (if b then cap.ToB else cap.ToN) ≡ Some cap.ToT → ⊥
-    never true f = cc
-    never false f = cc
-low_cap a.AcquirePerm param cap.ToT e = absurd (never (param == 0) e)
-  where
-    never : (b : Bool) → Some (if b then cap.ToB else cap.ToN) ≡ Some cap.ToT → ⊥
-    never true f = cc
-    never false f = cc
-low_cap a.PutFullData param cap.ToT e = absurd cc
-low_cap a.PutPartialData param cap.ToT e = absurd cc
-low_cap a.ArithmeticData param cap.ToT e = absurd cc
-low_cap a.LogicalData param cap.ToT e = absurd cc
-
 -- nobody is probed
 pub memory-unprobed : (clients : ℕ) (caching : ℕ → Bool) (c : ℕ) (k : Cap) (b : Block (List ℕ)) → ((d : ℕ) → clients ≤ d → caching d ≡ false) → IsWell caching b → same_cap k cap.ToT ≡ false
     → some_below clients (λ d. is_probed c false k (b.pair d).recorded d) ≡ false → b.memory ≡ b.truth
@@ -88,7 +62,7 @@ memory-unprobed clients caching c k b plain well low none = well.memory (λ d. n
     unprobed : (d : ℕ) → is_above k (b.pair d).recorded ≡ false
     unprobed d = elim (cases_lt d clients) [
       | inl lt ↦ some-none clients (λ i. is_probed c false k (b.pair i).recorded i) none d lt
-      | inr le ↦ rw (well.outside d (plain d le)) (above_none k)
+      | inr le ↦ rw (well.outside d (plain d le)) (nothing-above k)
     ]
 
 -- one for whom another request waits, and who has told of no Trunk and has no Probe, has none

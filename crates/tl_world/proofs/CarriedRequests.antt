@@ -52,7 +52,7 @@ use Rattle.tl_world.proofs.CarriedEvents.{access_answered-carried, acquire_grant
 use Rattle.tl_world.proofs.CarriedProbes.{probe_pushes, channels-probes, access_served-carried, acquire_served-carried}
 use Rattle.tl_world.proofs.FollowKept.{some-none, leaves-bytes, IsReady}
 use Rattle.tl_world.proofs.Showing.{carries, none-carried}
-use Rattle.tl_world.proofs.Fronts.{IsAsked, IsWanted, acquires-so}
+use Rattle.tl_world.proofs.Fronts.{IsAsked, IsWanted}
 use Rattle.tl_world.proofs.ManagedServed.{same_above}
 use Rattle.tl_world.proofs.Requests.{recorded-beat}
 use Rattle.tl_world.proofs.RequestsHanded.{handed-answered, handed-granted}
@@ -61,6 +61,8 @@ use Rattle.tl_world.proofs.Tokens.{set-same}
 use Rattle.tl_world.proofs.Channels.{behind, IsTaken, pushes_at}
 use Rattle.tl_world.proofs.Landed.{pushes_of, IsLanded, taken-landed, IsOn, HasTaken, landed-manager, channels-handed}
 use Rattle.tl_world.proofs.Moved.{manager-heard, carried-part}
+use Rattle.tl_world.proofs.Codes.{acquires-so}
+use Rattle.tl_world.proofs.Perms.{none-above}
 
 -- ---- the whole after a beat of a request
 
@@ -225,11 +227,6 @@ answer_on_d m answer.Ack = refl
 answer_on_d m answer.Hint = refl
 answer_on_d m (answer.Data payload) = refl
 
-none_above : (p : Perm) → is_above cap.ToN p ≡ false → same_perm p perm.None ≡ true
-none_above perm.None e = refl
-none_above perm.Branch e = absurd cc
-none_above perm.Trunk e = absurd cc
-
 -- an access that is answered at once changes the bytes only where no message carries them
 pub unread-bytes : {w : ℕ} (config : Config) (log : Log w) (mail : Mail w) (request : ℕ → MessageA w) (s : State (List ℕ)) (sys : System w) (c n : ℕ) (m : MessageA w) → IsMatched config log mail request s sys → is_acquire m.opcode ≡ false
     → probes_some (length config.clients.items) c false (cap_probed m.opcode m.param) (s.block n).pair ≡ false
@@ -245,7 +242,7 @@ unread-bytes {w} config log mail request s sys c n m is access none k d = elim (
 
     unheld : (i : ℕ) → cap_probed m.opcode m.param ≡ Some cap.ToN → same_perm ((s.block n).pair i).recorded perm.None ≡ true
     unheld i all = elim (cases_lt i (length config.clients.items)) [
-      | inl lt ↦ none_above ((s.block n).pair i).recorded (some-none (length config.clients.items) (λ j. is_probed c false cap.ToN ((s.block n).pair j).recorded j) (rw all at none) i lt)
+      | inl lt ↦ none-above ((s.block n).pair i).recorded (some-none (length config.clients.items) (λ j. is_probed c false cap.ToN ((s.block n).pair j).recorded j) (rw all at none) i lt)
       | inr past ↦ rw (beyond-none config log mail request s sys n is i past) refl
     ]
 

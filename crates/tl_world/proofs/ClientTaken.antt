@@ -44,6 +44,7 @@ use Rattle.tl_world.proofs.ClientEnd.{IsWellKept, IsEnd, asks-same, asks-closed,
 use Rattle.tl_world.proofs.ClientHeard.{IsHeard, IsEcho, echo-none, echo-e, known-heard, opened-heard, heard-part, answer_closes, ack_closes, grant_closes}
 use Rattle.tl_world.proofs.Phases.{and_right}
 use Rattle.tl_world.proofs.Tokens.{same_number, set-same, set-other, set-part}
+use Rattle.tl_world.proofs.Codes.{grants_always, acquires-so}
 
 -- ---- a beat that isn't the last of its message
 
@@ -164,14 +165,6 @@ pub record IsGrantOf {w : ℕ} (c n : ℕ) (whole data_too : Bool) (g : Grow) (k
   pub has_copy : whole ≡ false → data_too ≡ false → same_perm ((s.block n).pair c).held perm.None ≡ false
   pub bytes : data_too ≡ true → payload ≡ (s.block n).truth
 
-pub grants_always : (data_too : Bool) → (is_grant (grant_opcode data_too) ≡ true) × (is_release_ack (grant_opcode data_too) ≡ false)
-grants_always true = (refl, refl)
-grants_always false = (refl, refl)
-
-acquires_always : (whole : Bool) → is_acquire (acquire_opcode whole) ≡ true
-acquires_always true = refl
-acquires_always false = refl
-
 -- what the client does at the last beat of a Grant
 record IsGrantTaken {w : ℕ} (data_too : Bool) (x : BeatD w) (r : BeatA w) (payload : List ℕ) (e f : End w) : Type 0 where
   past_is : f.past ≡ sent (E (record { sink = x.sink })) (beat.D x ∷ e.past)
@@ -206,7 +199,7 @@ pub end-grant_taken : {w : ℕ} (c n : ℕ) (whole data_too : Bool) (g : Grow) (
 end-grant_taken {w} c n whole data_too g k x payload rest mail s e f width named is taken last well end =
     let asks : asked_by mail s c x.source ≡ Some r = ap (asked_by mail s c) is.from ∙ asks-acquire c source n source whole g mail s is.used is.wants refl in
     let open_ : open_beat x.source e.past ≡ Some r = end.known.opens x.source ∙ asks in
-    let request : request_of x.source e.past ≡ Some r = open-is x.source e.past (ap is_acquire_beat open_ ∙ acquires_always whole) ∙ open_ in
+    let request : request_of x.source e.past ≡ Some r = open-is x.source e.past (ap is_acquire_beat open_ ∙ acquires-so whole) ∙ open_ in
     let does = grant_end data_too x r payload e f is.opcode (taken ∙ ap (λ (o : Option (BeatA w)). (responded x o payload e).after) request) in
     let kind = grants_always data_too in
     let closes = grant_closes n x r e.past last (ap is_grant is.opcode ∙ kind.0) (ap is_release_ack is.opcode ∙ kind.1) request (same_block n) in

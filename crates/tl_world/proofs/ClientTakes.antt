@@ -55,6 +55,7 @@ use Rattle.tl_world.proofs.Due.{IsAnswerDue, IsGrantDue, grant_message, ack_mess
 use Rattle.tl_world.proofs.Passes.{client-takes}
 use Rattle.tl_world.proofs.Phases.{and_left, and_right}
 use Rattle.tl_world.proofs.ResponseOrder.{answer-legal, grant-legal, ack-legal}
+use Rattle.tl_world.proofs.Codes.{not_ack, access_kind}
 
 -- ---- what a client was made for
 
@@ -118,14 +119,6 @@ taken-d {w} config log mail request s sys terms c m ms x queue h at beats next f
 
 -- ---- an answer
 
-pub access_kind : (o : OpD) → is_access_answer o ≡ true → (is_grant o ≡ false) × (is_release_ack o ≡ false)
-access_kind opd.AccessAck e = (refl, refl)
-access_kind opd.AccessAckData e = (refl, refl)
-access_kind opd.HintAck e = (refl, refl)
-access_kind opd.Grant e = absurd cc
-access_kind opd.GrantData e = absurd cc
-access_kind opd.ReleaseAck e = absurd cc
-
 -- the open request is pending, and is the one that the history names
 live_request : {w : ℕ} (source : ℕ) (r : BeatA w) (t : History w) → open_beat source t ≡ Some r → (pending (RequestSource source) t ≡ true) × (request_of source t ≡ Some r)
 live_request {w} source r t e = go (pending (RequestSource source) t) refl e
@@ -157,10 +150,6 @@ answers_acquire true true e = absurd cc
 answers_acquire true false e = refl
 answers_acquire false true e = refl
 answers_acquire false false e = refl
-
-pub not_ack : (data_too : Bool) → is_release_ack (grant_opcode data_too) ≡ false
-not_ack true = refl
-not_ack false = refl
 
 pub fits_asked : (p : Profile) (whole : Bool) (g : Grow) (k : Cap) → cap_fits whole g k ≡ true → gives_asked p (Wants whole g) k ≡ true → fits_grow p (acquire_opcode whole) (grow_code g) (cap_code k) ≡ true
 fits_asked profile.One false grow.NtoB cap.ToB e f = refl

@@ -28,6 +28,7 @@ use Rattle.tl_world.specs.Render.{Mail}
 use Rattle.tl_world.specs.Step.{stepped}
 use Rattle.tl_world.specs.Whole.{IsMatched}
 use Rattle.tl_world.proofs.Facts.{held_at_most}
+use Rattle.tl_world.proofs.Perms.{held-some}
 
 -- ---- what is open, as it was asked
 
@@ -177,11 +178,6 @@ none_is perm.Branch perm.Trunk e f = absurd cc
 none_is perm.Trunk perm.Branch e f = absurd cc
 none_is perm.Trunk perm.Trunk e f = absurd cc
 
-held_some : (p : Perm) → holds p ≡ true → same_perm p perm.None ≡ false
-held_some perm.Branch e = refl
-held_some perm.Trunk e = refl
-held_some perm.None e = absurd cc
-
 pub coherent-matched : {w : ℕ} (config : Config) (log : Log w) (mail : Mail w) (request : ℕ → MessageA w) (s : State (List ℕ)) → IsMatched config log mail request s (after config log) → IsCoherent (after config log) log (remembered config log)
 coherent-matched {w} config log mail request s h = record {
   one_writer = λ c d n differ writes.
@@ -189,7 +185,7 @@ coherent-matched {w} config log mail request s h = record {
       let none = (h.invariant.blocks n).one_owner c d top (λ e. differ (sym e)) in
       (h.known d).held_is n ∙ none_is ((s.block n).pair d).held ((s.block n).pair d).recorded none (held_at_most ((s.block n).pair d) (view (s.block n).service d) ((h.invariant.blocks n).phases d));
   copies = λ c n bytes copy.
-      let some : same_perm ((s.block n).pair c).held perm.None ≡ false = held_some ((s.block n).pair c).held (sym (sym (ap is_some copy) ∙ (h.kept c).copies_held n ∙ ap holds ((h.known c).held_is n))) in
+      let some : same_perm ((s.block n).pair c).held perm.None ≡ false = held-some ((s.block n).pair c).held (sym (sym (ap is_some copy) ∙ (h.kept c).copies_held n ∙ ap holds ((h.known c).held_is n))) in
       let same : (s.block n).truth ≡ bytes = sym ((h.invariant.blocks n).copies c some) ∙ some_is ((s.block n).copy c) bytes (sym (h.copies c n some) ∙ copy) in
       subst (λ (b : List ℕ). IsBlock (remembered config log).memory n b) same (h.beside.memory n);
   opened = λ c pool source. opened-started config log c pool source;

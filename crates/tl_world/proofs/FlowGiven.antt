@@ -37,8 +37,6 @@ use Rattle.tl_world.proofs.Aside.{set_at-else}
 use Rattle.tl_world.proofs.Carried.{IsNext}
 use Rattle.tl_world.proofs.ClientDelivered.{ack_next}
 use Rattle.tl_world.proofs.ClientEnd.{asks-same, asks-acquire}
-use Rattle.tl_world.proofs.ClientTaken.{grants_always}
-use Rattle.tl_world.proofs.ClientTakes.{access_kind}
 use Rattle.tl_world.proofs.Due.{IsAnswerDue, answer-due, IsGrantDue, grant-rendered, grant_message, ack_message, own_view}
 use Rattle.tl_world.proofs.Facts.{granting_alone}
 use Rattle.tl_world.proofs.FlowAlone.{AreRests}
@@ -51,6 +49,7 @@ use Rattle.tl_world.proofs.FlowStep.{held_by}
 use Rattle.tl_world.proofs.Phases.{and_right}
 use Rattle.tl_world.proofs.Tokens.{same_number, set-same, set-other, holds-first}
 use Rattle.tl_world.proofs.Parts.{acked-is}
+use Rattle.tl_world.proofs.Codes.{grants_always, access_kind, grants-so, not_ack}
 
 -- ---- numbers and opcodes
 
@@ -59,12 +58,6 @@ apart_numbers i j e same = let no : (j == j) ≡ false = rw same at e in let yes
 
 swapped : (i j : ℕ) → (j == i) ≡ false → (i == j) ≡ false
 swapped i j e = ne_eqb i j (apart_numbers i j e)
-
-grants_so : (d : Bool) → is_grant (grant_opcode d) ≡ true
-grants_so d = (grants_always d).0
-
-grants_no_ack : (d : Bool) → is_release_ack (grant_opcode d) ≡ false
-grants_no_ack d = (grants_always d).1
 
 module _ {w : ℕ} (config : Config) (log : Log w) (h : Shadow w) (sys : System w) (c : ℕ) (is : IsMatched config log h.mail h.request h.state sys) (t : History w) (flowed : IsFlowed (asked_by h.mail h.state c) (rest_at sys c) c h.state t) (rest' : Channel → List (Beat w)) (toks : List Token) where
   abbrev s : State (List ℕ)
@@ -237,8 +230,8 @@ module _ {w : ℕ} (config : Config) (log : Log w) (h : Shadow w) (sys : System 
       subst (λ (z : Beat w). IsFlowed (asked_by h.mail (s_if b) c) rest' c (s_if b) (z ∷ t)) (sym here.beat_is)
       (flowed-grant c n due.data_too due.k (d_beat_of m here.k) (is_empty (rest_at sys c channel.D)) b before (asked_by h.mail (s_if b) c) (rest_at sys c) rest' s (s_if b) t (begins_y m x ms queue here rests b last) (ends_y m x ms queue here rests b last)
       (rests_y m x ms queue here rests b last) (record {
-        grant = grants_so due.data_too;
-        ack = grants_no_ack due.data_too;
+        grant = grants-so due.data_too;
+        ack = not_ack due.data_too;
         sink = refl;
         says = cap-gives due.k;
         seen = seen;
@@ -249,11 +242,11 @@ module _ {w : ℕ} (config : Config) (log : Log w) (h : Shadow w) (sys : System 
         tracks = λ i e. ap s.tracked (sym (eqb-true (s.block n).tracker i e)) ∙ grant_tracked (is_caching config) c n s is.invariant due;
         tracks_not = λ i e. is.invariant.named.trackers i n ∙ with_false (is_busy (s.block n).service) (i == (s.block n).tracker) (swapped i (s.block n).tracker e);
         asks = asks;
-        came = λ i. came m x ms queue here rests b last i ∙ ap (λ (z : Bool). not (is_empty (rest_at sys c channel.D)) && (z && ((s.block n).tracker == i))) (grants_so due.data_too);
-        comes = λ i. comes m x ms queue here rests b last i ∙ ap (λ (z : Bool). not b && (z && ((s.block n).tracker == i))) (grants_so due.data_too);
-        granted = λ j. granted m x ms queue here rests b last j ∙ ap (λ (z : Bool). not (is_empty (rest_at sys c channel.D)) && (z && asks_for j (before ((s.block n).source c)))) (grants_so due.data_too)
+        came = λ i. came m x ms queue here rests b last i ∙ ap (λ (z : Bool). not (is_empty (rest_at sys c channel.D)) && (z && ((s.block n).tracker == i))) (grants-so due.data_too);
+        comes = λ i. comes m x ms queue here rests b last i ∙ ap (λ (z : Bool). not b && (z && ((s.block n).tracker == i))) (grants-so due.data_too);
+        granted = λ j. granted m x ms queue here rests b last j ∙ ap (λ (z : Bool). not (is_empty (rest_at sys c channel.D)) && (z && asks_for j (before ((s.block n).source c)))) (grants-so due.data_too)
             ∙ ap (λ (z : Bool). not (is_empty (rest_at sys c channel.D)) && z) (asks j);
-        grants = λ j. grants m x ms queue here rests b last (asked_by h.mail (s_if b) c) j ∙ ap (λ (z : Bool). not b && (z && asks_for j (asked_by h.mail (s_if b) c ((s.block n).source c)))) (grants_so due.data_too) ∙ asks_now b j;
+        grants = λ j. grants m x ms queue here rests b last (asked_by h.mail (s_if b) c) j ∙ ap (λ (z : Bool). not b && (z && asks_for j (asked_by h.mail (s_if b) c ((s.block n).source c)))) (grants-so due.data_too) ∙ asks_now b j;
         asked_is = grant_asks n whole due.data_too due.k b;
         elsewhere = elsewhere b;
         uses = uses b;

@@ -41,11 +41,12 @@ use Rattle.tl_world.proofs.FlowBeats.{came-so, comes-so, first-zero, one-beat, s
 use Rattle.tl_world.proofs.FlowComing.{coming-sink, coming-granting}
 use Rattle.tl_world.proofs.FlowStep.{held_by}
 use Rattle.tl_world.proofs.FlowSunk.{sunk_in, sunk-elsewhere, IsWithin, tracked-new}
-use Rattle.tl_world.proofs.Fronts.{acquires-so, acquisition_beats, IsAsked, IsWanted}
+use Rattle.tl_world.proofs.Fronts.{acquisition_beats, IsAsked, IsWanted}
 use Rattle.tl_world.proofs.Phases.{and_left, and_right}
 use Rattle.tl_world.proofs.RequestsTaken.{acquire_wanted}
 use Rattle.tl_world.proofs.Tokens.{same_number, set-same, set-other}
 use Rattle.tl_world.proofs.Parts.{quiet_unanswered}
+use Rattle.tl_world.proofs.Codes.{acquires-so}
 
 module _ {w : ℕ} (config : Config) (log : Log w) (h : Shadow w) (sys : System w) (c : ℕ) (is : IsMatched config log h.mail h.request h.state sys) (t : History w) (flowed : IsFlowed (asked_by h.mail h.state c) (rest_at sys c) c h.state t) (rest' : Channel → List (Beat w)) where
   -- ---- an access

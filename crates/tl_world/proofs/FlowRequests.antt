@@ -35,11 +35,12 @@ use Rattle.tl_world.proofs.Facts.{acquire_fits, asked_alone}
 use Rattle.tl_world.proofs.FirstToken.{IsFirst, first-token}
 use Rattle.tl_world.proofs.FlowLawful.{lawful-beat, next-flows}
 use Rattle.tl_world.proofs.FlowOrders.{acquire-flows, request-flows}
-use Rattle.tl_world.proofs.Fronts.{acquires-so, IsAsked, asked-first, IsWanted, wanted-first, acquisition_beats}
+use Rattle.tl_world.proofs.Fronts.{IsAsked, asked-first, IsWanted, wanted-first, acquisition_beats}
 use Rattle.tl_world.proofs.Phases.{and_left, and_right}
 use Rattle.tl_world.proofs.RequestsDelivered.{ends-burst}
 use Rattle.tl_world.proofs.RequestsTaken.{acquire_wanted}
 use Rattle.tl_world.proofs.Parts.{kept-is}
+use Rattle.tl_world.proofs.Codes.{acquires-so}
 
 access-lawful : {w : ℕ} (config : Config) (log : Log w) (mail : Mail w) (request : ℕ → MessageA w) (s : State (List ℕ)) (sys : System w) (c source : ℕ) (l : Level) (x : Beat w) (ms : List (Message w)) (queue : List (Beat w))
     → IsMatched config log mail request s sys → AreFlowed log mail s sys → illegal l (channel_of x) x ≡ None → IsAsked config c source mail s → IsNext x (unfinished channel.A (on_link c sys.manager.trace)) (mail.request c source) ms queue

@@ -50,7 +50,7 @@ use Rattle.tl_world.specs.Whole.{IsMatched, AreFlowed, IsGivenAsked, gives_asked
 use Rattle.tl_world.proofs.Carried.{IsNext}
 use Rattle.tl_world.proofs.ClientDelivered.{ack_next}
 use Rattle.tl_world.proofs.ClientEnd.{is_access, asks-access, asks-acquire}
-use Rattle.tl_world.proofs.ClientTakes.{access_kind, answers_acquire, not_ack, fits_asked, fitting, has_data, next-legal}
+use Rattle.tl_world.proofs.ClientTakes.{answers_acquire, fits_asked, fitting, has_data, next-legal}
 use Rattle.tl_world.proofs.Due.{IsAnswerDue, answer-due, IsGrantDue, grant-due, grant-rendered, ack-due, acquire-used, grant_message, ack_message, own_view}
 use Rattle.tl_world.proofs.Facts.{granting_alone}
 use Rattle.tl_world.proofs.FirstToken.{IsFirst, first-token, own_kind}
@@ -60,6 +60,7 @@ use Rattle.tl_world.proofs.Phases.{and_left, and_right}
 use Rattle.tl_world.proofs.ResponseOrder.{answer-legal, grant-legal, ack-legal}
 use Rattle.tl_world.proofs.Tokens.{same_number, holds-first}
 use Rattle.tl_world.proofs.Parts.{is_of-is, wanting-is, quiet_unanswered}
+use Rattle.tl_world.proofs.Codes.{not_ack, access_kind}
 
 -- ---- what is half taken on channel A
 

@@ -32,7 +32,6 @@ use Rattle.tl_world.specs.System.{System}
 use Rattle.tl_world.specs.Token.{Kind, Request, Acquire, Probe, ProbeAck, Release, Answer, Grant, ReleaseAck, GrantAck, Token}
 use Rattle.tl_world.specs.Whole.{IsMatched, AreFlowed, is_caching, asked_by}
 use Rattle.tl_world.proofs.Carried.{IsNext}
-use Rattle.tl_world.proofs.ClientTakes.{access_kind}
 use Rattle.tl_world.proofs.Due.{ack_message, answer-due, grant-due, grant-rendered, grant_message}
 use Rattle.tl_world.proofs.FirstToken.{first-token, own_kind}
 use Rattle.tl_world.proofs.FlowBeats.{first_false}
@@ -42,6 +41,7 @@ use Rattle.tl_world.proofs.ManagedEndings.{tracker-of}
 use Rattle.tl_world.proofs.ManagerTakes.{by-first_e}
 use Rattle.tl_world.proofs.Tokens.{holds-first}
 use Rattle.tl_world.proofs.Parts.{acknowledging-is}
+use Rattle.tl_world.proofs.Codes.{access_kind}
 
 -- the message is no Grant with this sink
 IsElse : {w : ℕ} → ℕ → Message w → Type 0

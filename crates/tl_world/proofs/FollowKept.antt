@@ -52,6 +52,8 @@ use Rattle.tl_world.proofs.Reported.{report_taken-kept, release_taken-kept}
 use Rattle.tl_world.proofs.TakenAll.{grant_taken-kept}
 use Rattle.tl_world.proofs.Acknowledged.{release_ack_taken-kept, grant_ack_taken-kept}
 use Rattle.tl_world.proofs.Parts.{is_asked-is, is_replied-is, wanting-is, sent-is, answered-is, releasing-is, acked-is, acknowledging-is, not-other, not-calm, granting-own}
+use Rattle.tl_world.proofs.Codes.{low_cap}
+use Rattle.tl_world.proofs.Perms.{none-above, nothing-above}
 
 -- ---- clients that pass a test
 
@@ -81,18 +83,8 @@ unprobed : (clients : ℕ) (caching : ℕ → Bool) (c : ℕ) (own : Bool) (k : 
     → some_below clients (λ d. is_probed c own k (pair d).recorded d) ≡ false → (d : ℕ) → (own && (d == c)) ≡ false → is_above k (pair d).recorded ≡ false
 unprobed clients caching c own k pair plain outside none d spared = elim (cases_lt d clients) [
   | inl lt ↦ let e : (not (own && (d == c)) && is_above k (pair d).recorded) ≡ false = some-none clients (λ i. is_probed c own k (pair i).recorded i) none d lt in rw spared at e
-  | inr le ↦ rw (outside d (plain d le)) (nothing_above k)
+  | inr le ↦ rw (outside d (plain d le)) (nothing-above k)
 ]
-  where
-    nothing_above : (j : Cap) → is_above j perm.None ≡ false
-    nothing_above cap.ToT = refl
-    nothing_above cap.ToB = refl
-    nothing_above cap.ToN = refl
-
-spares_none : (p : Perm) → is_above cap.ToN p ≡ false → same_perm p perm.None ≡ true
-spares_none perm.None e = refl
-spares_none perm.Branch e = absurd cc
-spares_none perm.Trunk e = absurd cc
 
 pub settled_all : (clients : ℕ) (caching : ℕ → Bool) (c : ℕ) (pair : ℕ → Pair) → ((d : ℕ) → clients ≤ d → caching d ≡ false) → AreOutside caching pair
     → some_below clients (λ d. not (d == c) && not (is_quiet (pair d).probing)) ≡ false → (d : ℕ) → (d ≡ c → ⊥) → is_quiet (pair d).probing ≡ true
@@ -127,26 +119,6 @@ leaves-bytes m bytes e long = elim (leaves_memory m (bytes_at (block_at m.addres
   | inr same ↦ inl (ap (λ (f : Memory). bytes_from f (64 * block_at m.address) 64) same ∙ block_again (block_at m.address) bytes long)
 ]
 
-low_probed : (o : OpA) (param : ℕ) (k : Cap) → cap_probed o param ≡ Some k → same_cap k cap.ToT ≡ false
-low_probed o param cap.ToB e = refl
-low_probed o param cap.ToN e = refl
-low_probed a.Get param cap.ToT e = absurd cc
-low_probed a.Intent param cap.ToT e = absurd cc
-low_probed a.AcquireBlock param cap.ToT e = absurd (never (param == 0) e)
-  where
-    never : (b : Bool) → Some (if b then cap.ToB else cap.ToN) ≡ Some cap.ToT → ⊥
-    never true f = cc
-    never false f = cc
-low_probed a.AcquirePerm param cap.ToT e = absurd (never (param == 0) e)
-  where
-    never : (b : Bool) → Some (if b then cap.ToB else cap.ToN) ≡ Some cap.ToT → ⊥
-    never true f = cc
-    never false f = cc
-low_probed a.PutFullData param cap.ToT e = absurd cc
-low_probed a.PutPartialData param cap.ToT e = absurd cc
-low_probed a.ArithmeticData param cap.ToT e = absurd cc
-low_probed a.LogicalData param cap.ToT e = absurd cc
-
 -- ---- requests
 
 pub request_taken-kept : {w : ℕ} (caching : ℕ → Bool) (clients c source tracker : ℕ) (m : MessageA w) (rest : List Token) (h : Shadow w) → IsInvariant caching h.state
@@ -168,7 +140,7 @@ request_taken-kept {w} caching clients c source tracker m rest h inv plain first
     spares : (o : Option Cap) → cap_probed m.opcode m.param ≡ o → probes_some clients c false o b.pair ≡ false → Spares (performs m) b
     spares o e none = elim (leaves-bytes m b.truth access long) [
       | inl same ↦ inl same
-      | inr all ↦ inr (λ d. spares_none (b.pair d).recorded (unprobed clients caching c false cap.ToN b.pair plain (inv.blocks n).outside (asked_all o e all none) d refl))
+      | inr all ↦ inr (λ d. none-above (b.pair d).recorded (unprobed clients caching c false cap.ToN b.pair plain (inv.blocks n).outside (asked_all o e all none) d refl))
     ]
       where
         asked_all : (o : Option Cap) → cap_probed m.opcode m.param ≡ o → cap_probed m.opcode m.param ≡ Some cap.ToN → probes_some clients c false o b.pair ≡ false
@@ -180,7 +152,7 @@ request_taken-kept {w} caching clients c source tracker m rest h inv plain first
     go true (Some k) e f =
         let some : some_below clients (λ d. is_probed c false k (b.pair d).recorded d) ≡ true = rw f at e in
         let one = some-one clients (λ d. is_probed c false k (b.pair d).recorded d) some in
-        access_served-kept caching c n source tracker k rest h.state inv first free asked (low_probed m.opcode m.param k f) unused one.0 one.1
+        access_served-kept caching c n source tracker k rest h.state inv first free asked (low_cap m.opcode m.param k f) unused one.0 one.1
     go true None e f = absurd (let no : false ≡ true = rw f at e in cc)
     go false None e f = access_answered-kept caching c n source (performs m) rest h.state inv first asked (spares None f refl)
     go false (Some k) e f = access_answered-kept caching c n source (performs m) rest h.state inv first asked (spares (Some k) f (rw f at e))

@@ -35,6 +35,7 @@ use Rattle.tl_world.proofs.Carried.{carried-next, IsNext}
 use Rattle.tl_world.proofs.Phases.{and_left, and_right}
 use Rattle.tl_world.proofs.Tokens.{same_number, holds-first}
 use Rattle.tl_world.proofs.Parts.{acquires_of-is, is_asked-is, wanting-is}
+use Rattle.tl_world.proofs.Codes.{acquires-so}
 
 -- ---- an access that was asked
 
@@ -64,10 +65,6 @@ pub rendered-acquire : {w : ℕ} (c n : ℕ) (b : Block (List ℕ)) (whole : Boo
 unfolding rendered
 rendered-acquire {w} c n b true g e = rw e refl
 rendered-acquire {w} c n b false g e = rw e refl
-
-pub acquires-so : (whole : Bool) → is_acquire (acquire_opcode whole) ≡ true
-acquires-so true = refl
-acquires-so false = refl
 
 -- an access that was asked is no Acquire: the client has one Acquire of a block open at most, and that is another one
 asked-access : {w : ℕ} (config : Config) (log : Log w) (mail : Mail w) (request : ℕ → MessageA w) (s : State (List ℕ)) (sys : System w) (c source : ℕ) (m : MessageA w)

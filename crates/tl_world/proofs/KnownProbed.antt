@@ -46,17 +46,13 @@ use Rattle.tl_world.specs.Render.{probe_beat}
 use Rattle.tl_world.specs.Known.{IsKnown}
 use Rattle.tl_world.specs.Sources.{AreOpen}
 use Rattle.tl_world.proofs.Tokens.{same_number, set-same, set-other}
+use Rattle.tl_world.proofs.Codes.{cap-again}
 use Rattle.tl_rules.proofs.Handed.{pending-whole, release_of-whole}
 
 -- ---- the Probe
 
-cap_again : (k : Cap) → cap_of (cap_code k) ≡ Some k
-cap_again cap.ToT = refl
-cap_again cap.ToB = refl
-cap_again cap.ToN = refl
-
 pub report_is : (w n : ℕ) (k : Cap) (p : Perm) → report_for (probe_beat {w = w} n k) p ≡ report_at k p
-report_is w n k p = rw (cap_again k) refl
+report_is w n k p = rw (cap-again k) refl
 
 -- ---- the answer isn't a refusal or a stall
 

@@ -46,6 +46,7 @@ pub mod ClientSent
 pub mod ClientStep
 pub mod ClientTaken
 pub mod ClientTakes
+pub mod Codes
 pub mod Coherence
 pub mod Continuing
 pub mod Conveyed
@@ -154,6 +155,7 @@ pub mod Parts
 pub mod Passes
 pub mod Passing
 pub mod Performing
+pub mod Perms
 pub mod PhaseSteps
 pub mod Phases
 pub mod Play

@@ -23,24 +23,9 @@ use Rattle.tl_world.specs.Render.{rendered}
 use Rattle.tl_world.specs.Token.{Grant, set}
 use Rattle.tl_world.proofs.ManagerSettles.{gift_after, grant_after}
 use Rattle.tl_world.proofs.Tokens.{same_number, set-same}
+use Rattle.tl_world.proofs.Codes.{gives-some}
 
 -- ---- the Grant
-
--- a Grant gives something
-gives_some : (p : Profile) (whole : Bool) (g : Grow) (unheld : Bool) → same_perm (cap_right (gift p whole g unheld)) perm.None ≡ false
-gives_some profile.One true grow.NtoB unheld = refl
-gives_some profile.One true grow.NtoT unheld = refl
-gives_some profile.One true grow.BtoT unheld = refl
-gives_some profile.One false grow.NtoB unheld = refl
-gives_some profile.One false grow.NtoT unheld = refl
-gives_some profile.One false grow.BtoT unheld = refl
-gives_some profile.Two true grow.NtoB unheld = refl
-gives_some profile.Two true grow.NtoT unheld = refl
-gives_some profile.Two true grow.BtoT unheld = refl
-gives_some profile.Two false grow.NtoB true = refl
-gives_some profile.Two false grow.NtoB false = refl
-gives_some profile.Two false grow.NtoT unheld = refl
-gives_some profile.Two false grow.BtoT unheld = refl
 
 -- who is granted the block is recorded with what it is given, so that nobody else has it to write: the memory is its truth
 pub granted-memory : (caching : ℕ → Bool) (c q : ℕ) (r : Report) (d : Bool) (k : Cap) (b : Block (List ℕ)) → same_perm (cap_right k) perm.None ≡ false → IsWell caching (granted_block c q r d k b)
@@ -75,4 +60,4 @@ pub grant-rendered : {w : ℕ} (config : Config) (caching : ℕ → Bool) (c q n
     → grant_after config c q n source r whole g h ≡ rendered Grant q n (granted_block c q r (is_granted_data whole g ((h.state.block n).pair q).recorded) (gift_after config c n r whole g h) (h.state.block n))
 unfolding rendered
 grant-rendered config caching c q n source r whole g h own well =
-    rw (own, granted-memory caching c q r (is_granted_data whole g ((h.state.block n).pair q).recorded) (gift_after config c n r whole g h) (h.state.block n) (gives_some config.profile whole g _) well) refl
+    rw (own, granted-memory caching c q r (is_granted_data whole g ((h.state.block n).pair q).recorded) (gift_after config c n r whole g h) (h.state.block n) (gives-some config.profile whole g _) well) refl

@@ -62,6 +62,7 @@ use Rattle.tl_world.proofs.ManagerTakes.{IsTakenUp}
 use Rattle.tl_world.proofs.Quieted.{quiet-c, IsLastOf, missing-last}
 use Rattle.tl_world.proofs.Reporting.{reported-report}
 use Rattle.tl_world.proofs.Tokens.{set-same, set-other}
+use Rattle.tl_world.proofs.Codes.{grants_always, data-same}
 
 -- ---- the service of the block
 
@@ -233,34 +234,22 @@ ended-left {w} config c q n source k low r rest m h e at =
 
 -- ---- an Acquire
 
-data_same : (whole : Bool) (g : Grow) (p : Perm) → handing.is_granted_data (acquire_opcode whole) (grow_code g) p ≡ is_granted_data whole g p
-data_same true g p = refl
-data_same false grow.NtoB p = refl
-data_same false grow.NtoT p = refl
-data_same false grow.BtoT perm.None = refl
-data_same false grow.BtoT perm.Branch = refl
-data_same false grow.BtoT perm.Trunk = refl
-
 -- the Grant of an Acquire, by what is recorded
 pub grant-made : {w : ℕ} (config : Config) (q n tracker : ℕ) (v : MessageA w) (t : Trace w) (memory : Memory) (whole : Bool) (g : Grow) (unheld : Bool) (p : Perm) → v.opcode ≡ acquire_opcode whole → v.param ≡ grow_code g → block_at v.address ≡ n
     → holders.is_unheld config n t ≡ unheld → recorded q n t ≡ p
     → grant config (record { tracker = tracker; link = record { 0 = q }; request = v }) t memory ≡ grant_of (GrantSent q (is_granted_data whole g p) (gift config.profile whole g unheld)) v.source tracker (block_in memory n)
 grant-made {w} config q n tracker v t memory whole g unheld p opcode param block none held_is =
     let cap_is : cap_granted config.profile v.opcode v.param (holders.is_unheld config (block_at v.address) t) ≡ gift config.profile whole g unheld = rw (opcode, param, block, none) refl in
-    let data_is : handing.is_granted_data v.opcode v.param (recorded q (block_at v.address) t) ≡ is_granted_data whole g p = rw (opcode, param, block, held_is) (data_same whole g p) in
+    let data_is : handing.is_granted_data v.opcode v.param (recorded q (block_at v.address) t) ≡ is_granted_data whole g p = rw (opcode, param, block, held_is) (data-same whole g p) in
     ap₂ (λ k d. handing.grant_with (record { tracker = tracker; link = record { 0 = q }; request = v }) k d memory) cap_is data_is ∙ go (is_granted_data whole g p)
   where
     go : (d : Bool) → handing.grant_with (record { tracker = tracker; link = record { 0 = q }; request = v }) (gift config.profile whole g unheld) d memory ≡ grant_of (GrantSent q d (gift config.profile whole g unheld)) v.source tracker (block_in memory n)
     go true = rw block refl
     go false = refl
 
-grant_kinds : (d : Bool) → (is_grant (grant_opcode d) ≡ true) × (is_release_ack (grant_opcode d) ≡ false)
-grant_kinds true = (refl, refl)
-grant_kinds false = (refl, refl)
-
 given_is : {w : ℕ} (q : ℕ) (d : Bool) (k : Cap) (source sink : ℕ) (payload : List ℕ)
     → (m : MessageD w) × (grant_of (GrantSent q d k) source sink payload ≡ message.D m) × (is_grant m.opcode ≡ true) × (is_release_ack m.opcode ≡ false) × (m.source ≡ source) × (m.sink ≡ sink) × (m.param ≡ cap_code k)
-given_is q d k source sink payload = let kinds = grant_kinds d in (_, refl, kinds.0, kinds.1, refl, refl, refl)
+given_is q d k source sink payload = let kinds = grants_always d in (_, refl, kinds.0, kinds.1, refl, refl, refl)
 
 -- what is recorded of the block before the Grant
 abbrev pub pairs_after : ℕ → Report → (ℕ → Pair) → ℕ → Pair

@@ -44,6 +44,7 @@ use Rattle.tl_world.proofs.Traces.{traced-at}
 use Rattle.tl_world.proofs.Arrivals.{link_of, with_beat, IsComing, service_for, ready-last}
 use Rattle.tl_world.proofs.Requests.{recorded-beat, missing-beat, request-beat, request-own, IsUnwaited, serving-last, serving-others}
 use Rattle.tl_world.proofs.Tokens.{same_number, set-same, set-other, set-part}
+use Rattle.tl_world.proofs.Codes.{grants-so}
 
 -- the trace after the last beat of a request, which is performed, and its answer
 abbrev pub with_answer : {w : ℕ} → Config → ℕ → ℕ → MessageA w → Memory → Trace w → Trace w
@@ -55,10 +56,6 @@ answer_of_d : {w : ℕ} (r : MessageA w) (kind : Answer) → (m : MessageD w) ×
 answer_of_d r answer.Ack = (_, refl, refl)
 answer_of_d r answer.Hint = (_, refl, refl)
 answer_of_d r (answer.Data payload) = (_, refl, refl)
-
-grants_so : (b : Bool) → is_grant (grant_opcode b) ≡ true
-grants_so true = refl
-grants_so false = refl
 
 one-handed : {w : ℕ} (c : ℕ) (m : Message w) (t : Trace w) → with_handed ((link_of c, m) ∷ []) t ≡ after_sent (link_of c) m t
 unfolding with_handed
@@ -146,7 +143,7 @@ pub record IsGranting {w : ℕ} {X : Type 0} (config : Config) (c k n : ℕ) (j 
 grant_of_d : {w : ℕ} (config : Config) (n : ℕ) (j : Cap) (s : Service w) (t : Trace w) (memory : Memory) → block_at s.request.address ≡ n → cap_granted config.profile s.request.opcode s.request.param (holders.is_unheld config n t) ≡ j
     → (m : MessageD w) × (grant config s t memory ≡ D m) × (is_grant m.opcode ≡ true) × (m.source ≡ s.request.source) × (capped m.param ≡ cap_right j)
 grant_of_d config n j s t memory block given =
-    (_, refl, grants_so (is_granted_data s.request.opcode s.request.param (recorded s.link.0 (block_at s.request.address) t)), refl, rw (block, given) (cap-gives j))
+    (_, refl, grants-so (is_granted_data s.request.opcode s.request.param (recorded s.link.0 (block_at s.request.address) t)), refl, rw (block, given) (cap-gives j))
 
 pub traced-granted : {w : ℕ} {X : Type 0} (config : Config) (request : ℕ → MessageA w) (c k n : ℕ) (b : Bool) (j : Cap) (m : MessageA w) (s u : State X) (memory : Memory) (e : End w)
     → ((i : ℕ) → u.block i ≡ set n (granted_at_once c (least_free (trackers_of (services e.trace))) b j (s.block n)) s.block i)

@@ -50,7 +50,7 @@ use Rattle.tl_world.proofs.ClientAsked.{IsEndOf}
 use Rattle.tl_world.proofs.ClientDelivered.{shadow_of}
 use Rattle.tl_world.proofs.ClientEnd.{IsWellKept, IsEnd, end-matched, asks-acquire}
 use Rattle.tl_world.proofs.ClientProbed.{end-probe_taken}
-use Rattle.tl_world.proofs.ClientTakes.{access_kind, AreTermsOf, terms-are, sound-beat}
+use Rattle.tl_world.proofs.ClientTakes.{AreTermsOf, terms-are, sound-beat}
 use Rattle.tl_world.proofs.Due.{answer-due, grant-due, grant_message, grant-rendered, ack_message, own_view}
 use Rattle.tl_world.proofs.Facts.{granting_alone}
 use Rattle.tl_world.proofs.FirstToken.{IsFirst, first-token, own_kind}
@@ -58,6 +58,7 @@ use Rattle.tl_world.proofs.KnownProbed.{probe-taken}
 use Rattle.tl_world.proofs.Phases.{and_left}
 use Rattle.tl_world.proofs.Tokens.{holds-first}
 use Rattle.tl_world.proofs.Parts.{not-sent}
+use Rattle.tl_world.proofs.Codes.{access_kind}
 
 -- ---- no Grant of a block that is probed has begun to come
 

@@ -59,16 +59,10 @@ use Rattle.tl_world.proofs.ProbeDelivered.{IsProbed, probe-delivered}
 use Rattle.tl_world.proofs.RequestsTaken.{next_tracker, invariant-taken}
 use Rattle.tl_world.proofs.Tokens.{set-same, holds-first}
 use Rattle.tl_world.proofs.Parts.{kept-is, sent-is}
+use Rattle.tl_world.proofs.Codes.{cap-again}
+use Rattle.tl_world.proofs.KnownProbed.{report_is}
 
 -- ---- the answer to a Probe
-
-cap_again : (k : Cap) → cap_of (cap_code k) ≡ Some k
-cap_again cap.ToT = refl
-cap_again cap.ToB = refl
-cap_again cap.ToN = refl
-
-report_is : (w n : ℕ) (k : Cap) (p : Perm) → report_for (probe_beat {w = w} n k) p ≡ report_at k p
-report_is w n k p = rw (cap_again k) refl
 
 -- a report begins at what is held
 left_is : (k : Cap) (p : Perm) → report_left (report_at k p) ≡ p

@@ -39,6 +39,7 @@ use Rattle.tl_world.proofs.Arrivals.{link_of, with_beat, IsComing, service_for}
 use Rattle.tl_world.proofs.ManagedServed.{same_above}
 use Rattle.tl_world.proofs.Requests.{recorded-beat, missing-beat, request-beat, request-own, IsUnwaited, serving-last, serving-others}
 use Rattle.tl_world.proofs.Tokens.{set-same, set-other}
+use Rattle.tl_world.proofs.Perms.{nothing-above}
 
 -- the trace after the last beat of a request, and the Probes
 abbrev pub with_probes : {w : ℕ} → Config → ℕ → ℕ → MessageA w → ℕ → Cap → Trace w → Trace w
@@ -53,11 +54,6 @@ pub record IsProbing {w : ℕ} {X : Type 0} (config : Config) (c k n : ℕ) (own
   pub quiet : (d : ℕ) → is_quiet ((s.block n).pair d).probing ≡ true
   pub beyond : (d : ℕ) → length config.clients.items ≤ d → ((s.block n).pair d).recorded ≡ perm.None
   pub unwaited : IsUnwaited c source s
-
-nothing_above : (j : Cap) → is_above j perm.None ≡ false
-nothing_above cap.ToT = refl
-nothing_above cap.ToB = refl
-nothing_above cap.ToN = refl
 
 request_of-probe : {w : ℕ} (src n : ℕ) (j : Cap) (h : History w) → request_of src (beat.B (probe_beat n j) ∷ h) ≡ request_of src h
 unfolding request_of
@@ -155,5 +151,5 @@ traced-probing {w} {X} config request c k n own source j m s u e blocks is known
           ap (pending (ProbeOf n)) (probes-within d n j 0 (length config.clients.items) test t (omega arith) (omega (arith, lt))) ∙ probed_or d (test d) ∙ test_is d ∙ quiet_now d (own && (d == c))
       | inr le ↦
           ap (pending (ProbeOf n)) (probes-beyond d n j 0 (length config.clients.items) test t (omega (arith, le))) ∙ missing_before d
-          ∙ sym (rw (is.beyond d le, nothing_above j) refl) ∙ quiet_now d (own && (d == c))
+          ∙ sym (rw (is.beyond d le, nothing-above j) refl) ∙ quiet_now d (own && (d == c))
     ]

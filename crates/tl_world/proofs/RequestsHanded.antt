@@ -40,11 +40,12 @@ use Rattle.tl_world.specs.System.{System}
 use Rattle.tl_world.specs.Token.{Grant}
 use Rattle.tl_world.specs.Whole.{IsMatched}
 use Rattle.tl_world.proofs.Arrivals.{link_of, with_beat, IsComing, service_for}
-use Rattle.tl_world.proofs.Fronts.{IsAsked, IsWanted, acquires-so}
+use Rattle.tl_world.proofs.Fronts.{IsAsked, IsWanted}
 use Rattle.tl_world.proofs.Memories.{performed-reply}
 use Rattle.tl_world.proofs.Requests.{recorded-beat}
 use Rattle.tl_world.proofs.RequestsTaken.{next_tracker, deed-performed, acquire_wanted, unheld-same}
 use Rattle.tl_world.proofs.Tokens.{same_number, set-same}
+use Rattle.tl_world.proofs.Codes.{acquires-so, gives-some, data-same}
 
 -- ---- an access that is answered
 
@@ -83,33 +84,6 @@ memory-granted caching q d k new well granted given some = well.memory nobody
       | inl same ↦ rw same (ap (λ x. same_perm (new.pair q).recorded perm.Trunk && not x) own_view ∙ and-false (same_perm (new.pair q).recorded perm.Trunk))
       | inr other ↦ ap (λ x. x && not (is_granting (view new.service i))) (not_trunk i other)
     ]
-
--- a Grant gives something
-pub gives-some : (p : Profile) (whole : Bool) (g : Grow) (unheld : Bool) → same_perm (cap_right (gift p whole g unheld)) perm.None ≡ false
-gives-some profile.One true grow.NtoB unheld = refl
-gives-some profile.One true grow.NtoT unheld = refl
-gives-some profile.One true grow.BtoT unheld = refl
-gives-some profile.One false grow.NtoB unheld = refl
-gives-some profile.One false grow.NtoT unheld = refl
-gives-some profile.One false grow.BtoT unheld = refl
-gives-some profile.Two true grow.NtoB unheld = refl
-gives-some profile.Two true grow.NtoT unheld = refl
-gives-some profile.Two true grow.BtoT unheld = refl
-gives-some profile.Two false grow.NtoB true = refl
-gives-some profile.Two false grow.NtoB false = refl
-gives-some profile.Two false grow.NtoT unheld = refl
-gives-some profile.Two false grow.BtoT unheld = refl
-
--- it carries the block where the protocol says so
-data-same : (whole : Bool) (g : Grow) (p : Perm) → handing.is_granted_data (acquire_opcode whole) (grow_code g) p ≡ is_granted_data whole g p
-data-same true grow.NtoB p = refl
-data-same true grow.NtoT p = refl
-data-same true grow.BtoT p = refl
-data-same false grow.NtoB p = refl
-data-same false grow.NtoT p = refl
-data-same false grow.BtoT perm.None = refl
-data-same false grow.BtoT perm.Branch = refl
-data-same false grow.BtoT perm.Trunk = refl
 
 payload-same : (d : Bool) (f : Memory) (n : ℕ) (truth : List ℕ) → bytes_from f (64 * n) 64 ≡ truth → grant_payload d f n ≡ (if d then truth else handing.no_payload)
 payload-same true f n truth e = e

@@ -43,11 +43,12 @@ use Rattle.tl_world.proofs.AtRequests.{end_after, at_manager-probing, at_manager
 use Rattle.tl_world.proofs.Choices.{nobody-same, no-clients, plain-past, waits-used}
 use Rattle.tl_world.proofs.Facts.{quiet_at_rest}
 use Rattle.tl_world.proofs.FollowKept.{IsReady, IsServing, kind_taken-kept}
-use Rattle.tl_world.proofs.Fronts.{IsAsked, IsWanted, acquires-so}
+use Rattle.tl_world.proofs.Fronts.{IsAsked, IsWanted}
 use Rattle.tl_world.proofs.ManagedServed.{same_above}
 use Rattle.tl_world.proofs.ManagersEnd.{IsAtManager, at_manager-matched}
 use Rattle.tl_world.proofs.Performing.{IsAnswering}
 use Rattle.tl_world.proofs.Requests.{recorded-beat, IsUnwaited}
+use Rattle.tl_world.proofs.Codes.{acquires-so}
 
 -- ---- what a request that needn't wait finds
 

@@ -33,6 +33,7 @@ use Rattle.tl_world.specs.Whole.{AreSized, IsRequest, IsSourced, is_storing}
 use Rattle.tl_world.proofs.Sized.{each-set_at, used-serving}
 use Rattle.tl_world.proofs.Tokens.{same_number, set-same, set-other, set-each, set-part, holds-first}
 use Rattle.tl_world.proofs.Parts.{is_asked-is}
+use Rattle.tl_world.proofs.Perms.{trunk-some}
 
 -- ---- accesses and their sources
 
@@ -294,11 +295,6 @@ abbrev pub IsSizedAsk : {w : ℕ} → ℕ → Op w → Reply → Shadow w → Ty
 IsSizedAsk c (op.Store address size value) reply.Stored h = (is_word address size ≡ true) × (same_perm ((h.state.block (block_at address)).pair c).held perm.Trunk ≡ true)
 IsSizedAsk c o r h = Unit {0}
 
-trunk_some : (p : Perm) → same_perm p perm.Trunk ≡ true → same_perm p perm.None ≡ false
-trunk_some perm.Trunk e = refl
-trunk_some perm.None e = absurd cc
-trunk_some perm.Branch e = absurd cc
-
 sized_acquiring : (c source : ℕ) (whole : Bool) (g : Grow) (bytes : List ℕ) (b : Block (List ℕ)) → (whole ≡ true → length bytes ≡ 64) → AreSized b → AreSized (acquiring_block c source whole g bytes b)
 sized_acquiring c source whole g bytes b long h = record { truth = h.truth; waiting = λ d e. go d (cases_eq d c) e }
   where
@@ -316,7 +312,7 @@ sized-asked caching c (op.Load address size) r h inv typed ask before = before
 sized-asked caching c (op.Store address size value) reply.Stored h inv typed ask before = λ i.
     let n : ℕ = block_at address in
     let b : Block (List ℕ) = h.state.block n in
-    let long : length (b.copy c) ≡ 64 = ap length ((inv.blocks n).copies c (trunk_some (b.pair c).held ask.1)) ∙ (before n).truth in
+    let long : length (b.copy c) ≡ 64 = ap length ((inv.blocks n).copies c (trunk-some (b.pair c).held ask.1)) ∙ (before n).truth in
     sized_block n (stored_block c (stored address size value (b.copy c)) b) h.state.block
     (sized_same b (stored_block c (stored address size value (b.copy c)) b) (length-stored address size value (b.copy c) long (word_room address size ask.0)) (λ d. refl) (λ d e. e) (before n)) before i
 sized-asked caching c (op.Store address size value) (reply.Value v) h inv typed ask before = before

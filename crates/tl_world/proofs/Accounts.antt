@@ -15,6 +15,7 @@ use Rattle.tl_params.specs.declared.key.Key.TheVariants.{ProbeOf}
 use Rattle.tl_params.specs.declared.param.Cap.{Cap}
 use Rattle.tl_rules.specs.Conformance.{Trace, on_link, comes_in_request}
 use Rattle.tl_rules.specs.History.{pending, block_at, request_of, probe_of}
+use Rattle.tl_client.proofs.HeldAfter.{swapped}
 use Rattle.tl_manager.specs.Holders.{recorded, cap_probed}
 use Rattle.tl_manager.specs.Kept.{AreApart, blocks_of, IsKept}
 use Rattle.tl_manager.specs.Pending as waits
@@ -35,14 +36,6 @@ use Rattle.tl_world.proofs.Facts.{is_other, own_wants}
 use Rattle.tl_world.proofs.Phases.{each_phase, of_phase, and_left, and_right}
 use Rattle.tl_world.proofs.Tokens.{same_number}
 use Rattle.tl_world.proofs.Parts.{is_of-is, acquires_of-is, serves_of-is, not-calm, not-other}
-
--- ---- truth values
-
-pub eqb-swap : (m n : ℕ) → (m == n) ≡ (n == m)
-eqb-swap m n = elim (cases_eq m n) [
-  | inl same ↦ rw same refl
-  | inr other ↦ rw (ne_eqb m n other, ne_eqb n m (λ e. other (sym e))) refl
-]
 
 -- ---- services that pass a test
 
@@ -158,18 +151,18 @@ granted-is {w} {X} caching config request s e inv kept is n v found = go (s.bloc
 acquiring-is : {w : ℕ} (c n tracker : ℕ) (m : MessageA w) (t : Trace w) (service : Service) → IsFor service n m → ((v : manager.Service w) → service_with (client_in service) tracker m ≡ Some v → waits.is_granted t v ≡ is_granted_in service)
     → is_acquiring c t (service_with (client_in service) tracker m) ≡ is_own (view service c)
 acquiring-is c n tracker m t Free for granted = refl
-acquiring-is c n tracker m t (Waits r own source k) for granted = rw (granted (at_service r tracker m) refl, for.0, eqb-swap r c) (go own (c == r))
+acquiring-is c n tracker m t (Waits r own source k) for granted = rw (granted (at_service r tracker m) refl, for.0, swapped r c) (go own (c == r))
   where
     go : (b same : Bool) → (b && (same && true)) ≡ is_own (if b && same then Own else Other k)
     go true true = refl
     go true false = refl
     go false same = refl
-acquiring-is c n tracker m t (GrantSent q d k) for granted = rw (granted (at_service q tracker m) refl, for.0, eqb-swap q c) (go (c == q))
+acquiring-is c n tracker m t (GrantSent q d k) for granted = rw (granted (at_service q tracker m) refl, for.0, swapped q c) (go (c == q))
   where
     go : (same : Bool) → (true && (same && false)) ≡ is_own (if same then Granting d k else GrantedOther)
     go true = refl
     go false = refl
-acquiring-is c n tracker m t (GrantTaken q) for granted = rw (granted (at_service q tracker m) refl, for.0, eqb-swap q c) (go (c == q))
+acquiring-is c n tracker m t (GrantTaken q) for granted = rw (granted (at_service q tracker m) refl, for.0, swapped q c) (go (c == q))
   where
     go : (same : Bool) → (true && (same && false)) ≡ is_own (if same then Acknowledging else GrantedOther)
     go true = refl
@@ -188,12 +181,12 @@ granting-is c n tracker m t (Waits r own source k) granted = rw (granted (at_ser
     go true false = refl
     go false true = refl
     go false false = refl
-granting-is c n tracker m t (GrantSent q d k) granted = rw (granted (at_service q tracker m) refl, eqb-swap q c) (go (c == q))
+granting-is c n tracker m t (GrantSent q d k) granted = rw (granted (at_service q tracker m) refl, swapped q c) (go (c == q))
   where
     go : (same : Bool) → (same && true) ≡ is_grant_of (if same then Granting d k else GrantedOther)
     go true = refl
     go false = refl
-granting-is c n tracker m t (GrantTaken q) granted = rw (granted (at_service q tracker m) refl, eqb-swap q c) (go (c == q))
+granting-is c n tracker m t (GrantTaken q) granted = rw (granted (at_service q tracker m) refl, swapped q c) (go (c == q))
   where
     go : (same : Bool) → (same && true) ≡ is_grant_of (if same then Acknowledging else GrantedOther)
     go true = refl

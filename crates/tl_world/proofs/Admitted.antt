@@ -241,7 +241,7 @@ open-level : {w : ℕ} (config : Config) (l : Level) (c : ℕ) (e : End w) → e
 open-level config l c e live level = rw live level
 
 -- the first of the beats that are on a channel
-head_all : {X : Type 0} (P : X → Type 0) (x : X) (xs ys : List X) → ys ≡ x ∷ xs → All P ys → P x
+pub head_all : {X : Type 0} (P : X → Type 0) (x : X) (xs ys : List X) → ys ≡ x ∷ xs → All P ys → P x
 head_all P x xs ys e h = first (rw e at h)
   where
     first : All P (x ∷ xs) → P x

@@ -73,7 +73,7 @@ asks_something (message.C m) e = absurd cc
 asks_something (message.D m) e = absurd cc
 asks_something (message.E m) e = absurd cc
 
-acquires_something : (w : ℕ) (a : Acquiring) (source n : ℕ) → is_some (first_of (acquire_of {w = w} a source n)) ≡ true
+pub acquires_something : (w : ℕ) (a : Acquiring) (source n : ℕ) → is_some (first_of (acquire_of {w = w} a source n)) ≡ true
 acquires_something w Calm source n = refl
 acquires_something w (Wants true g) source n = refl
 acquires_something w (Wants false g) source n = refl
@@ -92,13 +92,13 @@ closed-source {w} config c source mail s sourced answered none = go (s.uses c so
     go Replied e a b f = absurd (let no : true ≡ false = sym (asks_something (mail.request c source) (answered_request source (mail.request c source) (mail.answer c source) b)) ∙ f in cc)
     go (Acquires n) e a b f = absurd (let no : true ≡ false = sym (acquires_something w ((s.block n).pair c).acquiring ((s.block n).source c) n) ∙ f in cc)
 
-no_let : (o : Option ℕ) → is_some o ≡ false → o ≡ None
+pub no_let : (o : Option ℕ) → is_some o ≡ false → o ≡ None
 no_let None e = refl
 no_let (Some n) e = absurd cc
 
 -- ---- a client with transfers caches
 
-caches : (config : Config) (c : ℕ) (l : Level) → level_of config c ≡ Some l → has_transfers l ≡ true → is_caching config c ≡ true
+pub caches : (config : Config) (c : ℕ) (l : Level) → level_of config c ≡ Some l → has_transfers l ≡ true → is_caching config c ≡ true
 caches config c level.C at transfers = ap is_c at
 caches config c level.UL at transfers = absurd cc
 caches config c level.UH at transfers = absurd cc

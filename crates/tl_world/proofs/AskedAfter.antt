@@ -53,6 +53,7 @@ use Rattle.tl_world.proofs.Landed.{pushes_of, handed-client}
 use Rattle.tl_world.proofs.Showing.{none-carried}
 use Rattle.tl_world.proofs.Steps.{stepped-asked}
 use Rattle.tl_world.proofs.Tokens.{set-same}
+use Rattle.tl_world.proofs.ManagersAfter.{release_channel}
 
 -- ---- the operations that do something
 
@@ -124,11 +125,6 @@ rendered_acquiring {w} c n source whole g bytes b =
 rendered_releasing : {w : ℕ} (c n source : ℕ) (p : Prune) (b : Block (List ℕ)) → rendered {w = w} Release c n (releasing_block c source p b) ≡ release p source n b.truth
 unfolding rendered
 rendered_releasing {w} c n source p b = rw (set-same c (after_release p (b.pair c)) b.pair, set-same c source b.release_source) refl
-
-release_channel : (w : ℕ) (p : Prune) (source n : ℕ) (bytes : List ℕ) → channel_of_message {w = w} (release p source n bytes) ≡ channel.C
-release_channel w prune.TtoB source n bytes = refl
-release_channel w prune.TtoN source n bytes = refl
-release_channel w prune.BtoN source n bytes = refl
 
 abbrev CarriesAsked : {w : ℕ} → Config → ℕ → Shadow w → System w → Op w → Reply → Type 0
 CarriesAsked {w} config c h sys o r = (m : Option (Message w)) (e : client.End w) → IsAskable (is_caching config) c o r h → IsInvariant (is_caching config) (asked c o r h).state → IsHandedOut c o r h m

@@ -51,7 +51,7 @@ use Rattle.tl_world.specs.Render.{Mail, acquire_of, rendered}
 use Rattle.tl_world.specs.Token.{Acquire}
 use Rattle.tl_world.specs.System.{System, terms_at}
 use Rattle.tl_world.specs.Whole.{IsMatched, is_caching, first_of, asked_for, block_used, IsRequest, IsSourced, IsAnswered}
-use Rattle.tl_world.proofs.Askable.{swap_perms}
+use Rattle.tl_world.proofs.Askable.{swap_perms, no_let, caches}
 use Rattle.tl_world.proofs.BesideAsked.{IsReply}
 use Rattle.tl_world.proofs.FollowKept.{IsAskable}
 use Rattle.tl_world.proofs.Goods.{level-terms}
@@ -59,10 +59,6 @@ use Rattle.tl_world.proofs.SizedAfter.{IsSourcedAsk, IsSizedAsk}
 use Rattle.tl_world.proofs.Parts.{calm-is, kept-letting}
 
 -- ---- what the protocol has, by what the end has
-
-none_is : (o : Option ℕ) → is_some o ≡ false → o ≡ None
-none_is None e = refl
-none_is (Some n) e = absurd cc
 
 -- who has no request open with a source doesn't use it
 acquire_some : (w c n : ℕ) (b : Block (List ℕ)) → is_some (asked_for {w = w} (Acquires n) (rendered Acquire c n b) (rendered Acquire c n b)) ≡ true
@@ -139,11 +135,6 @@ loaded_number f address size bytes room is =
     number_same (slice_index bytes) f (address % 64) address (2 ^ size)
     (λ i lt. let place : 64 * (address / 64) + (address % 64 + i) ≡ address + i = omega arith in sym (is (address % 64 + i) (omega (arith, room, lt))) ∙ ap f place)
 
-caching_is : (config : Config) (c : ℕ) (l : Level) → level_of config c ≡ Some l → has_transfers l ≡ true → is_caching config c ≡ true
-caching_is config c level.C e f = rw e refl
-caching_is config c level.UL e f = absurd cc
-caching_is config c level.UH e f = absurd cc
-
 some_held : (p : Prune) (q : Perm) → same_perm (prune_left p) q ≡ true → same_perm q perm.None ≡ false
 some_held prune.TtoB perm.Trunk e = refl
 some_held prune.TtoN perm.Trunk e = refl
@@ -208,7 +199,7 @@ asked-well {w} config log h sys c terms o width is known = asked-cases terms o e
         (calm-is ((s.block n).pair c).acquiring (sym ((is.known c).acquires n) ∙ parts.0), kept-letting ((s.block n).pair c).letting (sym ((is.known c).releases n) ∙ parts.1))
 
     caching : not (has_transfers terms.level) ≡ false → is_caching config c ≡ true
-    caching four = caching_is config c terms.level level_is (not-false (has_transfers terms.level) four)
+    caching four = caches config c terms.level level_is (not-false (has_transfers terms.level) four)
 
     load_well : (address size : ℕ) (p : Perm) → ((s.block (block_at address)).pair c).held ≡ p → is_word address size ≡ true → IsAskedWell config c (op.Load address size) h m (load address size p e)
     load_well address size perm.None f word = record { may = tt; word = tt; source = tt; reply = tt; replies = refl; message = refl }
@@ -270,7 +261,7 @@ asked-well {w} config log h sys c terms o width is known = asked-cases terms o e
     well (op.Release n p) free =
         let source = source_or_0 (free_release terms e.past) in
         let open_ = (least_free-some (λ i. pending (ReleaseSource i) e.past) 0 terms.sources free.b1).0 in
-        let none = none_is (s.lets c source) (sym ((is.opened c).releases source) ∙ open_) in
+        let none = no_let (s.lets c source) (sym ((is.opened c).releases source) ∙ open_) in
         let still = transfers n free.b2 in
         let begins : same_perm (prune_left p) ((s.block n).pair c).held ≡ true = ap (same_perm (prune_left p)) (sym (held_is n)) ∙ not-false (same_perm (prune_left p) (held_at e n)) free.b3 in
         record {

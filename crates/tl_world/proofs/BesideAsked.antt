@@ -28,11 +28,11 @@ use Rattle.tl_world.specs.Protocol.{Block, State, Use, Closed, Asked, InService,
 use Rattle.tl_world.specs.Render.{Mail}
 use Rattle.tl_world.specs.Token.{set, set_at}
 use Rattle.tl_world.specs.Whole.{AreSized}
-use Rattle.tl_world.proofs.Beside.{IsElsewhere, IsSameAcquire, set_at-here, set_at-there, open-here, open-there, open-releases, open-requests, beside-still, beside-used, beside-let}
+use Rattle.tl_world.proofs.Beside.{IsElsewhere, IsSameAcquire, set_at-there, open-here, open-there, open-releases, open-requests, beside-still, beside-used, beside-let}
 use Rattle.tl_world.proofs.FollowKept.{IsAskable}
 use Rattle.tl_world.proofs.OneMemory.{block-stored, block-unstored}
 use Rattle.tl_world.proofs.SizedAfter.{IsSizedAsk}
-use Rattle.tl_world.proofs.Tokens.{same_number, set-same, set-other, set-part}
+use Rattle.tl_world.proofs.Tokens.{same_number, set-same, set-other, set-part, set_at-same}
 use Rattle.tl_world.proofs.Perms.{trunk-some}
 
 -- ---- Acquires of other sources
@@ -145,7 +145,7 @@ beside-access_asked {w} c source a mail s m h =
       memory = h.memory;
       uses = λ d i. refl;
       lets = λ d i. refl;
-      here = (a, set_at-here c source (access source a) mail.request, open-here c Requests source (Some (record { asked = op.Access (message.A a); answer = None })) m);
+      here = (a, set_at-same c source (access source a) mail.request, open-here c Requests source (Some (record { asked = op.Access (message.A a); answer = None })) m);
       there = λ d i else_. open-there c Requests source (Some (record { asked = op.Access (message.A a); answer = None })) m d i else_;
       releases = λ d i. open-releases c source (Some (record { asked = op.Access (message.A a); answer = None })) m d i;
       requests = λ d i else_. set_at-there c source (access source a) mail.request d i else_;

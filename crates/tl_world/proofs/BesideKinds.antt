@@ -25,7 +25,7 @@ use Rattle.tl_world.specs.Protocol.{Service, Free, Waits, GrantSent, GrantTaken,
 use Rattle.tl_world.specs.Remembered.{performing}
 use Rattle.tl_world.specs.Render.{Mail}
 use Rattle.tl_world.specs.Token.{Kind, Request, ProbeAck, Answer, Grant, ReleaseAck, Token, set, set_at}
-use Rattle.tl_world.proofs.Beside.{IsSameAcquire, open-here, open-there, open-releases, open-requests, beside-still, beside-used, beside-let}
+use Rattle.tl_world.proofs.Beside.{IsSameAcquire, open-here, open-there, open-releases, open-requests, beside-still, beside-used, beside-let, same_acquire}
 use Rattle.tl_world.proofs.BesideAsked.{acquires-else}
 use Rattle.tl_world.proofs.BesideTaken.{IsPerformed, beside-performed, memory-unprobed, memory-reported, intent-reply}
 use Rattle.tl_world.proofs.OneMemory.{block-whole, block-besides}
@@ -98,13 +98,6 @@ granted_acquiring c q r k pair d = elim (cases_eq d q) [
 
 -- ---- a request
 
-same_acquires : (d : ℕ) (s s' : State (List ℕ)) (u : Use) → ((n : ℕ) → (((s'.block n).pair d).acquiring ≡ ((s.block n).pair d).acquiring) × ((s'.block n).waiting d ≡ (s.block n).waiting d)) → IsSameAcquire d s s' u
-same_acquires d s s' Closed e = tt
-same_acquires d s s' Asked e = tt
-same_acquires d s s' (InService k) e = tt
-same_acquires d s s' Replied e = tt
-same_acquires d s s' (Acquires k) e = e k
-
 beside_served : {w : ℕ} (config : Config) (c source : ℕ) (x : MessageA w) (tracker : ℕ) (k : Cap) (rest : List Token) (mail : Mail w) (s : State (List ℕ)) (m : Machine w) → IsPerformed config c source x mail s m
     → IsBeside mail s m → IsBeside mail (access_served c (block_at x.address) source tracker k rest s) m
 beside_served {w} config c source x tracker k rest mail s m is h =
@@ -117,7 +110,7 @@ beside_served {w} config c source x tracker k rest mail s m is h =
       releases = λ d i. refl;
       requests = λ d i else_. refl;
       answers = λ d i else_. refl;
-      acquires = λ d i else_. same_acquires d s s' (s.uses d i) (λ j. (set-part (λ (b : Block (List ℕ)). (b.pair d).acquiring) n new s.block (served_acquiring c false k (s.block n).pair d) j, set-part (λ (b : Block (List ℕ)). b.waiting d) n new s.block refl j));
+      acquires = λ d i else_. same_acquire d s s' (s.uses d i) (λ j. (set-part (λ (b : Block (List ℕ)). (b.pair d).acquiring) n new s.block (served_acquiring c false k (s.block n).pair d) j, set-part (λ (b : Block (List ℕ)). b.waiting d) n new s.block refl j));
     }) h
   where
     n : ℕ
@@ -277,7 +270,7 @@ beside-answer {w} c source rest mail s m used h = go (m.opened c Requests source
           releases = λ d j. open-releases c source None m d j;
           requests = λ d j else_. refl;
           answers = λ d j else_. refl;
-          acquires = λ d j else_. same_acquires d s (answer_taken c source rest s) (s.uses d j) (λ k. (refl, refl));
+          acquires = λ d j else_. same_acquire d s (answer_taken c source rest s) (s.uses d j) (λ k. (refl, refl));
         }) h)
       where
         some_is : (x y : Open w) → Some x ≡ Some y → x ≡ y

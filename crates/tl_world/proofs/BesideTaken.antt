@@ -37,13 +37,14 @@ use Rattle.tl_world.specs.Remembered.{performing}
 use Rattle.tl_world.specs.Render.{Mail, report_told}
 use Rattle.tl_world.specs.Token.{set_at}
 use Rattle.tl_world.specs.Whole.{IsRequest}
-use Rattle.tl_world.proofs.Beside.{IsSameAcquire, done_at, set_at-here, set_at-there, open-here, open-there, open-releases, performed-open, performing-one, beside-used}
+use Rattle.tl_world.proofs.Beside.{IsSameAcquire, done_at, set_at-there, open-here, open-there, open-releases, performed-open, performing-one, beside-used}
 use Rattle.tl_world.proofs.Facts.{is_other}
 use Rattle.tl_world.proofs.FollowKept.{some-none}
 use Rattle.tl_world.proofs.OneMemory.{blocks-performed, reply-performed, effect-sourced}
-use Rattle.tl_world.proofs.Phases.{each_phase, of_phase}
+use Rattle.tl_world.proofs.Phases.{each_phase, of_phase, implies, implies_is}
 use Rattle.tl_world.proofs.Codes.{low_cap}
 use Rattle.tl_world.proofs.Perms.{nothing-above, not_out}
+use Rattle.tl_world.proofs.Tokens.{set_at-same}
 
 -- ---- the manager's memory is the one memory, where nobody has what he was given to write
 
@@ -64,15 +65,6 @@ memory-unprobed clients caching c k b plain well low none = well.memory (λ d. n
       | inl lt ↦ some-none clients (λ i. is_probed c false k (b.pair i).recorded i) none d lt
       | inr le ↦ rw (well.outside d (plain d le)) (nothing-above k)
     ]
-
--- one for whom another request waits, and who has told of no Trunk and has no Probe, has none
-abbrev implies : Bool → Bool → Bool
-implies true b = b
-implies false b = true
-
-implies_is : (x y : Bool) → implies x y ≡ true → x ≡ true → y ≡ true
-implies_is true y h e = h
-implies_is false y h e = absurd cc
 
 low_test : Pair → View → Bool
 low_test p v = implies (is_other v && (not (same_perm (report_left (report_told p.probing)) perm.Trunk) && not (is_sent p.probing))) (not (same_perm p.recorded perm.Trunk))
@@ -123,7 +115,7 @@ pub record IsPerformed {w : ℕ} (config : Config) (c source : ℕ) (a : Message
   pub opened : IsAccess source (mail.request c source) None (m.opened c Requests source)
   pub long : length (s.block (block_at a.address)).truth ≡ 64
 
-same_message : {w : ℕ} (x y : MessageA w) → message.A x ≡ message.A y → x ≡ y
+pub same_message : {w : ℕ} (x y : MessageA w) → message.A x ≡ message.A y → x ≡ y
 same_message x y e = cc
 
 -- the same effect, by the access as it was asked for
@@ -161,7 +153,7 @@ beside-performed {w} config c source a bytes mail s s' m is same_reply others ch
       here = (
         (effect (message.A is.opened.0) m.memory).1,
         (is.opened.0, is.opened.1, open-here c Requests source (Some now) (with_memory (effect (message.A is.opened.0) m.memory).0 m)),
-        subst (λ (x : Message w). Answers x (effect (message.A is.opened.0) m.memory).1 (set_at c source (answers a bytes) mail.answer c source)) (sym is.request) (set_at-here c source (answers a bytes) mail.answer ∙ ap (λ r. access_answer a (answer_of (message.A a) r)) (sym reply_is), reaches),
+        subst (λ (x : Message w). Answers x (effect (message.A is.opened.0) m.memory).1 (set_at c source (answers a bytes) mail.answer c source)) (sym is.request) (set_at-same c source (answers a bytes) mail.answer ∙ ap (λ r. access_answer a (answer_of (message.A a) r)) (sym reply_is), reaches),
       );
       there = λ d i else_. open-there c Requests source (Some now) (with_memory (effect (message.A is.opened.0) m.memory).0 m) d i else_;
       releases = λ d i. open-releases c source (Some now) (with_memory (effect (message.A is.opened.0) m.memory).0 m) d i;

@@ -26,6 +26,7 @@ use Rattle.tl_world.specs.System.{System, terms_at}
 use Rattle.tl_world.specs.Whole.{IsMatched, asked_by, first_of, request_source, IsSourced}
 use Rattle.tl_world.proofs.Capacities.{AreBounded}
 use Rattle.tl_world.proofs.Tokens.{same_number}
+use Rattle.tl_world.proofs.Askable.{acquires_something}
 
 -- a client's sources that are pending are its own
 pub record IsOwn {w : ℕ} (config : Config) (c : ℕ) (sys : System w) : Type 0 where
@@ -43,11 +44,6 @@ source_known (message.B m) source e = absurd cc
 source_known (message.C m) source e = absurd cc
 source_known (message.D m) source e = absurd cc
 source_known (message.E m) source e = absurd cc
-
-acquire_known : (w : ℕ) (x : Acquiring) (source n : ℕ) → is_some (first_of (acquire_of {w = w} x source n)) ≡ true
-acquire_known w (Wants true g) source n = refl
-acquire_known w (Wants false g) source n = refl
-acquire_known w Calm source n = refl
 
 -- ---- trackers
 
@@ -81,7 +77,7 @@ module _ {w : ℕ} (config : Config) (log : Log w) (mail : Mail w) (request : �
   asked_of source Replied e used =
       let opened : IsOpened c source mail s Replied ((remembered config log).opened c Requests source) = rw e at (matched.beside.requests c source) in
       rw e (has_first (mail.request c source) _ opened.1.1)
-  asked_of source (Acquires n) e used = rw e (acquire_known w ((s.block n).pair c).acquiring ((s.block n).source c) n)
+  asked_of source (Acquires n) e used = rw e (acquires_something w ((s.block n).pair c).acquiring ((s.block n).source c) n)
 
   tracker_below : (i n : ℕ) → s.tracked i ≡ Some n → i < config.trackers
   tracker_below i n e =

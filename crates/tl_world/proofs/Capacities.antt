@@ -12,6 +12,7 @@ use Rattle.tl_world.proofs.Distinct.{passing, pass-or-not, all-pass, few, IsTher
 use Rattle.tl_world.proofs.Tokens.{same_number}
 use Rattle.tl_world.proofs.Phases.{each_phase, of_phase}
 use Rattle.tl_world.proofs.Parts.{not-answered, not-sent, acked-open, releasing-open, is_replied-is, is_asked-is, is_of-is, acquires_of-is}
+use Rattle.tl_world.proofs.Channels.{on_same}
 
 -- what is used is below these bounds
 pub record AreBounded {X : Type 0} (c sources trackers : ℕ) (s : State X) : Type 0 where
@@ -45,25 +46,12 @@ once_of caching s c ch Grant n inv on_it is = at_most_one _ (shown Grant c (s.bl
 once_of caching s c ch ReleaseAck n inv on_it is = at_most_one _ (shown ReleaseAck c (s.block n)) (rw is (inv.transfers c ReleaseAck refl n))
 once_of caching s c ch GrantAck n inv on_it is = at_most_one _ (shown GrantAck c (s.block n)) (rw is (inv.transfers c GrantAck refl n))
 
--- the channel of a kind is the one that it is on
-on-tokens : (ch : Channel) (k : Kind) (l : Link) → is_on ch k ≡ true → tokens_on ch l ≡ on k l
-on-tokens channel.A Request l e = refl
-on-tokens channel.A Acquire l e = refl
-on-tokens channel.B Probe l e = refl
-on-tokens channel.C ProbeAck l e = refl
-on-tokens channel.C Release l e = refl
-on-tokens channel.D Answer l e = refl
-on-tokens channel.D Grant l e = refl
-on-tokens channel.D ReleaseAck l e = refl
-on-tokens channel.E GrantAck l e = refl
-on-tokens _ _ l e = absurd cc
-
 -- no token stands twice on a channel
 pub once : {X : Type 0} (caching : ℕ → Bool) (s : State X) (c : ℕ) (ch : Channel) → IsInvariant caching s → (k : Kind) (n : ℕ) → count k n (tokens_on ch (s.link c)) ≤ 1
 once caching s c ch inv k n = go (is_on ch k) refl
   where
     go : (b : Bool) → is_on ch k ≡ b → count k n (tokens_on ch (s.link c)) ≤ 1
-    go true e = once_of caching s c ch k n inv e (on-tokens ch k (s.link c) e)
+    go true e = once_of caching s c ch k n inv e (on_same ch k (s.link c) e)
     go false e = let none : count k n (tokens_on ch (s.link c)) ≡ 0 = inv.own_kinds c ch k n e in omega (arith, none)
 
 -- a token is of a kind of its channel
@@ -85,7 +73,7 @@ pub shown_there : {X : Type 0} (caching : ℕ → Bool) (s : State X) (c : ℕ) 
 shown_there caching s c ch k n inv on_it there = go k refl
   where
     on_k : 0 < count k n (on k (s.link c))
-    on_k = rw (on-tokens ch k (s.link c) on_it) at there
+    on_k = rw (on_same ch k (s.link c) on_it) at there
 
     go : (j : Kind) → k ≡ j → shows_it s c j n ≡ true
     go Request e = there_shown _ (is_asked (s.uses c n)) (rw e at on_k) (inv.requests c n)

@@ -7,7 +7,6 @@ use Rattle.tl_world.proofs.CarriedEvents.{release_taken-carried, report_taken-ca
 use Rattle.tl_world.proofs.CarriedProbes.{report_answers-carried, report_grants-carried}
 use Rattle.tl_world.proofs.Choices.{plain-past}
 use Rattle.tl_world.proofs.FirstToken.{first-token}
-use Rattle.tl_world.proofs.ManagedEndings.{set_at-same}
 use Rattle.tl_world.proofs.ManagerSettles.{gift_after}
 use Rattle.tl_world.proofs.RequestsTaken.{invariant-taken, next_tracker}
 use Rattle.tl_world.proofs.Reporting.{report-about, release-about}
@@ -32,7 +31,7 @@ use Rattle.tl_world.specs.Whole.{IsMatched, is_caching}
 use Rattle.tl_world.proofs.Channels.{behind, IsTaken, pushes_at}
 use Rattle.tl_world.proofs.Landed.{HasTaken, IsLanded, IsOn, landed-manager, channels-handed, pushes_of, taken-landed}
 use Rattle.tl_world.proofs.ManagerAfter.{left, others_probed}
-use Rattle.tl_world.proofs.ManagerDelivered.{first_of, Delivered, channel_c-delivered, pushed, pushed_by, pushed_last, releases-delivered, reports-delivered, seen_apart}
+use Rattle.tl_world.proofs.ManagerDelivered.{Delivered, channel_c-delivered, pushed, pushed_by, pushed_last, releases-delivered, reports-delivered, seen_apart}
 use Rattle.tl_world.proofs.ManagerFollowed.{client-of, step-taken, followed-taken}
 use Rattle.tl_world.proofs.ManagerTakes.{IsTakenUp, by-first_c}
 use Rattle.tl_world.proofs.Moved.{carried-part, manager-heard}
@@ -66,8 +65,9 @@ use Rattle.tl_world.specs.Token.{Kind, Request, Acquire, Probe, ProbeAck, Releas
 use Rattle.tl_world.proofs.Facts.{reported_within, spared_within, answered_other, is_other, own_wants}
 use Rattle.tl_world.proofs.FollowKept.{leaves-bytes, settled_all}
 use Rattle.tl_world.proofs.Showing.{carries, none-carried}
-use Rattle.tl_world.proofs.Tokens.{same_number, set-same, set-other, set-part, holds-first}
+use Rattle.tl_world.proofs.Tokens.{same_number, set-same, set-other, set-part, holds-first, set_at-same}
 use Rattle.tl_world.proofs.Parts.{answered-is, taken-unseen, quiet-is, granted-unseen}
+use Rattle.tl_world.proofs.Admitted.{head_all}
 
 -- ---- an access that ends leaves the bytes on their way, or there are none
 
@@ -165,7 +165,7 @@ landed-received : {w : ℕ} (config : Config) (log : Log w) (h : Shadow w) (sys 
     → IsLanded c ch x queue pushes sys (stepped config (Deliver (record { 0 = c }) ch) sys).after
 landed-received {w} config log h sys c ch x queue handed pushes at is pushed =
     let t = client-of config c ch x queue sys at.beats (at.is.sound c ch) in
-    landed-taken config c ch x queue sys t.0 handed pushes at.width at.is.manager_kept (first_of (λ y. manager.IsSound config (record { 0 = c }, y)) x queue (sys.channels c ch) at.beats (at.is.sound c ch)).typed at.down at.on_ch t.1 at.beats at.up is pushed
+    landed-taken config c ch x queue sys t.0 handed pushes at.width at.is.manager_kept (head_all (λ y. manager.IsSound config (record { 0 = c }, y)) x queue (sys.channels c ch) at.beats (at.is.sound c ch)).typed at.down at.on_ch t.1 at.beats at.up is pushed
 
 -- the channels then
 abbrev pub CarriesAfter : {w : ℕ} → Config → ℕ → Channel → System w → Shadow w → Type 0

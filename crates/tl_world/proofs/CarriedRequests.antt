@@ -28,7 +28,7 @@ use Rattle.tl_manager.specs.Holders as holders
 use Rattle.tl_manager.specs.Holders.{recorded, probed, cap_probed, is_spared}
 use Rattle.tl_rules.specs.History.{block_at, is_acquire}
 use Rattle.tl_rules.proofs.Sent.{is_last}
-use Rattle.tl_client.proofs.HeldAfter.{same_block}
+use Rattle.tl_client.proofs.HeldAfter.{same_block, swapped}
 use Rattle.tl_manager.specs.Slave.{must_wait, deed}
 use Rattle.tl_manager.proofs.Events.{deed-part}
 use Rattle.tl_world.specs.declared.event.Outcome.TheVariants as outcome
@@ -46,7 +46,6 @@ use Rattle.tl_world.specs.Token.{Kind, Request, Acquire, Grant, Token}
 use Rattle.tl_world.specs.Whole.{IsMatched, is_caching}
 use Rattle.tl_world.proofs.Admitted.{offered-taken}
 use Rattle.tl_world.proofs.Arrivals.{link_of, with_beat, IsComing, ends-coming, service_for}
-use Rattle.tl_world.proofs.Accounts.{eqb-swap}
 use Rattle.tl_world.proofs.AtRequests.{end_after, deed-probing}
 use Rattle.tl_world.proofs.CarriedEvents.{access_answered-carried, acquire_granted-carried}
 use Rattle.tl_world.proofs.CarriedProbes.{probe_pushes, channels-probes, access_served-carried, acquire_served-carried}
@@ -63,6 +62,7 @@ use Rattle.tl_world.proofs.Landed.{pushes_of, IsLanded, taken-landed, IsOn, HasT
 use Rattle.tl_world.proofs.Moved.{manager-heard, carried-part}
 use Rattle.tl_world.proofs.Codes.{acquires-so}
 use Rattle.tl_world.proofs.Perms.{none-above}
+use Rattle.tl_world.proofs.OwedAfter.{once_on_d}
 
 -- ---- the whole after a beat of a request
 
@@ -137,7 +137,7 @@ taken-probing {w} config log mail request s sys c k n own j m queue is comes bea
     pushes = probe_pushes n j test
 
     same : (i : ℕ) → (holders.is_above j (recorded i (block_at m.address) (with_beat c m k sys.manager.trace)) && not (is_spared (service_for c m sys.manager.trace) i)) ≡ test i
-    same i = rw (block, recorded-beat c k m sys.manager.trace i n, is.managed.recorded_is i n, kind, same_above j ((s.block n).pair i).recorded, eqb-swap c i) (and_comm (is_above j ((s.block n).pair i).recorded) (not (own && (i == c))))
+    same i = rw (block, recorded-beat c k m sys.manager.trace i n, is.managed.recorded_is i n, kind, same_above j ((s.block n).pair i).recorded, swapped c i) (and_comm (is_above j ((s.block n).pair i).recorded) (not (own && (i == c))))
 
     none : (d : ℕ) → length config.clients.items ≤ d → test d ≡ false
     none d past = rw (beyond-none config log mail request s sys n is d past) (nothing_above j (own && (d == c)))
@@ -153,10 +153,6 @@ taken-answering {w} config c k m i queue sys comes beats last done =
     (ends-coming config c k m sys.manager comes ∙ rw last (is_last k (suc k) (omega arith)))
 
 -- ---- an Acquire
-
-granted_on_d : (w c n tracker : ℕ) (d : Bool) (k : Cap) (b : Block (List ℕ)) → channel_of_message (rendered {w = w} Grant c n (granted_at_once c tracker d k b)) ≡ channel.D
-unfolding rendered
-granted_on_d w c n tracker d k b = refl
 
 -- after an Acquire that was taken
 pub carried-acquire_taken : {w : ℕ} (config : Config) (log : Log w) (h : Shadow w) (sys : System w) (c n k : ℕ) (rest : List Token) (queue : List (Beat w)) → IsMatched config log h.mail h.request h.state sys
@@ -217,7 +213,7 @@ carried-acquire_taken {w} config log h sys c n k rest queue is first asked comes
         let new = granted_at_once c tracker data_too given b in
         let well : IsWell (is_caching config) new = subst (IsWell (is_caching config)) (set-same n new h.state.block) (kept.blocks n) in
         acquire_granted-carried (is_caching config) c n tracker data_too given rest (rendered Grant c n new) h.mail h.state sys after (beat.A (a_beat_of m k)) queue comes.width is.invariant kept first ready.0
-        (granted_on_d w c n tracker data_too given b) refl
+        (once_on_d w c n tracker data_too given b) refl
         (taken-answering config c k m (rendered Grant c n new) queue sys comes beats last (handed-granted config log h.mail h.request h.state sys (is_caching config) c n k is asked comes last (rw caps f) well)) is.carried
 
 -- ---- an access

@@ -46,10 +46,10 @@ use Rattle.tl_world.specs.Protocol.{Block, State, Asked, Acquires, is_wanting, a
 use Rattle.tl_world.specs.Render.{Mail}
 use Rattle.tl_world.specs.Token.{set_at}
 use Rattle.tl_world.specs.Whole.{asked_by, is_storing}
-use Rattle.tl_world.proofs.Aside.{set_at-else, set_at-same}
+use Rattle.tl_world.proofs.Aside.{set_at-else}
 use Rattle.tl_world.proofs.ClientEnd.{is_access, IsWellKept, IsEnd, IsSame, known-same, opened-same, asks-same, asks-access, asks-acquire, column}
 use Rattle.tl_world.proofs.ClientSent.{IsRequested, known-requested, opened-requested, IsReleased, known-released, opened-released}
-use Rattle.tl_world.proofs.Tokens.{same_number, set-same, set-other, set-part}
+use Rattle.tl_world.proofs.Tokens.{same_number, set-same, set-other, set-part, set_at-same}
 use Rattle.tl_world.proofs.Codes.{acquires-so}
 use Rattle.tl_world.proofs.Perms.{held-some}
 

@@ -38,12 +38,12 @@ use Rattle.tl_world.specs.Render.{Mail}
 use Rattle.tl_world.specs.Token.{Token}
 use Rattle.tl_world.specs.Whole.{asked_by, is_storing}
 use Rattle.tl_world.specs.Invariant.{acquires_of, AreNamed}
-use Rattle.tl_world.proofs.Aside.{set_at-else, set_at-same}
+use Rattle.tl_world.proofs.Aside.{set_at-else}
 use Rattle.tl_world.proofs.ClientAsked.{chosen, passed}
 use Rattle.tl_world.proofs.ClientEnd.{IsWellKept, IsEnd, asks-same, asks-closed, asks-acquire, open-is, column}
 use Rattle.tl_world.proofs.ClientHeard.{IsHeard, IsEcho, echo-none, echo-e, known-heard, opened-heard, heard-part, answer_closes, ack_closes, grant_closes}
 use Rattle.tl_world.proofs.Phases.{and_right}
-use Rattle.tl_world.proofs.Tokens.{same_number, set-same, set-other, set-part}
+use Rattle.tl_world.proofs.Tokens.{same_number, set-same, set-other, set-part, set_at-same}
 use Rattle.tl_world.proofs.Codes.{grants_always, acquires-so}
 
 -- ---- a beat that isn't the last of its message

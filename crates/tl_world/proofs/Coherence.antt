@@ -14,6 +14,7 @@ use Rattle.tl_client.specs.declared.operation.Op.TheVariants as op
 use Rattle.tl_client.specs.declared.reply.Reply.{Reply}
 use Rattle.tl_client.specs.declared.reply.Reply.TheVariants as reply
 use Rattle.tl_client.specs.Kept.{holds}
+use Rattle.tl_client.proofs.HeldAfter.{swapped}
 use Rattle.tl_world.specs.declared.event.Event.{Event}
 use Rattle.tl_world.specs.declared.event.Event.TheVariants.{Ask, Deliver}
 use Rattle.tl_world.specs.declared.event.Outcome.{Outcome}
@@ -35,12 +36,6 @@ use Rattle.tl_world.proofs.Perms.{held-some}
 abbrev asked_at : {w : ℕ} → ℕ → Pool → ℕ → Machine w → Option (Op w)
 asked_at c pool source m = option_map (λ o. o.asked) (m.opened c pool source)
 
-eqb_swap : (m n : ℕ) → (m == n) ≡ (n == m)
-eqb_swap m n = elim (cases_eq m n) [
-  | inl same ↦ rw same refl
-  | inr other ↦ rw (ne_eqb m n other, ne_eqb n m (λ e. other (sym e))) refl
-]
-
 pool_swap : (p q : Pool) → same_pool p q ≡ same_pool q p
 pool_swap Requests Requests = refl
 pool_swap Requests Releases = refl
@@ -56,7 +51,7 @@ same_pool_is Releases Requests e = absurd cc
 -- with another operation at one place
 opened_with : {w : ℕ} (client : ℕ) (at : Pool) (n : ℕ) (o : Option (Open w)) (m : Machine w) (c : ℕ) (pool : Pool) (source : ℕ)
     → asked_at c pool source (with_open client at n o m) ≡ (if (client == c) && (same_pool at pool && (n == source)) then option_map (λ i. i.asked) o else asked_at c pool source m)
-opened_with {w} client at n o m c pool source = rw (eqb_swap client c, pool_swap at pool, eqb_swap n source) (go ((c == client) && (same_pool pool at && (source == n))))
+opened_with {w} client at n o m c pool source = rw (swapped client c, pool_swap at pool, swapped n source) (go ((c == client) && (same_pool pool at && (source == n))))
   where
     go : (b : Bool) → option_map (λ i. i.asked) (if b then o else m.opened c pool source) ≡ (if b then option_map (λ i. i.asked) o else asked_at c pool source m)
     go true = refl

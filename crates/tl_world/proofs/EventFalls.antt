@@ -21,7 +21,7 @@ use Rattle.tl_world.specs.Protocol.{Free, Waits, GrantSent, GrantTaken, Block, S
 use Rattle.tl_world.specs.Render.{Mail, message_of, message_of_kind}
 use Rattle.tl_world.specs.System.{System}
 use Rattle.tl_world.specs.Token.{Kind, Request, Acquire, ProbeAck, Release, Answer, Grant, ReleaseAck, GrantAck, Token, set, set_at}
-use Rattle.tl_world.proofs.Aside.{set_at-other, set_at-else, set_at-same}
+use Rattle.tl_world.proofs.Aside.{set_at-other, set_at-else}
 use Rattle.tl_world.proofs.Capacities.{shown_there, shows_it, request_named, answer_named, acquire_named, grant_named, release_named, release_ack_named}
 use Rattle.tl_world.proofs.Distinct.{first-there}
 use Rattle.tl_world.proofs.Leftover.{IsPopped, beats_left, taken_of, is_front}
@@ -32,7 +32,7 @@ use Rattle.tl_world.proofs.ReportFalls.{probe-falls, report-falls, answering-fal
 use Rattle.tl_world.proofs.RequestFalls.{answered-falls, serving-falls, acquire-granted-falls, acquire-served-falls, served-letting, granted-letting}
 use Rattle.tl_world.proofs.ResponseFalls.{answer-falls, grant-taken-falls, release-taken-falls, release-ack-falls, grant-ack-falls}
 use Rattle.tl_world.proofs.Shown.{IsShown}
-use Rattle.tl_world.proofs.Tokens.{same_number, set-same, set-other, set-part}
+use Rattle.tl_world.proofs.Tokens.{same_number, set-same, set-other, set-part, set_at-same}
 use Rattle.tl_world.proofs.Weights.{IsLeft}
 use Rattle.tl_world.proofs.Parts.{acked-is}
 

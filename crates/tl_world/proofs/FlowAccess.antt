@@ -16,11 +16,11 @@ use Rattle.tl_world.specs.Protocol.{Block, State, Use, Closed, Asked, InService,
 use Rattle.tl_world.specs.Render.{probe_beat}
 use Rattle.tl_world.specs.Sources.{cap_waited}
 use Rattle.tl_world.proofs.FlowAlone.{AreRests}
-use Rattle.tl_world.proofs.FlowAnswered.{unopened}
 use Rattle.tl_world.proofs.FlowAside.{let_by-same}
-use Rattle.tl_world.proofs.FlowGranted.{begun}
+use Rattle.tl_world.proofs.FlowGranted.{begun, unbegun}
 use Rattle.tl_world.proofs.FlowReleased.{with_true}
 use Rattle.tl_world.proofs.FlowStep.{flowed-next, held_by, acquired_by, let_of, granted_by, step, step_quiet}
+use Rattle.tl_world.proofs.FlowReport.{unopened}
 
 pub released-of : {w : ℕ} (i : ℕ) (y : BeatA w) (t : History w) → release_of i (beat.A y ∷ t) ≡ release_of i t
 unfolding release_of
@@ -47,9 +47,6 @@ of_other {w} i y t e = go (begins (beat.A y) t) (y.source == i) e
     go : (p q : Bool) → q ≡ false → (if p && q then Some y else request_of i t) ≡ request_of i t
     go true q f = rw f refl
     go false q f = refl
-
-unbegun : (first last g p : Bool) → g ≡ false → step first last g false p ≡ p
-unbegun first last g p e = rw e (step_quiet first last p)
 
 unsaid : (last : Bool) (p : Perm) → (if last then p else p) ≡ p
 unsaid true p = refl

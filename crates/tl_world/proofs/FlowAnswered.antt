@@ -29,6 +29,7 @@ use Rattle.tl_world.proofs.FlowReleased.{AreElsewhere, each-block, part-block}
 use Rattle.tl_world.proofs.FlowStep.{flowed-next, held_by, acquired_by, let_of, granted_by, step, step_quiet}
 use Rattle.tl_world.proofs.Tokens.{same_number}
 use Rattle.tl_world.proofs.Parts.{is_of-is}
+use Rattle.tl_world.proofs.FlowReport.{unopened}
 
 pub probed-of : {w : ℕ} (n : ℕ) (y : BeatD w) (t : History w) → probe_of n (beat.D y ∷ t) ≡ probe_of n t
 unfolding probe_of
@@ -43,9 +44,6 @@ sunk-of {w} n y t e = go (begins (beat.D y) t) (is_grant y.opcode) (asks_for n (
     go false q r f = refl
 
 -- ---- what a beat opens and closes
-
-pub unopened : (first last g q p : Bool) → g ≡ false → step first last (g && q) false p ≡ p
-unopened first last g q p e = rw e (step_quiet first last p)
 
 pub unclosed : (first last g q p : Bool) → g ≡ false → step first last false (g && q) p ≡ p
 unclosed first last g q p e = rw e (step_quiet first last p)

@@ -13,9 +13,10 @@ use Rattle.tl_rules.specs.Conformance.{same_perm}
 use Rattle.tl_world.specs.Invariant.{AreNamed, acquires_of}
 use Rattle.tl_world.specs.Protocol.{State, is_wanting}
 use Rattle.tl_world.specs.Token.{set_at}
-use Rattle.tl_world.proofs.Aside.{set_at-same, set_at-else}
+use Rattle.tl_world.proofs.Aside.{set_at-else}
 use Rattle.tl_world.proofs.Carried.{IsNext}
-use Rattle.tl_world.proofs.Tokens.{same_number}
+use Rattle.tl_world.proofs.Tokens.{same_number, set_at-same}
+use Rattle.tl_world.proofs.ProbeDelivered.{first_beat}
 
 -- a test of what was delivered, which no beats pass, and all beginnings of the message alike
 pub came-so : {w : ℕ} (f : List (Beat w) → Bool) (m : Message w) (x : Beat w) (rest : List (Beat w)) (ms : List (Message w)) (queue : List (Beat w)) (v : Bool) → IsNext x rest m ms queue → f [] ≡ false → ((j : ℕ) → f (begun m (suc j)) ≡ v)
@@ -44,11 +45,8 @@ first-zero {w} m x rest ms queue next e = go next.k (sym (ap is_empty next.rest_
 -- a message of one beat
 pub one-beat : {w : ℕ} (m : Message w) (x : Beat w) (rest : List (Beat w)) (ms : List (Message w)) (queue : List (Beat w)) → (next : IsNext x rest m ms queue) → beats_of m ≡ 1 → (next.k ≡ 0) × (rest ≡ []) × (completes x rest ≡ true)
 one-beat m x rest ms queue next one =
-    let zeroth : next.k ≡ 0 = zero_of next.k (beats_of m) next.within one in
+    let zeroth : next.k ≡ 0 = first_beat next.k (beats_of m) next.within one in
     (zeroth, next.rest_is ∙ ap (begun m) zeroth, next.completes_is ∙ rw (zeroth, one) refl)
-  where
-    zero_of : (k n : ℕ) → k < n → n ≡ 1 → k ≡ 0
-    zero_of k n lt e = omega (arith, lt, e)
 
 -- ---- small facts
 

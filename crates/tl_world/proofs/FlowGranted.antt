@@ -93,7 +93,7 @@ unended first last g p e = rw e (step_quiet first last p)
 pub begun : (first last g p : Bool) → g ≡ true → p ≡ not first → step first last g false p ≡ true
 begun first last g p e f = opened first last true g p refl e f
 
-unbegun : (first last g p : Bool) → g ≡ false → step first last g false p ≡ p
+pub unbegun : (first last g p : Bool) → g ≡ false → step first last g false p ≡ p
 unbegun first last g p e = rw e (step_quiet first last p)
 
 -- the sink of the last Grant of the block of the beat, and of another one

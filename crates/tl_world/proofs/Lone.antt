@@ -24,7 +24,7 @@ use Rattle.tl_world.specs.Protocol.{Service, Free, Waits, GrantSent, GrantTaken,
 use Rattle.tl_world.specs.Render.{report_told}
 use Rattle.tl_world.specs.Token.{Kind, Request, Acquire, Probe, ProbeAck, Release, Answer, Grant, ReleaseAck, GrantAck, Token, set, set_at}
 use Rattle.tl_world.specs.Whole.{IsGivenAsked, gives_asked}
-use Rattle.tl_world.proofs.Beside.{IsElsewhere, place-cases, set_at-here}
+use Rattle.tl_world.proofs.Beside.{IsElsewhere, place-cases}
 use Rattle.tl_world.proofs.Capacities.{source_of_acquire}
 use Rattle.tl_world.proofs.ClientEnd.{is_access}
 use Rattle.tl_world.proofs.Due.{IsGrantDue, grant-due}
@@ -35,7 +35,7 @@ use Rattle.tl_world.proofs.Phases.{and_left, and_right}
 use Rattle.tl_world.proofs.Sized.{each-set_at, used-serving}
 use Rattle.tl_world.proofs.SizedAfter.{first-asked}
 use Rattle.tl_world.proofs.Still.{is_other, owns_ask, serves_another}
-use Rattle.tl_world.proofs.Tokens.{same_number, set-each, set-other, set-same, holds-first}
+use Rattle.tl_world.proofs.Tokens.{same_number, set-each, set-other, set-same, holds-first, set_at-same}
 use Rattle.tl_world.proofs.Parts.{is_replied-is, not-sent, taken-unseen, granted-unseen}
 
 -- what an Acquire has brought so far, by the use of its source: it is still wanted, or what it was granted is held
@@ -221,7 +221,7 @@ module _ (p : Profile) (c n source : ℕ) (g : Grow) where
   lone_grant {w} config tracker d m rest h given due is = record {
     others = λ e i else_. uses_are e i ∙ each-set_at (λ j k (v : Use). IsElsewhere c source j k → v ≡ Closed) d src Closed h.state.uses (λ any. refl) is.others e i else_;
     brings = brings_granted p n g (after.uses c source) ((after.block n).pair c) (cap_right due.k)
-        (uses_are c source ∙ ap₂ (set_at d src Closed h.state.uses) (sym mine.0.0) (sym mine.0.1) ∙ set_at-here d src Closed h.state.uses)
+        (uses_are c source ∙ ap₂ (set_at d src Closed h.state.uses) (sym mine.0.0) (sym mine.0.1) ∙ set_at-same d src Closed h.state.uses)
         (ap₂ (λ (i j : ℕ). ((after.block i).pair j).held) (sym mine.1) (sym mine.0.0) ∙ held_granted config tracker d m rest h due)
         (grows p g due.k (fits_cap ((h.state.block m).pair d).recorded ((h.state.block m).pair d).held due.data_too due.k g (Wants due.whole due.g) wants due.fits) gives);
   }

@@ -30,6 +30,7 @@ use Rattle.tl_world.specs.Sources.{AreServed, is_served, is_granted, cap_waited}
 use Rattle.tl_world.specs.Token.{Token, set}
 use Rattle.tl_world.proofs.ManagedEndings.{tracker-of, tracker-alone}
 use Rattle.tl_world.proofs.Tokens.{same_number, set-same, set-other, set-part}
+use Rattle.tl_world.proofs.Quieted.{part_none}
 
 -- ---- a beat of channel E
 
@@ -216,16 +217,12 @@ are_served-acked {w} {X} request c n rest x s t is known = record {
       | inr other ↦ let differ : d ≡ c → ⊥ = λ e. other (sym e) in rw (ne_eqb c d other, ne_eqb d c differ) refl
     ]
 
-    never : (a b : Bool) → (if a && false then false else b) ≡ b
-    never true b = refl
-    never false b = refl
-
     sinks_now : (d i : ℕ) → (if (c == d) && (x.sink == i) then false else pending (key.GrantSink i) (on_link d t)) ≡ is_granted d (set (s.block n).tracker None s.tracked i) z
     sinks_now d i = elim (cases_eq i (s.block n).tracker) [
       | inl same ↦ rw (same, set-same (s.block n).tracker None s.tracked, is.sink_is, same_number (s.block n).tracker, known.sinks d (s.block n).tracker, tracked_here, here d) (closed_or d)
       | inr other ↦
           let differ : (s.block n).tracker ≡ i → ⊥ = λ e. other (sym e) in
-          rw (set-other (s.block n).tracker i None s.tracked other, is.sink_is, ne_eqb (s.block n).tracker i differ) (never (c == d) (pending (key.GrantSink i) (on_link d t)) ∙ known.sinks d i ∙ elsewhere d i other (s.tracked i) refl)
+          rw (set-other (s.block n).tracker i None s.tracked other, is.sink_is, ne_eqb (s.block n).tracker i differ) (part_none (c == d) (pending (key.GrantSink i) (on_link d t)) ∙ known.sinks d i ∙ elsewhere d i other (s.tracked i) refl)
     ]
 
     asked_now : (i p from : ℕ) (own : Bool) (low : Cap) → (set n new s.block i).service ≡ Waits p own from low → request_of from (on_link p t) ≡ Some (a_beat_of (request i) 0)

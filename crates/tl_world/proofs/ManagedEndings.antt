@@ -34,13 +34,10 @@ use Rattle.tl_world.specs.Render.{probe_beat}
 use Rattle.tl_world.specs.Token.{Token, set, set_at}
 use Rattle.tl_world.proofs.Quieted.{quiet-c, IsLastOf, recorded-answer, pair-part}
 use Rattle.tl_world.proofs.ManagedReports.{reported-records, reported-missing, reported-probing}
-use Rattle.tl_world.proofs.Tokens.{same_number, set-same, set-other, set-part}
+use Rattle.tl_world.proofs.Tokens.{same_number, set-same, set-other, set-part, set_at-same}
 use Rattle.tl_world.proofs.Parts.{is_of-is}
 
 -- ---- one place of two numbers
-
-pub set_at-same : {X : Type 0} (c k : ℕ) (x : X) (f : ℕ → ℕ → X) → set_at c k x f c k ≡ x
-set_at-same c k x f = rw (same_number c, same_number k) refl
 
 pub set_at-other : {X : Type 0} (c k : ℕ) (x : X) (f : ℕ → ℕ → X) (d i : ℕ) → ((c == d) && (k == i)) ≡ false → set_at c k x f d i ≡ f d i
 set_at-other c k x f d i other = elim (cases_eq d c) [

@@ -19,6 +19,7 @@ use Rattle.tl_rules.specs.Conformance.{Trace, on_link, comes_in_request}
 use Rattle.tl_rules.specs.History.{block_at, asks_for, capped, held, is_grant, is_probe_ack, or_perm, pending, probe_of, request_of}
 use Rattle.tl_rules.proofs.Handed.{after_whole}
 use Rattle.tl_rules.proofs.Sent.{held-sent_d}
+use Rattle.tl_client.proofs.HeldAfter.{swapped}
 use Rattle.tl_manager.specs.Holders.{recorded}
 use Rattle.tl_manager.specs.Pending.{IsAccounted}
 use Rattle.tl_manager.specs.Service.{serving}
@@ -157,12 +158,6 @@ own_if false k = refl
 waits_ungranted : (b : Bool) (k : Cap) → (is_granting (if true && b then Own else Other k) || is_acknowledging (if true && b then Own else Other k)) ≡ false
 waits_ungranted true k = refl
 waits_ungranted false k = refl
-
-swapped : (m n : ℕ) → (m == n) ≡ (n == m)
-swapped m n = elim (cases_eq m n) [
-  | inl same ↦ rw same refl
-  | inr other ↦ let differ : n ≡ m → ⊥ = λ e. other (sym e) in rw (ne_eqb m n other, ne_eqb n m differ) refl
-]
 
 twice : (b : Bool) → (if b then false else b) ≡ false
 twice true = refl

@@ -3,7 +3,6 @@
 use Rattle.tl_world.proofs.FirstToken.{first-token}
 use Rattle.tl_world.specs.PhaseSteps.{is_granted_data}
 use Rattle.tl_world.specs.Protocol as protocol
-use Rattle.tl_world.proofs.ManagedEndings.{set_at-same}
 use Rattle.tl_world.proofs.RequestsTaken.{invariant-taken}
 use Rattle.tl_world.proofs.ManagersEnd.{at_manager-matched}
 use Rattle.tl_world.proofs.ManagerHanded.{grant-rendered}
@@ -55,24 +54,20 @@ use Rattle.tl_world.proofs.ManagerAfter.{IsManagerOf, left, IsEnd, others_probed
 use Rattle.tl_world.proofs.ManagerSettles.{IsWanted, IsSettling, ended-left, conceded-left, deed-ended, deed-conceded, gift_after}
 use Rattle.tl_world.proofs.ManagerTakes.{IsTakenUp, ack-order, by-first_c, by-first_e, release-order, report-order, takes}
 use Rattle.tl_world.proofs.Reporting.{IsAbout, report-about, release-about}
-use Rattle.tl_world.proofs.Tokens.{holds-first, same_number, set-same}
+use Rattle.tl_world.proofs.Tokens.{holds-first, same_number, set-same, set_at-same}
 use Rattle.tl_world.proofs.Parts.{acquires_of-is, answered-is, releasing-is, acknowledging-is, not-calm}
-
-pub first_of : {X : Type 0} (P : X → Type 0) (x : X) (xs ys : List X) → ys ≡ x ∷ xs → All P ys → P x
-first_of P x xs ys e all = let whole : All P (x ∷ xs) = rw e at all in whole 0 x (omega arith)
+use Rattle.tl_world.proofs.Admitted.{head_all}
+use Rattle.tl_world.proofs.BesideTaken.{same_message}
 
 -- ---- the Acquire that is granted
-
-a_is : {w : ℕ} (x y : MessageA w) → message.A x ≡ message.A y → x ≡ y
-a_is x y e = cc
 
 wanted_fields : {w : ℕ} (q n : ℕ) (whole : Bool) (g : Grow) (b : Block (List ℕ)) (v : MessageA w) → (b.pair q).acquiring ≡ Wants whole g → rendered Acquire q n b ≡ message.A v → (v.opcode ≡ acquire_opcode whole) × (v.param ≡ grow_code g)
 unfolding rendered
 wanted_fields {w} q n true g b v wants e =
-    let same = a_is _ v (rw wants at e) in
+    let same = same_message _ v (rw wants at e) in
     (ap (λ (m : MessageA w). m.opcode) (sym same), ap (λ (m : MessageA w). m.param) (sym same))
 wanted_fields {w} q n false g b v wants e =
-    let same = a_is _ v (rw wants at e) in
+    let same = same_message _ v (rw wants at e) in
     (ap (λ (m : MessageA w). m.opcode) (sym same), ap (λ (m : MessageA w). m.param) (sym same))
 
 -- what a client sees that has answered a Probe
@@ -241,7 +236,7 @@ pub reports-delivered : {w : ℕ} (config : Config) (log : Log w) (h : Shadow w)
     (pushed config c ProbeAck n h (ack_taken (length config.clients.items) config.profile c n (report_told ((h.state.block n).pair c).probing) rest h)) sys.manager x
 unfolding rendered
 reports-delivered {w} config log h sys c n rest x queue ms width is beats tokens next =
-    delivered-c config h _ ProbeAck c n x m ms queue sys.manager width (at_manager-matched config log h.mail h.request h.state sys is) (first_of (λ y. manager.IsSound config (record { 0 = c }, y)) x queue (sys.channels c channel.C) beats (is.sound c channel.C))
+    delivered-c config h _ ProbeAck c n x m ms queue sys.manager width (at_manager-matched config log h.mail h.request h.state sys is) (head_all (λ y. manager.IsSound config (record { 0 = c }, y)) x queue (sys.channels c channel.C) beats (is.sound c channel.C))
     (subst (λ (i : Message w). IsNext x (unfinished channel.C (on_link c sys.manager.trace)) i ms queue) about.1 next)
     (λ k before. report-order config (is_caching config) h.request c n k r (h.state.block n).truth (same_perm (report_left r) perm.Trunk) m h.state sys.manager is.invariant is.managed is.served is.manager_kept answered about.2 before)
     (λ k all before up. reported-last config log h sys c n k rest m is tokens answered up (record { width = width; about = about.2; rest = before; last = all; long = (is.sized n).truth }))
@@ -266,7 +261,7 @@ pub releases-delivered : {w : ℕ} (config : Config) (log : Log w) (h : Shadow w
     (pushed config c Release n h (with_state (release_taken c n (prune_told ((h.state.block n).pair c).letting) rest h.state) h)) sys.manager x
 unfolding rendered
 releases-delivered {w} config log h sys c n rest x queue ms width is beats tokens next =
-    delivered-c config h _ Release c n x m ms queue sys.manager width (at_manager-matched config log h.mail h.request h.state sys is) (first_of (λ y. manager.IsSound config (record { 0 = c }, y)) x queue (sys.channels c channel.C) beats (is.sound c channel.C))
+    delivered-c config h _ Release c n x m ms queue sys.manager width (at_manager-matched config log h.mail h.request h.state sys is) (head_all (λ y. manager.IsSound config (record { 0 = c }, y)) x queue (sys.channels c channel.C) beats (is.sound c channel.C))
     (subst (λ (i : Message w). IsNext x (unfinished channel.C (on_link c sys.manager.trace)) i ms queue) about.1 next)
     (λ k before. release-order config (is_caching config) h.request c n k r rest (h.state.block n).truth (same_perm (prune_left r) perm.Trunk) m h.state sys.manager is.invariant is.managed is.manager_kept tokens releasing about.2 before)
     (λ k all before up.
@@ -323,7 +318,7 @@ acks-delivered {w} config log h sys c n rest x queue ms width is beats tokens ne
     up : IsTakenUp config c channel.E (beat.E y) e
     up =
         takes config c channel.E (beat.E y) e
-        (subst (λ (i : Beat w). manager.IsSound config (record { 0 = c }, i)) next.beat_is (first_of (λ i. manager.IsSound config (record { 0 = c }, i)) x queue (sys.channels c channel.E) beats (is.sound c channel.E)))
+        (subst (λ (i : Beat w). manager.IsSound config (record { 0 = c }, i)) next.beat_is (head_all (λ i. manager.IsSound config (record { 0 = c }, i)) x queue (sys.channels c channel.E) beats (is.sound c channel.E)))
         refl refl is.all_live order.1 refl
 
     whole : completes {w = w} (beat.E y) before ≡ true

@@ -22,16 +22,10 @@ use Rattle.tl_manager.specs.Slave.{with_block}
 use Rattle.tl_manager.proofs.Written.{bytes_are}
 use Rattle.tl_world.specs.Follow.{bytes_at, performs}
 use Rattle.tl_world.specs.Machine.{with_number}
-use Rattle.tl_world.proofs.Memories.{performed-block, performed-reply}
+use Rattle.tl_world.proofs.Memories.{performed-block, performed-reply, byte_in}
 use Rattle.tl_world.proofs.Tokens.{same_number}
 
 -- ---- a block's bytes, as a list and by their places
-
-byte_in : (f : Memory) (x n i : ℕ) → i < n → slice_index (bytes_from f x n) i ≡ f (x + i)
-unfolding bytes_from
-byte_in f x zero i lt = absurd (omega (arith, lt))
-byte_in f x (suc n) zero lt = ap f (omega arith)
-byte_in f x (suc n) (suc i) lt = byte_in f (x + 1) n i (omega (arith, lt)) ∙ ap f (omega arith)
 
 pub block-of-bytes : (f : Memory) (n : ℕ) (bytes : List ℕ) → bytes_from f (64 * n) 64 ≡ bytes → IsBlock f n bytes
 block-of-bytes f n bytes e i lt = sym (ap (λ (b : List ℕ). slice_index b i) (sym e) ∙ byte_in f (64 * n) 64 i lt)

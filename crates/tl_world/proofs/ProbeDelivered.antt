@@ -157,7 +157,7 @@ stalls {w} terms x e lawful held = judged_none (broken_before terms channel.B x 
     stalled : (b : Bool) → b ≡ true → cond b (silent verdict.Stalled e) (judged_later (broken_later terms x e) x e) ≡ silent verdict.Stalled e
     stalled b f = rw f refl
 
-first_beat : (k n : ℕ) → k < n → n ≡ 1 → k ≡ 0
+pub first_beat : (k n : ℕ) → k < n → n ≡ 1 → k ≡ 0
 first_beat k n lt one = omega (arith, lt, one)
 
 probe_rendered : {w : ℕ} (c n : ℕ) (s : State (List ℕ)) → rendered {w = w} Probe c n (s.block n) ≡ probe_of_block n (cap_sent ((s.block n).pair c).probing)

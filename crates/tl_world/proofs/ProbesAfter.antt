@@ -61,6 +61,7 @@ use Rattle.tl_world.proofs.Tokens.{set-same, holds-first}
 use Rattle.tl_world.proofs.Parts.{kept-is, sent-is}
 use Rattle.tl_world.proofs.Codes.{cap-again}
 use Rattle.tl_world.proofs.KnownProbed.{report_is}
+use Rattle.tl_world.proofs.ManagersAfter.{ack_channel}
 
 -- ---- the answer to a Probe
 
@@ -80,11 +81,6 @@ ack_same : {w : ℕ} (p : Perm) (r : Report) (n : ℕ) (x y : List ℕ) → (sam
 ack_same perm.None r n x y e = refl
 ack_same perm.Branch r n x y e = refl
 ack_same perm.Trunk r n x y e = rw (e refl) refl
-
-ack_channel : (w : ℕ) (p : Perm) (r : Report) (n : ℕ) (x : List ℕ) → channel_of_message {w = w} (probe_ack opb.ProbeBlock p r n x) ≡ channel.C
-ack_channel w perm.None r n x = refl
-ack_channel w perm.Branch r n x = refl
-ack_channel w perm.Trunk r n x = refl
 
 ack_quiet : (w c : ℕ) (p : Perm) (r : Report) (n : ℕ) (x : List ℕ) → accesses_answered {w = w} (handed_by c (Some (probe_ack opb.ProbeBlock p r n x))) ≡ []
 unfolding accesses_answered

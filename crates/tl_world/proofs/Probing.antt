@@ -18,6 +18,7 @@ use Rattle.tl_rules.specs.Agent.{sent}
 use Rattle.tl_rules.specs.Conformance.{Trace, on_link}
 use Rattle.tl_rules.specs.History.{pending, held, block_at, request_of}
 use Rattle.tl_rules.proofs.Sent.{held_unsaid}
+use Rattle.tl_client.proofs.HeldAfter.{swapped}
 use Rattle.tl_manager.specs.Handing.{with_handed, probes, probe_beat, probe_of_block}
 use Rattle.tl_manager.specs.Holders as holders
 use Rattle.tl_manager.specs.Holders.{recorded, cap_probed, is_spared, probed}
@@ -33,7 +34,7 @@ use Rattle.tl_world.specs.Token.{set}
 use Rattle.tl_world.specs.Protocol.{Free, Waits, Block, State, served_pair, served_block}
 use Rattle.tl_world.specs.Managed.{client_in, service_with}
 use Rattle.tl_world.specs.Sources.{IsFor}
-use Rattle.tl_world.proofs.Accounts.{IsTraced, eqb-swap}
+use Rattle.tl_world.proofs.Accounts.{IsTraced}
 use Rattle.tl_world.proofs.Traces.{traced-at}
 use Rattle.tl_world.proofs.Arrivals.{link_of, with_beat, IsComing, service_for}
 use Rattle.tl_world.proofs.ManagedServed.{same_above}
@@ -125,7 +126,7 @@ traced-probing {w} {X} config request c k n own source j m s u e blocks is known
     test d = holders.is_above j (recorded d (block_at m.address) t) && not (is_spared (service_for c m e.trace) d)
 
     test_is : (d : ℕ) → test d ≡ (is_above j ((s.block n).pair d).recorded && not (own && (d == c)))
-    test_is d = rw (is.for.2, recorded-beat c k m e.trace d n, known.recorded_is d n, is.for.0, same_above j ((s.block n).pair d).recorded, eqb-swap c d) refl
+    test_is d = rw (is.for.2, recorded-beat c k m e.trace d n, known.recorded_is d n, is.for.0, same_above j ((s.block n).pair d).recorded, swapped c d) refl
 
     missing_before : (d : ℕ) → pending (ProbeOf n) (on_link d t) ≡ false
     missing_before d = missing-beat c k m e.trace d n ∙ known.probes d n ∙ ap not (is.quiet d)

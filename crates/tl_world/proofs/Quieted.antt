@@ -143,7 +143,7 @@ none_or false b p = refl
 pub missing-release : {w : ℕ} (c : ℕ) (x : BeatC w) (t : Trace w) → is_probe_ack x.opcode ≡ false → (d i : ℕ) → pending (key.ProbeOf i) (on_link d ((record { 0 = c }, beat.C x) ∷ t)) ≡ pending (key.ProbeOf i) (on_link d t)
 missing-release {w} c x t kind d i = missing-c c x t d i ∙ rw kind (none_or (c == d) (ends (beat.C x) (on_link d t)) (pending (key.ProbeOf i) (on_link d t)))
 
-part_none : (a b : Bool) → (if a && false then false else b) ≡ b
+pub part_none : (a b : Bool) → (if a && false then false else b) ≡ b
 part_none true b = refl
 part_none false b = refl
 

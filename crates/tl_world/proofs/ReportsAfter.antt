@@ -30,7 +30,6 @@ use Rattle.tl_world.specs.Sources.{IsFor}
 use Rattle.tl_world.specs.System.{System}
 use Rattle.tl_world.specs.Token.{ProbeAck, Release, ReleaseAck, Grant, Token}
 use Rattle.tl_world.specs.Whole.{IsMatched, IsRequest, IsServedWith, is_caching}
-use Rattle.tl_world.proofs.Aside.{set_at-same}
 use Rattle.tl_world.proofs.BesideKinds.{IsWaiting, accesses_by, beside-report, beside_block, last_accesses, same_acquiring}
 use Rattle.tl_world.proofs.BesideRequests.{IsOnce, accesses-answer}
 use Rattle.tl_world.proofs.CarriedReports.{carried-followed_c}
@@ -45,7 +44,7 @@ use Rattle.tl_world.proofs.ManagerTakes.{by-first_c}
 use Rattle.tl_world.proofs.RequestsTaken.{next_tracker}
 use Rattle.tl_world.proofs.Sized.{used-serving}
 use Rattle.tl_world.proofs.SizedAfter.{served-request}
-use Rattle.tl_world.proofs.Tokens.{holds-first}
+use Rattle.tl_world.proofs.Tokens.{holds-first, set_at-same}
 use Rattle.tl_world.proofs.Parts.{answered-is}
 
 -- ---- which accesses are answered by what is handed out

@@ -18,7 +18,7 @@ use Rattle.tl_rules.specs.Conformance.{on_link, same_perm}
 use Rattle.tl_rules.specs.History.{ends, block_at, is_acquire}
 use Rattle.tl_rules.proofs.Sent.{is_last}
 use Rattle.tl_client.specs.Send.{acquisition}
-use Rattle.tl_client.proofs.HeldAfter.{same_block}
+use Rattle.tl_client.proofs.HeldAfter.{same_block, swapped}
 use Rattle.tl_manager.specs.Handing.{performed, cap_granted}
 use Rattle.tl_manager.specs.Holders as holders
 use Rattle.tl_manager.specs.Holders.{recorded, is_nobody, probed, cap_probed, is_spared}
@@ -36,7 +36,6 @@ use Rattle.tl_world.specs.Sources.{IsFor}
 use Rattle.tl_world.specs.System.{System}
 use Rattle.tl_world.specs.Token.{Kind, Request, Acquire, Token, set}
 use Rattle.tl_world.specs.Whole.{IsMatched, IsServedWith, is_caching}
-use Rattle.tl_world.proofs.Accounts.{eqb-swap}
 use Rattle.tl_world.proofs.Admitted.{unserved-free, free-untracked}
 use Rattle.tl_world.proofs.Arrivals.{link_of, with_beat, IsComing, ends-coming, service_for, served-last}
 use Rattle.tl_world.proofs.AtRequests.{end_after, at_manager-probing, at_manager-answered, at_manager-granted}
@@ -91,7 +90,7 @@ pub probed-some : {w : ℕ} (config : Config) (log : Log w) (mail : Mail w) (req
     → is_nobody (probed config (service_for c m sys.manager.trace) j (with_beat c m k sys.manager.trace)) ≡ not (some_below (length config.clients.items) (λ d. is_probed c own j ((s.block n).pair d).recorded d))
 probed-some {w} config log mail request s sys c k n own j m is kind block =
     nobody-same config (λ d. holders.is_above j (recorded d (block_at m.address) (with_beat c m k sys.manager.trace)) && not (is_spared (service_for c m sys.manager.trace) d)) (λ d. is_probed c own j ((s.block n).pair d).recorded d)
-    (λ d. rw (block, recorded-beat c k m sys.manager.trace d n, is.managed.recorded_is d n, kind, same_above j ((s.block n).pair d).recorded, eqb-swap c d) (and_comm (is_above j ((s.block n).pair d).recorded) (not (own && (d == c)))))
+    (λ d. rw (block, recorded-beat c k m sys.manager.trace d n, is.managed.recorded_is d n, kind, same_above j ((s.block n).pair d).recorded, swapped c d) (and_comm (is_above j ((s.block n).pair d).recorded) (not (own && (d == c)))))
 
 copies_so : (p : Perm) → holders.has_copy p ≡ not (same_perm p perm.None)
 copies_so perm.None = refl

@@ -19,7 +19,7 @@ use Rattle.tl_world.specs.Invariant.{IsInvariant, IsWell, is_asked, is_replied}
 use Rattle.tl_world.specs.Move.{Move, AreMoved}
 use Rattle.tl_world.specs.Render.{Mail, report_told, prune_told, grant_of, rendered}
 use Rattle.tl_world.proofs.Channels.{IsShowing}
-use Rattle.tl_world.proofs.Phases.{and_left, and_right, each_phase, of_phase}
+use Rattle.tl_world.proofs.Phases.{and_left, and_right, each_phase, of_phase, implies, implies_is}
 use Rattle.tl_world.proofs.Tokens.{same_number, set-same, set-other}
 
 -- ---- one message
@@ -106,14 +106,6 @@ showing-block {w} caching n b' moves mail mail' s s' inv inv' moved blocks alike
 
 abbrev pub is_told : Pair → Bool
 is_told p = same_perm (report_left (report_told p.probing)) perm.Trunk || same_perm (prune_left (prune_told p.letting)) perm.Trunk
-
-abbrev implies : Bool → Bool → Bool
-implies true b = b
-implies false b = true
-
-implies_is : (a b : Bool) → implies a b ≡ true → a ≡ true → b ≡ true
-implies_is true b h e = h
-implies_is false b h e = absurd cc
 
 -- nothing that carries bytes is on its way from or to one who holds Trunk, or of whom nothing is recorded
 untold_test : Pair → View → Bool

@@ -49,6 +49,7 @@ use Rattle.tl_world.specs.Whole.{IsMatched}
 use Rattle.tl_world.proofs.Capacities.{source_of_release}
 use Rattle.tl_world.proofs.Runs.{IsTaken, IsTakenUp, IsTakenIn, stall-delivered}
 use Rattle.tl_world.proofs.Tokens.{same_number}
+use Rattle.tl_world.proofs.Phases.{and_left}
 
 -- ---- a request at the manager
 
@@ -92,10 +93,6 @@ stalled-as-it-waits terms ch x e taken = rw (up-unbroken terms ch x e taken) ref
 is_some_of : (n : ℕ) (o : Option ℕ) → o ≡ Some n → is_of n o ≡ true
 is_some_of n o e = rw e (same_number n)
 
-second : (a b : Bool) → (a && b) ≡ true → a ≡ true
-second true b e = refl
-second false b e = absurd cc
-
 module _ {w : ℕ} (config : Config) (log : Log w) (mail : Mail w) (request : ℕ → MessageA w) (s : State (List ℕ)) (matched : IsMatched config log mail request s (after config log))
     (coherent : IsCoherent (after config log) log (remembered config log)) (c n : ℕ) where
   pub releasing-started : pending (ReleaseOf n) ((after config log).clients c).past ≡ true → IsReleasing c n log
@@ -131,7 +128,7 @@ module _ {w : ℕ} (config : Config) (log : Log w) (mail : Mail w) (request : �
           let asked : option_map (λ x. x.asked) ((remembered config log).opened c Releases source) ≡ Some (Release m p) = rw opened refl in
           let same : m ≡ n = same_release m p _ _ asked asked_is refl in
           let named : releases_with c source (s.block n) ≡ true = sym (matched.invariant.named.releases c source n) ∙ is_some_of n (s.lets c source) (e ∙ ap (λ (i : ℕ). Some i) same) in
-          (matched.known c).releases n ∙ second (not (is_kept ((s.block n).pair c).letting)) _ named
+          (matched.known c).releases n ∙ and_left (not (is_kept ((s.block n).pair c).letting)) _ named
 
 -- ---- deliveries
 

@@ -13,7 +13,7 @@ use Rattle.tl_world.specs.Protocol.{Block, State, Use, Closed, Asked, InService,
 use Rattle.tl_world.specs.Render.{Mail}
 use Rattle.tl_world.specs.Token.{Token, set, set_at}
 use Rattle.tl_world.proofs.ClientEnd.{IsSameUse, is_access, IsAside}
-use Rattle.tl_world.proofs.Tokens.{set-same, set-part, set-other, set_at-same}
+use Rattle.tl_world.proofs.Tokens.{set-part, set-other}
 
 -- ---- a block
 

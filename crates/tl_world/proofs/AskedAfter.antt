@@ -2,7 +2,6 @@
 use Rattle.std.proofs.Common.{◌≡◌, ℕ, Bool, true, false, ◌||◌, List, [], ◌∷◌, Option, Some, None, refl, sym, ◌∙◌, ap, subst, inl, inr}
 use Rattle.std.proofs.lemmas.Bool.{cases_eq, or_right}
 use Rattle.tl_beat.specs.Width.{IsWidth}
-use Rattle.tl_beat.specs.declared.opcode.Channel.TheVariants as channel
 use Rattle.tl_beat.specs.declared.opcode.OpA.TheVariants as a
 use Rattle.tl_burst.specs.declared.message.Message.{Message}
 use Rattle.tl_burst.specs.declared.message.Message.TheVariants as message
@@ -38,7 +37,7 @@ use Rattle.tl_world.specs.Protocol.{Block, State, view, acquiring_block, releasi
 use Rattle.tl_world.specs.Remembered.{remembered, performing, accesses_answered}
 use Rattle.tl_world.specs.Render.{Mail, rendered}
 use Rattle.tl_world.specs.Step.{Step, stepped, handed_by}
-use Rattle.tl_world.specs.System.{System, terms_at, channel_of_message, with_client, with_messages}
+use Rattle.tl_world.specs.System.{System, terms_at, with_client, with_messages}
 use Rattle.tl_world.specs.Token.{Acquire, Release}
 use Rattle.tl_world.specs.Whole.{IsMatched, is_caching}
 use Rattle.tl_world.proofs.AskedWell.{IsHandedOut, asked-well}

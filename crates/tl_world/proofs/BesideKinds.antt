@@ -21,11 +21,11 @@ use Rattle.tl_world.specs.Invariant.{acquires_of, IsInvariant}
 use Rattle.tl_world.specs.Machine.{Machine, Open, Requests, Releases, with_open, with_memory, memory_after, after_end}
 use Rattle.tl_world.specs.Phase.{Pair, Answered, Acquiring, Calm, Wants, is_kept, is_quiet}
 use Rattle.tl_world.specs.PhaseSteps.{after_served, after_grant_sent, after_report, after_release_ack, after_grant}
-use Rattle.tl_world.specs.Protocol.{Service, Free, Waits, GrantSent, GrantTaken, Block, State, Use, Closed, Asked, InService, Replied, Acquires, is_wanting, is_probed, written, performed_block, served_block, granted_at_once, reported_block, ended_block, granted_block, granted_pair, taken_block, granted_truth, let_go_block, access_answered, access_served, report_taken, report_answers, answer_taken, grant_taken, release_ack_taken}
+use Rattle.tl_world.specs.Protocol.{Service, Free, Waits, GrantSent, GrantTaken, Block, State, Use, Closed, InService, Replied, Acquires, is_wanting, is_probed, written, performed_block, served_block, granted_at_once, reported_block, ended_block, granted_block, granted_pair, taken_block, granted_truth, let_go_block, access_answered, access_served, report_taken, report_answers, answer_taken, grant_taken, release_ack_taken}
 use Rattle.tl_world.specs.Remembered.{performing}
 use Rattle.tl_world.specs.Render.{Mail}
 use Rattle.tl_world.specs.Token.{Kind, Request, ProbeAck, Answer, Grant, ReleaseAck, Token, set, set_at}
-use Rattle.tl_world.proofs.Beside.{IsSameAcquire, open-here, open-there, open-releases, open-requests, beside-still, beside-used, beside-let, same_acquire}
+use Rattle.tl_world.proofs.Beside.{open-here, open-there, open-releases, open-requests, beside-still, beside-used, beside-let, same_acquire}
 use Rattle.tl_world.proofs.BesideAsked.{acquires-else}
 use Rattle.tl_world.proofs.BesideTaken.{IsPerformed, beside-performed, memory-unprobed, memory-reported, intent-reply}
 use Rattle.tl_world.proofs.OneMemory.{block-whole, block-besides}

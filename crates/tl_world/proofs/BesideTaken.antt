@@ -1,7 +1,7 @@
 -- The one-memory machine beside the protocol, after a message that is taken: which accesses are performed, and which
 -- operation ends.
 use Rattle.std.proofs.Common.{◌≡◌, subst, ℕ, ◌^◌, ◌≤◌, Bool, true, false, not, ◌&&◌, List, [], ◌∷◌, Some, None, length, refl, sym, ◌∙◌, ap, ◌⊎◌, inl, inr}
-use Rattle.std.specs.Prelude.{◌==◌, if◌then◌else◌}
+use Rattle.std.specs.Prelude.{if◌then◌else◌}
 use Rattle.std.proofs.lemmas.Bool.{cases_eq, cases_lt, not-true}
 use Rattle.tl_beat.specs.Width.{IsWidth}
 use Rattle.tl_beat.specs.declared.opcode.OpA.{OpA}
@@ -28,7 +28,7 @@ use Rattle.tl_manager.specs.Slave.{level_of}
 use Rattle.tl_manager.proofs.Filled.{length-bytes}
 use Rattle.tl_world.specs.Beside.{IsAccess, IsReach, Answers, IsBeside}
 use Rattle.tl_world.specs.Follow.{some_below, bytes_at, performs, answers}
-use Rattle.tl_world.specs.Invariant.{is_out, IsWell}
+use Rattle.tl_world.specs.Invariant.{IsWell}
 use Rattle.tl_world.specs.Machine.{Machine, Open, Requests, with_memory, performed}
 use Rattle.tl_world.specs.Phase.{Pair, View, Probing, Quiet, Sent, Answered, ok, same_cap, is_quiet}
 use Rattle.tl_world.specs.PhaseSteps.{is_above}
@@ -42,7 +42,6 @@ use Rattle.tl_world.proofs.Facts.{is_other}
 use Rattle.tl_world.proofs.FollowKept.{some-none}
 use Rattle.tl_world.proofs.OneMemory.{blocks-performed, reply-performed, effect-sourced}
 use Rattle.tl_world.proofs.Phases.{each_phase, of_phase, implies, implies_is}
-use Rattle.tl_world.proofs.Codes.{low_cap}
 use Rattle.tl_world.proofs.Perms.{nothing-above, not_out}
 use Rattle.tl_world.proofs.Tokens.{set_at-same}
 

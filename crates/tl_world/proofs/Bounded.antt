@@ -15,9 +15,8 @@ use Rattle.tl_manager.proofs.Serving.{tracker_among}
 use Rattle.tl_world.specs.Delivery.{sources_of}
 use Rattle.tl_world.specs.Invariant.{tracks_with, is_busy}
 use Rattle.tl_world.specs.Managed.{client_in, service_with}
-use Rattle.tl_world.specs.Phase.{Acquiring, Wants, Calm}
 use Rattle.tl_world.specs.Protocol.{Service, Free, Waits, GrantSent, GrantTaken, State, Use, Closed, Asked, InService, Replied, Acquires}
-use Rattle.tl_world.specs.Render.{Mail, acquire_of, rendered}
+use Rattle.tl_world.specs.Render.{Mail, rendered}
 use Rattle.tl_world.specs.Remembered.{remembered}
 use Rattle.tl_world.specs.Machine.{Requests}
 use Rattle.tl_world.specs.Beside.{IsOpened}

@@ -17,7 +17,7 @@ use Rattle.tl_manager.specs.Holders.{clients_from}
 use Rattle.tl_world.specs.Phase.{Pair}
 use Rattle.tl_world.specs.PhaseSteps.{is_above, after_served}
 use Rattle.tl_world.specs.Token.{Kind, Request, Acquire, Probe, ProbeAck, Answer, Grant, Token, set, set_at}
-use Rattle.tl_world.specs.Protocol.{Free, Waits, Block, State, Link, token, tokens_on, shown, with_d, with_probe, is_probed, popped_link, granted_link, served_link, served_block, acquire_served, access_served, report_answers, ended_block, report_grants, granted_block}
+use Rattle.tl_world.specs.Protocol.{Free, Waits, Block, State, Link, token, tokens_on, shown, with_probe, is_probed, popped_link, granted_link, served_link, served_block, acquire_served, access_served, report_answers, ended_block, report_grants, granted_block}
 use Rattle.tl_world.specs.Invariant.{IsInvariant, is_replied}
 use Rattle.tl_world.specs.Move.{Move, Stays, Pushes, Pops, IsMoved}
 use Rattle.tl_world.specs.Matched.{AreCarried}

@@ -17,7 +17,7 @@ use Rattle.tl_params.specs.declared.perm.Perm.{Perm}
 use Rattle.tl_params.specs.declared.perm.Perm.TheVariants as perm
 use Rattle.tl_params.specs.Param.{cap_code, cap_right}
 use Rattle.tl_rules.specs.Agent.{sent}
-use Rattle.tl_rules.specs.History.{block_at, ends, capped, is_acquire, is_grant, is_release_ack, request_of}
+use Rattle.tl_rules.specs.History.{block_at, ends, capped, is_grant, is_release_ack, request_of}
 use Rattle.tl_rules.specs.Conformance.{same_perm}
 use Rattle.tl_client.specs.After.{copy_granted, waiting_granted}
 use Rattle.tl_client.specs.declared.verdict.Finish.{Finish}

@@ -6,8 +6,6 @@ use Rattle.tl_beat.specs.declared.beat.Beat.{Beat}
 use Rattle.tl_beat.specs.declared.beat.BeatA.{BeatA}
 use Rattle.tl_beat.specs.declared.opcode.Channel.{Channel}
 use Rattle.tl_beat.specs.declared.opcode.Channel.TheVariants as channel
-use Rattle.tl_beat.specs.declared.opcode.OpD.{OpD}
-use Rattle.tl_beat.specs.declared.opcode.OpD.TheVariants as opd
 use Rattle.tl_burst.specs.declared.message.Message.{Message}
 use Rattle.tl_burst.specs.declared.message.Message.TheVariants as message
 use Rattle.tl_burst.specs.declared.message.MessageA.{MessageA}
@@ -30,7 +28,7 @@ use Rattle.tl_params.specs.Param.{cap_code, grow_code}
 use Rattle.tl_rules.specs.Agent.{is_outside}
 use Rattle.tl_rules.specs.Conformance as rules
 use Rattle.tl_rules.specs.Conformance.{answers, fits_grow, is_acquire_block, is_grant_without_data, broken_in_order, same_perm}
-use Rattle.tl_rules.specs.History.{is_grant, is_release_ack, held, pending, request_of}
+use Rattle.tl_rules.specs.History.{held, pending, request_of}
 use Rattle.tl_rules.specs.Legality.{illegal}
 use Rattle.tl_rules.proofs.Later.{later-legal}
 use Rattle.tl_client.specs.End.{Terms, End}
@@ -40,7 +38,6 @@ use Rattle.tl_client.specs.Send.{acquisition}
 use Rattle.tl_client.proofs.HeldAfter.{same_block}
 use Rattle.tl_manager.specs.Handing.{grant_opcode, release_ack}
 use Rattle.tl_manager.specs.Kept as manager
-use Rattle.tl_manager.specs.Service.{is_access_answer}
 use Rattle.tl_manager.specs.Slave.{level_of}
 use Rattle.tl_world.specs.Follow.{acquire_opcode}
 use Rattle.tl_world.specs.Log.{Log}

@@ -1,6 +1,6 @@
 -- What the opcodes and the parameters of a message say.
 use Rattle.std.specs.Prelude.{if◌then◌else◌, ◌==◌}
-use Rattle.std.proofs.Common.{Bool, Some, false, refl, true, ℕ, ◌-◌, ◌≡◌}
+use Rattle.std.proofs.Common.{Bool, Some, false, refl, true, ℕ, ◌≡◌}
 use Rattle.tl_beat.specs.declared.opcode.OpA.{OpA}
 use Rattle.tl_beat.specs.declared.opcode.OpA.TheVariants as a
 use Rattle.tl_beat.specs.declared.opcode.OpD.{OpD}

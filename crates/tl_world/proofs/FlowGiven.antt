@@ -19,7 +19,6 @@ use Rattle.tl_params.specs.Param.{cap_right}
 use Rattle.tl_rules.specs.Conformance.{comes_in_grant}
 use Rattle.tl_rules.specs.History.{is_grant, is_release_ack, asks_for}
 use Rattle.tl_client.proofs.HeldAfter.{same_block}
-use Rattle.tl_manager.specs.Handing.{grant_opcode}
 use Rattle.tl_manager.proofs.Recording.{cap-gives}
 use Rattle.tl_world.specs.Flowed.{IsFlowed}
 use Rattle.tl_world.specs.Follow.{Shadow}
@@ -49,7 +48,7 @@ use Rattle.tl_world.proofs.FlowStep.{held_by}
 use Rattle.tl_world.proofs.Phases.{and_right}
 use Rattle.tl_world.proofs.Tokens.{same_number, set-same, set-other, holds-first}
 use Rattle.tl_world.proofs.Parts.{acked-is}
-use Rattle.tl_world.proofs.Codes.{grants_always, access_kind, grants-so, not_ack}
+use Rattle.tl_world.proofs.Codes.{access_kind, grants-so, not_ack}
 
 -- ---- numbers and opcodes
 

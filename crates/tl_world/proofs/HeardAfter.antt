@@ -9,7 +9,6 @@ use Rattle.tl_beat.specs.declared.beat.Link.{Link}
 use Rattle.tl_beat.specs.declared.opcode.Channel.{Channel}
 use Rattle.tl_beat.specs.declared.opcode.Channel.TheVariants as channel
 use Rattle.tl_beat.specs.declared.opcode.OpD.{OpD}
-use Rattle.tl_beat.specs.declared.opcode.OpD.TheVariants as opd
 use Rattle.tl_burst.specs.declared.message.Message.{Message}
 use Rattle.tl_burst.specs.declared.message.MessageD.{MessageD}
 use Rattle.tl_burst.specs.Messages.{unfinished}
@@ -21,7 +20,6 @@ use Rattle.tl_client.specs.declared.verdict.Finish.{Finish}
 use Rattle.tl_client.specs.Offer as offer
 use Rattle.tl_client.specs.Send.{grant_ack}
 use Rattle.tl_manager.specs.Handing.{grant_opcode}
-use Rattle.tl_manager.specs.Service.{is_access_answer}
 use Rattle.tl_world.specs.declared.event.Event.TheVariants.{Deliver}
 use Rattle.tl_world.specs.Beside.{IsBeside}
 use Rattle.tl_world.specs.Draining.{is_moving}

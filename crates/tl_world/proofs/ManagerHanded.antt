@@ -6,14 +6,11 @@ use Rattle.std.proofs.Math.Bool.{and-false}
 use Rattle.tl_params.specs.declared.config.Config.{Config}
 use Rattle.tl_params.specs.declared.param.Cap.{Cap}
 use Rattle.tl_params.specs.declared.param.Grow.{Grow}
-use Rattle.tl_params.specs.declared.param.Grow.TheVariants as grow
 use Rattle.tl_params.specs.declared.param.Report.{Report}
 use Rattle.tl_params.specs.declared.perm.Perm.TheVariants as perm
-use Rattle.tl_params.specs.declared.profile.Profile.{Profile}
-use Rattle.tl_params.specs.declared.profile.Profile.TheVariants as profile
 use Rattle.tl_params.specs.Param.{cap_right}
 use Rattle.tl_rules.specs.Conformance.{same_perm}
-use Rattle.tl_world.specs.Follow.{Shadow, gift}
+use Rattle.tl_world.specs.Follow.{Shadow}
 use Rattle.tl_world.specs.Invariant.{IsWell, is_out}
 use Rattle.tl_world.specs.Phase.{Pair, Granting, GrantedOther}
 use Rattle.tl_world.specs.PhaseSteps.{after_report, after_grant_sent, is_granted_data}

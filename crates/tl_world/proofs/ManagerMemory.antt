@@ -1,6 +1,6 @@
 -- The manager's memory, block by block, after what it takes from channel C and after an access is performed.
-use Rattle.std.proofs.Common.{◌≡◌, ℕ, zero, suc, ◌+◌, ◌*◌, ◌%◌, ◌^◌, ◌<◌, ◌≤◌, Bool, true, false, List, ◌∷◌, length, Option, Some, None, refl, sym, ◌∙◌, ap, ap₂, arith, inl, inr}
-use Rattle.std.specs.Prelude.{◌-◌, if◌then◌else◌, slice_index}
+use Rattle.std.proofs.Common.{◌≡◌, ℕ, ◌+◌, ◌*◌, ◌%◌, ◌^◌, ◌<◌, ◌≤◌, Bool, true, false, List, length, Option, Some, None, refl, sym, ◌∙◌, ap, arith, inl, inr}
+use Rattle.std.specs.Prelude.{◌-◌, if◌then◌else◌}
 use Rattle.std.proofs.lemmas.Bool.{cases_eq, eqb-true, ne_eqb}
 use Rattle.tl_beat.specs.Width.{IsWidth}
 use Rattle.tl_beat.specs.Opcode.{c_carries_data}

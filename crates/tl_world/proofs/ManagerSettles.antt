@@ -1,7 +1,6 @@
 -- All that is kept of the manager's end, after the last ProbeAck that a request waited for.
 use Rattle.tl_manager.specs.Holders as holders
 use Rattle.tl_manager.specs.Handing as handing
-use Rattle.tl_params.specs.declared.param.Grow.TheVariants as grow
 use Rattle.tl_manager.specs.Ready.{IsReady}
 use Rattle.tl_world.proofs.ManagedReports.{reported-records}
 use Rattle.tl_world.proofs.ManagedGrants.{IsConceded, managed-conceded, are_served-conceded}

@@ -24,7 +24,7 @@ use Rattle.tl_rules.specs.History.{pending, held, block_at, is_acquire, is_grant
 use Rattle.tl_rules.proofs.Sent.{held-sent_d}
 use Rattle.tl_beat.specs.Width.{IsWidth}
 use Rattle.tl_world.specs.Phase.{Pair, is_quiet}
-use Rattle.tl_manager.specs.Handing.{Deed, with_handed, performed, access_answer, grant, grant_opcode, is_granted_data, cap_granted}
+use Rattle.tl_manager.specs.Handing.{Deed, with_handed, performed, access_answer, grant, is_granted_data, cap_granted}
 use Rattle.tl_manager.specs.Holders as holders
 use Rattle.tl_manager.specs.Holders.{recorded}
 use Rattle.tl_manager.specs.Service.{Service, services, serving, least_free, trackers_of}

@@ -1,6 +1,6 @@
 -- Permissions: which are none, which are above another, and which are out.
 use Rattle.std.specs.Prelude.{false, true}
-use Rattle.std.proofs.Common.{None, false, refl, true, ◌≡◌}
+use Rattle.std.proofs.Common.{false, refl, true, ◌≡◌}
 use Rattle.tl_params.specs.declared.param.Cap.{Cap}
 use Rattle.tl_params.specs.declared.param.Cap.TheVariants as cap
 use Rattle.tl_params.specs.declared.perm.Perm.{Perm}

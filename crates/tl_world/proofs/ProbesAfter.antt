@@ -16,7 +16,7 @@ use Rattle.tl_params.specs.declared.param.Cap.TheVariants as cap
 use Rattle.tl_params.specs.declared.param.Report.{Report}
 use Rattle.tl_params.specs.declared.perm.Perm.{Perm}
 use Rattle.tl_params.specs.declared.perm.Perm.TheVariants as perm
-use Rattle.tl_params.specs.Param.{cap_code, cap_of, report_at, report_left}
+use Rattle.tl_params.specs.Param.{report_at, report_left}
 use Rattle.tl_rules.specs.History.{block_at}
 use Rattle.tl_rules.specs.Conformance.{same_perm}
 use Rattle.tl_client.specs.declared.verdict.Verdict.{Verdict}
@@ -42,7 +42,7 @@ use Rattle.tl_world.specs.Remembered.{remembered, performing, accesses_answered}
 use Rattle.tl_world.specs.Render.{cap_sent, probe_beat, rendered, message_of, message_of_kind}
 use Rattle.tl_world.specs.Step.{Step, stepped, handing, handed_by}
 use Rattle.tl_world.specs.Step as step
-use Rattle.tl_world.specs.System.{System, terms_at, channel_of_message, with_client, with_channel}
+use Rattle.tl_world.specs.System.{System, terms_at, with_client, with_channel}
 use Rattle.tl_world.specs.Token.{Kind, Request, Acquire, Probe, ProbeAck, Release, Answer, Grant, ReleaseAck, GrantAck, Token}
 use Rattle.tl_world.specs.Whole.{IsMatched, is_caching}
 use Rattle.tl_world.proofs.BesideKinds.{beside_block, same_acquiring}
@@ -59,7 +59,6 @@ use Rattle.tl_world.proofs.ProbeDelivered.{IsProbed, probe-delivered}
 use Rattle.tl_world.proofs.RequestsTaken.{next_tracker, invariant-taken}
 use Rattle.tl_world.proofs.Tokens.{set-same, holds-first}
 use Rattle.tl_world.proofs.Parts.{kept-is, sent-is}
-use Rattle.tl_world.proofs.Codes.{cap-again}
 use Rattle.tl_world.proofs.KnownProbed.{report_is}
 use Rattle.tl_world.proofs.ManagersAfter.{ack_channel}
 

@@ -10,13 +10,8 @@ use Rattle.tl_burst.specs.declared.message.MessageA.{MessageA}
 use Rattle.tl_burst.specs.Burst.{a_beat_of, beats_of}
 use Rattle.tl_params.specs.declared.config.Config.{Config}
 use Rattle.tl_params.specs.declared.param.Cap.{Cap}
-use Rattle.tl_params.specs.declared.param.Grow.{Grow}
-use Rattle.tl_params.specs.declared.param.Grow.TheVariants as grow
-use Rattle.tl_params.specs.declared.perm.Perm.{Perm}
 use Rattle.tl_params.specs.declared.perm.Perm.TheVariants as perm
-use Rattle.tl_params.specs.declared.profile.Profile.{Profile}
-use Rattle.tl_params.specs.declared.profile.Profile.TheVariants as profile
-use Rattle.tl_params.specs.Param.{cap_right, grow_code}
+use Rattle.tl_params.specs.Param.{cap_right}
 use Rattle.tl_rules.specs.Effect.{Memory, bytes_from, effect, answer_of}
 use Rattle.tl_rules.specs.Effect as memory
 use Rattle.tl_rules.specs.History.{block_at}
@@ -29,7 +24,7 @@ use Rattle.tl_client.proofs.HeldAfter.{same_block}
 use Rattle.tl_manager.specs.Service as manager
 use Rattle.tl_manager.specs.Slave.{End, level_of, deed}
 use Rattle.tl_manager.proofs.Events.{performed-access, performed-acquire}
-use Rattle.tl_world.specs.Follow.{acquire_opcode, answers, gift, is_unheld, probes_some}
+use Rattle.tl_world.specs.Follow.{answers, gift, is_unheld, probes_some}
 use Rattle.tl_world.specs.Invariant.{IsWell, is_out}
 use Rattle.tl_world.specs.Log.{Log}
 use Rattle.tl_world.specs.Phase.{Pair}

@@ -10,7 +10,6 @@ use Rattle.tl_world.proofs.FirstToken.{first-token}
 use Rattle.tl_world.proofs.ManagerSettles.{gift_after}
 use Rattle.tl_world.proofs.RequestsTaken.{invariant-taken, next_tracker}
 use Rattle.tl_world.proofs.Reporting.{report-about, release-about}
-use Rattle.tl_world.proofs.Sized.{used-serving}
 use Rattle.tl_world.specs.Sources.{IsFor}
 use Rattle.tl_burst.specs.declared.message.Message.TheVariants as message
 use Rattle.tl_burst.specs.declared.message.MessageC.{MessageC}
@@ -68,6 +67,7 @@ use Rattle.tl_world.proofs.Showing.{carries, none-carried}
 use Rattle.tl_world.proofs.Tokens.{same_number, set-same, set-other, set-part, holds-first, set_at-same}
 use Rattle.tl_world.proofs.Parts.{answered-is, taken-unseen, quiet-is, granted-unseen}
 use Rattle.tl_world.proofs.Admitted.{head_all}
+use Rattle.tl_world.proofs.Owing.{serving-use}
 
 -- ---- an access that ends leaves the bytes on their way, or there are none
 
@@ -242,7 +242,7 @@ reports-last {w} config log h sys c n rest x queue at tokens whole handed =
     last alone (GrantTaken q) f later one = absurd (taken-unseen (c == q) (rw f at seen))
     last alone (Waits q false source low) f later one =
         report_answers-carried (is_caching config) c q n source r low (performs v) rest said h.mail h.state sys after x queue at.width inv later tokens f
-        (rw (used-serving (is_caching config) h.state n q source low inv f) refl)
+        (rw (serving-use (is_caching config) h.state n q source low inv f) refl)
         (ended-bytes (is_caching config) c q source r low v b (inv.blocks n) (subst (IsWell (is_caching config)) (set-same n (ended_block c r (performs v) b) h.state.block) (later.blocks n)) f answered
         (settled_all (length config.clients.items) (is_caching config) c b.pair (plain-past config) (inv.blocks n).outside alone) for.0 for.3 (at.is.sized n).truth)
         (answer_on_d v _)

@@ -38,7 +38,7 @@ use Rattle.tl_world.proofs.ClientTakes.{sound-beat}
 use Rattle.tl_world.proofs.Facts.{acknowledging_quiet, answered_other, granting_alone, is_other, release_alone, release_begins, report_first, report_fits}
 use Rattle.tl_world.proofs.FirstToken.{IsFirst, first-token}
 use Rattle.tl_world.proofs.FlowOrders.{beat-flows, probe-flows, report-flows, release-flows}
-use Rattle.tl_world.proofs.ManagerTakes.{by-first_c, same_report-is, seen_cap, unanswered, answered_same}
+use Rattle.tl_world.proofs.ManagerTakes.{by-first_c, same_report-is, seen_cap, unanswered}
 use Rattle.tl_world.proofs.Phases.{and_left, and_right}
 use Rattle.tl_world.proofs.ProbeDelivered.{not_coming}
 use Rattle.tl_world.proofs.Reporting.{IsAbout, report-about, release-about}
@@ -156,7 +156,7 @@ release-lawful {w} config log mail request s sys c n toks l x ms queue width is 
     ungranted GrantedOther f = refl
 
     fits : same_perm (prune_left r) (b.pair c).recorded ≡ true
-    fits = release_begins r (b.pair c) (view b.service c) ok_is releasing (answered_same (b.pair c).probing ∙ unanswered (is_caching config) c n toks s is.invariant tokens)
+    fits = release_begins r (b.pair c) (view b.service c) ok_is releasing (unanswered (is_caching config) c n toks s is.invariant tokens)
 
 pub flows-c : {w : ℕ} (config : Config) (log : Log w) (mail : Mail w) (request : ℕ → MessageA w) (s : State (List ℕ)) (sys : System w) (c : ℕ) (l : Level) (x : Beat w) (queue : List (Beat w)) → IsWidth w → IsMatched config log mail request s sys → AreFlowed log mail s sys
     → sys.channels c channel.C ≡ x ∷ queue → level_of config c ≡ Some l → broken_after l config.profile x (flow c log) ≡ None

@@ -32,11 +32,13 @@ use Rattle.tl_world.proofs.GivenKept.{AreGiven}
 use Rattle.tl_world.proofs.Granting.{held_granted}
 use Rattle.tl_world.proofs.ManagerAfter.{others_probed}
 use Rattle.tl_world.proofs.Phases.{and_left, and_right}
-use Rattle.tl_world.proofs.Sized.{each-set_at, used-serving}
+use Rattle.tl_world.proofs.Sized.{each-set_at}
 use Rattle.tl_world.proofs.SizedAfter.{first-asked}
-use Rattle.tl_world.proofs.Still.{is_other, owns_ask, serves_another}
+use Rattle.tl_world.proofs.Still.{owns_ask, serves_another}
 use Rattle.tl_world.proofs.Tokens.{same_number, set-each, set-other, set-same, holds-first, set_at-same}
 use Rattle.tl_world.proofs.Parts.{is_replied-is, not-sent, taken-unseen, granted-unseen}
+use Rattle.tl_world.proofs.Owing.{serving-use}
+use Rattle.tl_world.proofs.Facts.{is_other}
 
 -- what an Acquire has brought so far, by the use of its source: it is still wanted, or what it was granted is held
 abbrev pub Brings : Profile → ℕ → Grow → Use → Pair → Type 0
@@ -161,7 +163,7 @@ module _ (p : Profile) (c n source : ℕ) (g : Grow) where
       go Free e other = absurd cc
       go (GrantSent q d k) e other = granted-unseen (c == q) d k other
       go (GrantTaken q) e other = taken-unseen (c == q) other
-      go (Waits r false i k) e other = no_access s r i (InService n) is (used-serving caching s n r i k inv e) refl
+      go (Waits r false i k) e other = no_access s r i (InService n) is (serving-use caching s n r i k inv e) refl
       go (Waits r true i k) e other =
           let own : view (s.block n).service r ≡ Own = rw (e, same_number r) refl in
           let wants = owns_ask ((s.block n).pair r) (view (s.block n).service r) ((inv.blocks n).phases r) (rw own refl) in
@@ -269,7 +271,7 @@ module _ (p : Profile) (c n source : ℕ) (g : Grow) where
 
       either : (b : Bool) → IsLone p c n source g (if b then with_state told h else last).state
       either true = lone_steady h.state told (λ e j. refl) (steady_at i (reported_block d r (h.state.block i)) h.state.block n c (λ here. steady_pair d (after_report r ((h.state.block i).pair d)) (h.state.block i).pair (refl, refl) c)) is
-      either false = lone_last (length config.clients.items) config.profile d i r (h.state.block i).service rest h (λ q j k e. used-serving caching h.state i q j k inv e) is
+      either false = lone_last (length config.clients.items) config.profile d i r (h.state.block i).service rest h (λ q j k e. serving-use caching h.state i q j k inv e) is
   lone-kind_taken caching config tracker d Release i rest h inv given first is = lone_steady h.state _ (λ e j. refl) (steady_at i _ h.state.block n c (λ here. steady_pair d _ (h.state.block i).pair (refl, refl) c)) is
   lone-kind_taken caching config tracker d Grant i rest h inv given first is = lone_grant config tracker d i rest h given (grant-due caching d i rest h.state inv first) is
   lone-kind_taken caching config tracker d ReleaseAck i rest h inv given first is = lone_steady h.state _ (λ e j. refl) (steady_at i _ h.state.block n c (λ here. steady_pair d _ (h.state.block i).pair (refl, refl) c)) is

@@ -21,35 +21,15 @@ use Rattle.tl_world.specs.Token.{Grant, set}
 use Rattle.tl_world.proofs.ManagerSettles.{gift_after, grant_after}
 use Rattle.tl_world.proofs.Tokens.{same_number, set-same}
 use Rattle.tl_world.proofs.Codes.{gives-some}
+use Rattle.tl_world.proofs.RequestsHanded.{memory-granted}
 
 -- ---- the Grant
 
 -- who is granted the block is recorded with what it is given, so that nobody else has it to write: the memory is its truth
 pub granted-memory : (caching : ℕ → Bool) (c q : ℕ) (r : Report) (d : Bool) (k : Cap) (b : Block (List ℕ)) → same_perm (cap_right k) perm.None ≡ false → IsWell caching (granted_block c q r d k b)
     → protocol.written r b.truth b.memory ≡ b.truth
-granted-memory caching c q r d k b some well = well.memory nobody
-  where
-    new : Block (List ℕ)
-    new = granted_block c q r d k b
-
-    given : (new.pair q).recorded ≡ cap_right k
-    given = ap (λ (p : Pair). p.recorded) (set-same q (after_grant_sent k (b.pair q)) (set c (after_report r (b.pair c)) b.pair))
-
-    granting : (x : Bool) → x ≡ true → is_granting (if x then Granting d k else GrantedOther) ≡ true
-    granting x e = rw e refl
-
-    not_trunk : (e : ℕ) → (e ≡ q → ⊥) → same_perm (new.pair e).recorded perm.Trunk ≡ false
-    not_trunk e other = false_from_ne_true (same_perm (new.pair e).recorded perm.Trunk) (λ top.
-        let alone : same_perm (new.pair q).recorded perm.None ≡ true = well.one_owner e q top (λ f. other (sym f)) in
-        let none : same_perm (cap_right k) perm.None ≡ true = rw given at alone in
-        let differ : false ≡ true = sym some ∙ none in
-        cc)
-
-    nobody : (e : ℕ) → is_out (new.pair e) (view new.service e) ≡ false
-    nobody e = elim (cases_eq e q) [
-      | inl same ↦ rw same (ap (λ x. same_perm (new.pair q).recorded perm.Trunk && not x) (granting (q == q) (same_number q)) ∙ and-false (same_perm (new.pair q).recorded perm.Trunk))
-      | inr other ↦ ap (λ x. x && not (is_granting (view new.service e))) (not_trunk e other)
-    ]
+granted-memory caching c q r d k b some well =
+    memory-granted caching q d k (granted_block c q r d k b) well refl (ap (λ (p : Pair). p.recorded) (set-same q (after_grant_sent k (b.pair q)) (set c (after_report r (b.pair c)) b.pair))) some
 
 -- the Grant that is handed out is the one of the token
 pub grant-rendered : {w : ℕ} (config : Config) (caching : ℕ → Bool) (c q n source : ℕ) (r : Report) (whole : Bool) (g : Grow) (h : Shadow w) → source ≡ (h.state.block n).source q

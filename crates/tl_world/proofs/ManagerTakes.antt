@@ -45,7 +45,6 @@ use Rattle.tl_world.proofs.Carried.{IsNext}
 use Rattle.tl_world.proofs.Facts.{is_other, report_fits, own_alone, release_begins}
 use Rattle.tl_world.proofs.Orders.{report-legal}
 use Rattle.tl_world.proofs.Phases.{and_left, and_right}
-use Rattle.tl_world.proofs.PhaseSteps as steps
 use Rattle.tl_world.proofs.PhaseSteps.{on_other}
 use Rattle.tl_world.proofs.ManagedEndings.{tracker-of}
 use Rattle.tl_world.proofs.Reporting.{IsAbout}
@@ -201,11 +200,6 @@ unanswered caching c n rest s inv first =
     none true e = absurd (omega (arith, e))
     none false e = refl
 
-pub answered_same : (p : Probing) → steps.is_answered p ≡ is_answered p
-answered_same Quiet = refl
-answered_same (Sent k) = refl
-answered_same (Answered r) = refl
-
 pub release-order : {w : ℕ} (config : Config) (caching : ℕ → Bool) (request : ℕ → MessageA w) (c n k : ℕ) (r : Prune) (rest : List Token) (truth : List ℕ) (carries : Bool) (m : MessageC w) (s : State (List ℕ)) (e : End w) → IsInvariant caching s
     → IsManaged request s e.trace → IsKept config e → (s.link c).c ≡ token Release n ∷ rest → ((s.block n).pair c).letting ≡ Releasing r → IsAbout false n (prune_code r) carries truth m
     → unfinished channel.C (on_link c e.trace) ≡ begun (message.C m) k → broken_in_order config.profile (beat.C (c_beat_of m k)) (on_link c e.trace) ≡ None
@@ -226,7 +220,7 @@ release-order {w} config caching request c n k r rest truth carries m s e inv ma
     not_own x f = refl
 
     fits : same_perm (prune_left r) (b.pair c).recorded ≡ true
-    fits = release_begins r (b.pair c) (view b.service c) ((inv.blocks n).phases c) releasing (answered_same (b.pair c).probing ∙ unanswered caching c n rest s inv tokens)
+    fits = release_begins r (b.pair c) (view b.service c) ((inv.blocks n).phases c) releasing (unanswered caching c n rest s inv tokens)
 
     first : unfinished channel.C t ≡ [] → NextOrder config.profile m 0 t
     first none =

@@ -31,9 +31,9 @@ use Rattle.tl_world.proofs.ManagerSettles.{gift_after}
 use Rattle.tl_world.proofs.Owed.{owed}
 use Rattle.tl_world.proofs.OwedAfter.{IsKeptAfter, report_taken-owed, report_answers-owed, report_grants-owed}
 use Rattle.tl_world.proofs.Popped.{IsReceived}
-use Rattle.tl_world.proofs.Sized.{used-serving}
 use Rattle.tl_world.proofs.Tokens.{same_number, set-same}
 use Rattle.tl_world.proofs.Parts.{answered-is, taken-unseen, granted-unseen}
+use Rattle.tl_world.proofs.Owing.{serving-use}
 
 pub report-owed : {w : ℕ} (config : Config) (log : Log w) (h : Shadow w) (sys' : System w) (tracker c n : ℕ) (rest : List Token) → IsWidth w → IsMatched config log h.mail h.request h.state (after config log) → c < length config.clients.items
     → (h.state.link c).c ≡ token ProbeAck n ∷ rest → IsReceived c channel.C (after config log) sys' → IsKeptAfter config (kind_taken config tracker c ProbeAck n rest h).mail (kind_taken config tracker c ProbeAck n rest h).state
@@ -69,7 +69,7 @@ report-owed {w} config log h sys' tracker c n rest width matched lt first receiv
     last alone (GrantSent q d low) f is = absurd (granted-unseen (c == q) d low (rw f at seen))
     last alone (GrantTaken q) f is = absurd (taken-unseen (c == q) (rw f at seen))
     last alone (Waits q false source low) f is =
-        report_answers-owed config log h.mail h.request h.state sys' width matched c n rest lt q source r low (performs v) said first f (rw (used-serving (is_caching config) h.state n q source low inv f) refl)
+        report_answers-owed config log h.mail h.request h.state sys' width matched c n rest lt q source r low (performs v) said first f (rw (serving-use (is_caching config) h.state n q source low inv f) refl)
         (ended-bytes (is_caching config) c q source r low v b (inv.blocks n) (subst (IsWell (is_caching config)) (set-same n (ended_block c r (performs v) b) h.state.block) (is.invariant.blocks n)) f answered
         (settled_all clients (is_caching config) c b.pair (plain-past config) (inv.blocks n).outside alone) for.0 for.3 (matched.sized n).truth)
         (answer_on_d v _) received is

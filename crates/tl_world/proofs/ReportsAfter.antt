@@ -42,10 +42,10 @@ use Rattle.tl_world.proofs.ManagerDelivered.{channel_c-delivered, pushed, pushed
 use Rattle.tl_world.proofs.ManagerFollowed.{client-of, followed-taken, step-taken}
 use Rattle.tl_world.proofs.ManagerTakes.{by-first_c}
 use Rattle.tl_world.proofs.RequestsTaken.{next_tracker}
-use Rattle.tl_world.proofs.Sized.{used-serving}
 use Rattle.tl_world.proofs.SizedAfter.{served-request}
 use Rattle.tl_world.proofs.Tokens.{holds-first, set_at-same}
 use Rattle.tl_world.proofs.Parts.{answered-is}
+use Rattle.tl_world.proofs.Owing.{serving-use}
 
 -- ---- which accesses are answered by what is handed out
 
@@ -98,7 +98,7 @@ waiting-one config log h sys n m (GrantSent q d k) width is beside e for with = 
 waiting-one config log h sys n m (GrantTaken q) width is beside e for with = tt
 waiting-one config log h sys n m (Waits q true source k) width is beside e for with = tt
 waiting-one {w} config log h sys n m (Waits q false source k) width is beside e for with =
-    let used = used-serving (is_caching config) h.state n q source k is.invariant e in (
+    let used = serving-use (is_caching config) h.state n q source k is.invariant e in (
       record {
         width = width;
         request = with;

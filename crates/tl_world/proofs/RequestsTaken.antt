@@ -48,6 +48,7 @@ use Rattle.tl_world.proofs.ManagersEnd.{IsAtManager, at_manager-matched}
 use Rattle.tl_world.proofs.Performing.{IsAnswering}
 use Rattle.tl_world.proofs.Requests.{recorded-beat, IsUnwaited}
 use Rattle.tl_world.proofs.Codes.{acquires-so}
+use Rattle.tl_world.proofs.ManagerAfter.{IsManagerOf}
 
 -- ---- what a request that needn't wait finds
 
@@ -152,10 +153,6 @@ unwaited-asked {w} config log mail request s sys c source is used i src own j e 
     go true f = let no : Asked ≡ Acquires i = sym here ∙ f in cc
     go false f = let no : Asked ≡ InService i = sym here ∙ f in cc
 
--- the shadow's part of the manager
-abbrev pub IsAfterwards : {w : ℕ} → Config → Shadow w → End w → Type 0
-IsAfterwards config h e = IsAtManager config h.mail h.request h.state e
-
 with-same : {w : ℕ} (mail after : Mail w) (service : Service) (m : MessageA w) → after.request ≡ mail.request → IsServedWith mail service m → IsServedWith after service m
 with-same mail after Free m same ok = tt
 with-same mail after (Waits r true source k) m same ok = tt
@@ -184,9 +181,9 @@ ready-request config log h sys c source k is asked comes last moves =
 pub at_manager-request_taken : {w : ℕ} (config : Config) (log : Log w) (h : Shadow w) (sys : System w) (c source k : ℕ) (rest : List Token) → IsMatched config log h.mail h.request h.state sys
     → (h.state.link c).a ≡ token Request source ∷ rest → (asked : IsAsked config c source h.mail h.state)
     → IsComing config c k asked.request sys.manager → beats_of (message.A asked.request) ≡ suc k → must_wait config (link_of c) (beat.A (a_beat_of asked.request k)) sys.manager.trace ≡ false
-    → IsAfterwards config (kind_taken config (next_tracker sys) c Request source rest h) (end_after config c k asked.request sys.manager)
+    → IsManagerOf config (kind_taken config (next_tracker sys) c Request source rest h) (end_after config c k asked.request sys.manager)
 at_manager-request_taken {w} config log h sys c source k rest is first asked comes last moves =
-    subst (λ (i : Message w). IsAfterwards config (request_taken clients c source i tracker rest h) after) (sym asked.is_it)
+    subst (λ (i : Message w). IsManagerOf config (request_taken clients c source i tracker rest h) after) (sym asked.is_it)
     (go (probes_some clients c false (cap_probed m.opcode m.param) b.pair) (cap_probed m.opcode m.param) refl refl
     (subst (λ (i : Message w). IsInvariant (is_caching config) (request_taken clients c source i tracker rest h).state) asked.is_it inv))
   where
@@ -225,9 +222,9 @@ at_manager-request_taken {w} config log h sys c source k rest is first asked com
 
     answered : (p : Bool) (o : Option Cap) → IsInvariant (is_caching config) (access_taken c source m tracker p o rest h).state → access_taken c source m tracker p o rest h ≡ access_taken c source m tracker false None rest h
         → deed config (link_of c) (beat.A (a_beat_of m k)) e ≡ performed config (service_for c m e.trace) (with_beat c m k e.trace) e.memory
-        → IsAfterwards config (access_taken c source m tracker p o rest h) after
+        → IsManagerOf config (access_taken c source m tracker p o rest h) after
     answered p o kept same done =
-        subst (λ (i : Shadow w). IsAfterwards config i after) (sym same)
+        subst (λ (i : Shadow w). IsManagerOf config i after) (sym same)
         (at_manager-answered (is_caching config) config (access_taken c source m tracker false None rest h).mail h.request c k n m h.state (access_taken c source m tracker false None rest h).state e
         (subst (λ (i : Shadow w). IsInvariant (is_caching config) i.state) same kept) (λ i. refl) answering asked.lawful done
         (at_manager-answers config h.mail (access_taken c source m tracker false None rest h).mail h.request h.state e refl (at_manager-matched config log h.mail h.request h.state sys is)))
@@ -239,7 +236,7 @@ at_manager-request_taken {w} config log h sys c source k rest is first asked com
     some_cap x y i j f g l = let same : Some i ≡ Some j = sym f ∙ g ∙ l in cc
 
     go : (p : Bool) (o : Option Cap) → probes_some clients c false (cap_probed m.opcode m.param) b.pair ≡ p → cap_probed m.opcode m.param ≡ o
-        → IsInvariant (is_caching config) (access_taken c source m tracker p o rest h).state → IsAfterwards config (access_taken c source m tracker p o rest h) after
+        → IsInvariant (is_caching config) (access_taken c source m tracker p o rest h).state → IsManagerOf config (access_taken c source m tracker p o rest h) after
     go true None f g kept = absurd (let no : false ≡ true = rw g at f in cc)
     go false None f g kept = answered false None kept refl (done f)
     go false (Some j) f g kept = answered false (Some j) kept refl (done f)
@@ -296,9 +293,9 @@ ready-acquire config log h sys c n k is asked comes last moves =
 pub at_manager-acquire_taken : {w : ℕ} (config : Config) (log : Log w) (h : Shadow w) (sys : System w) (c n k : ℕ) (rest : List Token) → IsMatched config log h.mail h.request h.state sys
     → (h.state.link c).a ≡ token Acquire n ∷ rest → (asked : IsWanted w c n h.state)
     → IsComing config c k (acquire_wanted c n h.state asked) sys.manager → beats_of (message.A (acquire_wanted c n h.state asked)) ≡ suc k → must_wait config (link_of c) (beat.A (a_beat_of (acquire_wanted c n h.state asked) k)) sys.manager.trace ≡ false
-    → IsAfterwards config (kind_taken config (next_tracker sys) c Acquire n rest h) (end_after config c k (acquire_wanted c n h.state asked) sys.manager)
+    → IsManagerOf config (kind_taken config (next_tracker sys) c Acquire n rest h) (end_after config c k (acquire_wanted c n h.state asked) sys.manager)
 at_manager-acquire_taken {w} config log h sys c n k rest is first asked comes last moves =
-    subst (λ (i : Acquiring). IsAfterwards config (acquire_taken clients config.profile c n i tracker rest h) after) (sym asked.wants)
+    subst (λ (i : Acquiring). IsManagerOf config (acquire_taken clients config.profile c n i tracker rest h) after) (sym asked.wants)
     (go (some_below clients (λ d. is_probed c true j (b.pair d).recorded d)) refl
     (subst (λ (i : Acquiring). IsInvariant (is_caching config) (acquire_taken clients config.profile c n i tracker rest h).state) asked.wants inv))
   where

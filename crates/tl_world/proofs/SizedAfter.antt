@@ -29,10 +29,11 @@ use Rattle.tl_world.specs.PhaseSteps.{after_acquire, after_release, after_served
 use Rattle.tl_world.specs.Protocol.{Service, Free, Waits, GrantSent, GrantTaken, Block, State, Use, Closed, Asked, InService, Replied, Acquires, token, on, acquiring_block, stored_block, performed_block, served_block, ended_block, granted_block, granted_pair, taken_block, granted_truth, freed_block}
 use Rattle.tl_world.specs.Token.{Kind, Request, Acquire, Probe, ProbeAck, Release, Answer, Grant, ReleaseAck, GrantAck, Token, set, set_at}
 use Rattle.tl_world.specs.Whole.{AreSized, IsRequest, IsSourced, is_storing}
-use Rattle.tl_world.proofs.Sized.{each-set_at, used-serving}
+use Rattle.tl_world.proofs.Sized.{each-set_at}
 use Rattle.tl_world.proofs.Tokens.{same_number, set-same, set-other, set-each, set-part, holds-first}
 use Rattle.tl_world.proofs.Parts.{is_asked-is}
 use Rattle.tl_world.proofs.Perms.{trunk-some}
+use Rattle.tl_world.proofs.Owing.{serving-use}
 
 -- ---- accesses and their sources
 
@@ -103,7 +104,7 @@ pub sourced-kind_taken : {w : ℕ} (caching : ℕ → Bool) (config : Config) (t
 sourced-kind_taken caching config tracker c Request i rest h inv first before = sourced_request config _ c i (h.mail.request c i) tracker rest h (first-asked caching c i rest h inv first) before
 sourced-kind_taken caching config tracker c Acquire i rest h inv first before = sourced_acquire config _ config.profile c i ((h.state.block i).pair c).acquiring tracker rest h before
 sourced-kind_taken caching config tracker c Probe i rest h inv first before = before
-sourced-kind_taken {w} caching config tracker c ProbeAck i rest h inv first before = either _ _ _ before (sourced_last config _ config.profile c i _ (h.state.block i).service rest h (λ q source k e. used-serving caching h.state i q source k inv e) before)
+sourced-kind_taken {w} caching config tracker c ProbeAck i rest h inv first before = either _ _ _ before (sourced_last config _ config.profile c i _ (h.state.block i).service rest h (λ q source k e. serving-use caching h.state i q source k inv e) before)
   where
     either : (b : Bool) (s t : Shadow w) → AreSourced config s.mail.request s.state.uses → AreSourced config t.mail.request t.state.uses → AreSourced config (if b then s else t).mail.request (if b then s else t).state.uses
     either true s t f g = f

@@ -8,12 +8,14 @@ use Rattle.tl_world.specs.Phase.{Pair, View, Own, Other, Letting, Kept, Releasin
 use Rattle.tl_world.specs.Token.{Kind, Request, Acquire, Probe, ProbeAck, Release, Answer, Grant, ReleaseAck, GrantAck, Token, one_if, count}
 use Rattle.tl_world.specs.Protocol.{Service, Free, Waits, GrantSent, GrantTaken, State, Use, Closed, Asked, InService, Replied, Acquires, view, on, tokens_on, is_on, is_transfer, is_wanting, shown}
 use Rattle.tl_world.specs.Invariant.{IsInvariant, acquires_of, serves_of, is_of, is_asked, is_replied, acquires_with, serves_with, releases_with}
+use Rattle.tl_world.specs.Managed.{is_own}
 use Rattle.tl_world.proofs.Capacities.{implied, shown_there, kind_there, acquire_named, grant_named, release_named, release_ack_named, source_of_acquire}
 use Rattle.tl_world.proofs.Distinct.{IsThere, first-there}
 use Rattle.tl_world.proofs.Phases.{each_phase, of_phase, and_left}
 use Rattle.tl_world.proofs.Quiet.{IsSilent, free-when_silent}
 use Rattle.tl_world.proofs.Tokens.{same_number}
 use Rattle.tl_world.proofs.Parts.{not-sent, not-answered, taken-unseen, granted-unseen}
+use Rattle.tl_world.proofs.Facts.{is_other}
 
 -- ---- nothing is on a channel
 
@@ -30,20 +32,11 @@ none_there : (n : ℕ) (b : Bool) → 0 ≡ one_if b → b ≡ true → ⊥
 none_there n true e f = absurd (omega (arith, e))
 none_there n false e f = absurd cc
 
--- a Probe is of a service for another request, and one's own service for an Acquire that is open
-abbrev pub is_other : View → Bool
-is_other (Other k) = true
-is_other _ = false
-
-abbrev pub is_owned : View → Bool
-is_owned Own = true
-is_owned _ = false
-
 probed_by_other : Pair → View → Bool
 probed_by_other p v = is_quiet p.probing || is_other v
 
 asks_for_own : Pair → View → Bool
-asks_for_own p v = not (is_owned v) || is_wanting p.acquiring
+asks_for_own p v = not (is_own v) || is_wanting p.acquiring
 
 or_second : (a b : Bool) → (a || b) ≡ true → a ≡ false → b ≡ true
 or_second true b e f = absurd cc
@@ -53,9 +46,9 @@ pub serves_another : (p : Pair) (v : View) → ok p v ≡ true → is_quiet p.pr
 unfolding each_phase probed_by_other
 serves_another p v h = or_second (is_quiet p.probing) (is_other v) (of_phase probed_by_other refl p v h)
 
-pub owns_ask : (p : Pair) (v : View) → ok p v ≡ true → is_owned v ≡ true → is_wanting p.acquiring ≡ true
+pub owns_ask : (p : Pair) (v : View) → ok p v ≡ true → is_own v ≡ true → is_wanting p.acquiring ≡ true
 unfolding each_phase asks_for_own
-owns_ask p v h = implied (is_owned v) (is_wanting p.acquiring) (of_phase asks_for_own refl p v h)
+owns_ask p v h = implied (is_own v) (is_wanting p.acquiring) (of_phase asks_for_own refl p v h)
 
 module _ {X : Type 0} (caching : ℕ → Bool) (s : State X) (inv : IsInvariant caching s) where
   -- a kind that is on no channel is shown nowhere

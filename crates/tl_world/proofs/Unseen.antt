@@ -28,9 +28,9 @@ use Rattle.tl_world.proofs.Traces.{IsSameToManager, SameService}
 use Rattle.tl_world.proofs.Choices.{waits-used}
 use Rattle.tl_world.proofs.FollowKept.{IsAskable, asked-kept}
 use Rattle.tl_world.proofs.ManagersEnd.{IsAtManager, at_manager-same}
-use Rattle.tl_world.proofs.RequestsTaken.{IsAfterwards}
 use Rattle.tl_world.proofs.Tokens.{set-same, set-other, set-part, holds-first}
 use Rattle.tl_world.proofs.Parts.{granting-own, sent-is}
+use Rattle.tl_world.proofs.ManagerAfter.{IsManagerOf}
 
 -- ---- one block changes, and not to the manager
 
@@ -134,7 +134,7 @@ asked_with caching c source n i mail s m inv closed (GrantSent q d k) e ok = tt
 asked_with caching c source n i mail s m inv closed (GrantTaken q) e ok = tt
 
 at_manager-access : {w : ℕ} (caching : ℕ → Bool) (config : Config) (c source : ℕ) (m : MessageA w) (h : Shadow w) (e : End w) → IsInvariant caching h.state → h.state.uses c source ≡ Closed → IsInvariant caching (access_asked c source h.state)
-    → IsAfterwards config h e → IsAfterwards config (asked c (op.Access (message.A m)) (reply.Started source) h) e
+    → IsManagerOf config h e → IsManagerOf config (asked c (op.Access (message.A m)) (reply.Started source) h) e
 at_manager-access {w} caching config c source m h e inv closed after is =
     let now : IsAtManager config h.mail h.request (access_asked c source h.state) e = at_manager-untouched caching config h.mail h.request h.state (access_asked c source h.state) e after (λ i. refl) is in
     record {
@@ -147,10 +147,10 @@ at_manager-access {w} caching config c source m h e inv closed after is =
     }
 
 -- what is kept of the manager's end stays as a client is asked
-pub at_manager-asked : {w : ℕ} (caching : ℕ → Bool) (config : Config) (c : ℕ) (o : Op w) (r : Reply) (h : Shadow w) (e : End w) → IsInvariant caching h.state → IsAskable caching c o r h → IsAfterwards config h e → IsAfterwards config (asked c o r h) e
+pub at_manager-asked : {w : ℕ} (caching : ℕ → Bool) (config : Config) (c : ℕ) (o : Op w) (r : Reply) (h : Shadow w) (e : End w) → IsInvariant caching h.state → IsAskable caching c o r h → IsManagerOf config h e → IsManagerOf config (asked c o r h) e
 at_manager-asked {w} caching config c o r h e inv may is = go o r may (asked-kept caching c o r h inv may)
   where
-    go : (o : Op w) (r : Reply) → IsAskable caching c o r h → IsInvariant caching (asked c o r h).state → IsAfterwards config (asked c o r h) e
+    go : (o : Op w) (r : Reply) → IsAskable caching c o r h → IsInvariant caching (asked c o r h).state → IsManagerOf config (asked c o r h) e
     go (op.Load address size) r may after = is
     go (op.Store address size value) reply.Stored may after =
         let bytes = stored address size value ((h.state.block (block_at address)).copy c) in
@@ -203,7 +203,7 @@ is_to_clients _ = false
 
 -- what is kept of the manager's end stays as a client takes a message
 pub at_manager-client_taken : {w : ℕ} (caching : ℕ → Bool) (config : Config) (tracker c : ℕ) (kind : Kind) (n : ℕ) (rest : List Token) (h : Shadow w) (e : End w) → is_to_clients kind ≡ true → IsInvariant caching h.state
-    → on kind (h.state.link c) ≡ token kind n ∷ rest → IsInvariant caching (kind_taken config tracker c kind n rest h).state → IsAfterwards config h e → IsAfterwards config (kind_taken config tracker c kind n rest h) e
+    → on kind (h.state.link c) ≡ token kind n ∷ rest → IsInvariant caching (kind_taken config tracker c kind n rest h).state → IsManagerOf config h e → IsManagerOf config (kind_taken config tracker c kind n rest h) e
 at_manager-client_taken caching config tracker c Request n rest h e kind inv first after is = absurd cc
 at_manager-client_taken caching config tracker c Acquire n rest h e kind inv first after is = absurd cc
 at_manager-client_taken caching config tracker c ProbeAck n rest h e kind inv first after is = absurd cc
@@ -219,7 +219,7 @@ at_manager-client_taken caching config tracker c ReleaseAck n rest h e kind inv 
     at_manager-unseen caching config h.mail h.request n (let_go_block c (h.state.block n)) h.state (release_ack_taken c n rest h.state) e after (λ i. refl) (same-let_go c (h.state.block n)) is
 at_manager-client_taken {w} caching config tracker c Grant n rest h e kind inv first after is = go (h.state.block n).service refl after
   where
-    go : (service : Service) → (h.state.block n).service ≡ service → IsInvariant caching (taken_by_client c n service rest h).state → IsAfterwards config (taken_by_client c n service rest h) e
+    go : (service : Service) → (h.state.block n).service ≡ service → IsInvariant caching (taken_by_client c n service rest h).state → IsManagerOf config (taken_by_client c n service rest h) e
     go Free f kept = is
     go (Waits r own source k) f kept = is
     go (GrantTaken q) f kept = is

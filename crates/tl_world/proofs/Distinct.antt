@@ -2,6 +2,7 @@
 use Rattle.std.proofs.Common.{◌≡◌, ℕ, ◌+◌, ◌<◌, ◌≤◌, Bool, true, false, List, [], ◌∷◌, refl, sym, ◌∙◌, ap, ◌⊎◌, inl, inr, arith}
 use Rattle.std.specs.Prelude.{◌==◌, ◌&&◌, if◌then◌else◌, not, length, Option, Some, None}
 use Rattle.std.proofs.lemmas.Bool.{cases_eq, ne_eqb, eqb-true, and_parts}
+use Rattle.std.proofs.lemmas.Option.{same_Some}
 use Rattle.tl_world.specs.Potential.{total}
 use Rattle.tl_world.specs.Token.{Kind, Token, is, one_if, count}
 use Rattle.tl_world.proofs.Rendered.{same_kind_again}
@@ -89,9 +90,6 @@ by-names test name bound (x ∷ xs) below =
     let both = total-plus bound (λ i. one_if (named test name i x)) (λ i. passing (named test name i) xs) in
     omega (arith, rest, both, one-name (test x) (name x) bound (below x (first-there x xs)))
 
-some_is : {x y : Token} → Some x ≡ Some y → x ≡ y
-some_is h = cc
-
 -- No token stands twice, each that passes has a name below the bound, and is the one that the name is of: so there are
 -- no more than the bound.
 pub few : (test : Token → Bool) (name : Token → ℕ) (owner : ℕ → Option Token) (bound : ℕ) (xs : List Token)
@@ -122,5 +120,5 @@ few test name owner bound xs once own =
             let same : name x ≡ i = eqb-true (name x) i parts.1 in
             let is_it : owner i ≡ Some x = ap owner (sym same) ∙ (own x there parts.0).0 in
             let it : Some t ≡ Some x = sym e ∙ is_it in
-            let that : t ≡ x = some_is it in
+            let that : t ≡ x = same_Some _ _ it in
             rw that (is-itself x)

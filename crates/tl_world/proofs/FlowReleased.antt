@@ -24,11 +24,12 @@ use Rattle.tl_world.specs.Render.{probe_beat}
 use Rattle.tl_world.specs.Sources.{cap_waited}
 use Rattle.tl_world.proofs.FlowAlone.{AreRests}
 use Rattle.tl_world.proofs.FlowAside.{requested-blocks}
-use Rattle.tl_world.proofs.FlowReport.{requested-of, probed-of, sunk-of}
+use Rattle.tl_world.proofs.FlowReport.{sunk-of}
 use Rattle.tl_world.proofs.FlowReported.{unsaid}
 use Rattle.tl_world.proofs.FlowStep.{flowed-next, held_by, acquired_by, let_of, granted_by, step, step_quiet}
 use Rattle.tl_world.proofs.Tokens.{same_number}
 use Rattle.tl_world.proofs.Parts.{is_of-is}
+use Rattle.tl_world.proofs.Unsaid.{request_of-c, probe_of-c}
 
 -- ---- another value of one block
 
@@ -140,7 +141,7 @@ flowed-release {w} {X} c n r y first last asked rest rest' s s' t first_is last_
           (is.held_is ∙ ap (λ (q : Perm). if last then q else held_by c b) (sym is.says) ∙ sym (said last (is_probe_ack y.opcode) (is_release y.opcode) (block_at y.address == n) (reported y.param) (held_by c b) is.release here_at))
           (λ m ne. sym (unsaid_any last (is_probe_ack y.opcode) (is_release y.opcode) (block_at y.address == m) (reported y.param) (held_by c (s.block m)) (apart m ne)));
       requests = λ i. requests i ∙ sym (step_quiet first last (is_requested c i (rest channel.A) (s.uses c i) s));
-      asked_is = λ i e. requested-of i y t ∙ before.asked_is i (before.requests i ∙ sym (requests i) ∙ e);
+      asked_is = λ i e. request_of-c i y t ∙ before.asked_is i (before.requests i ∙ sym (requests i) ∙ e);
       acquires = λ m. acquires m ∙ sym (step_quiet first last (acquired_by c (s.block m)));
       release_sources = lets;
       released = λ i m e f. released i m (sym (is.lets i) ∙ e) f (cases_eq i y.source);
@@ -152,7 +153,7 @@ flowed-release {w} {X} c n r y first last asked rest rest' s s' t first_is last_
       sinks = λ i. sinks i ∙ sym (step_quiet first last (is_sunk c i (rest channel.D) (s.tracked i) s));
       grants = λ m. grants m ∙ sym (step_quiet first last (granted_by c m asked (rest channel.D) (s.block m)));
       probes = λ m. answered m ∙ sym (not_closed m);
-      probed = λ m e. probed-of m y t ∙ before.probed m (sym (answered m) ∙ e) ∙ sym (ap (λ k. Some (probe_beat m k)) (part-block (λ (z : Block X). cap_waited z.service) n s s' is.elsewhere (ap cap_waited is.service) m));
+      probed = λ m e. probe_of-c m y t ∙ before.probed m (sym (answered m) ∙ e) ∙ sym (ap (λ k. Some (probe_beat m k)) (part-block (λ (z : Block X). cap_waited z.service) n s s' is.elsewhere (ap cap_waited is.service) m));
       sunk = λ m e. sunk-of m y t ∙ before.sunk m (before.grants m ∙ sym (grants m) ∙ e) ∙ ap Some (sym (part-block (λ (z : Block X). z.tracker) n s s' is.elsewhere is.tracker m));
     }) before
   where

@@ -201,6 +201,7 @@ pub mod Taken
 pub mod TakenAll
 pub mod Tokens
 pub mod Traces
+pub mod Unsaid
 pub mod Unseen
 pub mod UnseenSteps
 pub mod Waiting

@@ -31,16 +31,9 @@ use Rattle.tl_world.specs.Token.{Token, set}
 use Rattle.tl_world.proofs.ManagedEndings.{tracker-of, tracker-alone}
 use Rattle.tl_world.proofs.Tokens.{same_number, set-same, set-other, set-part}
 use Rattle.tl_world.proofs.Quieted.{part_none}
+use Rattle.tl_world.proofs.Unsaid.{request_of-e, probe_of-e}
 
 -- ---- a beat of channel E
-
-request_of-e : {w : ℕ} (q : ℕ) (x : BeatE) (t : History w) → request_of q (beat.E x ∷ t) ≡ request_of q t
-unfolding request_of
-request_of-e q x t = refl
-
-probe_of-e : {w : ℕ} (n : ℕ) (x : BeatE) (t : History w) → probe_of n (beat.E x ∷ t) ≡ probe_of n t
-unfolding probe_of
-probe_of-e n x t = refl
 
 burst-e : {w : ℕ} (x : BeatE) (t : History w) → unfinished channel.A (beat.E x ∷ t) ≡ unfinished channel.A t
 unfolding unfinished

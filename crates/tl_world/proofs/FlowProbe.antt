@@ -23,7 +23,7 @@ use Rattle.tl_world.specs.Sources.{cap_waited}
 use Rattle.tl_world.specs.Token.{Token, set}
 use Rattle.tl_world.proofs.FlowAlone.{AreRests}
 use Rattle.tl_world.proofs.FlowAside.{requested-blocks, let_by-same}
-use Rattle.tl_world.proofs.FlowStep.{flowed-next, held_by, acquired_by, let_of, granted_by, step}
+use Rattle.tl_world.proofs.FlowStep.{flowed-next, held_by, acquired_by, let_of, granted_by, step, whole_opened, whole_unopened}
 use Rattle.tl_world.proofs.Tokens.{same_number, set-same, set-each, set-part}
 
 released-of : {w : ℕ} (i : ℕ) (y : BeatB w) (t : History w) → release_of i (beat.B y ∷ t) ≡ release_of i t
@@ -64,8 +64,8 @@ flowed-probe {w} {X} c n k toks asked asked' rest rest' s t first last rests ask
       sinks = λ i. ap (λ (r : List (Beat w)). is_sunk c i r (s.tracked i) s') (rests channel.D) ∙ sunk_same i (s.tracked i);
       grants = grants;
       probes = set-each (λ m z. is_answered (z.pair c).probing ≡ step true true (block_at (64 * n) == m) false (is_answered ((s.block m).pair c).probing)) n new s.block
-          (part_true ∙ sym (opened (block_at (64 * n) == n) (is_answered (b.pair c).probing) (rw at (same_number n))))
-          (λ m ne. sym (unopened (block_at (64 * n) == m) (is_answered ((s.block m).pair c).probing) (rw at (ne_eqb n m (λ e. ne (sym e))))));
+          (part_true ∙ sym (whole_opened (block_at (64 * n) == n) (is_answered (b.pair c).probing) (rw at (same_number n))))
+          (λ m ne. sym (whole_unopened (block_at (64 * n) == m) (is_answered ((s.block m).pair c).probing) (rw at (ne_eqb n m (λ e. ne (sym e))))));
       probed = λ m e. probed-of m y t first ∙ probed m e;
       sunk = λ m e. sunk-of m y t ∙ before.sunk m (before.grants m ∙ sym (grants m) ∙ e) ∙ ap Some (sym (set-part (λ (z : Block X). z.tracker) n new s.block refl m));
     }) before
@@ -87,12 +87,6 @@ flowed-probe {w} {X} c n k toks asked asked' rest rest' s t first last rests ask
 
     part_true : is_answered (new.pair c).probing ≡ true
     part_true = ap (λ (p : Pair). is_answered p.probing) (set-same c (after_probe k (b.pair c)) b.pair)
-
-    opened : (o p : Bool) → o ≡ true → step true true o false p ≡ true
-    opened o p e = rw e refl
-
-    unopened : (o p : Bool) → o ≡ false → step true true o false p ≡ p
-    unopened o p e = rw e refl
 
     requests : (i : ℕ) → is_requested c i (rest' channel.A) (s'.uses c i) s' ≡ is_requested c i (rest channel.A) (s.uses c i) s
     requests i =

@@ -2,8 +2,10 @@
 -- block has, and which request that is. This is for all of its events alike.
 use Rattle.std.proofs.Common.{◌≡◌, ℕ, ◌==◌, Bool, true, false, not, ◌&&◌, ◌||◌, List, [], ◌∷◌, Option, Some, None, refl, sym, ◌∙◌, ap, inl, inr}
 use Rattle.std.specs.Prelude.{if◌then◌else◌}
-use Rattle.std.proofs.Math.Bool.{or_comm}
+use Rattle.std.specs.Cmp.Derive.{one_truth}
+use Rattle.std.proofs.Math.Bool.{or_comm, or-true}
 use Rattle.std.proofs.lemmas.Bool.{cases_eq, ne_eqb, eqb-true}
+use Rattle.std.proofs.lemmas.Option.{same_Some}
 use Rattle.tl_burst.specs.declared.message.MessageA.{MessageA}
 use Rattle.tl_burst.specs.Burst.{a_beat_of}
 use Rattle.tl_beat.specs.declared.opcode.Channel.TheVariants as channel
@@ -13,6 +15,7 @@ use Rattle.tl_params.specs.declared.key.Key.TheVariants.{ProbeOf}
 use Rattle.tl_params.specs.declared.param.Cap.{Cap}
 use Rattle.tl_rules.specs.Conformance.{Trace, on_link, comes_in_request}
 use Rattle.tl_rules.specs.History.{pending, block_at, request_of, probe_of}
+use Rattle.tl_client.proofs.HeldAfter.{swapped}
 use Rattle.tl_manager.specs.Holders.{recorded, cap_probed}
 use Rattle.tl_manager.specs.Kept.{AreApart, blocks_of, IsKept}
 use Rattle.tl_manager.specs.Pending as waits
@@ -23,29 +26,16 @@ use Rattle.tl_manager.specs.Slave.{End}
 use Rattle.tl_manager.proofs.Serving.{some_is, none_of_block}
 use Rattle.tl_manager.proofs.Settled.{all-settled}
 use Rattle.tl_manager.proofs.Sources.{source-pending, sink-pending}
-use Rattle.tl_world.specs.Phase.{Pair, View, Own, Other, Granting, Acknowledging, GrantedOther, is_quiet, is_calm, Acquiring, Calm, Wants, ok}
+use Rattle.tl_world.specs.Phase.{Pair, View, Own, Other, Granting, Acknowledging, GrantedOther, is_quiet, ok}
 use Rattle.tl_world.specs.Protocol.{Service, Free, Waits, GrantSent, GrantTaken, State, Use, Closed, Asked, InService, Replied, Acquires, view, is_granting, is_acknowledging, is_wanting}
 use Rattle.tl_world.specs.Invariant.{IsInvariant, IsAwaited, IsOwnSource, is_serving, tracks_with, is_busy}
 use Rattle.tl_world.specs.Managed.{IsManaged, is_own, client_in, service_with}
 use Rattle.tl_world.specs.Sources.{AreServed, IsFor, is_served, is_granted, cap_waited}
 use Rattle.tl_world.specs.Render.{probe_beat}
 use Rattle.tl_world.proofs.Facts.{is_other, own_wants}
-use Rattle.tl_world.proofs.Moves.{is_of-is, acquires_of-is, serves_of-is}
 use Rattle.tl_world.proofs.Phases.{each_phase, of_phase, and_left, and_right}
 use Rattle.tl_world.proofs.Tokens.{same_number}
-
--- ---- truth values
-
-same_truth : (a b : Bool) → (a ≡ true → b ≡ true) → (b ≡ true → a ≡ true) → a ≡ b
-same_truth true b f g = sym (f refl)
-same_truth false true f g = g refl
-same_truth false false f g = refl
-
-pub eqb-swap : (m n : ℕ) → (m == n) ≡ (n == m)
-eqb-swap m n = elim (cases_eq m n) [
-  | inl same ↦ rw same refl
-  | inr other ↦ rw (ne_eqb m n other, ne_eqb n m (λ e. other (sym e))) refl
-]
+use Rattle.tl_world.proofs.BothParts.{is_of-is, acquires_of-is, serves_of-is, not-calm, not-other}
 
 -- ---- services that pass a test
 
@@ -53,13 +43,9 @@ pub any-of : {w : ℕ} (n : ℕ) (test : manager.Service w → Bool) (ss : List 
 any-of n test [] v e f = absurd cc
 any-of {w} n test (s ∷ ss) v e f = go (block_at s.request.address == n) (λ g. any-of n test ss v g f) e
   where
-    either : (b : Bool) → (b || true) ≡ true
-    either true = refl
-    either false = refl
-
     go : (b : Bool) → (serving n ss ≡ Some v → is_any test ss ≡ true) → (if b then Some s else serving n ss) ≡ Some v → (test s || is_any test ss) ≡ true
     go true more g = let here : test s ≡ true = rw (some_is s v g) f in rw here refl
-    go false more g = rw (more g) (either (test s))
+    go false more g = rw (more g) (or-true (test s))
 
 -- a service that passes, and the block that it is of
 pub record IsFound {w : ℕ} (test : manager.Service w → Bool) (ss : List (manager.Service w)) : Type 0 where
@@ -119,15 +105,11 @@ pub record IsTraced {w : ℕ} {X : Type 0} (request : ℕ → MessageA w) (s : S
 abbrev at_service : {w : ℕ} → ℕ → ℕ → MessageA w → manager.Service w
 at_service r tracker m = record { tracker = tracker; link = record { 0 = r }; request = m }
 
-not_waiting : (x : Bool) (u v : View) → is_other u ≡ false → is_other v ≡ false → is_other (if x then u else v) ≡ false
-not_waiting true u v e f = e
-not_waiting false u v e f = f
-
 granted_views : (s : Service) (c : ℕ) → is_granted_in s ≡ true → is_other (view s c) ≡ false
 granted_views Free c e = absurd cc
 granted_views (Waits r own source k) c e = absurd cc
-granted_views (GrantSent q d k) c e = not_waiting (c == q) (Granting d k) GrantedOther refl refl
-granted_views (GrantTaken q) c e = not_waiting (c == q) Acknowledging GrantedOther refl refl
+granted_views (GrantSent q d k) c e = not-other (c == q) (Granting d k) GrantedOther refl refl
+granted_views (GrantTaken q) c e = not-other (c == q) Acknowledging GrantedOther refl refl
 
 -- a request is granted exactly where the protocol says so
 pub granted-is : {w : ℕ} {X : Type 0} (caching : ℕ → Bool) (config : Config) (request : ℕ → MessageA w) (s : State X) (e : End w) → IsInvariant caching s → IsKept config e → IsTraced request s e.trace
@@ -169,18 +151,18 @@ granted-is {w} {X} caching config request s e inv kept is n v found = go (s.bloc
 acquiring-is : {w : ℕ} (c n tracker : ℕ) (m : MessageA w) (t : Trace w) (service : Service) → IsFor service n m → ((v : manager.Service w) → service_with (client_in service) tracker m ≡ Some v → waits.is_granted t v ≡ is_granted_in service)
     → is_acquiring c t (service_with (client_in service) tracker m) ≡ is_own (view service c)
 acquiring-is c n tracker m t Free for granted = refl
-acquiring-is c n tracker m t (Waits r own source k) for granted = rw (granted (at_service r tracker m) refl, for.0, eqb-swap r c) (go own (c == r))
+acquiring-is c n tracker m t (Waits r own source k) for granted = rw (granted (at_service r tracker m) refl, for.0, swapped r c) (go own (c == r))
   where
     go : (b same : Bool) → (b && (same && true)) ≡ is_own (if b && same then Own else Other k)
     go true true = refl
     go true false = refl
     go false same = refl
-acquiring-is c n tracker m t (GrantSent q d k) for granted = rw (granted (at_service q tracker m) refl, for.0, eqb-swap q c) (go (c == q))
+acquiring-is c n tracker m t (GrantSent q d k) for granted = rw (granted (at_service q tracker m) refl, for.0, swapped q c) (go (c == q))
   where
     go : (same : Bool) → (true && (same && false)) ≡ is_own (if same then Granting d k else GrantedOther)
     go true = refl
     go false = refl
-acquiring-is c n tracker m t (GrantTaken q) for granted = rw (granted (at_service q tracker m) refl, for.0, eqb-swap q c) (go (c == q))
+acquiring-is c n tracker m t (GrantTaken q) for granted = rw (granted (at_service q tracker m) refl, for.0, swapped q c) (go (c == q))
   where
     go : (same : Bool) → (true && (same && false)) ≡ is_own (if same then Acknowledging else GrantedOther)
     go true = refl
@@ -199,12 +181,12 @@ granting-is c n tracker m t (Waits r own source k) granted = rw (granted (at_ser
     go true false = refl
     go false true = refl
     go false false = refl
-granting-is c n tracker m t (GrantSent q d k) granted = rw (granted (at_service q tracker m) refl, eqb-swap q c) (go (c == q))
+granting-is c n tracker m t (GrantSent q d k) granted = rw (granted (at_service q tracker m) refl, swapped q c) (go (c == q))
   where
     go : (same : Bool) → (same && true) ≡ is_grant_of (if same then Granting d k else GrantedOther)
     go true = refl
     go false = refl
-granting-is c n tracker m t (GrantTaken q) granted = rw (granted (at_service q tracker m) refl, eqb-swap q c) (go (c == q))
+granting-is c n tracker m t (GrantTaken q) granted = rw (granted (at_service q tracker m) refl, swapped q c) (go (c == q))
   where
     go : (same : Bool) → (same && true) ≡ is_grant_of (if same then Acknowledging else GrantedOther)
     go true = refl
@@ -232,11 +214,8 @@ asking-served caching request s c source n tracker (GrantSent q d k) inv f for u
 asking-served caching request s c source n tracker (GrantTaken q) inv f for ungranted r client same here = absurd cc
 asking-served {w} {X} caching request s c source n tracker (Waits q own src k) inv f for ungranted r client same here = go own refl
   where
-    some_number : (i j : ℕ) → Some i ≡ Some j → i ≡ j
-    some_number i j e = cc
-
     q_is : q ≡ c
-    q_is = some_number q r client ∙ eqb-true r c same
+    q_is = same_Some q r client ∙ eqb-true r c same
 
     src_is : src ≡ source
     src_is = sym for.1 ∙ eqb-true (request n).source source here
@@ -246,13 +225,9 @@ asking-served {w} {X} caching request s c source n tracker (Waits q own src k) i
         let waits_so : (s.block n).service ≡ Waits c true source k = f ∙ rw (q_is, src_is, g) refl in
         let sourced : IsOwnSource (Waits c true source k) (s.block n).source = rw waits_so at (inv.blocks n).own_source in
         let own_view : view (s.block n).service c ≡ Own = rw (waits_so, same_number c) refl in
-        let wants : is_wanting ((s.block n).pair c).acquiring ≡ true = wanting ((s.block n).pair c).acquiring (own_wants ((s.block n).pair c) (view (s.block n).service c) ((inv.blocks n).phases c) own_view) in
+        let wants : is_wanting ((s.block n).pair c).acquiring ≡ true = not-calm ((s.block n).pair c).acquiring (own_wants ((s.block n).pair c) (view (s.block n).service c) ((inv.blocks n).phases c) own_view) in
         let used = acquires_of-is n (s.uses c source) (inv.named.acquires c source n ∙ rw (wants, ← sourced, same_number source) refl) in
         rw (used, own_view) refl
-      where
-        wanting : (x : Acquiring) → not (is_calm x) ≡ true → is_wanting x ≡ true
-        wanting Calm e = absurd cc
-        wanting (Wants whole grow) e = refl
     go false g =
         let waits_so : (s.block n).service ≡ Waits c false source k = f ∙ rw (q_is, src_is, g) refl in
         let used = serves_of-is n (s.uses c source) (inv.named.serves c source n ∙ rw (waits_so, same_number c, same_number source) refl) in
@@ -307,7 +282,7 @@ served-waits {X} caching s c source (Acquires n) inv f e = go (s.block n).servic
 
 sources-traced : {w : ℕ} {X : Type 0} (caching : ℕ → Bool) (config : Config) (request : ℕ → MessageA w) (s : State X) (e : End w) → IsInvariant caching s → IsKept config e → IsTraced request s e.trace
     → (c source : ℕ) → is_any (is_asking c source e.trace) (services e.trace) ≡ is_served c (s.uses c source) s
-sources-traced {w} {X} caching config request s e inv kept is c source = same_truth _ _ asking serving_it
+sources-traced {w} {X} caching config request s e inv kept is c source = one_truth _ _ asking serving_it
   where
     t : Trace w
     t = e.trace
@@ -375,14 +350,11 @@ granted-to c (GrantTaken q) e = let same = eqb-true c q (own (c == q) e) in (ref
 to-granted : (c : ℕ) (service : Service) → is_granted_in service ≡ true → client_in service ≡ Some c → is_grant_to c service ≡ true
 to-granted c Free e f = absurd cc
 to-granted c (Waits r own source k) e f = absurd cc
-to-granted c (GrantSent q d k) e f = let same : q ≡ c = some_number q c f in rw (same, same_number c) refl
+to-granted c (GrantSent q d k) e f = let same : q ≡ c = same_Some q c f in rw (same, same_number c) refl
   where
-    some_number : (i j : ℕ) → Some i ≡ Some j → i ≡ j
-    some_number i j g = cc
-to-granted c (GrantTaken q) e f = let same : q ≡ c = some_number q c f in rw (same, same_number c) refl
-  where
-    some_number : (i j : ℕ) → Some i ≡ Some j → i ≡ j
-    some_number i j g = cc
+    same_Some : (i j : ℕ) → Some i ≡ Some j → i ≡ j
+    same_Some i j g = cc
+to-granted c (GrantTaken q) e f = let same : q ≡ c = same_Some q c f in rw (same, same_number c) refl
 
 busy-granted : (service : Service) → is_granted_in service ≡ true → is_busy service ≡ true
 busy-granted Free e = absurd cc
@@ -392,7 +364,7 @@ busy-granted (GrantTaken q) e = refl
 
 sinks-traced : {w : ℕ} {X : Type 0} (caching : ℕ → Bool) (config : Config) (request : ℕ → MessageA w) (s : State X) (e : End w) → IsInvariant caching s → IsKept config e → IsTraced request s e.trace
     → (c sink : ℕ) → is_any (is_granted_with c sink e.trace) (services e.trace) ≡ is_granted c (s.tracked sink) s
-sinks-traced {w} {X} caching config request s e inv kept is c sink = same_truth _ _ granted_with (with_granted (s.tracked sink) refl)
+sinks-traced {w} {X} caching config request s e inv kept is c sink = one_truth _ _ granted_with (with_granted (s.tracked sink) refl)
   where
     t : Trace w
     t = e.trace
@@ -430,10 +402,7 @@ sinks-traced {w} {X} caching config request s e inv kept is c sink = same_truth 
 
 cap-of : {w : ℕ} (service : Service) (n : ℕ) (m : MessageA w) (k : Cap) → IsFor service n m → is_granted_in service ≡ false → (service ≡ Free → ⊥) → cap_probed m.opcode m.param ≡ Some k → k ≡ cap_waited service
 cap-of Free n m k for ungranted busy e = absurd (busy refl)
-cap-of (Waits r own source j) n m k for ungranted busy e = some_cap k j (sym e ∙ for.3)
-  where
-    some_cap : (i j : Cap) → Some i ≡ Some j → i ≡ j
-    some_cap i j f = cc
+cap-of (Waits r own source j) n m k for ungranted busy e = same_Some k j (sym e ∙ for.3)
 cap-of (GrantSent q d j) n m k for ungranted busy e = absurd cc
 cap-of (GrantTaken q) n m k for ungranted busy e = absurd cc
 

@@ -1,7 +1,5 @@
 -- A GrantAck that is delivered to the manager: the channels and the one memory afterwards.
-use Rattle.std.proofs.Common.{◌≡◌, ℕ, Bool, true, false, ◌&&◌, List, [], ◌∷◌, Some, None, refl, sym, ◌∙◌, ap, subst}
-use Rattle.std.specs.Prelude.{◌==◌, if◌then◌else◌}
-use Rattle.std.proofs.lemmas.Bool.{eqb-true}
+use Rattle.std.proofs.Common.{◌≡◌, ℕ, Bool, true, false, List, [], ◌∷◌, Some, None, refl, sym, ◌∙◌, ap, subst}
 use Rattle.tl_beat.specs.Width.{IsWidth}
 use Rattle.tl_beat.specs.declared.beat.Beat.{Beat}
 use Rattle.tl_beat.specs.declared.beat.BeatE.{BeatE}
@@ -22,8 +20,7 @@ use Rattle.tl_world.specs.Follow.{Shadow, kind_taken}
 use Rattle.tl_world.specs.Log.{Log, after}
 use Rattle.tl_world.specs.Matched.{AreCarried}
 use Rattle.tl_world.specs.Beside.{IsBeside}
-use Rattle.tl_world.specs.Phase.{Own, Other, Granting, Acknowledging, GrantedOther}
-use Rattle.tl_world.specs.Protocol.{Service, Free, Waits, GrantSent, GrantTaken, token, is_on, is_acknowledging, shown, view, freed_block, grant_ack_taken}
+use Rattle.tl_world.specs.Protocol.{GrantTaken, token, is_on, shown, freed_block, grant_ack_taken}
 use Rattle.tl_world.specs.Remembered.{remembered, performing, accesses_answered}
 use Rattle.tl_world.specs.Render.{rendered, message_of_kind}
 use Rattle.tl_world.specs.Step.{stepped}
@@ -36,25 +33,7 @@ use Rattle.tl_world.proofs.HeardAll.{IsDelivered}
 use Rattle.tl_world.proofs.ManagersAfter.{IsAtManager, at-manager, after_taken, delivered-last, delivered-part}
 use Rattle.tl_world.proofs.RequestsTaken.{next_tracker, invariant-taken}
 use Rattle.tl_world.proofs.Tokens.{holds-first}
-
--- whose GrantAck is under way
-acknowledging_is : (s : Service) (c : ℕ) → is_acknowledging (view s c) ≡ true → s ≡ GrantTaken c
-acknowledging_is Free c e = absurd cc
-acknowledging_is (Waits q o source k) c e = absurd (never (o && (c == q)) e)
-  where
-    never : (x : Bool) → is_acknowledging (if x then Own else Other k) ≡ true → ⊥
-    never true f = cc
-    never false f = cc
-acknowledging_is (GrantSent q d k) c e = absurd (never (c == q) e)
-  where
-    never : (x : Bool) → is_acknowledging (if x then Granting d k else GrantedOther) ≡ true → ⊥
-    never true f = cc
-    never false f = cc
-acknowledging_is (GrantTaken q) c e = let same = eqb-true c q (own (c == q) e) in ap GrantTaken (sym same)
-  where
-    own : (x : Bool) → is_acknowledging (if x then Acknowledging else GrantedOther) ≡ true → x ≡ true
-    own true f = refl
-    own false f = absurd cc
+use Rattle.tl_world.proofs.BothParts.{acknowledging-is}
 
 ack_kind : (k : Kind) → is_on channel.E k ≡ true → k ≡ GrantAck
 ack_kind GrantAck e = refl
@@ -97,7 +76,7 @@ delivered-e {w} config log link h terms x queue width matched known beats moving
     gives = ap (λ (z : Beat w). (deed config link z sys.manager).handed) x_is ∙ ap (λ d. d.handed) (deed-ack config link y sys.manager)
 
     sent : (h.state.block n).service ≡ GrantTaken link.0
-    sent = acknowledging_is (h.state.block n).service link.0 (holds-first GrantAck (h.state.link link.0).e is.first.rest (token GrantAck n) (λ i. shown GrantAck link.0 (h.state.block i)) tokens refl (matched.invariant.transfers link.0 GrantAck refl))
+    sent = acknowledging-is (h.state.block n).service link.0 (holds-first GrantAck (h.state.link link.0).e is.first.rest (token GrantAck n) (λ i. shown GrantAck link.0 (h.state.block i)) tokens refl (matched.invariant.transfers link.0 GrantAck refl))
 
     go : (b : Bool) → completes x (unfinished channel.E (on_link link.0 sys.manager.trace)) ≡ b → IsDelivered config log link channel.E h
     go false part = delivered-part config log link channel.E h x queue width matched refl is part

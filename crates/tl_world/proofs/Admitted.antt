@@ -1,5 +1,5 @@
 -- A beat of channel A that is delivered breaks no rule: it is taken, unless it has to wait.
-use Rattle.std.proofs.Common.{◌≡◌, ℕ, zero, suc, ◌*◌, ◌==◌, Bool, true, false, not, ◌&&◌, ◌||◌, List, [], ◌∷◌, Option, Some, None, refl, sym, ◌∙◌, ap, arith}
+use Rattle.std.proofs.Common.{◌≡◌, ℕ, zero, suc, ◌==◌, Bool, true, false, not, ◌&&◌, ◌||◌, List, [], ◌∷◌, Option, Some, None, refl, sym, ◌∙◌, ap, arith}
 use Rattle.std.specs.Prelude.{map, is_some, All}
 use Rattle.std.proofs.lemmas.Bool.{ne_eqb, eqb-true}
 use Rattle.tl_beat.specs.declared.beat.Beat.{Beat}
@@ -26,8 +26,10 @@ use Rattle.tl_params.specs.Param.{grow_code, report_left}
 use Rattle.tl_rules.specs.Conformance.{Trace, on_link, broken_order, broken_in_order, grows_from, same_perm}
 use Rattle.tl_rules.specs.History.{pending, block_at, is_acquire, held}
 use Rattle.tl_client.specs.Send.{acquisition, probe_ack, release}
+use Rattle.tl_client.proofs.HeldAfter.{same_block}
 use Rattle.tl_rules.specs.Agent.{is_outside, is_spoiled}
 use Rattle.tl_rules.specs.Legality.{illegal, rule_if, is_one_of}
+use Rattle.tl_rules.proofs.Later.{later-legal}
 use Rattle.tl_beat.specs.declared.beat.Link.{Link}
 use Rattle.tl_params.specs.declared.level.Level.{Level}
 use Rattle.tl_params.specs.declared.rule.Rule.TheVariants.{H4, H5}
@@ -54,16 +56,14 @@ use Rattle.tl_world.specs.Token.{Kind, Request, Acquire, Probe, ProbeAck, Releas
 use Rattle.tl_world.specs.Whole.{IsMatched, AreLanes}
 use Rattle.tl_world.proofs.Arrivals.{link_of}
 use Rattle.tl_world.proofs.Facts.{asked_alone, acquire_fits}
-use Rattle.tl_world.proofs.Fronts.{IsWanted, acquires-so}
-use Rattle.tl_world.proofs.Orders.{later-legal, acquire-legal}
+use Rattle.tl_world.proofs.Fronts.{IsWanted}
+use Rattle.tl_world.proofs.Orders.{acquire-legal}
 use Rattle.tl_world.proofs.Phases.{and_left, and_right}
 use Rattle.tl_world.proofs.Rendered.{same_kind_again}
 use Rattle.tl_world.proofs.Tokens.{same_number, holds-first}
+use Rattle.tl_world.proofs.Codes.{acquires-so}
 
 -- ---- a Release that is unfinished at the manager is on its way
-
-same_block : (n : ℕ) → block_at (64 * n) ≡ n
-same_block n = omega arith
 
 -- the beats of a ProbeAck are of no Release
 ack_comes : (w : ℕ) (p : Perm) (r : Report) (i n k : ℕ) (payload : List ℕ) → comes_of n (begun (probe_ack {w = w} b.ProbeBlock p r i payload) k) ≡ false
@@ -241,7 +241,7 @@ open-level : {w : ℕ} (config : Config) (l : Level) (c : ℕ) (e : End w) → e
 open-level config l c e live level = rw live level
 
 -- the first of the beats that are on a channel
-head_all : {X : Type 0} (P : X → Type 0) (x : X) (xs ys : List X) → ys ≡ x ∷ xs → All P ys → P x
+pub head_all : {X : Type 0} (P : X → Type 0) (x : X) (xs ys : List X) → ys ≡ x ∷ xs → All P ys → P x
 head_all P x xs ys e h = first (rw e at h)
   where
     first : All P (x ∷ xs) → P x

@@ -18,6 +18,7 @@ use Rattle.tl_params.specs.Param.{cap_right}
 use Rattle.tl_rules.specs.History.{capped}
 use Rattle.tl_client.specs.declared.verdict.Finish.{Finish}
 use Rattle.tl_client.specs.declared.verdict.Finish.TheVariants as finish
+use Rattle.tl_manager.proofs.Recording.{cap-gives}
 use Rattle.tl_world.specs.Beside.{IsLet, op_of}
 use Rattle.tl_world.specs.Follow.{Shadow}
 use Rattle.tl_world.specs.Log.{Log, after}
@@ -32,7 +33,6 @@ use Rattle.tl_world.specs.Whole.{IsMatched, is_caching}
 use Rattle.tl_world.proofs.Due.{ack_message, ack-due, grant-due, grant-rendered, grant_message}
 use Rattle.tl_world.proofs.Ending.{IsEnding}
 use Rattle.tl_world.proofs.Granting.{granted-at, opened-acquire, released-at, same-response}
-use Rattle.tl_world.proofs.ManagerSettles.{capped_again}
 
 -- what is granted to a store of the whole block is Trunk
 whole_trunk : (recorded held : Perm) (d : Bool) (k : Cap) (g : Grow) → grant_fits recorded held d k (Wants true g) ≡ true → cap_right k ≡ perm.Trunk
@@ -93,7 +93,7 @@ ends-transfer {w} config log link ch h x source f is end other = go end.first.ki
         let fin : f ≡ finish.Granted (cap_right due.k) = end.finish_is ∙ granted-at (d_beat_of end.response end.first.next.k) (sys.clients c) due.data_too due.k (ap (λ (i : MessageD w). i.opcode) same) (ap (λ (i : MessageD w). i.param) same) in
         let from : source ≡ (h.state.block n).source c = end.source_is ∙ ap (λ (i : MessageD w). i.source) same in
         let opened = opened-acquire config log h sys c source n (h.state.uses c source) is refl (ap (h.state.uses c) from ∙ due.used) in
-        let named : cap_named x ≡ cap_right due.k = ap (λ (y : Beat w). cap_named y) end.beat_is ∙ ap (λ (i : MessageD w). capped i.param) same ∙ capped_again due.k in
+        let named : cap_named x ≡ cap_right due.k = ap (λ (y : Beat w). cap_named y) end.beat_is ∙ ap (λ (i : MessageD w). capped i.param) same ∙ cap-gives due.k in
         let fits : grant_fits ((h.state.block n).pair c).recorded ((h.state.block n).pair c).held due.data_too due.k (Wants due.whole due.g) ≡ true = due.fits in
         subst (λ (i : Finish). Ends (m.opened c (pool_of i) source) x i) (sym fin)
         (subst (λ (o : Option (Open w)). Ends o x (finish.Granted (cap_right due.k))) (sym opened)

@@ -38,8 +38,9 @@ use Rattle.tl_world.specs.Sources.{IsFor}
 use Rattle.tl_world.specs.System.{System}
 use Rattle.tl_world.specs.Token.{Kind, Request, Acquire, Probe, ProbeAck, Release, Answer, Grant, ReleaseAck, GrantAck, Token, set_at}
 use Rattle.tl_world.specs.Whole.{IsMatched, IsAnswer, IsAnswered, IsServedWith}
-use Rattle.tl_world.proofs.Aside.{set_at-same, set_at-else, set_at-other}
+use Rattle.tl_world.proofs.Aside.{set_at-else, set_at-other}
 use Rattle.tl_world.proofs.Fronts.{asked-first}
+use Rattle.tl_world.proofs.Tokens.{set_at-same}
 
 abbrev pub AreAnswered : {w : ℕ} → Mail w → State (List ℕ) → Type 0
 AreAnswered mail s = (c source : ℕ) → IsAnswered source (mail.request c source) (mail.answer c source) (s.uses c source)

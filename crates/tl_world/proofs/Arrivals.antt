@@ -1,5 +1,5 @@
 -- A beat of a request that comes to the manager: what the manager makes of it.
-use Rattle.std.proofs.Common.{◌≡◌, subst, ℕ, zero, suc, ◌+◌, ◌-◌, ◌*◌, ◌<◌, ◌≤◌, ◌==◌, Bool, true, false, ◌&&◌, List, [], ◌∷◌, Option, Some, None, length, refl, sym, ◌∙◌, ap, inl, inr, arith}
+use Rattle.std.proofs.Common.{◌≡◌, subst, ℕ, zero, suc, ◌+◌, ◌-◌, ◌*◌, ◌<◌, ◌≤◌, ◌==◌, Bool, true, false, ◌&&◌, List, [], ◌∷◌, Option, Some, None, length, refl, sym, ◌∙◌, ap, arith}
 use Rattle.std.specs.Prelude.{if◌then◌else◌, replicate, drop, option_map, slice_range, min}
 use Rattle.std.proofs.lemmas.List.{length-take, length-drop, length-replicate}
 use Rattle.tl_beat.specs.Width.{IsWidth}
@@ -34,6 +34,7 @@ use Rattle.tl_manager.proofs.Steady.{request-ready}
 use Rattle.std.proofs.lemmas.Bool.{le-leb}
 use Rattle.tl_manager.specs.Ready.{IsReady, IsServed, IsTaken}
 use Rattle.tl_world.proofs.Tokens.{same_number}
+use Rattle.tl_world.proofs.Room.{positive}
 use Rattle.std.proofs.lemmas.Bool.{ne_eqb}
 use Rattle.std.specs.Prelude.{IfSome}
 use Rattle.tl_burst.specs.Burst.{IsZeroFrom}
@@ -128,9 +129,6 @@ payload-length w k n false payload some last room lanes blank =
     let zeros = length-replicate 64 none in
     let total : length payload ≡ length (replicate 64 none) = ap length blank in
     omega (arith, zeros, total)
-
-positive : (w : ℕ) → IsWidth w → 0 < w
-positive w is = elim is [ inl four ↦ omega (arith, four) | inr more ↦ elim more [ inl eight ↦ omega (arith, eight) | inr sixteen ↦ omega (arith, sixteen) ] ]
 
 pub request-filled : {w : ℕ} (m : MessageA w) (k : ℕ) → IsWidth w → beats_of (A m) ≡ suc k → IsTyped (beat.A (a_beat_of m k)) → IsBlankAfter (beats_of (A m)) (A m) → length m.payload ≡ 64
 request-filled {w} m k width last typed blank = payload-length w k (beats_of (A m)) (a_carries_data m.opcode) m.payload (positive w width) last (beats_room (A m) width) typed.1 blank.0

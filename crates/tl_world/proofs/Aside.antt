@@ -13,7 +13,7 @@ use Rattle.tl_world.specs.Protocol.{Block, State, Use, Closed, Asked, InService,
 use Rattle.tl_world.specs.Render.{Mail}
 use Rattle.tl_world.specs.Token.{Token, set, set_at}
 use Rattle.tl_world.proofs.ClientEnd.{IsSameUse, is_access, IsAside}
-use Rattle.tl_world.proofs.Tokens.{set-same, set-part, set-other}
+use Rattle.tl_world.proofs.Tokens.{set-part, set-other}
 
 -- ---- a block
 
@@ -72,9 +72,6 @@ set_at-else {X} c source i x f ne d = go (d == c) refl
     go : (z : Bool) → (d == c) ≡ z → (if z then set source x (f c) else f d) i ≡ f d i
     go true e = set-other source i x (f c) ne ∙ ap (λ (k : ℕ). f k i) (sym (eqb-true d c e))
     go false e = refl
-
-pub set_at-same : {X : Type 0} (c source : ℕ) (x : X) (f : ℕ → ℕ → X) → set_at c source x f c source ≡ x
-set_at-same {X} c source x f = ap (λ (g : ℕ → X). g source) (set-same c (set source x (f c)) f) ∙ set-same source x (f c)
 
 -- an access that goes on
 pub uses-moved : (c source : ℕ) (v : Use) (uses : ℕ → ℕ → Use) → is_access (uses c source) ≡ true → is_access v ≡ true → (d i : ℕ) → IsSameUse (uses d i) (set_at c source v uses d i)

@@ -1,5 +1,6 @@
 -- Which clients' ends are left alone as a message is taken, and as a client is asked: all of that is what `followed` does.
 use Rattle.std.proofs.Common.{◌≡◌, ℕ, Bool, true, false, not, List, ◌∷◌, Option, Some, None, length, refl, ◌∙◌, ap, inl}
+use Rattle.std.proofs.lemmas.Bool.{and_from}
 use Rattle.std.specs.Prelude.{◌==◌, ◌&&◌, if◌then◌else◌}
 use Rattle.tl_burst.specs.declared.message.Message.{Message}
 use Rattle.tl_burst.specs.declared.message.Message.TheVariants as message
@@ -17,14 +18,15 @@ use Rattle.tl_client.specs.Send.{access}
 use Rattle.tl_manager.specs.Holders.{cap_probed}
 use Rattle.tl_world.specs.Follow.{Shadow, with_state, asked, answers, performs, probes_some, some_below, access_taken, request_taken, is_unheld, gift, acquire_taken, granted_after, last_taken, ack_taken, is_whole, taken_by_client, kind_taken}
 use Rattle.tl_world.specs.Invariant.{cap_asked, is_asked, serves_of, is_serving, IsInvariant}
-use Rattle.tl_world.specs.Phase.{Letting, Kept, Releasing, Acked, Acquiring, Calm, Wants, is_quiet, is_kept}
+use Rattle.tl_world.specs.Phase.{Acquiring, Calm, Wants, is_quiet}
 use Rattle.tl_world.specs.PhaseSteps.{is_granted_data, after_report}
-use Rattle.tl_world.specs.Protocol.{Service, Free, Waits, GrantSent, GrantTaken, Block, Use, Closed, Asked, InService, Replied, Acquires, token, on, shown, is_probed, is_releasing, written, acquire_served, acquire_granted, report_taken}
+use Rattle.tl_world.specs.Protocol.{Service, Free, Waits, GrantSent, GrantTaken, Block, Use, Closed, Asked, InService, Replied, Acquires, token, on, shown, is_probed, written, acquire_served, acquire_granted, report_taken}
 use Rattle.tl_world.specs.Render.{cap_sent, report_told, prune_told}
 use Rattle.tl_world.specs.Token.{Kind, Request, Acquire, Probe, ProbeAck, Release, Answer, Grant, ReleaseAck, GrantAck, Token, set, set_at}
 use Rattle.tl_world.proofs.Aside.{aside-access_asked, aside-acquire_asked, aside-release_asked, aside-block_stored, aside-access_answered, aside-acquire_granted, aside-acquire_served, aside-access_served, aside-probe_taken, aside-report_taken, aside-report_answers, aside-report_grants, aside-release_taken, aside-answer_taken, aside-grant_taken, aside-release_ack_taken, aside-grant_ack_taken}
 use Rattle.tl_world.proofs.ClientEnd.{is_access, IsAside}
 use Rattle.tl_world.proofs.Tokens.{same_number, holds-first}
+use Rattle.tl_world.proofs.BothParts.{releasing-open}
 
 -- the client's end is left alone
 abbrev pub Leaves : {w : ℕ} → ℕ → Shadow w → Shadow w → Type 0
@@ -112,10 +114,7 @@ leaves-ack : {w : ℕ} (caching : ℕ → Bool) (clients : ℕ) (p : Profile) (c
 leaves-ack {w} caching clients p c n r rest h d inv = go (some_below clients (λ i. not (i == c) && not (is_quiet ((h.state.block n).pair i).probing)))
   where
     served : (q source : ℕ) (k : Cap) → (h.state.block n).service ≡ Waits q false source k → is_access (h.state.uses q source) ≡ true
-    served q source k e = served_access n (h.state.uses q source) (inv.named.serves q source n ∙ ap (λ (x : Service). is_serving q source x) e ∙ both (q == q) (source == source) (same_number q) (same_number source))
-      where
-        both : (x y : Bool) → x ≡ true → y ≡ true → (x && y) ≡ true
-        both x y e f = rw (e, f) refl
+    served q source k e = served_access n (h.state.uses q source) (inv.named.serves q source n ∙ ap (λ (x : Service). is_serving q source x) e ∙ and_from (q == q) (source == source) (same_number q) (same_number source))
 
     go : (x : Bool) → Leaves d h (if x then with_state (report_taken c n r rest h.state) h else last_taken clients p c n r (h.state.block n).service rest h)
     go true = aside-report_taken c n d r rest h.mail h.state
@@ -131,11 +130,6 @@ is_for_manager Release = true
 is_for_manager GrantAck = true
 is_for_manager _ = false
 
-releasing_open : (x : Letting) → is_releasing x ≡ true → is_kept x ≡ false
-releasing_open (Releasing r) e = refl
-releasing_open Kept e = absurd cc
-releasing_open Acked e = absurd cc
-
 pub leaves-at_manager : {w : ℕ} (caching : ℕ → Bool) (config : Config) (tracker c : ℕ) (k : Kind) (i : ℕ) (rest : List Token) (h : Shadow w) (d : ℕ) → is_for_manager k ≡ true → IsInvariant caching h.state
     → on k (h.state.link c) ≡ token k i ∷ rest
     → Leaves d h (kind_taken config tracker c k i rest h)
@@ -146,7 +140,7 @@ leaves-at_manager caching config tracker c Acquire n rest h d for inv first = le
 leaves-at_manager caching config tracker c ProbeAck n rest h d for inv first = leaves-ack caching (length config.clients.items) config.profile c n (report_told ((h.state.block n).pair c).probing) rest h d inv
 leaves-at_manager caching config tracker c Release n rest h d for inv first =
     aside-release_taken c n d (prune_told ((h.state.block n).pair c).letting) rest h.mail h.state
-    (releasing_open ((h.state.block n).pair c).letting (holds-first Release (h.state.link c).c rest (token Release n) (λ j. shown Release c (h.state.block j)) first refl (inv.transfers c Release refl)))
+    (releasing-open ((h.state.block n).pair c).letting (holds-first Release (h.state.link c).c rest (token Release n) (λ j. shown Release c (h.state.block j)) first refl (inv.transfers c Release refl)))
 leaves-at_manager caching config tracker c GrantAck n rest h d for inv first = aside-grant_ack_taken c n d rest h.mail h.state
 leaves-at_manager caching config tracker c Probe n rest h d for inv first = absurd cc
 leaves-at_manager caching config tracker c Answer n rest h d for inv first = absurd cc

@@ -1,5 +1,5 @@
 -- What a client is asked for and starts, the protocol allows: its sources are free, and nothing of the block is open.
-use Rattle.std.proofs.Common.{◌≡◌, ℕ, Bool, true, false, not, List, Option, Some, None, refl, sym, ◌∙◌, ap}
+use Rattle.std.proofs.Common.{◌≡◌, ℕ, Bool, true, false, List, Option, Some, None, refl, sym, ◌∙◌, ap}
 use Rattle.std.specs.Prelude.{is_some}
 use Rattle.std.proofs.lemmas.Bool.{or_parts, not-false}
 use Rattle.tl_burst.specs.declared.message.Message.{Message}
@@ -27,8 +27,8 @@ use Rattle.tl_client.proofs.Free.{least_free-some}
 use Rattle.tl_manager.specs.Slave.{level_of}
 use Rattle.tl_world.specs.Follow.{Shadow}
 use Rattle.tl_world.specs.Log.{Log}
-use Rattle.tl_world.specs.Phase.{Letting, Kept, Releasing, Acked, Acquiring, Calm, Wants, is_kept}
-use Rattle.tl_world.specs.Protocol.{State, Use, Closed, Asked, InService, Replied, Acquires, is_wanting}
+use Rattle.tl_world.specs.Phase.{Acquiring, Calm, Wants}
+use Rattle.tl_world.specs.Protocol.{State, Use, Closed, Asked, InService, Replied, Acquires}
 use Rattle.tl_world.specs.Render.{Mail, acquire_of, rendered}
 use Rattle.tl_world.specs.System.{System, terms_at}
 use Rattle.tl_world.specs.Token.{Acquire}
@@ -37,6 +37,7 @@ use Rattle.tl_world.proofs.ClientDelivered.{shadow_of}
 use Rattle.tl_world.proofs.ClientEnd.{IsEnd, end-matched}
 use Rattle.tl_world.proofs.ClientTakes.{terms-are}
 use Rattle.tl_world.proofs.FollowKept.{IsAskable}
+use Rattle.tl_world.proofs.BothParts.{calm-is, kept-letting}
 
 -- ---- sources that are free
 
@@ -72,7 +73,7 @@ asks_something (message.C m) e = absurd cc
 asks_something (message.D m) e = absurd cc
 asks_something (message.E m) e = absurd cc
 
-acquires_something : (w : ℕ) (a : Acquiring) (source n : ℕ) → is_some (first_of (acquire_of {w = w} a source n)) ≡ true
+pub acquires_something : (w : ℕ) (a : Acquiring) (source n : ℕ) → is_some (first_of (acquire_of {w = w} a source n)) ≡ true
 acquires_something w Calm source n = refl
 acquires_something w (Wants true g) source n = refl
 acquires_something w (Wants false g) source n = refl
@@ -91,22 +92,13 @@ closed-source {w} config c source mail s sourced answered none = go (s.uses c so
     go Replied e a b f = absurd (let no : true ≡ false = sym (asks_something (mail.request c source) (answered_request source (mail.request c source) (mail.answer c source) b)) ∙ f in cc)
     go (Acquires n) e a b f = absurd (let no : true ≡ false = sym (acquires_something w ((s.block n).pair c).acquiring ((s.block n).source c) n) ∙ f in cc)
 
-no_let : (o : Option ℕ) → is_some o ≡ false → o ≡ None
+pub no_let : (o : Option ℕ) → is_some o ≡ false → o ≡ None
 no_let None e = refl
 no_let (Some n) e = absurd cc
 
-calm_is : (a : Acquiring) → is_wanting a ≡ false → a ≡ Calm
-calm_is Calm e = refl
-calm_is (Wants whole g) e = absurd cc
-
-pub kept-letting : (l : Letting) → not (is_kept l) ≡ false → l ≡ Kept
-kept-letting Kept e = refl
-kept-letting (Releasing r) e = absurd cc
-kept-letting Acked e = absurd cc
-
 -- ---- a client with transfers caches
 
-caches : (config : Config) (c : ℕ) (l : Level) → level_of config c ≡ Some l → has_transfers l ≡ true → is_caching config c ≡ true
+pub caches : (config : Config) (c : ℕ) (l : Level) → level_of config c ≡ Some l → has_transfers l ≡ true → is_caching config c ≡ true
 caches config c level.C at transfers = ap is_c at
 caches config c level.UL at transfers = absurd cc
 caches config c level.UH at transfers = absurd cc
@@ -154,7 +146,7 @@ done_may config c terms (op.Acquire n g) h e at free =
     let idle = or_parts (pending (AcquireOf n) e.past) (pending (ReleaseOf n) e.past) free.b2 in (
       caches config c terms.level at.level_is (not-false (has_transfers terms.level) free.b4),
       free_use config c (source_or_0 (free_request terms e.past)) terms h e at (least_free-some (λ s. pending (RequestSource s) e.past) 0 terms.sources free.b1).0,
-      calm_is ((h.state.block n).pair c).acquiring (sym (at.end.known.acquires n) ∙ idle.0),
+      calm-is ((h.state.block n).pair c).acquiring (sym (at.end.known.acquires n) ∙ idle.0),
       kept-letting ((h.state.block n).pair c).letting (sym (at.end.known.releases n) ∙ idle.1),
       ap (same_perm (grow_left g)) (sym (at.end.known.held_is n)) ∙ not-false (same_perm (grow_left g) (held_at e n)) free.b3,
     )
@@ -162,7 +154,7 @@ done_may config c terms (op.AcquireWhole n bytes) h e at free =
     let idle = or_parts (pending (AcquireOf n) e.past) (pending (ReleaseOf n) e.past) free.b2 in (
       caches config c terms.level at.level_is (not-false (has_transfers terms.level) free.b4),
       free_use config c (source_or_0 (free_request terms e.past)) terms h e at (least_free-some (λ s. pending (RequestSource s) e.past) 0 terms.sources free.b1).0,
-      calm_is ((h.state.block n).pair c).acquiring (sym (at.end.known.acquires n) ∙ idle.0),
+      calm-is ((h.state.block n).pair c).acquiring (sym (at.end.known.acquires n) ∙ idle.0),
       kept-letting ((h.state.block n).pair c).letting (sym (at.end.known.releases n) ∙ idle.1),
       ap (same_perm perm.Trunk) (sym (at.end.known.held_is n)) ∙ free.b3,
     )
@@ -171,7 +163,7 @@ done_may config c terms (op.Release n r) h e at free =
     let source = source_or_0 (free_release terms e.past) in (
       caches config c terms.level at.level_is (not-false (has_transfers terms.level) free.b4),
       no_let (h.state.lets c source) (sym (at.end.opened.releases source) ∙ (least_free-some (λ s. pending (ReleaseSource s) e.past) 0 terms.sources free.b1).0),
-      calm_is ((h.state.block n).pair c).acquiring (sym (at.end.known.acquires n) ∙ idle.0),
+      calm-is ((h.state.block n).pair c).acquiring (sym (at.end.known.acquires n) ∙ idle.0),
       kept-letting ((h.state.block n).pair c).letting (sym (at.end.known.releases n) ∙ idle.1),
       swap_perms ((h.state.block n).pair c).held (prune_left r) ∙ ap (same_perm (prune_left r)) (sym (at.end.known.held_is n))
           ∙ not-false (same_perm (prune_left r) (held_at e n)) free.b3,

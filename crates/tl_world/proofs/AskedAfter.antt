@@ -1,8 +1,7 @@
 -- An operation that a client is asked for: the channels and the one memory afterwards.
 use Rattle.std.proofs.Common.{◌≡◌, ℕ, Bool, true, false, ◌||◌, List, [], ◌∷◌, Option, Some, None, refl, sym, ◌∙◌, ap, subst, inl, inr}
-use Rattle.std.proofs.lemmas.Bool.{cases_eq}
+use Rattle.std.proofs.lemmas.Bool.{cases_eq, or_right}
 use Rattle.tl_beat.specs.Width.{IsWidth}
-use Rattle.tl_beat.specs.declared.opcode.Channel.TheVariants as channel
 use Rattle.tl_beat.specs.declared.opcode.OpA.TheVariants as a
 use Rattle.tl_burst.specs.declared.message.Message.{Message}
 use Rattle.tl_burst.specs.declared.message.Message.TheVariants as message
@@ -38,7 +37,7 @@ use Rattle.tl_world.specs.Protocol.{Block, State, view, acquiring_block, releasi
 use Rattle.tl_world.specs.Remembered.{remembered, performing, accesses_answered}
 use Rattle.tl_world.specs.Render.{Mail, rendered}
 use Rattle.tl_world.specs.Step.{Step, stepped, handed_by}
-use Rattle.tl_world.specs.System.{System, terms_at, channel_of_message, with_client, with_messages}
+use Rattle.tl_world.specs.System.{System, terms_at, with_client, with_messages}
 use Rattle.tl_world.specs.Token.{Acquire, Release}
 use Rattle.tl_world.specs.Whole.{IsMatched, is_caching}
 use Rattle.tl_world.proofs.AskedWell.{IsHandedOut, asked-well}
@@ -53,6 +52,7 @@ use Rattle.tl_world.proofs.Landed.{pushes_of, handed-client}
 use Rattle.tl_world.proofs.Showing.{none-carried}
 use Rattle.tl_world.proofs.Steps.{stepped-asked}
 use Rattle.tl_world.proofs.Tokens.{set-same}
+use Rattle.tl_world.proofs.ManagersAfter.{release_channel}
 
 -- ---- the operations that do something
 
@@ -125,11 +125,6 @@ rendered_releasing : {w : ℕ} (c n source : ℕ) (p : Prune) (b : Block (List �
 unfolding rendered
 rendered_releasing {w} c n source p b = rw (set-same c (after_release p (b.pair c)) b.pair, set-same c source b.release_source) refl
 
-release_channel : (w : ℕ) (p : Prune) (source n : ℕ) (bytes : List ℕ) → channel_of_message {w = w} (release p source n bytes) ≡ channel.C
-release_channel w prune.TtoB source n bytes = refl
-release_channel w prune.TtoN source n bytes = refl
-release_channel w prune.BtoN source n bytes = refl
-
 abbrev CarriesAsked : {w : ℕ} → Config → ℕ → Shadow w → System w → Op w → Reply → Type 0
 CarriesAsked {w} config c h sys o r = (m : Option (Message w)) (e : client.End w) → IsAskable (is_caching config) c o r h → IsInvariant (is_caching config) (asked c o r h).state → IsHandedOut c o r h m
     → IsHanded (pushes_at c (pushes_of m)) sys (with_messages (handed_by c m) (with_client c e sys)) → AreCarried (asked c o r h).mail (asked c o r h).state (with_messages (handed_by c m) (with_client c e sys))
@@ -149,13 +144,9 @@ carried_asked {w} config log h sys c o r width is may_be = reply-cases (CarriesA
     low : (n : ℕ) → same_perm ((s.block n).pair c).held perm.Trunk ≡ true → (d : ℕ) → (same_perm ((s.block n).pair d).held perm.Trunk || same_perm ((s.block n).pair d).recorded perm.None) ≡ true
     low n trunk d = elim (cases_eq d c) [
       | inl same ↦ rw (same, trunk) refl
-      | inr other ↦ either (same_perm ((s.block n).pair d).held perm.Trunk) (same_perm ((s.block n).pair d).recorded perm.None) ((is.invariant.blocks n).one_owner c d (owned n trunk) other)
+      | inr other ↦ or_right (same_perm ((s.block n).pair d).held perm.Trunk) (same_perm ((s.block n).pair d).recorded perm.None) ((is.invariant.blocks n).one_owner c d (owned n trunk) other)
     ]
       where
-        either : (x y : Bool) → y ≡ true → (x || y) ≡ true
-        either true y e = refl
-        either false y e = e
-
         owned : (n : ℕ) → same_perm ((s.block n).pair c).held perm.Trunk ≡ true → same_perm ((s.block n).pair c).recorded perm.Trunk ≡ true
         owned n trunk = and_left (same_perm ((s.block n).pair c).recorded perm.Trunk) _ (trunk_held ((s.block n).pair c) (view (s.block n).service c) ((is.invariant.blocks n).phases c) trunk)
 

@@ -1,8 +1,8 @@
 -- What a client answers to an operation, beside the protocol and the one-memory machine: what it starts it may start,
 -- and its reply is one that the machine allows.
-use Rattle.std.proofs.Common.{◌≡◌, ℕ, ◌+◌, ◌*◌, ◌/◌, ◌%◌, ◌^◌, ◌≤◌, Bool, true, false, not, ◌&&◌, ◌||◌, List, Option, Some, None, refl, sym, ◌∙◌, ap, subst, arith}
+use Rattle.std.proofs.Common.{◌≡◌, ℕ, ◌+◌, ◌*◌, ◌/◌, ◌%◌, ◌^◌, ◌≤◌, Bool, true, false, not, ◌||◌, List, Option, Some, None, refl, sym, ◌∙◌, ap, subst, arith}
 use Rattle.std.specs.Prelude.{◌==◌, is_some, is_none, unwrap_or, slice_index, nat_le}
-use Rattle.std.proofs.lemmas.Bool.{eqb-true}
+use Rattle.std.proofs.lemmas.Bool.{eqb-true, and_parts, not-false, or_parts}
 use Rattle.tl_beat.specs.Width.{IsWidth}
 use Rattle.tl_beat.specs.declared.opcode.Channel.TheVariants as channel
 use Rattle.tl_beat.specs.declared.opcode.OpA.TheVariants as a
@@ -12,7 +12,6 @@ use Rattle.tl_burst.specs.declared.message.MessageA.{MessageA}
 use Rattle.tl_burst.specs.Burst.{beat_of}
 use Rattle.tl_params.specs.declared.config.Config.{Config}
 use Rattle.tl_params.specs.declared.level.Level.{Level}
-use Rattle.tl_params.specs.declared.level.Level.TheVariants as level
 use Rattle.tl_params.specs.declared.key.Key.TheVariants.{RequestSource, ReleaseSource, AcquireOf, ReleaseOf}
 use Rattle.tl_params.specs.declared.perm.Perm.{Perm}
 use Rattle.tl_params.specs.declared.perm.Perm.TheVariants as perm
@@ -44,48 +43,21 @@ use Rattle.tl_world.specs.Beside.{IsOpened, IsLet}
 use Rattle.tl_world.specs.Follow.{Shadow}
 use Rattle.tl_world.specs.Log.{Log}
 use Rattle.tl_world.specs.Machine.{Machine, Requests, Releases, Replies}
-use Rattle.tl_world.specs.Phase.{Acquiring, Calm, Wants, Letting, Kept, Releasing, Acked, is_kept}
-use Rattle.tl_world.specs.Protocol.{Block, State, Use, Closed, Asked as AskedUse, InService, Replied, Acquires, is_wanting}
+use Rattle.tl_world.specs.Phase.{Acquiring, Calm, Wants, Kept}
+use Rattle.tl_world.specs.Protocol.{Block, State, Use, Closed, Asked as AskedUse, InService, Replied, Acquires}
 use Rattle.tl_world.specs.Remembered.{remembered}
 use Rattle.tl_world.specs.Render.{Mail, acquire_of, rendered}
 use Rattle.tl_world.specs.Token.{Acquire}
 use Rattle.tl_world.specs.System.{System, terms_at}
 use Rattle.tl_world.specs.Whole.{IsMatched, is_caching, first_of, asked_for, block_used, IsRequest, IsSourced, IsAnswered}
-use Rattle.tl_world.proofs.Askable.{swap_perms}
+use Rattle.tl_world.proofs.Askable.{swap_perms, no_let, caches}
 use Rattle.tl_world.proofs.BesideAsked.{IsReply}
 use Rattle.tl_world.proofs.FollowKept.{IsAskable}
 use Rattle.tl_world.proofs.Goods.{level-terms}
 use Rattle.tl_world.proofs.SizedAfter.{IsSourcedAsk, IsSizedAsk}
-
--- ---- truth values
-
-or_false : (x y : Bool) → (x || y) ≡ false → (x ≡ false) × (y ≡ false)
-or_false false y e = (refl, e)
-or_false true y e = absurd cc
-
-not_false : (x : Bool) → not x ≡ false → x ≡ true
-not_false true e = refl
-not_false false e = absurd cc
-
-and_parts : (x y : Bool) → (x && y) ≡ true → (x ≡ true) × (y ≡ true)
-and_parts true true e = (refl, refl)
-and_parts true false e = absurd cc
-and_parts false y e = absurd cc
+use Rattle.tl_world.proofs.BothParts.{calm-is, kept-letting}
 
 -- ---- what the protocol has, by what the end has
-
-calm_is : (x : Acquiring) → is_wanting x ≡ false → x ≡ Calm
-calm_is Calm e = refl
-calm_is (Wants whole g) e = absurd cc
-
-kept_is : (x : Letting) → not (is_kept x) ≡ false → x ≡ Kept
-kept_is Kept e = refl
-kept_is (Releasing r) e = absurd cc
-kept_is Acked e = absurd cc
-
-none_is : (o : Option ℕ) → is_some o ≡ false → o ≡ None
-none_is None e = refl
-none_is (Some n) e = absurd cc
 
 -- who has no request open with a source doesn't use it
 acquire_some : (w c n : ℕ) (b : Block (List ℕ)) → is_some (asked_for {w = w} (Acquires n) (rendered Acquire c n b) (rendered Acquire c n b)) ≡ true
@@ -162,11 +134,6 @@ loaded_number f address size bytes room is =
     number_same (slice_index bytes) f (address % 64) address (2 ^ size)
     (λ i lt. let place : 64 * (address / 64) + (address % 64 + i) ≡ address + i = omega arith in sym (is (address % 64 + i) (omega (arith, room, lt))) ∙ ap f place)
 
-caching_is : (config : Config) (c : ℕ) (l : Level) → level_of config c ≡ Some l → has_transfers l ≡ true → is_caching config c ≡ true
-caching_is config c level.C e f = rw e refl
-caching_is config c level.UL e f = absurd cc
-caching_is config c level.UH e f = absurd cc
-
 some_held : (p : Prune) (q : Perm) → same_perm (prune_left p) q ≡ true → same_perm q perm.None ≡ false
 some_held prune.TtoB perm.Trunk e = refl
 some_held prune.TtoN perm.Trunk e = refl
@@ -214,7 +181,7 @@ asked-well {w} config log h sys c terms o width is known = asked-cases terms o e
     copy_is n some = ap (λ (x : Option (List ℕ)). unwrap_or x zeros) (is.copies c n some) ∙ (is.invariant.blocks n).copies c some
 
     formed : (i : Op w) → NotBusy terms i e → is_formed terms.level i ≡ true
-    formed i free = not_false (is_formed terms.level i) (or_false (nat_le terms.blocks (block_of i)) (not (is_formed terms.level i)) free.b5).1
+    formed i free = not-false (is_formed terms.level i) (or_parts (nat_le terms.blocks (block_of i)) (not (is_formed terms.level i)) free.b5).1
 
     free_source : is_none (free_request terms e.past) ≡ false → s.uses c (source_or_0 (free_request terms e.past)) ≡ Closed
     free_source one = unused config log h.mail h.request s sys c (source_or_0 (free_request terms e.past)) is (least_free-some (λ i. pending (RequestSource i) e.past) 0 terms.sources one).0
@@ -227,11 +194,11 @@ asked-well {w} config log h sys c terms o width is known = asked-cases terms o e
 
     transfers : (n : ℕ) → (pending (AcquireOf n) e.past || pending (ReleaseOf n) e.past) ≡ false → (((s.block n).pair c).acquiring ≡ Calm) × (((s.block n).pair c).letting ≡ Kept)
     transfers n none =
-        let parts = or_false (pending (AcquireOf n) e.past) (pending (ReleaseOf n) e.past) none in
-        (calm_is ((s.block n).pair c).acquiring (sym ((is.known c).acquires n) ∙ parts.0), kept_is ((s.block n).pair c).letting (sym ((is.known c).releases n) ∙ parts.1))
+        let parts = or_parts (pending (AcquireOf n) e.past) (pending (ReleaseOf n) e.past) none in
+        (calm-is ((s.block n).pair c).acquiring (sym ((is.known c).acquires n) ∙ parts.0), kept-letting ((s.block n).pair c).letting (sym ((is.known c).releases n) ∙ parts.1))
 
     caching : not (has_transfers terms.level) ≡ false → is_caching config c ≡ true
-    caching four = caching_is config c terms.level level_is (not_false (has_transfers terms.level) four)
+    caching four = caches config c terms.level level_is (not-false (has_transfers terms.level) four)
 
     load_well : (address size : ℕ) (p : Perm) → ((s.block (block_at address)).pair c).held ≡ p → is_word address size ≡ true → IsAskedWell config c (op.Load address size) h m (load address size p e)
     load_well address size perm.None f word = record { may = tt; word = tt; source = tt; reply = tt; replies = refl; message = refl }
@@ -276,7 +243,7 @@ asked-well {w} config log h sys c terms o width is known = asked-cases terms o e
     well (op.Acquire n g) free =
         let closed = free_source free.b1 in
         let still = transfers n free.b2 in
-        let begins : same_perm (grow_left g) ((s.block n).pair c).held ≡ true = ap (same_perm (grow_left g)) (sym (held_is n)) ∙ not_false (same_perm (grow_left g) (held_at e n)) free.b3 in
+        let begins : same_perm (grow_left g) ((s.block n).pair c).held ≡ true = ap (same_perm (grow_left g)) (sym (held_is n)) ∙ not-false (same_perm (grow_left g) (held_at e n)) free.b3 in
         record { may = (caching free.b4, closed, still.0, still.1, begins); word = tt; source = tt; reply = tt; replies = (refl, unopened _ closed); message = refl }
     well (op.AcquireWhole n bytes) free =
         let closed = free_source free.b1 in
@@ -293,9 +260,9 @@ asked-well {w} config log h sys c terms o width is known = asked-cases terms o e
     well (op.Release n p) free =
         let source = source_or_0 (free_release terms e.past) in
         let open_ = (least_free-some (λ i. pending (ReleaseSource i) e.past) 0 terms.sources free.b1).0 in
-        let none = none_is (s.lets c source) (sym ((is.opened c).releases source) ∙ open_) in
+        let none = no_let (s.lets c source) (sym ((is.opened c).releases source) ∙ open_) in
         let still = transfers n free.b2 in
-        let begins : same_perm (prune_left p) ((s.block n).pair c).held ≡ true = ap (same_perm (prune_left p)) (sym (held_is n)) ∙ not_false (same_perm (prune_left p) (held_at e n)) free.b3 in
+        let begins : same_perm (prune_left p) ((s.block n).pair c).held ≡ true = ap (same_perm (prune_left p)) (sym (held_is n)) ∙ not-false (same_perm (prune_left p) (held_at e n)) free.b3 in
         record {
           may = (caching free.b4, none, still.0, still.1, swap_perms ((s.block n).pair c).held (prune_left p) ∙ begins);
           word = tt;

@@ -26,6 +26,7 @@ use Rattle.tl_world.proofs.Popped.{unfinished_at, first-left, kind_channel}
 use Rattle.tl_world.proofs.Room.{is_light, light-one}
 use Rattle.tl_world.proofs.Rendered.{same_kind_again}
 use Rattle.tl_world.proofs.Tokens.{same_number}
+use Rattle.tl_world.proofs.BothParts.{not-answered}
 
 -- The receiver of channel ch of client c's link has one beat more, and the others have what they had.
 pub record IsBegun {w : ℕ} (c : ℕ) (ch : Channel) (x : Beat w) (rest rest' : ℕ → Channel → List (Beat w)) : Type 0 where
@@ -131,12 +132,7 @@ module _ {X : Type 0} (config : Config) (size : ℕ) (left left' : Left) (answer
     report_less m less e = falls who.own who.is asker.used
       where
         probed : is_quiet ((s.block m).pair c).probing ≡ false
-        probed = go ((s.block m).pair c).probing e
-          where
-            go : (x : Probing) → is_answered x ≡ true → is_quiet x ≡ false
-            go (Answered r) f = refl
-            go (Sent k) f = absurd cc
-            go Quiet f = absurd cc
+        probed = not-answered ((s.block m).pair c).probing e
 
         who : IsWaited (s.block m).service
         who = waited-probing caching s c m inv probed

@@ -11,7 +11,7 @@ use Rattle.tl_world.specs.Protocol.{State, Use, Closed, Asked, InService, Replie
 use Rattle.tl_world.specs.Remembered.{performing}
 use Rattle.tl_world.specs.Render.{Mail}
 use Rattle.tl_world.specs.Token.{set_at}
-use Rattle.tl_world.proofs.Tokens.{same_number}
+use Rattle.tl_world.proofs.Tokens.{same_number, set_at-same}
 
 -- ---- one place of two numbers
 
@@ -27,9 +27,6 @@ place-cases c source d i = elim (cases_eq d c) [
   ]
   | inr other ↦ inr (λ e f. other e)
 ]
-
-pub set_at-here : {X : Type 0} (c source : ℕ) (x : X) (f : ℕ → ℕ → X) → set_at c source x f c source ≡ x
-set_at-here c source x f = rw (same_number c, same_number source) refl
 
 pub set_at-there : {X : Type 0} (c source : ℕ) (x : X) (f : ℕ → ℕ → X) (d i : ℕ) → IsElsewhere c source d i → set_at c source x f d i ≡ f d i
 set_at-there c source x f d i else_ = elim (cases_eq d c) [
@@ -106,7 +103,7 @@ pub record IsStill {w : ℕ} (mail : Mail w) (s s' : State (List ℕ)) (m m' : M
   pub opened : (d : ℕ) (pool : Pool) (i : ℕ) → m'.opened d pool i ≡ m.opened d pool i
   pub acquires : (d n : ℕ) → (((s'.block n).pair d).acquiring ≡ ((s.block n).pair d).acquiring) × ((s'.block n).waiting d ≡ (s.block n).waiting d)
 
-same_acquire : (c : ℕ) (s s' : State (List ℕ)) (u : Use) → ((n : ℕ) → (((s'.block n).pair c).acquiring ≡ ((s.block n).pair c).acquiring) × ((s'.block n).waiting c ≡ (s.block n).waiting c)) → IsSameAcquire c s s' u
+pub same_acquire : (c : ℕ) (s s' : State (List ℕ)) (u : Use) → ((n : ℕ) → (((s'.block n).pair c).acquiring ≡ ((s.block n).pair c).acquiring) × ((s'.block n).waiting c ≡ (s.block n).waiting c)) → IsSameAcquire c s s' u
 same_acquire c s s' Closed e = tt
 same_acquire c s s' Asked e = tt
 same_acquire c s s' (InService n) e = tt
@@ -158,7 +155,7 @@ pub beside-used : {w : ℕ} (c source : ℕ) (u : Use) (mail mail' : Mail w) (s 
 beside-used {w} c source u mail mail' s s' m m' is h = record {
   memory = is.memory;
   requests = λ d i. elim (place-cases c source d i) [
-    | inl same ↦ rw (same.0, same.1) (moved_opened c source mail' s' u (s'.uses c source) (m'.opened c Requests source) (m'.opened c Requests source) (is.uses c source ∙ set_at-here c source u s.uses) refl is.here)
+    | inl same ↦ rw (same.0, same.1) (moved_opened c source mail' s' u (s'.uses c source) (m'.opened c Requests source) (m'.opened c Requests source) (is.uses c source ∙ set_at-same c source u s.uses) refl is.here)
     | inr else_ ↦
         moved_opened d i mail' s' (s.uses d i) (s'.uses d i) (m.opened d Requests i) (m'.opened d Requests i) (is.uses d i ∙ set_at-there c source u s.uses d i else_) (is.there d i else_)
         (opened-still d i mail mail' s s' (s.uses d i) (m.opened d Requests i) (is.requests d i else_) (answer_as (s.uses d i) (mail.answer d i) (mail'.answer d i) (is.answers d i else_)) (is.acquires d i else_) (h.requests d i))
@@ -183,7 +180,7 @@ beside-let {w} c source l mail s s' m m' is h = record {
       moved_opened d i mail s' (s.uses d i) (s'.uses d i) (m.opened d Requests i) (m'.opened d Requests i) (is.uses d i) (is.requests d i)
       (opened-still d i mail mail s s' (s.uses d i) (m.opened d Requests i) refl (same_answer (s.uses d i) (mail.answer d i)) (same_acquire d s s' (s.uses d i) (λ n. is.acquires d n)) (h.requests d i));
   releases = λ d i. elim (place-cases c source d i) [
-    | inl same ↦ rw (same.0, same.1) (moved_let l (s'.lets c source) (m'.opened c Releases source) (m'.opened c Releases source) (is.lets c source ∙ set_at-here c source l s.lets) refl is.here)
+    | inl same ↦ rw (same.0, same.1) (moved_let l (s'.lets c source) (m'.opened c Releases source) (m'.opened c Releases source) (is.lets c source ∙ set_at-same c source l s.lets) refl is.here)
     | inr else_ ↦ moved_let (s.lets d i) (s'.lets d i) (m.opened d Releases i) (m'.opened d Releases i) (is.lets d i ∙ set_at-there c source l s.lets d i else_) (is.there d i else_) (h.releases d i)
   ];
 }

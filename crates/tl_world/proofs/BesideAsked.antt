@@ -5,7 +5,6 @@ use Rattle.std.proofs.lemmas.Bool.{cases_eq}
 use Rattle.tl_burst.specs.declared.message.Message.TheVariants as message
 use Rattle.tl_burst.specs.declared.message.MessageA.{MessageA}
 use Rattle.tl_params.specs.declared.param.Grow.{Grow}
-use Rattle.tl_params.specs.declared.perm.Perm.{Perm}
 use Rattle.tl_params.specs.declared.perm.Perm.TheVariants as perm
 use Rattle.tl_params.specs.declared.param.Prune.{Prune}
 use Rattle.tl_rules.specs.Effect.{Memory, IsBlock}
@@ -28,11 +27,12 @@ use Rattle.tl_world.specs.Protocol.{Block, State, Use, Closed, Asked, InService,
 use Rattle.tl_world.specs.Render.{Mail}
 use Rattle.tl_world.specs.Token.{set, set_at}
 use Rattle.tl_world.specs.Whole.{AreSized}
-use Rattle.tl_world.proofs.Beside.{IsElsewhere, IsSameAcquire, set_at-here, set_at-there, open-here, open-there, open-releases, open-requests, beside-still, beside-used, beside-let}
+use Rattle.tl_world.proofs.Beside.{IsElsewhere, IsSameAcquire, set_at-there, open-here, open-there, open-releases, open-requests, beside-still, beside-used, beside-let}
 use Rattle.tl_world.proofs.FollowKept.{IsAskable}
 use Rattle.tl_world.proofs.OneMemory.{block-stored, block-unstored}
 use Rattle.tl_world.proofs.SizedAfter.{IsSizedAsk}
-use Rattle.tl_world.proofs.Tokens.{same_number, set-same, set-other, set-part}
+use Rattle.tl_world.proofs.Tokens.{same_number, set-same, set-other, set-part, set_at-same}
+use Rattle.tl_world.proofs.Perms.{trunk-some}
 
 -- ---- Acquires of other sources
 
@@ -85,11 +85,6 @@ IsReply (op.Access (message.C m)) (reply.Started source) = ⊥
 IsReply (op.Access (message.D m)) (reply.Started source) = ⊥
 IsReply (op.Access (message.E m)) (reply.Started source) = ⊥
 IsReply o r = Unit {0}
-
-trunk_some : (p : Perm) → same_perm p perm.Trunk ≡ true → same_perm p perm.None ≡ false
-trunk_some perm.Trunk e = refl
-trunk_some perm.None e = absurd cc
-trunk_some perm.Branch e = absurd cc
 
 truth_as : (f : Memory) (n i : ℕ) (new : Block (List ℕ)) (block : ℕ → Block (List ℕ)) → new.truth ≡ (block n).truth → IsBlock f i (block i).truth → IsBlock f i (set n new block i).truth
 truth_as f n i new block e h = subst (λ (bytes : List ℕ). IsBlock f i bytes) (sym (set-part (λ (b : Block (List ℕ)). b.truth) n new block e i)) h
@@ -149,7 +144,7 @@ beside-access_asked {w} c source a mail s m h =
       memory = h.memory;
       uses = λ d i. refl;
       lets = λ d i. refl;
-      here = (a, set_at-here c source (access source a) mail.request, open-here c Requests source (Some (record { asked = op.Access (message.A a); answer = None })) m);
+      here = (a, set_at-same c source (access source a) mail.request, open-here c Requests source (Some (record { asked = op.Access (message.A a); answer = None })) m);
       there = λ d i else_. open-there c Requests source (Some (record { asked = op.Access (message.A a); answer = None })) m d i else_;
       releases = λ d i. open-releases c source (Some (record { asked = op.Access (message.A a); answer = None })) m d i;
       requests = λ d i else_. set_at-there c source (access source a) mail.request d i else_;
@@ -189,7 +184,7 @@ beside-block_stored {w} caching c address size value mail s m inv sized word tru
     s' = block_stored c n (stored address size value copy) s
 
     same : copy ≡ (s.block n).truth
-    same = (inv.blocks n).copies c (trunk_some ((s.block n).pair c).held trunk)
+    same = (inv.blocks n).copies c (trunk-some ((s.block n).pair c).held trunk)
 
     here : IsBlock (with_number address size value m.memory) n (stored address size value copy)
     here = block-stored address size value copy m.memory (word_room address size word) (ap length same ∙ sized.truth) (subst (λ (b : List ℕ). IsBlock m.memory n b) (sym same) (h.memory n))

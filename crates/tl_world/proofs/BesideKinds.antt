@@ -2,6 +2,7 @@
 use Rattle.std.proofs.Common.{◌≡◌, subst, ℕ, ◌≤◌, Bool, true, false, not, ◌&&◌, List, [], ◌∷◌, Option, Some, None, length, refl, sym, ◌∙◌, ap, ◌⊎◌, inl, inr}
 use Rattle.std.specs.Prelude.{◌==◌, if◌then◌else◌}
 use Rattle.std.proofs.lemmas.Bool.{cases_eq, ne_eqb}
+use Rattle.std.proofs.Math.Bool.{and-false}
 use Rattle.tl_burst.specs.declared.message.Message.{Message}
 use Rattle.tl_burst.specs.declared.message.Message.TheVariants as message
 use Rattle.tl_burst.specs.declared.message.MessageA.{MessageA}
@@ -20,16 +21,17 @@ use Rattle.tl_world.specs.Invariant.{acquires_of, IsInvariant}
 use Rattle.tl_world.specs.Machine.{Machine, Open, Requests, Releases, with_open, with_memory, memory_after, after_end}
 use Rattle.tl_world.specs.Phase.{Pair, Answered, Acquiring, Calm, Wants, is_kept, is_quiet}
 use Rattle.tl_world.specs.PhaseSteps.{after_served, after_grant_sent, after_report, after_release_ack, after_grant}
-use Rattle.tl_world.specs.Protocol.{Service, Free, Waits, GrantSent, GrantTaken, Block, State, Use, Closed, Asked, InService, Replied, Acquires, is_wanting, is_probed, written, performed_block, served_block, granted_at_once, reported_block, ended_block, granted_block, granted_pair, taken_block, granted_truth, let_go_block, access_answered, access_served, report_taken, report_answers, answer_taken, grant_taken, release_ack_taken}
+use Rattle.tl_world.specs.Protocol.{Service, Free, Waits, GrantSent, GrantTaken, Block, State, Use, Closed, InService, Replied, Acquires, is_wanting, is_probed, written, performed_block, served_block, granted_at_once, reported_block, ended_block, granted_block, granted_pair, taken_block, granted_truth, let_go_block, access_answered, access_served, report_taken, report_answers, answer_taken, grant_taken, release_ack_taken}
 use Rattle.tl_world.specs.Remembered.{performing}
 use Rattle.tl_world.specs.Render.{Mail}
 use Rattle.tl_world.specs.Token.{Kind, Request, ProbeAck, Answer, Grant, ReleaseAck, Token, set, set_at}
-use Rattle.tl_world.proofs.Beside.{IsSameAcquire, open-here, open-there, open-releases, open-requests, beside-still, beside-used, beside-let}
+use Rattle.tl_world.proofs.Beside.{open-here, open-there, open-releases, open-requests, beside-still, beside-used, beside-let, same_acquire}
 use Rattle.tl_world.proofs.BesideAsked.{acquires-else}
-use Rattle.tl_world.proofs.BesideTaken.{IsPerformed, beside-performed, memory-unprobed, memory-reported, intent-reply, low_cap}
-use Rattle.tl_world.proofs.Moves.{acquires_of-is, is_of-is}
+use Rattle.tl_world.proofs.BesideTaken.{IsPerformed, beside-performed, memory-unprobed, memory-reported, intent-reply}
 use Rattle.tl_world.proofs.OneMemory.{block-whole, block-besides}
 use Rattle.tl_world.proofs.Tokens.{same_number, set-same, set-other, set-part}
+use Rattle.tl_world.proofs.BothParts.{is_of-is, acquires_of-is}
+use Rattle.tl_world.proofs.Codes.{low_cap}
 
 -- ---- which accesses are performed, and what ends
 
@@ -96,13 +98,6 @@ granted_acquiring c q r k pair d = elim (cases_eq d q) [
 
 -- ---- a request
 
-same_acquires : (d : ℕ) (s s' : State (List ℕ)) (u : Use) → ((n : ℕ) → (((s'.block n).pair d).acquiring ≡ ((s.block n).pair d).acquiring) × ((s'.block n).waiting d ≡ (s.block n).waiting d)) → IsSameAcquire d s s' u
-same_acquires d s s' Closed e = tt
-same_acquires d s s' Asked e = tt
-same_acquires d s s' (InService k) e = tt
-same_acquires d s s' Replied e = tt
-same_acquires d s s' (Acquires k) e = e k
-
 beside_served : {w : ℕ} (config : Config) (c source : ℕ) (x : MessageA w) (tracker : ℕ) (k : Cap) (rest : List Token) (mail : Mail w) (s : State (List ℕ)) (m : Machine w) → IsPerformed config c source x mail s m
     → IsBeside mail s m → IsBeside mail (access_served c (block_at x.address) source tracker k rest s) m
 beside_served {w} config c source x tracker k rest mail s m is h =
@@ -115,7 +110,7 @@ beside_served {w} config c source x tracker k rest mail s m is h =
       releases = λ d i. refl;
       requests = λ d i else_. refl;
       answers = λ d i else_. refl;
-      acquires = λ d i else_. same_acquires d s s' (s.uses d i) (λ j. (set-part (λ (b : Block (List ℕ)). (b.pair d).acquiring) n new s.block (served_acquiring c false k (s.block n).pair d) j, set-part (λ (b : Block (List ℕ)). b.waiting d) n new s.block refl j));
+      acquires = λ d i else_. same_acquire d s s' (s.uses d i) (λ j. (set-part (λ (b : Block (List ℕ)). (b.pair d).acquiring) n new s.block (served_acquiring c false k (s.block n).pair d) j, set-part (λ (b : Block (List ℕ)). b.waiting d) n new s.block refl j));
     }) h
   where
     n : ℕ
@@ -275,7 +270,7 @@ beside-answer {w} c source rest mail s m used h = go (m.opened c Requests source
           releases = λ d j. open-releases c source None m d j;
           requests = λ d j else_. refl;
           answers = λ d j else_. refl;
-          acquires = λ d j else_. same_acquires d s (answer_taken c source rest s) (s.uses d j) (λ k. (refl, refl));
+          acquires = λ d j else_. same_acquire d s (answer_taken c source rest s) (s.uses d j) (λ k. (refl, refl));
         }) h)
       where
         some_is : (x y : Open w) → Some x ≡ Some y → x ≡ y
@@ -286,12 +281,8 @@ only_source : (caching : ℕ → Bool) (s : State (List ℕ)) (c n i : ℕ) → 
 only_source caching s c n i inv ne e =
     let yes : acquires_of n (s.uses c i) ≡ true = ap (acquires_of n) e ∙ same_number n in
     let named : acquires_of n (s.uses c i) ≡ (is_wanting ((s.block n).pair c).acquiring && (i == (s.block n).source c)) = inv.named.acquires c i n in
-    let no : (is_wanting ((s.block n).pair c).acquiring && (i == (s.block n).source c)) ≡ false = ap (λ (b : Bool). is_wanting ((s.block n).pair c).acquiring && b) (ne_eqb i ((s.block n).source c) ne) ∙ never (is_wanting ((s.block n).pair c).acquiring) in
+    let no : (is_wanting ((s.block n).pair c).acquiring && (i == (s.block n).source c)) ≡ false = ap (λ (b : Bool). is_wanting ((s.block n).pair c).acquiring && b) (ne_eqb i ((s.block n).source c) ne) ∙ and-false (is_wanting ((s.block n).pair c).acquiring) in
     let differ : true ≡ false = sym yes ∙ named ∙ no in cc
-  where
-    never : (b : Bool) → (b && false) ≡ false
-    never true = refl
-    never false = refl
 
 pub beside-grant : {w : ℕ} (caching : ℕ → Bool) (c n : ℕ) (d : Bool) (k : Cap) (rest : List Token) (mail : Mail w) (s : State (List ℕ)) (m : Machine w) → IsInvariant caching s → is_wanting ((s.block n).pair c).acquiring ≡ true → IsBeside mail s m
     → IsBeside mail (grant_taken c n (is_whole ((s.block n).pair c).acquiring) d k rest s) (after_end c Requests ((s.block n).source c) (m.opened c Requests ((s.block n).source c)) m)

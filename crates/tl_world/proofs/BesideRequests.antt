@@ -13,6 +13,7 @@ use Rattle.tl_rules.specs.History.{block_at}
 use Rattle.std.specs.Prelude.{if◌then◌else◌}
 use Rattle.tl_rules.specs.Conformance.{Trace}
 use Rattle.tl_rules.specs.Effect.{Memory, effect, answer_of}
+use Rattle.tl_client.proofs.HeldAfter.{same_block}
 use Rattle.tl_manager.specs.Handing.{Handed, Deed, probes, access_answer, grant_opcode, is_granted_data, grant}
 use Rattle.tl_manager.specs.Holders.{recorded, cap_probed, probed}
 use Rattle.tl_manager.specs.Service.{Service, is_access_answer}
@@ -35,9 +36,10 @@ use Rattle.tl_world.proofs.Beside.{done_at, performed-open, performing-one}
 use Rattle.tl_world.proofs.BesideKinds.{access_list, beside-request, beside-acquire}
 use Rattle.tl_world.proofs.BesideTaken.{IsPerformed}
 use Rattle.tl_world.proofs.Choices.{plain-past}
-use Rattle.tl_world.proofs.Fronts.{IsAsked, IsWanted, acquires-so}
+use Rattle.tl_world.proofs.Fronts.{IsAsked, IsWanted}
 use Rattle.tl_world.proofs.RequestsHanded.{handed-answered}
-use Rattle.tl_world.proofs.RequestsTaken.{next_tracker, probed-some, deed-performed, caps_asked, acquire_wanted, acquire_block}
+use Rattle.tl_world.proofs.RequestsTaken.{next_tracker, probed-some, deed-performed, caps_asked, acquire_wanted}
+use Rattle.tl_world.proofs.Codes.{acquires-so}
 
 -- ---- which accesses are answered
 
@@ -189,11 +191,11 @@ acquire-accesses {w} config log h sys c n k is asked comes last = none (some_bel
     none : (x : Bool) → some_below clients (λ d. is_probed c true j (b.pair d).recorded d) ≡ x → accesses_answered (deed config (link_of c) (beat.A (a_beat_of m k)) sys.manager).handed ≡ []
     none true f =
         ap (λ (d : Deed w). accesses_answered d.handed)
-        (deed-probing config c k n j m sys.manager comes last (acquire_block n) caps (probed-some config log h.mail h.request h.state sys c k n true j m is (acquires-so asked.whole) (acquire_block n) ∙ ap not f))
+        (deed-probing config c k n j m sys.manager comes last (same_block n) caps (probed-some config log h.mail h.request h.state sys c k n true j m is (acquires-so asked.whole) (same_block n) ∙ ap not f))
         ∙ accesses-probes w n j (probed config (service_for c m sys.manager.trace) j (with_beat c m k sys.manager.trace))
     none false f =
         ap (λ (d : Deed w). accesses_answered d.handed)
-        (deed-performed config log h.mail h.request h.state sys c k n true m is comes last (acquires-so asked.whole) (acquire_block n) (rw caps f)
+        (deed-performed config log h.mail h.request h.state sys c k n true m is comes last (acquires-so asked.whole) (same_block n) (rw caps f)
         ∙ performed-acquire config (service_for c m sys.manager.trace) (with_beat c m k sys.manager.trace) sys.manager.memory (acquires-so asked.whole))
         ∙ accesses-grant config c (service_for c m sys.manager.trace) (with_beat c m k sys.manager.trace) sys.manager.memory
 

@@ -1,8 +1,8 @@
 -- The one-memory machine beside the protocol, after a message that is taken: which accesses are performed, and which
 -- operation ends.
 use Rattle.std.proofs.Common.{◌≡◌, subst, ℕ, ◌^◌, ◌≤◌, Bool, true, false, not, ◌&&◌, List, [], ◌∷◌, Some, None, length, refl, sym, ◌∙◌, ap, ◌⊎◌, inl, inr}
-use Rattle.std.specs.Prelude.{◌==◌, if◌then◌else◌}
-use Rattle.std.proofs.lemmas.Bool.{cases_eq, cases_lt}
+use Rattle.std.specs.Prelude.{if◌then◌else◌}
+use Rattle.std.proofs.lemmas.Bool.{cases_eq, cases_lt, not-true}
 use Rattle.tl_beat.specs.Width.{IsWidth}
 use Rattle.tl_beat.specs.declared.opcode.OpA.{OpA}
 use Rattle.tl_beat.specs.declared.opcode.OpA.TheVariants as a
@@ -25,9 +25,10 @@ use Rattle.tl_client.specs.Send.{sourced}
 use Rattle.tl_manager.specs.Handing.{access_answer}
 use Rattle.tl_manager.specs.Holders.{cap_probed}
 use Rattle.tl_manager.specs.Slave.{level_of}
+use Rattle.tl_manager.proofs.Filled.{length-bytes}
 use Rattle.tl_world.specs.Beside.{IsAccess, IsReach, Answers, IsBeside}
 use Rattle.tl_world.specs.Follow.{some_below, bytes_at, performs, answers}
-use Rattle.tl_world.specs.Invariant.{is_out, IsWell}
+use Rattle.tl_world.specs.Invariant.{IsWell}
 use Rattle.tl_world.specs.Machine.{Machine, Open, Requests, with_memory, performed}
 use Rattle.tl_world.specs.Phase.{Pair, View, Probing, Quiet, Sent, Answered, ok, same_cap, is_quiet}
 use Rattle.tl_world.specs.PhaseSteps.{is_above}
@@ -36,12 +37,13 @@ use Rattle.tl_world.specs.Remembered.{performing}
 use Rattle.tl_world.specs.Render.{Mail, report_told}
 use Rattle.tl_world.specs.Token.{set_at}
 use Rattle.tl_world.specs.Whole.{IsRequest}
-use Rattle.tl_world.proofs.Beside.{IsSameAcquire, done_at, set_at-here, set_at-there, open-here, open-there, open-releases, performed-open, performing-one, beside-used}
+use Rattle.tl_world.proofs.Beside.{IsSameAcquire, done_at, set_at-there, open-here, open-there, open-releases, performed-open, performing-one, beside-used}
 use Rattle.tl_world.proofs.Facts.{is_other}
 use Rattle.tl_world.proofs.FollowKept.{some-none}
 use Rattle.tl_world.proofs.OneMemory.{blocks-performed, reply-performed, effect-sourced}
-use Rattle.tl_world.proofs.Phases.{each_phase, of_phase}
-use Rattle.tl_world.proofs.SizedAfter.{length-bytes_from}
+use Rattle.tl_world.proofs.Phases.{each_phase, of_phase, implies, implies_is}
+use Rattle.tl_world.proofs.Perms.{nothing-above, not_out}
+use Rattle.tl_world.proofs.Tokens.{set_at-same}
 
 -- ---- the manager's memory is the one memory, where nobody has what he was given to write
 
@@ -52,34 +54,6 @@ never_above k perm.Branch e f = refl
 never_above cap.ToB perm.Trunk e f = absurd cc
 never_above cap.ToN perm.Trunk e f = absurd cc
 
-above_none : (k : Cap) → is_above k perm.None ≡ false
-above_none cap.ToT = refl
-above_none cap.ToB = refl
-above_none cap.ToN = refl
-
-not_out : (p : Pair) (v : View) → same_perm p.recorded perm.Trunk ≡ false → is_out p v ≡ false
-not_out p v e = rw e refl
-
-pub low_cap : (o : OpA) (param : ℕ) (k : Cap) → cap_probed o param ≡ Some k → same_cap k cap.ToT ≡ false
-low_cap o param cap.ToB e = refl
-low_cap o param cap.ToN e = refl
-low_cap a.Get param cap.ToT e = absurd cc
-low_cap a.Intent param cap.ToT e = absurd cc
-low_cap a.AcquireBlock param cap.ToT e = absurd (never (param == 0) e)
-  where
-    never : (b : Bool) → Some (if b then cap.ToB else cap.ToN) ≡ Some cap.ToT → ⊥
-    never true f = cc
-    never false f = cc
-low_cap a.AcquirePerm param cap.ToT e = absurd (never (param == 0) e)
-  where
-    never : (b : Bool) → Some (if b then cap.ToB else cap.ToN) ≡ Some cap.ToT → ⊥
-    never true f = cc
-    never false f = cc
-low_cap a.PutFullData param cap.ToT e = absurd cc
-low_cap a.PutPartialData param cap.ToT e = absurd cc
-low_cap a.ArithmeticData param cap.ToT e = absurd cc
-low_cap a.LogicalData param cap.ToT e = absurd cc
-
 -- nobody is probed
 pub memory-unprobed : (clients : ℕ) (caching : ℕ → Bool) (c : ℕ) (k : Cap) (b : Block (List ℕ)) → ((d : ℕ) → clients ≤ d → caching d ≡ false) → IsWell caching b → same_cap k cap.ToT ≡ false
     → some_below clients (λ d. is_probed c false k (b.pair d).recorded d) ≡ false → b.memory ≡ b.truth
@@ -88,17 +62,8 @@ memory-unprobed clients caching c k b plain well low none = well.memory (λ d. n
     unprobed : (d : ℕ) → is_above k (b.pair d).recorded ≡ false
     unprobed d = elim (cases_lt d clients) [
       | inl lt ↦ some-none clients (λ i. is_probed c false k (b.pair i).recorded i) none d lt
-      | inr le ↦ rw (well.outside d (plain d le)) (above_none k)
+      | inr le ↦ rw (well.outside d (plain d le)) (nothing-above k)
     ]
-
--- one for whom another request waits, and who has told of no Trunk and has no Probe, has none
-abbrev implies : Bool → Bool → Bool
-implies true b = b
-implies false b = true
-
-implies_is : (x y : Bool) → implies x y ≡ true → x ≡ true → y ≡ true
-implies_is true y h e = h
-implies_is false y h e = absurd cc
 
 low_test : Pair → View → Bool
 low_test p v = implies (is_other v && (not (same_perm (report_left (report_told p.probing)) perm.Trunk) && not (is_sent p.probing))) (not (same_perm p.recorded perm.Trunk))
@@ -110,10 +75,6 @@ low_all = refl
 low_recorded : (p : Pair) (v : View) → ok p v ≡ true → (is_other v && (not (same_perm (report_left (report_told p.probing)) perm.Trunk) && not (is_sent p.probing))) ≡ true → not (same_perm p.recorded perm.Trunk) ≡ true
 unfolding low_test
 low_recorded p v h e = implies_is (is_other v && (not (same_perm (report_left (report_told p.probing)) perm.Trunk) && not (is_sent p.probing))) (not (same_perm p.recorded perm.Trunk)) (of_phase low_test low_all p v h) e
-
-not_true : (b : Bool) → not b ≡ true → b ≡ false
-not_true false e = refl
-not_true true e = absurd cc
 
 -- the last report has been told
 pub memory-reported : (caching : ℕ → Bool) (c q source : ℕ) (r : Report) (k : Cap) (b : Block (List ℕ)) → IsWell caching b → b.service ≡ Waits q false source k → (b.pair c).probing ≡ Answered r → ((d : ℕ) → (d ≡ c → ⊥) → is_quiet (b.pair d).probing ≡ true)
@@ -132,7 +93,7 @@ memory-reported caching c q source r k b well waits answered settled = go (same_
     told_low e = rw (answered, e) refl
 
     low : (d : ℕ) → same_perm (report_left r) perm.Trunk ≡ false → same_perm (b.pair d).recorded perm.Trunk ≡ false
-    low d e = not_true (same_perm (b.pair d).recorded perm.Trunk) (low_recorded (b.pair d) (view b.service d) (well.phases d) (both d (cases_eq d c)))
+    low d e = not-true (same_perm (b.pair d).recorded perm.Trunk) (low_recorded (b.pair d) (view b.service d) (well.phases d) (both d (cases_eq d c)))
       where
         both : (d : ℕ) → (d ≡ c) ⊎ (d ≡ c → ⊥) → (is_other (view b.service d) && (not (same_perm (report_left (report_told (b.pair d).probing)) perm.Trunk) && not (is_sent (b.pair d).probing))) ≡ true
         both d (inl same) = rw (seen d) (ap (λ (j : ℕ). not (same_perm (report_left (report_told (b.pair j).probing)) perm.Trunk) && not (is_sent (b.pair j).probing)) same ∙ told_low e)
@@ -153,7 +114,7 @@ pub record IsPerformed {w : ℕ} (config : Config) (c source : ℕ) (a : Message
   pub opened : IsAccess source (mail.request c source) None (m.opened c Requests source)
   pub long : length (s.block (block_at a.address)).truth ≡ 64
 
-same_message : {w : ℕ} (x y : MessageA w) → message.A x ≡ message.A y → x ≡ y
+pub same_message : {w : ℕ} (x y : MessageA w) → message.A x ≡ message.A y → x ≡ y
 same_message x y e = cc
 
 -- the same effect, by the access as it was asked for
@@ -166,9 +127,9 @@ unfolding effect
 reply_reach {w} x f = go x.opcode
   where
     go : (o : OpA) → IsReach x (memory.reply o x f)
-    go a.Get = length-bytes_from f x.address (2 ^ x.size)
-    go a.ArithmeticData = length-bytes_from f x.address (2 ^ x.size)
-    go a.LogicalData = length-bytes_from f x.address (2 ^ x.size)
+    go a.Get = length-bytes f x.address (2 ^ x.size)
+    go a.ArithmeticData = length-bytes f x.address (2 ^ x.size)
+    go a.LogicalData = length-bytes f x.address (2 ^ x.size)
     go a.Intent = tt
     go a.PutFullData = tt
     go a.PutPartialData = tt
@@ -191,7 +152,7 @@ beside-performed {w} config c source a bytes mail s s' m is same_reply others ch
       here = (
         (effect (message.A is.opened.0) m.memory).1,
         (is.opened.0, is.opened.1, open-here c Requests source (Some now) (with_memory (effect (message.A is.opened.0) m.memory).0 m)),
-        subst (λ (x : Message w). Answers x (effect (message.A is.opened.0) m.memory).1 (set_at c source (answers a bytes) mail.answer c source)) (sym is.request) (set_at-here c source (answers a bytes) mail.answer ∙ ap (λ r. access_answer a (answer_of (message.A a) r)) (sym reply_is), reaches),
+        subst (λ (x : Message w). Answers x (effect (message.A is.opened.0) m.memory).1 (set_at c source (answers a bytes) mail.answer c source)) (sym is.request) (set_at-same c source (answers a bytes) mail.answer ∙ ap (λ r. access_answer a (answer_of (message.A a) r)) (sym reply_is), reaches),
       );
       there = λ d i else_. open-there c Requests source (Some now) (with_memory (effect (message.A is.opened.0) m.memory).0 m) d i else_;
       releases = λ d i. open-releases c source (Some now) (with_memory (effect (message.A is.opened.0) m.memory).0 m) d i;

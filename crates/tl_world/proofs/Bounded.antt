@@ -1,7 +1,7 @@
 -- Sources and trackers that are used are below the numbers that the configuration gives.
 use Rattle.std.proofs.Common.{◌≡◌, ℕ, ◌<◌, Bool, true, false, List, [], ◌∷◌, refl, sym, ◌∙◌, ap}
 use Rattle.std.specs.Prelude.{◌==◌, ◌||◌, Option, Some, is_some}
-use Rattle.std.proofs.lemmas.Bool.{eqb-true}
+use Rattle.std.proofs.lemmas.Bool.{eqb-true, and_parts}
 use Rattle.tl_burst.specs.declared.message.Message.{Message}
 use Rattle.tl_burst.specs.declared.message.Message.TheVariants as message
 use Rattle.tl_burst.specs.declared.message.MessageA.{MessageA}
@@ -15,9 +15,8 @@ use Rattle.tl_manager.proofs.Serving.{tracker_among}
 use Rattle.tl_world.specs.Delivery.{sources_of}
 use Rattle.tl_world.specs.Invariant.{tracks_with, is_busy}
 use Rattle.tl_world.specs.Managed.{client_in, service_with}
-use Rattle.tl_world.specs.Phase.{Acquiring, Wants, Calm}
 use Rattle.tl_world.specs.Protocol.{Service, Free, Waits, GrantSent, GrantTaken, State, Use, Closed, Asked, InService, Replied, Acquires}
-use Rattle.tl_world.specs.Render.{Mail, acquire_of, rendered}
+use Rattle.tl_world.specs.Render.{Mail, rendered}
 use Rattle.tl_world.specs.Remembered.{remembered}
 use Rattle.tl_world.specs.Machine.{Requests}
 use Rattle.tl_world.specs.Beside.{IsOpened}
@@ -25,8 +24,8 @@ use Rattle.tl_world.specs.Log.{Log}
 use Rattle.tl_world.specs.System.{System, terms_at}
 use Rattle.tl_world.specs.Whole.{IsMatched, asked_by, first_of, request_source, IsSourced}
 use Rattle.tl_world.proofs.Capacities.{AreBounded}
-use Rattle.tl_world.proofs.Distinct.{both-parts}
 use Rattle.tl_world.proofs.Tokens.{same_number}
+use Rattle.tl_world.proofs.Askable.{acquires_something}
 
 -- a client's sources that are pending are its own
 pub record IsOwn {w : ℕ} (config : Config) (c : ℕ) (sys : System w) : Type 0 where
@@ -44,11 +43,6 @@ source_known (message.B m) source e = absurd cc
 source_known (message.C m) source e = absurd cc
 source_known (message.D m) source e = absurd cc
 source_known (message.E m) source e = absurd cc
-
-acquire_known : (w : ℕ) (x : Acquiring) (source n : ℕ) → is_some (first_of (acquire_of {w = w} x source n)) ≡ true
-acquire_known w (Wants true g) source n = refl
-acquire_known w (Wants false g) source n = refl
-acquire_known w Calm source n = refl
 
 -- ---- trackers
 
@@ -82,12 +76,12 @@ module _ {w : ℕ} (config : Config) (log : Log w) (mail : Mail w) (request : �
   asked_of source Replied e used =
       let opened : IsOpened c source mail s Replied ((remembered config log).opened c Requests source) = rw e at (matched.beside.requests c source) in
       rw e (has_first (mail.request c source) _ opened.1.1)
-  asked_of source (Acquires n) e used = rw e (acquire_known w ((s.block n).pair c).acquiring ((s.block n).source c) n)
+  asked_of source (Acquires n) e used = rw e (acquires_something w ((s.block n).pair c).acquiring ((s.block n).source c) n)
 
   tracker_below : (i n : ℕ) → s.tracked i ≡ Some n → i < config.trackers
   tracker_below i n e =
       let named : tracks_with i (s.block n) ≡ true = sym (matched.invariant.named.trackers i n) ∙ rw e (same_number n) in
-      let parts = both-parts (is_busy (s.block n).service) (i == (s.block n).tracker) named in
+      let parts = and_parts (is_busy (s.block n).service) (i == (s.block n).tracker) named in
       let q = someone (s.block n).service parts.0 in
       let is : serving n (services sys.manager.trace) ≡ Some (record { tracker = (s.block n).tracker; link = record { 0 = q.0 }; request = request n }) =
       matched.managed.serving_is n ∙ ap (λ (o : Option ℕ). service_with o (s.block n).tracker (request n)) q.1 in

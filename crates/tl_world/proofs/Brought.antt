@@ -20,7 +20,7 @@ use Rattle.tl_world.specs.Phase.{Pair, Wants}
 use Rattle.tl_world.specs.PhaseSteps.{after_acquire}
 use Rattle.tl_world.specs.Protocol.{Block, State, Use, Closed, Acquires, acquire_asked, acquiring_block}
 use Rattle.tl_world.specs.Whole.{is_caching}
-use Rattle.tl_world.proofs.Beside.{set_at-here, set_at-there}
+use Rattle.tl_world.proofs.Beside.{set_at-there}
 use Rattle.tl_world.proofs.Counted.{outstanding-open}
 use Rattle.tl_world.proofs.FollowCases.{delivered-cases, on-first}
 use Rattle.tl_world.proofs.Given.{matched-given}
@@ -31,7 +31,7 @@ use Rattle.tl_world.proofs.Progress.{counted}
 use Rattle.tl_world.proofs.RequestsTaken.{next_tracker}
 use Rattle.tl_world.proofs.Settling.{given-before, given-delivering}
 use Rattle.tl_world.proofs.Still.{IsClosed}
-use Rattle.tl_world.proofs.Tokens.{set-same}
+use Rattle.tl_world.proofs.Tokens.{set-same, set_at-same}
 
 -- ---- logs
 
@@ -50,7 +50,7 @@ nothing_open config log given none =
 lone_asked : (p : Profile) (c n source : ℕ) (g : Grow) (bytes : List ℕ) (s : State (List ℕ)) → IsClosed s → IsLone p c n source g (acquire_asked c n source false g bytes s)
 lone_asked p c n source g bytes s closed = record {
   others = λ d i else_. set_at-there c source (Acquires n) s.uses d i else_ ∙ closed.uses d i;
-  brings = wanting (s'.uses c source) ((s'.block n).pair c) (set_at-here c source (Acquires n) s.uses)
+  brings = wanting (s'.uses c source) ((s'.block n).pair c) (set_at-same c source (Acquires n) s.uses)
       (ap (λ (b : Block (List ℕ)). (b.pair c).acquiring) (set-same n (acquiring_block c source false g bytes (s.block n)) s.block) ∙ ap (λ (x : Pair). x.acquiring) (set-same c (after_acquire false g ((s.block n).pair c)) (s.block n).pair));
 }
   where

@@ -1,16 +1,18 @@
 -- How many messages a channel holds: as many at most as there are sources, trackers, or both.
 use Rattle.std.proofs.Common.{◌≡◌, ℕ, ◌+◌, ◌<◌, ◌≤◌, Bool, true, false, refl, sym, ◌∙◌, ap, subst, arith}
 use Rattle.std.specs.Prelude.{◌||◌, not, length, Option, Some, None}
-use Rattle.std.proofs.lemmas.Bool.{eqb-true}
+use Rattle.std.proofs.lemmas.Bool.{and_parts}
 use Rattle.tl_beat.specs.declared.opcode.Channel.{Channel}
 use Rattle.tl_beat.specs.declared.opcode.Channel.TheVariants as channel
-use Rattle.tl_world.specs.Phase.{Pair, View, Probing, Letting, Quiet, Sent, Answered, Kept, Releasing, Acked, Other, Idle, Own, Granting, Acknowledging, GrantedOther, is_kept, is_quiet, is_idle, ok}
+use Rattle.tl_world.specs.Phase.{Pair, View, Other, Idle, Own, Granting, Acknowledging, GrantedOther, is_kept, is_quiet, is_idle, ok}
 use Rattle.tl_world.specs.Token.{Kind, Request, Acquire, Probe, ProbeAck, Release, Answer, Grant, ReleaseAck, GrantAck, Token, same_kind, is, one_if, count}
-use Rattle.tl_world.specs.Protocol.{Service, Free, Waits, GrantSent, GrantTaken, Link, State, Use, Closed, Asked, InService, Replied, Acquires, token, view, on, tokens_on, is_on, is_wanting, is_sent, is_answered, is_releasing, is_acked, is_granting, is_acknowledging, shown}
-use Rattle.tl_world.specs.Invariant.{IsInvariant, is_asked, is_replied, is_of, acquires_of, is_busy}
-use Rattle.tl_world.proofs.Distinct.{both-parts, passing, pass-or-not, all-pass, few, IsThere}
+use Rattle.tl_world.specs.Protocol.{Service, Free, Waits, GrantSent, GrantTaken, State, Use, Closed, Asked, Replied, Acquires, token, view, on, tokens_on, is_on, is_wanting, is_granting, is_acknowledging, shown}
+use Rattle.tl_world.specs.Invariant.{IsInvariant, is_asked, is_replied, is_busy}
+use Rattle.tl_world.proofs.Distinct.{passing, pass-or-not, all-pass, few, IsThere}
 use Rattle.tl_world.proofs.Tokens.{same_number}
 use Rattle.tl_world.proofs.Phases.{each_phase, of_phase}
+use Rattle.tl_world.proofs.BothParts.{not-answered, not-sent, acked-open, releasing-open, is_replied-is, is_asked-is, is_of-is, acquires_of-is}
+use Rattle.tl_world.proofs.Channels.{on_same}
 
 -- what is used is below these bounds
 pub record AreBounded {X : Type 0} (c sources trackers : ℕ) (s : State X) : Type 0 where
@@ -44,25 +46,12 @@ once_of caching s c ch Grant n inv on_it is = at_most_one _ (shown Grant c (s.bl
 once_of caching s c ch ReleaseAck n inv on_it is = at_most_one _ (shown ReleaseAck c (s.block n)) (rw is (inv.transfers c ReleaseAck refl n))
 once_of caching s c ch GrantAck n inv on_it is = at_most_one _ (shown GrantAck c (s.block n)) (rw is (inv.transfers c GrantAck refl n))
 
--- the channel of a kind is the one that it is on
-on-tokens : (ch : Channel) (k : Kind) (l : Link) → is_on ch k ≡ true → tokens_on ch l ≡ on k l
-on-tokens channel.A Request l e = refl
-on-tokens channel.A Acquire l e = refl
-on-tokens channel.B Probe l e = refl
-on-tokens channel.C ProbeAck l e = refl
-on-tokens channel.C Release l e = refl
-on-tokens channel.D Answer l e = refl
-on-tokens channel.D Grant l e = refl
-on-tokens channel.D ReleaseAck l e = refl
-on-tokens channel.E GrantAck l e = refl
-on-tokens _ _ l e = absurd cc
-
 -- no token stands twice on a channel
 pub once : {X : Type 0} (caching : ℕ → Bool) (s : State X) (c : ℕ) (ch : Channel) → IsInvariant caching s → (k : Kind) (n : ℕ) → count k n (tokens_on ch (s.link c)) ≤ 1
 once caching s c ch inv k n = go (is_on ch k) refl
   where
     go : (b : Bool) → is_on ch k ≡ b → count k n (tokens_on ch (s.link c)) ≤ 1
-    go true e = once_of caching s c ch k n inv e (on-tokens ch k (s.link c) e)
+    go true e = once_of caching s c ch k n inv e (on_same ch k (s.link c) e)
     go false e = let none : count k n (tokens_on ch (s.link c)) ≡ 0 = inv.own_kinds c ch k n e in omega (arith, none)
 
 -- a token is of a kind of its channel
@@ -84,7 +73,7 @@ pub shown_there : {X : Type 0} (caching : ℕ → Bool) (s : State X) (c : ℕ) 
 shown_there caching s c ch k n inv on_it there = go k refl
   where
     on_k : 0 < count k n (on k (s.link c))
-    on_k = rw (on-tokens ch k (s.link c) on_it) at there
+    on_k = rw (on_same ch k (s.link c) on_it) at there
 
     go : (j : Kind) → k ≡ j → shows_it s c j n ≡ true
     go Request e = there_shown _ (is_asked (s.uses c n)) (rw e at on_k) (inv.requests c n)
@@ -127,32 +116,21 @@ name s c Release n = (s.block n).release_source c
 name s c ReleaseAck n = (s.block n).release_source c
 name s c k n = (s.block n).tracker
 
-is_acquires : (n : ℕ) (u : Use) → acquires_of n u ≡ true → u ≡ Acquires n
-is_acquires n (Acquires m) e = ap Acquires (sym (eqb-true n m e))
-is_acquires n Closed e = absurd cc
-is_acquires n Asked e = absurd cc
-is_acquires n (InService m) e = absurd cc
-is_acquires n Replied e = absurd cc
-
-is_some_of : (n : ℕ) (o : Option ℕ) → is_of n o ≡ true → o ≡ Some n
-is_some_of n (Some m) e = ap (λ (i : ℕ). Some i) (sym (eqb-true n m e))
-is_some_of n None e = absurd cc
-
 -- the source of an open Acquire is of its block
 pub source_of_acquire : {X : Type 0} (caching : ℕ → Bool) (s : State X) (c n : ℕ) → IsInvariant caching s → is_wanting ((s.block n).pair c).acquiring ≡ true
     → s.uses c ((s.block n).source c) ≡ Acquires n
 source_of_acquire caching s c n inv wants =
-    is_acquires n (s.uses c ((s.block n).source c)) (inv.named.acquires c ((s.block n).source c) n ∙ rw (wants, same_number ((s.block n).source c)) refl)
+    acquires_of-is n (s.uses c ((s.block n).source c)) (inv.named.acquires c ((s.block n).source c) n ∙ rw (wants, same_number ((s.block n).source c)) refl)
 
 pub source_of_release : {X : Type 0} (caching : ℕ → Bool) (s : State X) (c n : ℕ) → IsInvariant caching s → is_kept ((s.block n).pair c).letting ≡ false
     → s.lets c ((s.block n).release_source c) ≡ Some n
 source_of_release caching s c n inv lets =
-    is_some_of n (s.lets c ((s.block n).release_source c)) (inv.named.releases c ((s.block n).release_source c) n ∙ rw (lets, same_number ((s.block n).release_source c)) refl)
+    is_of-is n (s.lets c ((s.block n).release_source c)) (inv.named.releases c ((s.block n).release_source c) n ∙ rw (lets, same_number ((s.block n).release_source c)) refl)
 
 pub tracker_of_service : {X : Type 0} (caching : ℕ → Bool) (s : State X) (n : ℕ) → IsInvariant caching s → is_busy (s.block n).service ≡ true
     → s.tracked (s.block n).tracker ≡ Some n
 tracker_of_service caching s n inv busy =
-    is_some_of n (s.tracked (s.block n).tracker) (inv.named.trackers (s.block n).tracker n ∙ rw (busy, same_number (s.block n).tracker) refl)
+    is_of-is n (s.tracked (s.block n).tracker) (inv.named.trackers (s.block n).tracker n ∙ rw (busy, same_number (s.block n).tracker) refl)
 
 -- ---- what phases say
 
@@ -189,66 +167,32 @@ probes_serve p v h = unless (is_quiet p.probing) (is_idle v) (of_phase probes_in
 
 module _ {X : Type 0} (caching : ℕ → Bool) (s : State X) (c n : ℕ) (inv : IsInvariant caching s) where
   pub request_named : is_asked (s.uses c n) ≡ true → s.uses c n ≡ Asked
-  request_named e = go (s.uses c n) e
-    where
-      go : (u : Use) → is_asked u ≡ true → u ≡ Asked
-      go Asked h = refl
-      go Closed h = absurd cc
-      go (InService m) h = absurd cc
-      go Replied h = absurd cc
-      go (Acquires m) h = absurd cc
+  request_named e = is_asked-is (s.uses c n) e
 
   pub answer_named : is_replied (s.uses c n) ≡ true → s.uses c n ≡ Replied
-  answer_named e = go (s.uses c n) e
-    where
-      go : (u : Use) → is_replied u ≡ true → u ≡ Replied
-      go Replied h = refl
-      go Closed h = absurd cc
-      go (InService m) h = absurd cc
-      go Asked h = absurd cc
-      go (Acquires m) h = absurd cc
+  answer_named e = is_replied-is (s.uses c n) e
 
   pub acquire_named : shown Acquire c (s.block n) ≡ true → s.uses c ((s.block n).source c) ≡ Acquires n
-  acquire_named e = source_of_acquire caching s c n inv (both-parts _ _ e).0
+  acquire_named e = source_of_acquire caching s c n inv (and_parts _ _ e).0
 
   pub grant_named : shown Grant c (s.block n) ≡ true → s.uses c ((s.block n).source c) ≡ Acquires n
   grant_named e = source_of_acquire caching s c n inv (grants_ask ((s.block n).pair c) (view (s.block n).service c) ((inv.blocks n).phases c) e)
 
   pub release_named : shown Release c (s.block n) ≡ true → s.lets c ((s.block n).release_source c) ≡ Some n
-  release_named e = source_of_release caching s c n inv (go ((s.block n).pair c).letting e)
-    where
-      go : (x : Letting) → is_releasing x ≡ true → is_kept x ≡ false
-      go (Releasing r) h = refl
-      go Kept h = absurd cc
-      go Acked h = absurd cc
+  release_named e = source_of_release caching s c n inv (releasing-open ((s.block n).pair c).letting e)
 
   pub release_ack_named : shown ReleaseAck c (s.block n) ≡ true → s.lets c ((s.block n).release_source c) ≡ Some n
-  release_ack_named e = source_of_release caching s c n inv (go ((s.block n).pair c).letting e)
-    where
-      go : (x : Letting) → is_acked x ≡ true → is_kept x ≡ false
-      go Acked h = refl
-      go Kept h = absurd cc
-      go (Releasing r) h = absurd cc
+  release_ack_named e = source_of_release caching s c n inv (acked-open ((s.block n).pair c).letting e)
 
   tracked_probing : is_quiet ((s.block n).pair c).probing ≡ false → s.tracked (s.block n).tracker ≡ Some n
   tracked_probing e =
       tracker_of_service caching s n inv (busy_unless_idle (s.block n).service c (probes_serve ((s.block n).pair c) (view (s.block n).service c) ((inv.blocks n).phases c) e))
 
   pub probe_named : shown Probe c (s.block n) ≡ true → s.tracked (s.block n).tracker ≡ Some n
-  probe_named e = tracked_probing (go ((s.block n).pair c).probing e)
-    where
-      go : (x : Probing) → is_sent x ≡ true → is_quiet x ≡ false
-      go (Sent k) h = refl
-      go Quiet h = absurd cc
-      go (Answered r) h = absurd cc
+  probe_named e = tracked_probing (not-sent ((s.block n).pair c).probing e)
 
   pub report_named : shown ProbeAck c (s.block n) ≡ true → s.tracked (s.block n).tracker ≡ Some n
-  report_named e = tracked_probing (go ((s.block n).pair c).probing e)
-    where
-      go : (x : Probing) → is_answered x ≡ true → is_quiet x ≡ false
-      go (Answered r) h = refl
-      go Quiet h = absurd cc
-      go (Sent k) h = absurd cc
+  report_named e = tracked_probing (not-answered ((s.block n).pair c).probing e)
 
   pub grant_ack_named : shown GrantAck c (s.block n) ≡ true → s.tracked (s.block n).tracker ≡ Some n
   grant_ack_named e = tracker_of_service caching s n inv (busy_unless_idle (s.block n).service c (go (view (s.block n).service c) e))

@@ -17,7 +17,7 @@ use Rattle.tl_manager.specs.Holders.{clients_from}
 use Rattle.tl_world.specs.Phase.{Pair}
 use Rattle.tl_world.specs.PhaseSteps.{is_above, after_served}
 use Rattle.tl_world.specs.Token.{Kind, Request, Acquire, Probe, ProbeAck, Answer, Grant, Token, set, set_at}
-use Rattle.tl_world.specs.Protocol.{Free, Waits, Block, State, Link, token, tokens_on, shown, with_d, with_probe, is_probed, popped_link, granted_link, served_link, served_block, acquire_served, access_served, report_answers, ended_block, report_grants, granted_block}
+use Rattle.tl_world.specs.Protocol.{Free, Waits, Block, State, Link, token, tokens_on, shown, with_probe, is_probed, popped_link, granted_link, served_link, served_block, acquire_served, access_served, report_answers, ended_block, report_grants, granted_block}
 use Rattle.tl_world.specs.Invariant.{IsInvariant, is_replied}
 use Rattle.tl_world.specs.Move.{Move, Stays, Pushes, Pops, IsMoved}
 use Rattle.tl_world.specs.Matched.{AreCarried}
@@ -26,7 +26,7 @@ use Rattle.tl_world.specs.System.{System, same_channel, channel_of_message, with
 use Rattle.tl_world.proofs.Alike.{alike-served, alike-ended, alike-granted}
 use Rattle.tl_world.proofs.CarriedEvents.{only_on}
 use Rattle.tl_world.proofs.Channels.{IsTaken, Fits, behind, pushes_at}
-use Rattle.tl_world.proofs.Ended.{ended_move}
+use Rattle.tl_world.proofs.Ended.{ended_move, ended_moved}
 use Rattle.tl_world.proofs.GrantedAll.{granted_moves}
 use Rattle.tl_world.proofs.Landed.{pushes_of}
 use Rattle.tl_world.proofs.Served.{request_move, served_moves, kind_served, number_served}
@@ -234,29 +234,6 @@ access_served-carried caching r n source tracker k rest mail s sys sys' x queue 
     served-carried caching r n false source tracker k rest mail s (access_served r n source tracker k rest s) sys sys' x queue width inv inv' first free (λ i. refl) (λ d. refl) taken h
 
 -- ---- the last report, for which an access is answered
-
-ended_moved : (ch : Channel) (x y : Bool) (n source : ℕ) (l : Link) (rest : List Token) → (x ≡ true → l.c ≡ token ProbeAck n ∷ rest)
-    → IsMoved (ended_move x y n source ch) (tokens_on ch l) (tokens_on ch (if y then with_d (token Answer source) (if x then record l { c = rest } else l) else (if x then record l { c = rest } else l)))
-ended_moved channel.A true true n source l rest e = refl
-ended_moved channel.A true false n source l rest e = refl
-ended_moved channel.A false true n source l rest e = refl
-ended_moved channel.A false false n source l rest e = refl
-ended_moved channel.B true true n source l rest e = refl
-ended_moved channel.B true false n source l rest e = refl
-ended_moved channel.B false true n source l rest e = refl
-ended_moved channel.B false false n source l rest e = refl
-ended_moved channel.C true true n source l rest e = e refl
-ended_moved channel.C true false n source l rest e = e refl
-ended_moved channel.C false true n source l rest e = refl
-ended_moved channel.C false false n source l rest e = refl
-ended_moved channel.D true true n source l rest e = refl
-ended_moved channel.D true false n source l rest e = refl
-ended_moved channel.D false true n source l rest e = refl
-ended_moved channel.D false false n source l rest e = refl
-ended_moved channel.E true true n source l rest e = refl
-ended_moved channel.E true false n source l rest e = refl
-ended_moved channel.E false true n source l rest e = refl
-ended_moved channel.E false false n source l rest e = refl
 
 ended_fits : {w : ℕ} (n source : ℕ) (m : Message w) (at : Channel) (x y : Bool) (render : Kind → ℕ → Message w) → (y ≡ true → render Answer source ≡ m)
     → Fits (x && same_channel at channel.C) (if y then only_on channel.D m at else None) (ended_move x y n source at) render

@@ -7,11 +7,9 @@ use Rattle.tl_world.proofs.CarriedEvents.{release_taken-carried, report_taken-ca
 use Rattle.tl_world.proofs.CarriedProbes.{report_answers-carried, report_grants-carried}
 use Rattle.tl_world.proofs.Choices.{plain-past}
 use Rattle.tl_world.proofs.FirstToken.{first-token}
-use Rattle.tl_world.proofs.ManagedEndings.{set_at-same}
 use Rattle.tl_world.proofs.ManagerSettles.{gift_after}
 use Rattle.tl_world.proofs.RequestsTaken.{invariant-taken, next_tracker}
 use Rattle.tl_world.proofs.Reporting.{report-about, release-about}
-use Rattle.tl_world.proofs.Sized.{used-serving}
 use Rattle.tl_world.specs.Sources.{IsFor}
 use Rattle.tl_burst.specs.declared.message.Message.TheVariants as message
 use Rattle.tl_burst.specs.declared.message.MessageC.{MessageC}
@@ -32,13 +30,15 @@ use Rattle.tl_world.specs.Whole.{IsMatched, is_caching}
 use Rattle.tl_world.proofs.Channels.{behind, IsTaken, pushes_at}
 use Rattle.tl_world.proofs.Landed.{HasTaken, IsLanded, IsOn, landed-manager, channels-handed, pushes_of, taken-landed}
 use Rattle.tl_world.proofs.ManagerAfter.{left, others_probed}
-use Rattle.tl_world.proofs.ManagerDelivered.{first_of, Delivered, channel_c-delivered, pushed, pushed_by, pushed_last, releases-delivered, reports-delivered, seen_apart}
+use Rattle.tl_world.proofs.ManagerDelivered.{Delivered, channel_c-delivered, pushed, pushed_by, pushed_last, releases-delivered, reports-delivered, seen_apart}
 use Rattle.tl_world.proofs.ManagerFollowed.{client-of, step-taken, followed-taken}
 use Rattle.tl_world.proofs.ManagerTakes.{IsTakenUp, by-first_c}
 use Rattle.tl_world.proofs.Moved.{carried-part, manager-heard}
-use Rattle.std.proofs.Common.{◌≡◌, ℕ, Bool, true, false, ◌||◌, List, [], ◌∷◌, Option, Some, None, length, refl, sym, ◌∙◌, ap, subst, ◌⊎◌, inl, inr}
+use Rattle.std.proofs.Common.{◌≡◌, ℕ, Bool, true, false, List, [], ◌∷◌, Option, Some, None, length, refl, sym, ◌∙◌, ap, subst, ◌⊎◌, inl, inr}
 use Rattle.std.specs.Prelude.{◌==◌, if◌then◌else◌, map}
 use Rattle.std.proofs.lemmas.Bool.{cases_eq}
+use Rattle.std.proofs.Math.Bool.{or-true}
+use Rattle.std.proofs.lemmas.Option.{same_Some}
 use Rattle.tl_beat.specs.Width.{IsWidth}
 use Rattle.tl_beat.specs.declared.beat.Beat.{Beat}
 use Rattle.tl_beat.specs.declared.opcode.Channel.{Channel}
@@ -56,31 +56,25 @@ use Rattle.tl_rules.specs.History.{is_acquire}
 use Rattle.tl_manager.specs.Holders.{cap_probed}
 use Rattle.tl_world.specs.Follow.{Shadow, performs, ack_taken, answers, followed, granted_after, last_taken, some_below, token_taken, with_state}
 use Rattle.tl_world.specs.Invariant.{IsWell, IsInvariant}
-use Rattle.tl_world.specs.Phase.{Pair, Probing, Quiet, Sent, Answered, is_quiet, perm_le, Acknowledging, Acquiring, Calm, GrantedOther, Granting, Wants}
+use Rattle.tl_world.specs.Phase.{Pair, Answered, is_quiet, perm_le, Acquiring, Calm, Wants}
 use Rattle.tl_world.specs.PhaseSteps.{after_report, is_granted_data}
 use Rattle.tl_world.specs.Protocol.{Service, Waits, Block, ended_block, shown, view, Free, GrantSent, GrantTaken, granted_block, let_block, release_taken, report_taken, token}
 use Rattle.tl_world.specs.Render.{prune_told, message_of, rendered, report_told}
 use Rattle.tl_world.specs.Token.{Kind, Request, Acquire, Probe, ProbeAck, Release, Answer, Grant, ReleaseAck, GrantAck, set, Token}
 use Rattle.tl_world.proofs.Facts.{reported_within, spared_within, answered_other, is_other, own_wants}
-use Rattle.tl_world.proofs.FollowKept.{leaves-bytes, answered-is, settled_all}
+use Rattle.tl_world.proofs.FollowKept.{leaves-bytes, settled_all}
 use Rattle.tl_world.proofs.Showing.{carries, none-carried}
-use Rattle.tl_world.proofs.Tokens.{same_number, set-same, set-other, set-part, holds-first}
+use Rattle.tl_world.proofs.Tokens.{same_number, set-same, set-other, set-part, holds-first, set_at-same}
+use Rattle.tl_world.proofs.BothParts.{answered-is, taken-unseen, quiet-is, granted-unseen}
+use Rattle.tl_world.proofs.Admitted.{head_all}
+use Rattle.tl_world.proofs.Owing.{serving-use}
 
 -- ---- an access that ends leaves the bytes on their way, or there are none
-
-quiet_is : (p : Probing) → is_quiet p ≡ true → p ≡ Quiet
-quiet_is Quiet e = refl
-quiet_is (Sent k) e = absurd cc
-quiet_is (Answered r) e = absurd cc
 
 least : (p : Perm) → perm_le p perm.None ≡ true → same_perm p perm.None ≡ true
 least perm.None e = refl
 least perm.Branch e = absurd cc
 least perm.Trunk e = absurd cc
-
-either : (b : Bool) → (b || true) ≡ true
-either true = refl
-either false = refl
 
 -- a service that probes toN, with its last ProbeAck: nobody is recorded then
 unrecorded : (caching : ℕ → Bool) (c q source : ℕ) (r : Report) (f : List ℕ → List ℕ) (b : Block (List ℕ)) → IsWell caching b → b.service ≡ Waits q false source cap.ToN → (b.pair c).probing ≡ Answered r
@@ -90,7 +84,7 @@ unrecorded caching c q source r f b well waits answered settled d = elim (cases_
       rw (same, set-same c (after_report r (b.pair c)) b.pair) (least (report_right r) (reported_within cap.ToN r (b.pair c) (view b.service c) (well.phases c) (rw waits refl) answered))
   | inr other ↦
       rw (set-other c d (after_report r (b.pair c)) b.pair other)
-      (least (b.pair d).recorded (spared_within cap.ToN (b.pair d) (view b.service d) (well.phases d) (rw waits refl) (quiet_is (b.pair d).probing (settled d other))))
+      (least (b.pair d).recorded (spared_within cap.ToN (b.pair d) (view b.service d) (well.phases d) (rw waits refl) (quiet-is (b.pair d).probing (settled d other))))
 ]
 
 pub ended-bytes : {w : ℕ} (caching : ℕ → Bool) (c q source : ℕ) (r : Report) (k : Cap) (m : MessageA w) (b : Block (List ℕ)) → IsWell caching b → IsWell caching (ended_block c r (performs m) b) → b.service ≡ Waits q false source k
@@ -98,14 +92,11 @@ pub ended-bytes : {w : ℕ} (caching : ℕ → Bool) (c q source : ℕ) (r : Rep
     → (j : Kind) (i : ℕ) → shown j i b ≡ true → shown j i (ended_block c r (performs m) b) ≡ true → (carries j i b ≡ false) ⊎ (performs m b.truth ≡ b.truth)
 ended-bytes {w} caching c q source r k m b before after waits answered settled access low long j i shown_now shown_after = elim (leaves-bytes m b.truth access long) [
   | inl same ↦ inr same
-  | inr all ↦ inl (kept j shown_after ∙ none-carried caching new after (λ d. rw (unrecorded caching c q source r (performs m) b before (rw (cap_is k cap.ToN (sym low ∙ all)) at waits) answered settled d) (either (same_perm (new.pair d).held perm.Trunk))) j i)
+  | inr all ↦ inl (kept j shown_after ∙ none-carried caching new after (λ d. rw (unrecorded caching c q source r (performs m) b before (rw (same_Some k cap.ToN (sym low ∙ all)) at waits) answered settled d) (or-true (same_perm (new.pair d).held perm.Trunk))) j i)
 ]
   where
     new : Block (List ℕ)
     new = ended_block c r (performs m) b
-
-    cap_is : (x y : Cap) → Some x ≡ Some y → x ≡ y
-    cap_is x y e = cc
 
     -- what is shown then was so before
     kept : (x : Kind) → shown x i new ≡ true → carries x i b ≡ carries x i new
@@ -174,7 +165,7 @@ landed-received : {w : ℕ} (config : Config) (log : Log w) (h : Shadow w) (sys 
     → IsLanded c ch x queue pushes sys (stepped config (Deliver (record { 0 = c }) ch) sys).after
 landed-received {w} config log h sys c ch x queue handed pushes at is pushed =
     let t = client-of config c ch x queue sys at.beats (at.is.sound c ch) in
-    landed-taken config c ch x queue sys t.0 handed pushes at.width at.is.manager_kept (first_of (λ y. manager.IsSound config (record { 0 = c }, y)) x queue (sys.channels c ch) at.beats (at.is.sound c ch)).typed at.down at.on_ch t.1 at.beats at.up is pushed
+    landed-taken config c ch x queue sys t.0 handed pushes at.width at.is.manager_kept (head_all (λ y. manager.IsSound config (record { 0 = c }, y)) x queue (sys.channels c ch) at.beats (at.is.sound c ch)).typed at.down at.on_ch t.1 at.beats at.up is pushed
 
 -- the channels then
 abbrev pub CarriesAfter : {w : ℕ} → Config → ℕ → Channel → System w → Shadow w → Type 0
@@ -247,19 +238,11 @@ reports-last {w} config log h sys c n rest x queue at tokens whole handed =
     last : some_below (length config.clients.items) (others_probed c b.pair) ≡ false → (service : Service) → b.service ≡ service → IsInvariant (is_caching config) (last_taken (length config.clients.items) config.profile c n r service rest h).state
         → Hands (pushed_last n service (last_taken (length config.clients.items) config.profile c n r service rest h)) → CarriesAfter config c channel.C sys (last_taken (length config.clients.items) config.profile c n r service rest h)
     last alone Free f later one = absurd (let other : false ≡ true = rw f at seen in cc)
-    last alone (GrantSent q d low) f later one = absurd (unseen_sent (c == q) d low (rw f at seen))
-      where
-        unseen_sent : (y d : Bool) (low : Cap) → is_other (if y then Granting d low else GrantedOther) ≡ true → ⊥
-        unseen_sent true d low g = cc
-        unseen_sent false d low g = cc
-    last alone (GrantTaken q) f later one = absurd (unseen_taken (c == q) (rw f at seen))
-      where
-        unseen_taken : (y : Bool) → is_other (if y then Acknowledging else GrantedOther) ≡ true → ⊥
-        unseen_taken true g = cc
-        unseen_taken false g = cc
+    last alone (GrantSent q d low) f later one = absurd (granted-unseen (c == q) d low (rw f at seen))
+    last alone (GrantTaken q) f later one = absurd (taken-unseen (c == q) (rw f at seen))
     last alone (Waits q false source low) f later one =
         report_answers-carried (is_caching config) c q n source r low (performs v) rest said h.mail h.state sys after x queue at.width inv later tokens f
-        (rw (used-serving (is_caching config) h.state n q source low inv f) refl)
+        (rw (serving-use (is_caching config) h.state n q source low inv f) refl)
         (ended-bytes (is_caching config) c q source r low v b (inv.blocks n) (subst (IsWell (is_caching config)) (set-same n (ended_block c r (performs v) b) h.state.block) (later.blocks n)) f answered
         (settled_all (length config.clients.items) (is_caching config) c b.pair (plain-past config) (inv.blocks n).outside alone) for.0 for.3 (at.is.sized n).truth)
         (answer_on_d v _)

@@ -2,6 +2,7 @@
 use Rattle.std.proofs.Common.{◌≡◌, ℕ, suc, ◌≤◌, ◌==◌, Bool, true, false, not, ◌&&◌, ◌||◌, List, [], ◌∷◌, Option, Some, None, length, refl, sym, subst, ◌∙◌, ap, ◌⊎◌, inl, inr, arith}
 use Rattle.std.specs.Prelude.{if◌then◌else◌}
 use Rattle.std.proofs.lemmas.Bool.{cases_lt}
+use Rattle.std.proofs.Math.Bool.{and_comm}
 use Rattle.tl_beat.specs.declared.beat.Beat.{Beat}
 use Rattle.tl_beat.specs.declared.beat.Beat.TheVariants as beat
 use Rattle.tl_beat.specs.declared.beat.BeatA.{BeatA}
@@ -16,7 +17,6 @@ use Rattle.tl_burst.specs.Part.{completes}
 use Rattle.tl_params.specs.declared.config.Config.{Config}
 use Rattle.tl_params.specs.declared.param.Cap.{Cap}
 use Rattle.tl_params.specs.declared.param.Cap.TheVariants as cap
-use Rattle.tl_params.specs.declared.perm.Perm.{Perm}
 use Rattle.tl_params.specs.declared.perm.Perm.TheVariants as perm
 use Rattle.tl_rules.specs.Conformance.{on_link, same_perm}
 use Rattle.tl_rules.specs.declared.answer.Answer.{Answer}
@@ -27,6 +27,7 @@ use Rattle.tl_manager.specs.Holders as holders
 use Rattle.tl_manager.specs.Holders.{recorded, probed, cap_probed, is_spared}
 use Rattle.tl_rules.specs.History.{block_at, is_acquire}
 use Rattle.tl_rules.proofs.Sent.{is_last}
+use Rattle.tl_client.proofs.HeldAfter.{same_block, swapped}
 use Rattle.tl_manager.specs.Slave.{must_wait, deed}
 use Rattle.tl_manager.proofs.Events.{deed-part}
 use Rattle.tl_world.specs.declared.event.Outcome.TheVariants as outcome
@@ -44,21 +45,23 @@ use Rattle.tl_world.specs.Token.{Kind, Request, Acquire, Grant, Token}
 use Rattle.tl_world.specs.Whole.{IsMatched, is_caching}
 use Rattle.tl_world.proofs.Admitted.{offered-taken}
 use Rattle.tl_world.proofs.Arrivals.{link_of, with_beat, IsComing, ends-coming, service_for}
-use Rattle.tl_world.proofs.Accounts.{eqb-swap}
 use Rattle.tl_world.proofs.AtRequests.{end_after, deed-probing}
 use Rattle.tl_world.proofs.CarriedEvents.{access_answered-carried, acquire_granted-carried}
 use Rattle.tl_world.proofs.CarriedProbes.{probe_pushes, channels-probes, access_served-carried, acquire_served-carried}
 use Rattle.tl_world.proofs.FollowKept.{some-none, leaves-bytes, IsReady}
 use Rattle.tl_world.proofs.Showing.{carries, none-carried}
-use Rattle.tl_world.proofs.Fronts.{IsAsked, IsWanted, acquires-so}
+use Rattle.tl_world.proofs.Fronts.{IsAsked, IsWanted}
 use Rattle.tl_world.proofs.ManagedServed.{same_above}
 use Rattle.tl_world.proofs.Requests.{recorded-beat}
 use Rattle.tl_world.proofs.RequestsHanded.{handed-answered, handed-granted}
-use Rattle.tl_world.proofs.RequestsTaken.{next_tracker, free-last, invariant-taken, probed-some, somebody-probed, beyond-none, caps_asked, acquire_wanted, acquire_block, ready-request, ready-acquire}
+use Rattle.tl_world.proofs.RequestsTaken.{next_tracker, free-last, invariant-taken, probed-some, somebody-probed, beyond-none, caps_asked, acquire_wanted, ready-request, ready-acquire}
 use Rattle.tl_world.proofs.Tokens.{set-same}
 use Rattle.tl_world.proofs.Channels.{behind, IsTaken, pushes_at}
 use Rattle.tl_world.proofs.Landed.{pushes_of, IsLanded, taken-landed, IsOn, HasTaken, landed-manager, channels-handed}
 use Rattle.tl_world.proofs.Moved.{manager-heard, carried-part}
+use Rattle.tl_world.proofs.Codes.{acquires-so}
+use Rattle.tl_world.proofs.Perms.{none-above}
+use Rattle.tl_world.proofs.OwedAfter.{once_on_d}
 
 -- ---- the whole after a beat of a request
 
@@ -108,12 +111,6 @@ carried-more {w} config log mail request s sys c k m queue is comes beats part =
 
 -- ---- its last beat: others are probed
 
-probed_is : (x y : Bool) → (x && y) ≡ (y && x)
-probed_is true true = refl
-probed_is true false = refl
-probed_is false true = refl
-probed_is false false = refl
-
 nothing_above : (j : Cap) (own : Bool) → (not own && is_above j perm.None) ≡ false
 nothing_above cap.ToT true = refl
 nothing_above cap.ToT false = refl
@@ -139,7 +136,7 @@ taken-probing {w} config log mail request s sys c k n own j m queue is comes bea
     pushes = probe_pushes n j test
 
     same : (i : ℕ) → (holders.is_above j (recorded i (block_at m.address) (with_beat c m k sys.manager.trace)) && not (is_spared (service_for c m sys.manager.trace) i)) ≡ test i
-    same i = rw (block, recorded-beat c k m sys.manager.trace i n, is.managed.recorded_is i n, kind, same_above j ((s.block n).pair i).recorded, eqb-swap c i) (probed_is (is_above j ((s.block n).pair i).recorded) (not (own && (i == c))))
+    same i = rw (block, recorded-beat c k m sys.manager.trace i n, is.managed.recorded_is i n, kind, same_above j ((s.block n).pair i).recorded, swapped c i) (and_comm (is_above j ((s.block n).pair i).recorded) (not (own && (i == c))))
 
     none : (d : ℕ) → length config.clients.items ≤ d → test d ≡ false
     none d past = rw (beyond-none config log mail request s sys n is d past) (nothing_above j (own && (d == c)))
@@ -155,10 +152,6 @@ taken-answering {w} config c k m i queue sys comes beats last done =
     (ends-coming config c k m sys.manager comes ∙ rw last (is_last k (suc k) (omega arith)))
 
 -- ---- an Acquire
-
-granted_on_d : (w c n tracker : ℕ) (d : Bool) (k : Cap) (b : Block (List ℕ)) → channel_of_message (rendered {w = w} Grant c n (granted_at_once c tracker d k b)) ≡ channel.D
-unfolding rendered
-granted_on_d w c n tracker d k b = refl
 
 -- after an Acquire that was taken
 pub carried-acquire_taken : {w : ℕ} (config : Config) (log : Log w) (h : Shadow w) (sys : System w) (c n k : ℕ) (rest : List Token) (queue : List (Beat w)) → IsMatched config log h.mail h.request h.state sys
@@ -209,17 +202,17 @@ carried-acquire_taken {w} config log h sys c n k rest queue is first asked comes
 
     go : (x : Bool) → some_below clients (λ d. is_probed c true j (b.pair d).recorded d) ≡ x → IsInvariant (is_caching config) (state_of x) → AreCarried h.mail (state_of x) after
     go true f kept =
-        let some = somebody-probed config log h.mail h.request h.state sys c k n true m is (acquires-so asked.whole) (acquire_block n) (rw caps f) in
+        let some = somebody-probed config log h.mail h.request h.state sys c k n true m is (acquires-so asked.whole) (same_block n) (rw caps f) in
         acquire_served-carried (is_caching config) c n (b.source c) tracker j rest h.mail h.state sys after (beat.A (a_beat_of m k)) queue comes.width is.invariant kept first ready.0
-        (taken-probing config log h.mail h.request h.state sys c k n true j m queue is comes beats last (acquires-so asked.whole) (acquire_block n)
-        (ap (λ (d : Deed w). d.handed) (deed-probing config c k n j m sys.manager comes last (acquire_block n) caps
-        (probed-some config log h.mail h.request h.state sys c k n true j m is (acquires-so asked.whole) (acquire_block n) ∙ ap not f))))
+        (taken-probing config log h.mail h.request h.state sys c k n true j m queue is comes beats last (acquires-so asked.whole) (same_block n)
+        (ap (λ (d : Deed w). d.handed) (deed-probing config c k n j m sys.manager comes last (same_block n) caps
+        (probed-some config log h.mail h.request h.state sys c k n true j m is (acquires-so asked.whole) (same_block n) ∙ ap not f))))
         is.carried
     go false f kept =
         let new = granted_at_once c tracker data_too given b in
         let well : IsWell (is_caching config) new = subst (IsWell (is_caching config)) (set-same n new h.state.block) (kept.blocks n) in
         acquire_granted-carried (is_caching config) c n tracker data_too given rest (rendered Grant c n new) h.mail h.state sys after (beat.A (a_beat_of m k)) queue comes.width is.invariant kept first ready.0
-        (granted_on_d w c n tracker data_too given b) refl
+        (once_on_d w c n tracker data_too given b) refl
         (taken-answering config c k m (rendered Grant c n new) queue sys comes beats last (handed-granted config log h.mail h.request h.state sys (is_caching config) c n k is asked comes last (rw caps f) well)) is.carried
 
 -- ---- an access
@@ -228,11 +221,6 @@ pub answer_on_d : {w : ℕ} (m : MessageA w) (r : Answer) → channel_of_message
 answer_on_d m answer.Ack = refl
 answer_on_d m answer.Hint = refl
 answer_on_d m (answer.Data payload) = refl
-
-none_above : (p : Perm) → is_above cap.ToN p ≡ false → same_perm p perm.None ≡ true
-none_above perm.None e = refl
-none_above perm.Branch e = absurd cc
-none_above perm.Trunk e = absurd cc
 
 -- an access that is answered at once changes the bytes only where no message carries them
 pub unread-bytes : {w : ℕ} (config : Config) (log : Log w) (mail : Mail w) (request : ℕ → MessageA w) (s : State (List ℕ)) (sys : System w) (c n : ℕ) (m : MessageA w) → IsMatched config log mail request s sys → is_acquire m.opcode ≡ false
@@ -249,7 +237,7 @@ unread-bytes {w} config log mail request s sys c n m is access none k d = elim (
 
     unheld : (i : ℕ) → cap_probed m.opcode m.param ≡ Some cap.ToN → same_perm ((s.block n).pair i).recorded perm.None ≡ true
     unheld i all = elim (cases_lt i (length config.clients.items)) [
-      | inl lt ↦ none_above ((s.block n).pair i).recorded (some-none (length config.clients.items) (λ j. is_probed c false cap.ToN ((s.block n).pair j).recorded j) (rw all at none) i lt)
+      | inl lt ↦ none-above ((s.block n).pair i).recorded (some-none (length config.clients.items) (λ j. is_probed c false cap.ToN ((s.block n).pair j).recorded j) (rw all at none) i lt)
       | inr past ↦ rw (beyond-none config log mail request s sys n is i past) refl
     ]
 

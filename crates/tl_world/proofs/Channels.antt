@@ -70,7 +70,7 @@ pub record IsShowing {w : ℕ} (caching : ℕ → Bool) (n : ℕ) (moves : ℕ �
   pub requests : (d i : ℕ) → is_asked (s.uses d i) ≡ true → is_asked (s'.uses d i) ≡ true → mail'.request d i ≡ mail.request d i
   pub answers : (d i : ℕ) → is_replied (s.uses d i) ≡ true → is_replied (s'.uses d i) ≡ true → mail'.answer d i ≡ mail.answer d i
 
-on_same : (ch : Channel) (k : Kind) (l : Link) → is_on ch k ≡ true → tokens_on ch l ≡ on k l
+pub on_same : (ch : Channel) (k : Kind) (l : Link) → is_on ch k ≡ true → tokens_on ch l ≡ on k l
 on_same channel.A Request l e = refl
 on_same channel.A Acquire l e = refl
 on_same channel.B Probe l e = refl

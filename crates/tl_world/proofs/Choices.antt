@@ -10,13 +10,13 @@ use Rattle.tl_manager.specs.Holders.{clients_where, is_nobody}
 use Rattle.tl_manager.proofs.Clients.{among-where, nobody-is, nobody-where, where-same}
 use Rattle.tl_world.specs.Follow.{some_below}
 use Rattle.tl_world.specs.Invariant.{IsInvariant, IsOwnSource}
-use Rattle.tl_world.specs.Phase.{Own, Acquiring, Calm, Wants, is_calm}
+use Rattle.tl_world.specs.Phase.{Own}
 use Rattle.tl_world.specs.Protocol.{Waits, State, Acquires, InService, view, is_wanting}
 use Rattle.tl_world.specs.Whole.{is_caching}
 use Rattle.tl_world.proofs.Facts.{own_wants}
 use Rattle.tl_world.proofs.FollowKept.{some-none}
-use Rattle.tl_world.proofs.Moves.{acquires_of-is, serves_of-is}
 use Rattle.tl_world.proofs.Tokens.{same_number}
+use Rattle.tl_world.proofs.BothParts.{acquires_of-is, serves_of-is, not-calm}
 
 -- ---- clients that pass a test
 
@@ -60,15 +60,11 @@ plain-past config d past = rw (slice_get_past config.clients.items d past) refl
 
 -- ---- the source of a request that waits
 
-wanting : (x : Acquiring) → not (is_calm x) ≡ true → is_wanting x ≡ true
-wanting Calm e = absurd cc
-wanting (Wants whole g) e = refl
-
 pub waits-used : {X : Type 0} (caching : ℕ → Bool) (s : State X) (n r source : ℕ) (own : Bool) (k : Cap) → IsInvariant caching s → (s.block n).service ≡ Waits r own source k
     → s.uses r source ≡ (if own then Acquires n else InService n)
 waits-used caching s n r source true k inv e =
     let sourced : IsOwnSource (Waits r true source k) (s.block n).source = rw e at (inv.blocks n).own_source in
     let own_view : view (s.block n).service r ≡ Own = rw (e, same_number r) refl in
-    let wants : is_wanting ((s.block n).pair r).acquiring ≡ true = wanting ((s.block n).pair r).acquiring (own_wants ((s.block n).pair r) (view (s.block n).service r) ((inv.blocks n).phases r) own_view) in
+    let wants : is_wanting ((s.block n).pair r).acquiring ≡ true = not-calm ((s.block n).pair r).acquiring (own_wants ((s.block n).pair r) (view (s.block n).service r) ((inv.blocks n).phases r) own_view) in
     acquires_of-is n (s.uses r source) (inv.named.acquires r source n ∙ rw (wants, ← sourced, same_number source) refl)
 waits-used caching s n r source false k inv e = serves_of-is n (s.uses r source) (inv.named.serves r source n ∙ rw (e, same_number r, same_number source) refl)

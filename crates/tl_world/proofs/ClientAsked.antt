@@ -46,10 +46,12 @@ use Rattle.tl_world.specs.Protocol.{Block, State, Asked, Acquires, is_wanting, a
 use Rattle.tl_world.specs.Render.{Mail}
 use Rattle.tl_world.specs.Token.{set_at}
 use Rattle.tl_world.specs.Whole.{asked_by, is_storing}
-use Rattle.tl_world.proofs.Aside.{set_at-else, set_at-same}
+use Rattle.tl_world.proofs.Aside.{set_at-else}
 use Rattle.tl_world.proofs.ClientEnd.{is_access, IsWellKept, IsEnd, IsSame, known-same, opened-same, asks-same, asks-access, asks-acquire, column}
 use Rattle.tl_world.proofs.ClientSent.{IsRequested, known-requested, opened-requested, IsReleased, known-released, opened-released}
-use Rattle.tl_world.proofs.Tokens.{same_number, set-same, set-other, set-part}
+use Rattle.tl_world.proofs.Tokens.{same_number, set-same, set-other, set-part, set_at-same}
+use Rattle.tl_world.proofs.Codes.{acquires-so}
+use Rattle.tl_world.proofs.Perms.{held-some}
 
 -- a condition that is known
 pub chosen : {X : Type 0} (b : Bool) (x y : X) → b ≡ true → cond b x y ≡ x
@@ -176,12 +178,8 @@ end-acquire_asked {w} c n source whole g bytes mail s e f width named idle past 
     pair_is : new.pair c ≡ after_acquire whole g ((s.block n).pair c)
     pair_is = set-same c (after_acquire whole g ((s.block n).pair c)) (s.block n).pair
 
-    acquires : (x : Bool) → is_acquire (acquire_opcode x) ≡ true
-    acquires true = refl
-    acquires false = refl
-
     of_block : (i : ℕ) → (is_acquire (acquire_opcode whole) && (block_at (64 * n) == i)) ≡ (i == n)
-    of_block i = rw (acquires whole, same_block n) (swapped n i)
+    of_block i = rw (acquires-so whole, same_block n) (swapped n i)
 
     go : (i : ℕ) → is_storing (((s'.block i).pair c).acquiring) ≡ true → (i ≡ n) ⊎ (i ≡ n → ⊥) → f.waiting i ≡ Some ((s'.block i).waiting c)
     go i storing (inl same) =
@@ -262,11 +260,6 @@ end-release_asked {w} c n source r copy mail s e width begins kept end =
         lets_now i from (inl same) = ap (s'.lets c) same ∙ set_at-same c source (Some n) s.lets ∙ sym (chosen (m.source == i) (Some n) (s.lets c i) (rw (from, same) (same_number source)))
         lets_now i from (inr other) = set_at-else c source i (Some n) s.lets other c ∙ sym (passed (m.source == i) (Some n) (s.lets c i) (rw from (ne_eqb source i (λ e. other (sym e)))))
 
-    has_some : (q : Perm) → holds q ≡ true → same_perm q perm.None ≡ false
-    has_some perm.None some = absurd cc
-    has_some perm.Branch some = refl
-    has_some perm.Trunk some = refl
-
     kept_some : (q : Perm) (x y : Option (List ℕ)) → same_perm q perm.None ≡ false → cond (not (holds q)) x y ≡ y
     kept_some perm.None x y some = absurd cc
     kept_some perm.Branch x y some = refl
@@ -276,7 +269,7 @@ end-release_asked {w} c n source r copy mail s e width begins kept end =
     copy_of i true same some =
         let before : holds ((s.block n).pair c).held ≡ true = ap holds (sym (end.known.held_is n)) ∙ falls_to r (held n e.past) begins in
         let here : i ≡ n = eqb-true i n same in
-        kept_some (prune_right r) None (e.copies i) some ∙ end.copies i (has_some ((s.block i).pair c).held (ap (λ (j : ℕ). holds ((s.block j).pair c).held) here ∙ before))
+        kept_some (prune_right r) None (e.copies i) some ∙ end.copies i (held-some ((s.block i).pair c).held (ap (λ (j : ℕ). holds ((s.block j).pair c).held) here ∙ before))
     copy_of i false same some = end.copies i some
 
 -- ---- a store

@@ -46,9 +46,10 @@ use Rattle.tl_world.proofs.Carried.{IsNext}
 use Rattle.tl_world.proofs.ClientAsked.{IsEndOf}
 use Rattle.tl_world.proofs.ClientEnd.{IsWellKept, IsEnd, end-matched}
 use Rattle.tl_world.proofs.ClientTaken.{end-part, end-answer_taken, end-release_ack_taken, end-grant_taken}
-use Rattle.tl_world.proofs.ClientTakes.{access_kind, answer-first, IsFitting, fitting, grant-first, ack-first, taken-d}
+use Rattle.tl_world.proofs.ClientTakes.{answer-first, IsFitting, fitting, grant-first, ack-first, taken-d}
 use Rattle.tl_world.proofs.Due.{answer-due, IsGrantDue, grant-due, grant_message, grant-rendered, ack-due, ack_message}
 use Rattle.tl_world.proofs.FirstToken.{IsFirst, first-token}
+use Rattle.tl_world.proofs.Codes.{access_kind}
 
 -- ---- what a client does at a beat of channel D
 

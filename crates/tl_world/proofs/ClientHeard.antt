@@ -1,5 +1,6 @@
 -- A client's end after it has taken a beat of channel D: what it knows is what the protocol says then.
 use Rattle.std.proofs.Common.{◌≡◌, ℕ, Bool, true, false, not, ◌&&◌, cond, List, [], ◌∷◌, Option, Some, None, refl, sym, ◌∙◌, ap}
+use Rattle.std.proofs.lemmas.Option.{same_Some}
 use Rattle.std.specs.Prelude.{◌==◌, is_some, option_map}
 use Rattle.tl_beat.specs.Width.{IsWidth}
 use Rattle.tl_beat.specs.declared.beat.Beat.TheVariants as beat
@@ -145,10 +146,7 @@ answer_closes x t last plain other = (λ k. rw (last, plain) refl, λ k. rw (las
 
 released_block : {w : ℕ} (k n : ℕ) (o : Option (BeatC w)) → option_map (λ (x : BeatC w). block_at x.address) o ≡ Some n → releases k o ≡ (n == k)
 released_block k n None e = absurd cc
-released_block k n (Some x) e = ap (λ (i : ℕ). i == k) (some_is (block_at x.address) n e)
-  where
-    some_is : (i j : ℕ) → Some i ≡ Some j → i ≡ j
-    some_is i j f = cc
+released_block k n (Some x) e = ap (λ (i : ℕ). i == k) (same_Some (block_at x.address) n e)
 
 -- that of a ReleaseAck the Release with its source, of its block
 pub ack_closes : {w : ℕ} (n : ℕ) (x : BeatD w) (t : History w) → ends (beat.D x) t ≡ true → is_grant x.opcode ≡ false → is_release_ack x.opcode ≡ true → option_map (λ (y : BeatC w). block_at y.address) (release_of x.source t) ≡ Some n

@@ -29,6 +29,7 @@ use Rattle.tl_world.specs.Whole.{asked_by, is_storing}
 use Rattle.tl_world.proofs.ClientEnd.{IsWellKept, IsEnd, IsSame, known-same, opened-same, asks-same, column}
 use Rattle.tl_world.proofs.KnownProbed.{report_is, known-probed, opened-probed}
 use Rattle.tl_world.proofs.Tokens.{set-same, set-part}
+use Rattle.tl_world.proofs.Perms.{held-some}
 
 pub end-probe_taken : {w : ℕ} (c n : ℕ) (k : Cap) (rest : List Token) (mail : Mail w) (s : State (List ℕ)) (e : End w) → IsWidth w → IsWellKept (probed (probe_beat n k) n (held_at e n) e).after → IsEnd (asked_by mail s c) c s e
     → IsEnd (asked_by mail (probe_taken c n k rest s) c) c (probe_taken c n k rest s) (probed (probe_beat n k) n (held_at e n) e).after
@@ -87,18 +88,13 @@ end-probe_taken {w} c n k rest mail s e width well end =
     some_held perm.Branch e = refl
     some_held perm.Trunk e = refl
 
-    held_some : (q : Perm) → holds q ≡ true → same_perm q perm.None ≡ false
-    held_some perm.None e = absurd cc
-    held_some perm.Branch e = refl
-    held_some perm.Trunk e = refl
-
     copy_of : (i : ℕ) (b : Bool) → (i == n) ≡ b → cond b (same_perm (new.pair c).held perm.None) (same_perm ((s.block i).pair c).held perm.None) ≡ false → cond (b && not (holds left)) None (e.copies i) ≡ Some ((s.block i).copy c)
     copy_of i false is some = end.copies i some
     copy_of i true is some =
         let stays : holds left ≡ true = ap holds left_is ∙ some_held (new.pair c).held some in
         let before : holds p ≡ true = reports_held k p (ap (λ (r : Perm). holds r) (ap report_right (sym (report_is w n k p))) ∙ stays) in
         let here : i ≡ n = eqb-true i n is in
-        keeps (holds left) stays ∙ end.copies i (held_some ((s.block i).pair c).held (ap (λ (j : ℕ). holds ((s.block j).pair c).held) here ∙ ap holds (sym (end.known.held_is n)) ∙ before))
+        keeps (holds left) stays ∙ end.copies i (held-some ((s.block i).pair c).held (ap (λ (j : ℕ). holds ((s.block j).pair c).held) here ∙ ap holds (sym (end.known.held_is n)) ∙ before))
       where
         keeps : (z : Bool) → z ≡ true → cond (not z) None (e.copies i) ≡ e.copies i
         keeps z q = rw q refl

@@ -2,6 +2,7 @@
 use Rattle.std.proofs.Common.{◌≡◌, subst, ℕ, Bool, true, false, not, ◌&&◌, cond, List, ◌∷◌, Option, Some, None, refl, sym, ◌∙◌, ap, ◌⊎◌, inl, inr}
 use Rattle.std.specs.Prelude.{◌==◌, ◌*◌}
 use Rattle.std.proofs.lemmas.Bool.{cases_eq, eqb-true, ne_eqb}
+use Rattle.std.proofs.Math.Bool.{and-false}
 use Rattle.tl_beat.specs.Width.{IsWidth}
 use Rattle.tl_beat.specs.declared.beat.Beat.TheVariants as beat
 use Rattle.tl_beat.specs.declared.beat.BeatA.{BeatA}
@@ -11,13 +12,12 @@ use Rattle.tl_burst.specs.declared.message.Message.TheVariants.{E}
 use Rattle.tl_burst.specs.Burst.{a_beat_of}
 use Rattle.tl_burst.specs.Messages.{History}
 use Rattle.tl_params.specs.declared.param.Cap.{Cap}
-use Rattle.tl_params.specs.declared.param.Cap.TheVariants as cap
 use Rattle.tl_params.specs.declared.param.Grow.{Grow}
 use Rattle.tl_params.specs.declared.perm.Perm.{Perm}
 use Rattle.tl_params.specs.declared.perm.Perm.TheVariants as perm
 use Rattle.tl_params.specs.Param.{cap_code, cap_right}
 use Rattle.tl_rules.specs.Agent.{sent}
-use Rattle.tl_rules.specs.History.{block_at, ends, capped, is_acquire, is_grant, is_release_ack, request_of}
+use Rattle.tl_rules.specs.History.{block_at, ends, capped, is_grant, is_release_ack, request_of}
 use Rattle.tl_rules.specs.Conformance.{same_perm}
 use Rattle.tl_client.specs.After.{copy_granted, waiting_granted}
 use Rattle.tl_client.specs.declared.verdict.Finish.{Finish}
@@ -29,6 +29,7 @@ use Rattle.tl_client.specs.Send.{acquisition, grant_ack}
 use Rattle.tl_client.proofs.AfterOffered.{granted_is}
 use Rattle.tl_client.proofs.HeldAfter.{same_block, swapped}
 use Rattle.tl_manager.specs.Handing.{grant_opcode}
+use Rattle.tl_manager.proofs.Recording.{cap-gives}
 use Rattle.tl_world.specs.Follow.{acquire_opcode}
 use Rattle.tl_world.specs.Phase.{Pair, Wants, is_kept}
 use Rattle.tl_world.specs.PhaseSteps.{after_grant, after_release_ack}
@@ -37,12 +38,13 @@ use Rattle.tl_world.specs.Render.{Mail}
 use Rattle.tl_world.specs.Token.{Token}
 use Rattle.tl_world.specs.Whole.{asked_by, is_storing}
 use Rattle.tl_world.specs.Invariant.{acquires_of, AreNamed}
-use Rattle.tl_world.proofs.Aside.{set_at-else, set_at-same}
+use Rattle.tl_world.proofs.Aside.{set_at-else}
 use Rattle.tl_world.proofs.ClientAsked.{chosen, passed}
 use Rattle.tl_world.proofs.ClientEnd.{IsWellKept, IsEnd, asks-same, asks-closed, asks-acquire, open-is, column}
 use Rattle.tl_world.proofs.ClientHeard.{IsHeard, IsEcho, echo-none, echo-e, known-heard, opened-heard, heard-part, answer_closes, ack_closes, grant_closes}
 use Rattle.tl_world.proofs.Phases.{and_right}
-use Rattle.tl_world.proofs.Tokens.{same_number, set-same, set-other, set-part}
+use Rattle.tl_world.proofs.Tokens.{same_number, set-same, set-other, set-part, set_at-same}
+use Rattle.tl_world.proofs.Codes.{grants_always, acquires-so}
 
 -- ---- a beat that isn't the last of its message
 
@@ -163,19 +165,6 @@ pub record IsGrantOf {w : ℕ} (c n : ℕ) (whole data_too : Bool) (g : Grow) (k
   pub has_copy : whole ≡ false → data_too ≡ false → same_perm ((s.block n).pair c).held perm.None ≡ false
   pub bytes : data_too ≡ true → payload ≡ (s.block n).truth
 
-pub capped_is : (k : Cap) → capped (cap_code k) ≡ cap_right k
-capped_is cap.ToT = refl
-capped_is cap.ToB = refl
-capped_is cap.ToN = refl
-
-pub grants_always : (data_too : Bool) → (is_grant (grant_opcode data_too) ≡ true) × (is_release_ack (grant_opcode data_too) ≡ false)
-grants_always true = (refl, refl)
-grants_always false = (refl, refl)
-
-acquires_always : (whole : Bool) → is_acquire (acquire_opcode whole) ≡ true
-acquires_always true = refl
-acquires_always false = refl
-
 -- what the client does at the last beat of a Grant
 record IsGrantTaken {w : ℕ} (data_too : Bool) (x : BeatD w) (r : BeatA w) (payload : List ℕ) (e f : End w) : Type 0 where
   past_is : f.past ≡ sent (E (record { sink = x.sink })) (beat.D x ∷ e.past)
@@ -210,13 +199,13 @@ pub end-grant_taken : {w : ℕ} (c n : ℕ) (whole data_too : Bool) (g : Grow) (
 end-grant_taken {w} c n whole data_too g k x payload rest mail s e f width named is taken last well end =
     let asks : asked_by mail s c x.source ≡ Some r = ap (asked_by mail s c) is.from ∙ asks-acquire c source n source whole g mail s is.used is.wants refl in
     let open_ : open_beat x.source e.past ≡ Some r = end.known.opens x.source ∙ asks in
-    let request : request_of x.source e.past ≡ Some r = open-is x.source e.past (ap is_acquire_beat open_ ∙ acquires_always whole) ∙ open_ in
+    let request : request_of x.source e.past ≡ Some r = open-is x.source e.past (ap is_acquire_beat open_ ∙ acquires-so whole) ∙ open_ in
     let does = grant_end data_too x r payload e f is.opcode (taken ∙ ap (λ (o : Option (BeatA w)). (responded x o payload e).after) request) in
     let kind = grants_always data_too in
     let closes = grant_closes n x r e.past last (ap is_grant is.opcode ∙ kind.0) (ap is_release_ack is.opcode ∙ kind.1) request (same_block n) in
     let event : IsHeard c x e.past (cap_right k) (λ i. n == i) (λ i. false) (λ i. x.source == i) (λ i. false) (asked_by mail s c) (asked_by mail s' c) s s' = record {
       grants_is = closes.0;
-      gives = λ i here. ap capped is.param ∙ capped_is k;
+      gives = λ i here. ap capped is.param ∙ cap-gives k;
       releases_is = closes.1;
       source_is = closes.2;
       let_is = closes.3;
@@ -290,11 +279,7 @@ end-grant_taken {w} c n whole data_too g k x payload rest mail s e f width named
         and_true : (u : Bool) → u ≡ true → (u && true) ≡ true
         and_true u p = rw p refl
     copy_here i false true a b same = chosen (i == block_at (64 * n)) (Some payload) (e.copies i) (here i same) ∙ ap Some (is.bytes b)
-    copy_here i false false a b same = passed ((i == block_at (64 * n)) && false) (e.waiting i) (e.copies i) (and_false (i == block_at (64 * n))) ∙ ap e.copies same ∙ end.copies n (is.has_copy a b)
-      where
-        and_false : (u : Bool) → (u && false) ≡ false
-        and_false true = refl
-        and_false false = refl
+    copy_here i false false a b same = passed ((i == block_at (64 * n)) && false) (e.waiting i) (e.copies i) (and-false (i == block_at (64 * n))) ∙ ap e.copies same ∙ end.copies n (is.has_copy a b)
 
     copy_else : (i : ℕ) (z : Bool) → (i ≡ n → ⊥) → copy_granted (grant_opcode z) (Some r) payload i e ≡ e.copies i
     copy_else i true ne = passed (i == block_at r.address) (Some payload) (e.copies i) (elsewhere i ne)

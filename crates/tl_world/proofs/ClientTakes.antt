@@ -1,12 +1,11 @@
 -- A beat of channel D that is delivered to a client is taken.
 use Rattle.std.proofs.Common.{◌≡◌, subst, ℕ, zero, suc, Bool, cond, true, false, not, ◌&&◌, ◌||◌, List, [], ◌∷◌, Option, Some, None, refl, sym, ◌∙◌, ap, arith}
+use Rattle.std.proofs.lemmas.Bool.{not-true}
 use Rattle.std.specs.Prelude.{All, is_some, slice_get, option_map}
 use Rattle.tl_beat.specs.declared.beat.Beat.{Beat}
 use Rattle.tl_beat.specs.declared.beat.BeatA.{BeatA}
 use Rattle.tl_beat.specs.declared.opcode.Channel.{Channel}
 use Rattle.tl_beat.specs.declared.opcode.Channel.TheVariants as channel
-use Rattle.tl_beat.specs.declared.opcode.OpD.{OpD}
-use Rattle.tl_beat.specs.declared.opcode.OpD.TheVariants as opd
 use Rattle.tl_burst.specs.declared.message.Message.{Message}
 use Rattle.tl_burst.specs.declared.message.Message.TheVariants as message
 use Rattle.tl_burst.specs.declared.message.MessageA.{MessageA}
@@ -29,8 +28,9 @@ use Rattle.tl_params.specs.Param.{cap_code, grow_code}
 use Rattle.tl_rules.specs.Agent.{is_outside}
 use Rattle.tl_rules.specs.Conformance as rules
 use Rattle.tl_rules.specs.Conformance.{answers, fits_grow, is_acquire_block, is_grant_without_data, broken_in_order, same_perm}
-use Rattle.tl_rules.specs.History.{is_grant, is_release_ack, held, pending, request_of}
+use Rattle.tl_rules.specs.History.{held, pending, request_of}
 use Rattle.tl_rules.specs.Legality.{illegal}
+use Rattle.tl_rules.proofs.Later.{later-legal}
 use Rattle.tl_client.specs.End.{Terms, End}
 use Rattle.tl_client.specs.Offer.{offered, taken, waits}
 use Rattle.tl_client.specs.Requests.{open_beat}
@@ -38,7 +38,6 @@ use Rattle.tl_client.specs.Send.{acquisition}
 use Rattle.tl_client.proofs.HeldAfter.{same_block}
 use Rattle.tl_manager.specs.Handing.{grant_opcode, release_ack}
 use Rattle.tl_manager.specs.Kept as manager
-use Rattle.tl_manager.specs.Service.{is_access_answer}
 use Rattle.tl_manager.specs.Slave.{level_of}
 use Rattle.tl_world.specs.Follow.{acquire_opcode}
 use Rattle.tl_world.specs.Log.{Log}
@@ -50,10 +49,10 @@ use Rattle.tl_world.specs.Whole.{IsMatched, gives_asked, asked_by}
 use Rattle.tl_world.proofs.Carried.{IsNext}
 use Rattle.tl_world.proofs.ClientEnd.{is_access, IsEnd, asks-access, asks-acquire}
 use Rattle.tl_world.proofs.Due.{IsAnswerDue, IsGrantDue, grant_message, ack_message}
-use Rattle.tl_world.proofs.Orders.{later-legal}
 use Rattle.tl_world.proofs.Passes.{client-takes}
 use Rattle.tl_world.proofs.Phases.{and_left, and_right}
 use Rattle.tl_world.proofs.ResponseOrder.{answer-legal, grant-legal, ack-legal}
+use Rattle.tl_world.proofs.Codes.{not_ack, access_kind}
 
 -- ---- what a client was made for
 
@@ -117,14 +116,6 @@ taken-d {w} config log mail request s sys terms c m ms x queue h at beats next f
 
 -- ---- an answer
 
-pub access_kind : (o : OpD) → is_access_answer o ≡ true → (is_grant o ≡ false) × (is_release_ack o ≡ false)
-access_kind opd.AccessAck e = (refl, refl)
-access_kind opd.AccessAckData e = (refl, refl)
-access_kind opd.HintAck e = (refl, refl)
-access_kind opd.Grant e = absurd cc
-access_kind opd.GrantData e = absurd cc
-access_kind opd.ReleaseAck e = absurd cc
-
 -- the open request is pending, and is the one that the history names
 live_request : {w : ℕ} (source : ℕ) (r : BeatA w) (t : History w) → open_beat source t ≡ Some r → (pending (RequestSource source) t ≡ true) × (request_of source t ≡ Some r)
 live_request {w} source r t e = go (pending (RequestSource source) t) refl e
@@ -156,10 +147,6 @@ answers_acquire true true e = absurd cc
 answers_acquire true false e = refl
 answers_acquire false true e = refl
 answers_acquire false false e = refl
-
-pub not_ack : (data_too : Bool) → is_release_ack (grant_opcode data_too) ≡ false
-not_ack true = refl
-not_ack false = refl
 
 pub fits_asked : (p : Profile) (whole : Bool) (g : Grow) (k : Cap) → cap_fits whole g k ≡ true → gives_asked p (Wants whole g) k ≡ true → fits_grow p (acquire_opcode whole) (grow_code g) (cap_code k) ≡ true
 fits_asked profile.One false grow.NtoB cap.ToB e f = refl
@@ -197,11 +184,7 @@ pub fitting : (recorded held : Perm) (data_too : Bool) (k : Cap) (whole : Bool) 
 fitting recorded held data_too k whole g fits =
     let more = and_right _ _ fits in
     let rest = and_right _ _ more in
-    record { cap_is = and_left _ _ more; bare = not_true (whole && data_too) (and_left _ _ rest); carried = and_right _ _ rest }
-  where
-    not_true : (b : Bool) → not b ≡ true → b ≡ false
-    not_true true e = absurd cc
-    not_true false e = refl
+    record { cap_is = and_left _ _ more; bare = not-true (whole && data_too) (and_left _ _ rest); carried = and_right _ _ rest }
 
 pub has_data : (whole data_too : Bool) (q : Perm) → (whole || (data_too || same_perm q perm.Branch)) ≡ true
     → (is_grant_without_data (grant_opcode data_too) && (is_acquire_block (acquire_opcode whole) && not (same_perm q perm.Branch))) ≡ false

@@ -1,7 +1,7 @@
 -- Copies are coherent with the one memory, and the open operations are those that were started.
-use Rattle.std.proofs.Common.{◌≡◌, ℕ, Bool, true, false, ◌&&◌, List, [], ◌∷◌, Option, Some, None, refl, sym, ◌∙◌, ap, subst, inl, inr}
+use Rattle.std.proofs.Common.{◌≡◌, ℕ, Bool, true, false, ◌&&◌, List, [], ◌∷◌, Option, Some, None, refl, sym, ◌∙◌, ap, subst}
 use Rattle.std.specs.Prelude.{◌==◌, if◌then◌else◌, option_map, unwrap_or, is_some}
-use Rattle.std.proofs.lemmas.Bool.{cases_eq, ne_eqb, eqb-true}
+use Rattle.std.proofs.lemmas.Bool.{eqb-true}
 use Rattle.tl_burst.specs.declared.message.MessageA.{MessageA}
 use Rattle.tl_params.specs.declared.config.Config.{Config}
 use Rattle.tl_params.specs.declared.perm.Perm.{Perm}
@@ -14,6 +14,7 @@ use Rattle.tl_client.specs.declared.operation.Op.TheVariants as op
 use Rattle.tl_client.specs.declared.reply.Reply.{Reply}
 use Rattle.tl_client.specs.declared.reply.Reply.TheVariants as reply
 use Rattle.tl_client.specs.Kept.{holds}
+use Rattle.tl_client.proofs.HeldAfter.{swapped}
 use Rattle.tl_world.specs.declared.event.Event.{Event}
 use Rattle.tl_world.specs.declared.event.Event.TheVariants.{Ask, Deliver}
 use Rattle.tl_world.specs.declared.event.Outcome.{Outcome}
@@ -28,17 +29,12 @@ use Rattle.tl_world.specs.Render.{Mail}
 use Rattle.tl_world.specs.Step.{stepped}
 use Rattle.tl_world.specs.Whole.{IsMatched}
 use Rattle.tl_world.proofs.Facts.{held_at_most}
+use Rattle.tl_world.proofs.Perms.{held-some}
 
 -- ---- what is open, as it was asked
 
 abbrev asked_at : {w : ℕ} → ℕ → Pool → ℕ → Machine w → Option (Op w)
 asked_at c pool source m = option_map (λ o. o.asked) (m.opened c pool source)
-
-eqb_swap : (m n : ℕ) → (m == n) ≡ (n == m)
-eqb_swap m n = elim (cases_eq m n) [
-  | inl same ↦ rw same refl
-  | inr other ↦ rw (ne_eqb m n other, ne_eqb n m (λ e. other (sym e))) refl
-]
 
 pool_swap : (p q : Pool) → same_pool p q ≡ same_pool q p
 pool_swap Requests Requests = refl
@@ -55,7 +51,7 @@ same_pool_is Releases Requests e = absurd cc
 -- with another operation at one place
 opened_with : {w : ℕ} (client : ℕ) (at : Pool) (n : ℕ) (o : Option (Open w)) (m : Machine w) (c : ℕ) (pool : Pool) (source : ℕ)
     → asked_at c pool source (with_open client at n o m) ≡ (if (client == c) && (same_pool at pool && (n == source)) then option_map (λ i. i.asked) o else asked_at c pool source m)
-opened_with {w} client at n o m c pool source = rw (eqb_swap client c, pool_swap at pool, eqb_swap n source) (go ((c == client) && (same_pool pool at && (source == n))))
+opened_with {w} client at n o m c pool source = rw (swapped client c, pool_swap at pool, swapped n source) (go ((c == client) && (same_pool pool at && (source == n))))
   where
     go : (b : Bool) → option_map (λ i. i.asked) (if b then o else m.opened c pool source) ≡ (if b then option_map (λ i. i.asked) o else asked_at c pool source m)
     go true = refl
@@ -177,11 +173,6 @@ none_is perm.Branch perm.Trunk e f = absurd cc
 none_is perm.Trunk perm.Branch e f = absurd cc
 none_is perm.Trunk perm.Trunk e f = absurd cc
 
-held_some : (p : Perm) → holds p ≡ true → same_perm p perm.None ≡ false
-held_some perm.Branch e = refl
-held_some perm.Trunk e = refl
-held_some perm.None e = absurd cc
-
 pub coherent-matched : {w : ℕ} (config : Config) (log : Log w) (mail : Mail w) (request : ℕ → MessageA w) (s : State (List ℕ)) → IsMatched config log mail request s (after config log) → IsCoherent (after config log) log (remembered config log)
 coherent-matched {w} config log mail request s h = record {
   one_writer = λ c d n differ writes.
@@ -189,7 +180,7 @@ coherent-matched {w} config log mail request s h = record {
       let none = (h.invariant.blocks n).one_owner c d top (λ e. differ (sym e)) in
       (h.known d).held_is n ∙ none_is ((s.block n).pair d).held ((s.block n).pair d).recorded none (held_at_most ((s.block n).pair d) (view (s.block n).service d) ((h.invariant.blocks n).phases d));
   copies = λ c n bytes copy.
-      let some : same_perm ((s.block n).pair c).held perm.None ≡ false = held_some ((s.block n).pair c).held (sym (sym (ap is_some copy) ∙ (h.kept c).copies_held n ∙ ap holds ((h.known c).held_is n))) in
+      let some : same_perm ((s.block n).pair c).held perm.None ≡ false = held-some ((s.block n).pair c).held (sym (sym (ap is_some copy) ∙ (h.kept c).copies_held n ∙ ap holds ((h.known c).held_is n))) in
       let same : (s.block n).truth ≡ bytes = sym ((h.invariant.blocks n).copies c some) ∙ some_is ((s.block n).copy c) bytes (sym (h.copies c n some) ∙ copy) in
       subst (λ (b : List ℕ). IsBlock (remembered config log).memory n b) same (h.beside.memory n);
   opened = λ c pool source. opened-started config log c pool source;

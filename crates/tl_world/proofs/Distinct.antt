@@ -1,10 +1,10 @@
 -- Tokens with names of their own: where each name below a bound is of one token at most, there are no more tokens.
 use Rattle.std.proofs.Common.{◌≡◌, ℕ, ◌+◌, ◌<◌, ◌≤◌, Bool, true, false, List, [], ◌∷◌, refl, sym, ◌∙◌, ap, ◌⊎◌, inl, inr, arith}
 use Rattle.std.specs.Prelude.{◌==◌, ◌&&◌, if◌then◌else◌, not, length, Option, Some, None}
-use Rattle.std.proofs.lemmas.Bool.{cases_eq, ne_eqb, eqb-true}
+use Rattle.std.proofs.lemmas.Bool.{cases_eq, ne_eqb, eqb-true, and_parts}
+use Rattle.std.proofs.lemmas.Option.{same_Some}
 use Rattle.tl_world.specs.Potential.{total}
 use Rattle.tl_world.specs.Token.{Kind, Token, is, one_if, count}
-use Rattle.tl_world.proofs.Phases.{and_left, and_right}
 use Rattle.tl_world.proofs.Rendered.{same_kind_again}
 use Rattle.tl_world.proofs.Tokens.{same_number}
 use Rattle.tl_world.proofs.Sums.{total-same, total-le, total-plus, total-zero, total-one, total-const}
@@ -90,12 +90,6 @@ by-names test name bound (x ∷ xs) below =
     let both = total-plus bound (λ i. one_if (named test name i x)) (λ i. passing (named test name i) xs) in
     omega (arith, rest, both, one-name (test x) (name x) bound (below x (first-there x xs)))
 
-pub both-parts : (a b : Bool) → (a && b) ≡ true → (a ≡ true) × (b ≡ true)
-both-parts a b e = (and_left a b e, and_right a b e)
-
-some_is : {x y : Token} → Some x ≡ Some y → x ≡ y
-some_is h = cc
-
 -- No token stands twice, each that passes has a name below the bound, and is the one that the name is of: so there are
 -- no more than the bound.
 pub few : (test : Token → Bool) (name : Token → ℕ) (owner : ℕ → Option Token) (bound : ℕ) (xs : List Token)
@@ -113,12 +107,12 @@ few test name owner bound xs once own =
         unnamed : (x : Token) → IsThere x xs → (b : Bool) → named test name i x ≡ b → b ≡ false
         unnamed x there false h = refl
         unnamed x there true h =
-            let parts = both-parts (test x) (name x == i) h in
+            let parts = and_parts (test x) (name x == i) h in
             let same : name x ≡ i = eqb-true (name x) i parts.1 in
             let is : owner i ≡ Some x = ap owner (sym same) ∙ (own x there parts.0).0 in
             absurd cc
     at i (Some t) e =
-        let one = passing-one (named test name i) t.kind t.number xs (λ x there h. same_token x there (both-parts (test x) (name x == i) h)) in
+        let one = passing-one (named test name i) t.kind t.number xs (λ x there h. same_token x there (and_parts (test x) (name x == i) h)) in
         omega (arith, one, once t.kind t.number)
       where
         same_token : (x : Token) → IsThere x xs → (test x ≡ true) × ((name x == i) ≡ true) → is t.kind t.number x ≡ true
@@ -126,5 +120,5 @@ few test name owner bound xs once own =
             let same : name x ≡ i = eqb-true (name x) i parts.1 in
             let is_it : owner i ≡ Some x = ap owner (sym same) ∙ (own x there parts.0).0 in
             let it : Some t ≡ Some x = sym e ∙ is_it in
-            let that : t ≡ x = some_is it in
+            let that : t ≡ x = same_Some _ _ it in
             rw that (is-itself x)

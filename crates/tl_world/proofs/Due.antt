@@ -1,7 +1,7 @@
 -- What is due to a client: the message of the first token of channel D, and what it answers.
 use Rattle.std.proofs.Common.{◌≡◌, ℕ, Bool, true, false, not, ◌&&◌, List, ◌∷◌, Some, refl, sym, ◌∙◌, ap, lit≤}
 use Rattle.std.specs.Prelude.{◌==◌, if◌then◌else◌}
-use Rattle.std.proofs.lemmas.Bool.{eqb-true}
+use Rattle.std.proofs.lemmas.Bool.{eqb-true, and_from}
 use Rattle.tl_beat.specs.declared.opcode.OpD.TheVariants as opd
 use Rattle.tl_burst.specs.declared.message.Message.{Message}
 use Rattle.tl_burst.specs.declared.message.Message.TheVariants as message
@@ -20,9 +20,8 @@ use Rattle.tl_world.specs.Render.{Mail, rendered}
 use Rattle.tl_world.specs.Token.{Answer, Grant, ReleaseAck, Token}
 use Rattle.tl_world.specs.Whole.{IsAnswered}
 use Rattle.tl_world.proofs.Facts.{grant_is_fit, granting_asks}
-use Rattle.tl_world.proofs.FollowKept.{is_replied-is}
-use Rattle.tl_world.proofs.Moves.{is_of-is, acquires_of-is}
 use Rattle.tl_world.proofs.Tokens.{same_number, holds-first}
+use Rattle.tl_world.proofs.BothParts.{is_of-is, acquires_of-is, is_replied-is}
 
 -- ---- an answer
 
@@ -103,10 +102,7 @@ wanting_is (Wants whole g) e = (whole, g, refl)
 -- the use of the source of an open Acquire
 pub acquire-used : (caching : ℕ → Bool) (c n : ℕ) (s : State (List ℕ)) → IsInvariant caching s → is_wanting ((s.block n).pair c).acquiring ≡ true → s.uses c ((s.block n).source c) ≡ Acquires n
 acquire-used caching c n s inv wanting =
-    acquires_of-is n (s.uses c ((s.block n).source c)) (inv.named.acquires c ((s.block n).source c) n ∙ both (is_wanting ((s.block n).pair c).acquiring) ((s.block n).source c == (s.block n).source c) wanting (same_number ((s.block n).source c)))
-  where
-    both : (x y : Bool) → x ≡ true → y ≡ true → (x && y) ≡ true
-    both x y e f = rw (e, f) refl
+    acquires_of-is n (s.uses c ((s.block n).source c)) (inv.named.acquires c ((s.block n).source c) n ∙ and_from (is_wanting ((s.block n).pair c).acquiring) ((s.block n).source c == (s.block n).source c) wanting (same_number ((s.block n).source c)))
 
 -- how the client of a Grant sees the block
 pub own_view : (c : ℕ) (d : Bool) (k : Cap) (service : Service) → service ≡ GrantSent c d k → view service c ≡ Granting d k
@@ -168,7 +164,4 @@ pub ack-due : (caching : ℕ → Bool) (c n : ℕ) (rest : List Token) (s : Stat
 ack-due caching c n rest s inv first =
     let acked : is_acked ((s.block n).pair c).letting ≡ true = holds-first ReleaseAck (s.link c).d rest (token ReleaseAck n) (λ i. shown ReleaseAck c (s.block i)) first refl (inv.transfers c ReleaseAck refl) in
     let live : not (is_kept ((s.block n).pair c).letting) ≡ true = acked_open ((s.block n).pair c).letting acked in
-    is_of-is n (s.lets c ((s.block n).release_source c)) (inv.named.releases c ((s.block n).release_source c) n ∙ both (not (is_kept ((s.block n).pair c).letting)) ((s.block n).release_source c == (s.block n).release_source c) live (same_number ((s.block n).release_source c)))
-  where
-    both : (x y : Bool) → x ≡ true → y ≡ true → (x && y) ≡ true
-    both x y e f = rw (e, f) refl
+    is_of-is n (s.lets c ((s.block n).release_source c)) (inv.named.releases c ((s.block n).release_source c) n ∙ and_from (not (is_kept ((s.block n).pair c).letting)) ((s.block n).release_source c == (s.block n).release_source c) live (same_number ((s.block n).release_source c)))

@@ -17,11 +17,11 @@ use Rattle.tl_world.specs.Matched.{AreCarried}
 use Rattle.tl_world.specs.Move.{channel_for}
 use Rattle.tl_world.specs.Phase.{Probing, Quiet, Sent, Answered, Letting, Kept, Releasing, Acked}
 use Rattle.tl_world.specs.Potential.{potential}
-use Rattle.tl_world.specs.Protocol.{Free, Waits, GrantSent, GrantTaken, Block, State, Link, Closed, Asked, InService, Replied, Acquires, token, tokens_on, is_on, is_answered, is_releasing, is_acked, with_d, with_probe, is_probed, popped_link, probed_block, probed_link, probe_taken, reported_block, report_taken, ended_block, ended_link, report_answers, granted_block, granted_link, report_grants, performed_block, answered_link, access_answered, granted_at_once, acquire_granted, served_block, served_link, acquire_served, access_served, let_block, let_link, release_taken, answer_taken, taken_block, taken_link, grant_taken, let_go_block, release_ack_taken, freed_block, grant_ack_taken}
+use Rattle.tl_world.specs.Protocol.{Free, Waits, GrantSent, GrantTaken, Block, State, Link, Closed, Asked, InService, Replied, Acquires, token, tokens_on, is_on, is_answered, is_releasing, with_d, with_probe, is_probed, popped_link, probed_block, probed_link, probe_taken, reported_block, report_taken, ended_block, ended_link, report_answers, granted_block, granted_link, report_grants, performed_block, answered_link, access_answered, granted_at_once, acquire_granted, served_block, served_link, acquire_served, access_served, let_block, let_link, release_taken, answer_taken, taken_block, taken_link, grant_taken, let_go_block, release_ack_taken, freed_block, grant_ack_taken}
 use Rattle.tl_world.specs.Render.{Mail, message_of, message_of_kind}
 use Rattle.tl_world.specs.System.{System}
 use Rattle.tl_world.specs.Token.{Kind, Request, Acquire, ProbeAck, Release, Answer, Grant, ReleaseAck, GrantAck, Token, set, set_at}
-use Rattle.tl_world.proofs.Aside.{set_at-other, set_at-else, set_at-same}
+use Rattle.tl_world.proofs.Aside.{set_at-other, set_at-else}
 use Rattle.tl_world.proofs.Capacities.{shown_there, shows_it, request_named, answer_named, acquire_named, grant_named, release_named, release_ack_named}
 use Rattle.tl_world.proofs.Distinct.{first-there}
 use Rattle.tl_world.proofs.Leftover.{IsPopped, beats_left, taken_of, is_front}
@@ -32,8 +32,9 @@ use Rattle.tl_world.proofs.ReportFalls.{probe-falls, report-falls, answering-fal
 use Rattle.tl_world.proofs.RequestFalls.{answered-falls, serving-falls, acquire-granted-falls, acquire-served-falls, served-letting, granted-letting}
 use Rattle.tl_world.proofs.ResponseFalls.{answer-falls, grant-taken-falls, release-taken-falls, release-ack-falls, grant-ack-falls}
 use Rattle.tl_world.proofs.Shown.{IsShown}
-use Rattle.tl_world.proofs.Tokens.{same_number, set-same, set-other, set-part}
+use Rattle.tl_world.proofs.Tokens.{same_number, set-same, set-other, set-part, set_at-same}
 use Rattle.tl_world.proofs.Weights.{IsLeft}
+use Rattle.tl_world.proofs.BothParts.{acked-is}
 
 -- ---- the token that is taken
 
@@ -101,11 +102,6 @@ releasing_with : (x : Letting) → is_releasing x ≡ true → (r : Prune) × (x
 releasing_with (Releasing r) e = (r, refl)
 releasing_with Kept e = absurd cc
 releasing_with Acked e = absurd cc
-
-acked_is : (x : Letting) → is_acked x ≡ true → x ≡ Acked
-acked_is Acked e = refl
-acked_is Kept e = absurd cc
-acked_is (Releasing r) e = absurd cc
 
 module _ {w : ℕ} (config : Config) (caching : ℕ → Bool) (size : ℕ) (answer : ℕ → ℕ → ℕ) (mail : Mail w) (s : State (List ℕ)) (sys sys' : System w) (pushes : ℕ → Channel → Option (Message w))
     (all : AreClients config s) (carried : AreCarried mail s sys) where
@@ -223,7 +219,7 @@ module _ {w : ℕ} (config : Config) (caching : ℕ → Bool) (size : ℕ) (answ
     release_ack_taken-falls shown taken first =
         let it = shown-first caching channel.D c ReleaseAck n tokens s shown.showing.before refl first in
         release-ack-falls config caching n shown.moves mail mail s (release_ack_taken c n tokens s) shown.showing c channel.D (unfinished_at sys) (unfinished_at sys') (popped n c channel.D mail (release_ack_taken c n tokens s) shown taken) size answer all
-        ((s.block n).release_source c) (release_ack_named caching s c n shown.showing.before it) (set_at-same c ((s.block n).release_source c) None s.lets) (acked_is ((s.block n).pair c).letting it) (set-same n (let_go_block c (s.block n)) s.block)
+        ((s.block n).release_source c) (release_ack_named caching s c n shown.showing.before it) (set_at-same c ((s.block n).release_source c) None s.lets) (acked-is ((s.block n).pair c).letting it) (set-same n (let_go_block c (s.block n)) s.block)
         (λ d i. refl) (λ d i ne. set_at-unlike c ((s.block n).release_source c) None s.lets d i ne) (acks_set c (record (s.link c) { d = tokens }) s.link refl)
 
     pub grant_taken-falls : (whole d : Bool) (k : Cap) → (shown : IsShown caching n c channel.D pushes mail mail s (grant_taken c n whole d k tokens s)) → IsReceived c channel.D sys sys' → (s.link c).d ≡ token Grant n ∷ tokens

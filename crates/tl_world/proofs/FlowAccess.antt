@@ -1,5 +1,6 @@
 -- What is delivered on a link, as a beat of an access is.
 use Rattle.std.proofs.Common.{◌≡◌, ℕ, Bool, true, false, not, ◌&&◌, ◌||◌, ◌∷◌, Option, Some, None, refl, sym, ◌∙◌, ap, List}
+use Rattle.std.proofs.lemmas.Bool.{and_right}
 use Rattle.std.specs.Prelude.{◌==◌, if◌then◌else◌, option_map}
 use Rattle.tl_beat.specs.declared.beat.Beat.{Beat}
 use Rattle.tl_beat.specs.declared.beat.Beat.TheVariants as beat
@@ -15,11 +16,11 @@ use Rattle.tl_world.specs.Protocol.{Block, State, Use, Closed, Asked, InService,
 use Rattle.tl_world.specs.Render.{probe_beat}
 use Rattle.tl_world.specs.Sources.{cap_waited}
 use Rattle.tl_world.proofs.FlowAlone.{AreRests}
-use Rattle.tl_world.proofs.FlowAnswered.{unopened}
 use Rattle.tl_world.proofs.FlowAside.{let_by-same}
-use Rattle.tl_world.proofs.FlowGranted.{begun}
-use Rattle.tl_world.proofs.FlowReleased.{with_true, with_false}
+use Rattle.tl_world.proofs.FlowGranted.{begun, unbegun}
+use Rattle.tl_world.proofs.FlowReleased.{with_true}
 use Rattle.tl_world.proofs.FlowStep.{flowed-next, held_by, acquired_by, let_of, granted_by, step, step_quiet}
+use Rattle.tl_world.proofs.FlowReport.{unopened}
 
 pub released-of : {w : ℕ} (i : ℕ) (y : BeatA w) (t : History w) → release_of i (beat.A y ∷ t) ≡ release_of i t
 unfolding release_of
@@ -46,9 +47,6 @@ of_other {w} i y t e = go (begins (beat.A y) t) (y.source == i) e
     go : (p q : Bool) → q ≡ false → (if p && q then Some y else request_of i t) ≡ request_of i t
     go true q f = rw f refl
     go false q f = refl
-
-unbegun : (first last g p : Bool) → g ≡ false → step first last g false p ≡ p
-unbegun first last g p e = rw e (step_quiet first last p)
 
 unsaid : (last : Bool) (p : Perm) → (if last then p else p) ≡ p
 unsaid true p = refl
@@ -113,7 +111,7 @@ flowed-access {w} {X} c y first last asked rest rest' s s' t first_is last_is re
     same : (i : ℕ) → (y.source == i) ≡ false → is_requested c i (rest' channel.A) (s'.uses c i) s' ≡ is_requested c i (rest channel.A) (s.uses c i) s
     same i e =
         use_at i false e ∙ ap (λ (u : Use). is_requested c i (rest' channel.A) u s') (off last (s.uses c i) Replied)
-        ∙ requested-rest c i (rest channel.A) (rest' channel.A) (s.uses c i) s s' is.blocks (is.comes i ∙ with_false (not last) (y.source == i) e ∙ sym (is.came i ∙ with_false (not first) (y.source == i) e))
+        ∙ requested-rest c i (rest channel.A) (rest' channel.A) (s.uses c i) s s' is.blocks (is.comes i ∙ and_right (not last) (y.source == i) e ∙ sym (is.came i ∙ and_right (not first) (y.source == i) e))
 
     requests : (i : ℕ) (here : Bool) → (y.source == i) ≡ here → is_requested c i (rest' channel.A) (s'.uses c i) s' ≡ step first last (y.source == i) false (is_requested c i (rest channel.A) (s.uses c i) s)
     requests i true e = use_at i true e ∙ now i last refl e ∙ sym (begun first last (y.source == i) (is_requested c i (rest channel.A) (s.uses c i) s) e (was i e))

@@ -1,7 +1,7 @@
 -- What is delivered on a link, as the beat of an Acquire is.
 use Rattle.std.proofs.Common.{◌≡◌, ℕ, Bool, true, false, not, ◌&&◌, ◌||◌, ◌∷◌, Option, Some, refl, sym, ◌∙◌, ap, List}
 use Rattle.std.specs.Prelude.{◌==◌, option_map}
-use Rattle.std.proofs.lemmas.Bool.{ne_eqb}
+use Rattle.std.proofs.lemmas.Bool.{ne_eqb, and_right, and_from}
 use Rattle.tl_beat.specs.declared.beat.Beat.{Beat}
 use Rattle.tl_beat.specs.declared.beat.Beat.TheVariants as beat
 use Rattle.tl_beat.specs.declared.beat.BeatA.{BeatA}
@@ -21,8 +21,8 @@ use Rattle.tl_world.proofs.FlowAccess.{of_source, of_other, released-of, probed-
 use Rattle.tl_world.proofs.FlowAlone.{AreRests, no_coming}
 use Rattle.tl_world.proofs.FlowAside.{IsComing, comes-same, let_by-same}
 use Rattle.tl_world.proofs.FlowGranted.{requested-apart}
-use Rattle.tl_world.proofs.FlowReleased.{AreElsewhere, each-block, part-block, with_false}
-use Rattle.tl_world.proofs.FlowStep.{flowed-next, held_by, acquired_by, let_of, granted_by, step}
+use Rattle.tl_world.proofs.FlowReleased.{AreElsewhere, each-block, part-block}
+use Rattle.tl_world.proofs.FlowStep.{flowed-next, held_by, acquired_by, let_of, granted_by, step, whole_opened, whole_unopened}
 use Rattle.tl_world.proofs.Tokens.{same_number}
 
 -- the one beat of client c's Acquire of block n, which was at rest, is granted or waits for ProbeAcks afterwards
@@ -50,15 +50,6 @@ pub record IsAcquired {w : ℕ} {X : Type 0} (c n : ℕ) (y : BeatA w) (asked as
   pub release_source : (s'.block n).release_source c ≡ (s.block n).release_source c
   pub answered : is_answered ((s'.block n).pair c).probing ≡ false
 
-opened : (o p : Bool) → o ≡ true → step true true o false p ≡ true
-opened o p e = rw e refl
-
-unopened : (o p : Bool) → o ≡ false → step true true o false p ≡ p
-unopened o p e = rw e refl
-
-both : (p q : Bool) → p ≡ true → q ≡ true → (p && q) ≡ true
-both p q e f = rw (e, f) refl
-
 neither : (p q : Bool) → p ≡ false → q ≡ false → (p || q) ≡ false
 neither p q e f = rw (e, f) refl
 
@@ -74,9 +65,9 @@ flowed-acquire {w} {X} c n y asked asked' rest rest' s s' t first_is last_is res
       requests = λ i. requests i (y.source == i) refl;
       asked_is = λ i e. asked_still i e (y.source == i) refl;
       acquires = each-block (λ m z. acquired_by c z ≡ step true true (is_acquire y.opcode && (block_at y.address == m)) false (acquired_by c (s.block m))) n s s' is.elsewhere
-          (both (is_wanting (new.pair c).acquiring) (not (is_unserved (view new.service c))) is.wants (ap not is.served)
-          ∙ sym (opened (is_acquire y.opcode && (block_at y.address == n)) (acquired_by c b) (both (is_acquire y.opcode) (block_at y.address == n) is.acquire (rw is.at (same_number n)))))
-          (λ m ne. sym (unopened (is_acquire y.opcode && (block_at y.address == m)) (acquired_by c (s.block m)) (with_false (is_acquire y.opcode) (block_at y.address == m) (rw is.at (ne_eqb n m (λ e. ne (sym e)))))));
+          (and_from (is_wanting (new.pair c).acquiring) (not (is_unserved (view new.service c))) is.wants (ap not is.served)
+          ∙ sym (whole_opened (is_acquire y.opcode && (block_at y.address == n)) (acquired_by c b) (and_from (is_acquire y.opcode) (block_at y.address == n) is.acquire (rw is.at (same_number n)))))
+          (λ m ne. sym (whole_unopened (is_acquire y.opcode && (block_at y.address == m)) (acquired_by c (s.block m)) (and_right (is_acquire y.opcode) (block_at y.address == m) (rw is.at (ne_eqb n m (λ e. ne (sym e)))))));
       release_sources = lets;
       released = λ i m e f. ap (option_map (λ z. block_at z.address)) (released-of i y t) ∙ before.released i m (sym (is.lets i) ∙ e) (before.release_sources i ∙ sym (lets i) ∙ f);
       sizes = λ i m e f. ap (option_map (λ z. z.size)) (released-of i y t) ∙ before.sizes i m (sym (is.lets i) ∙ e) (before.release_sources i ∙ sym (lets i) ∙ f);
@@ -103,8 +94,8 @@ flowed-acquire {w} {X} c n y asked asked' rest rest' s s' t first_is last_is res
         ∙ requested-apart c i n (rest channel.A) (rest' channel.A) (s.uses c i) s s' is.elsewhere (is.comes i ∙ sym (is.came i)) (is.no_use i e)
 
     requests : (i : ℕ) (here : Bool) → (y.source == i) ≡ here → is_requested c i (rest' channel.A) (s'.uses c i) s' ≡ step true true (y.source == i) false (is_requested c i (rest channel.A) (s.uses c i) s)
-    requests i true e = now i e ∙ sym (opened (y.source == i) (is_requested c i (rest channel.A) (s.uses c i) s) e)
-    requests i false e = same i e ∙ sym (unopened (y.source == i) (is_requested c i (rest channel.A) (s.uses c i) s) e)
+    requests i true e = now i e ∙ sym (whole_opened (y.source == i) (is_requested c i (rest channel.A) (s.uses c i) s) e)
+    requests i false e = same i e ∙ sym (whole_unopened (y.source == i) (is_requested c i (rest channel.A) (s.uses c i) s) e)
 
     asked_still : (i : ℕ) → is_requested c i (rest' channel.A) (s'.uses c i) s' ≡ true → (here : Bool) → (y.source == i) ≡ here → request_of i (beat.A y ∷ t) ≡ asked' i
     asked_still i e true f = of_source i y t true (asked' i) first_is f (λ g. is.asked_is i ∙ is.asks i f) (λ g. absurd cc)

@@ -23,6 +23,7 @@ use Rattle.tl_world.specs.Token.{Token, set}
 use Rattle.tl_world.proofs.FlowAside.{IsComing, requested-blocks, let_by-same}
 use Rattle.tl_world.proofs.FlowStep.{flowed-next, held_by, acquired_by, let_of, granted_by, step}
 use Rattle.tl_world.proofs.Tokens.{same_number, set-same, set-other, set-each, set-part}
+use Rattle.tl_world.proofs.Unsaid.{request_of-e, probe_of-e}
 
 -- what of each channel's first message was delivered, with one more beat
 abbrev pub AreRests : {w : ℕ} → Beat w → (Channel → List (Beat w)) → (Channel → List (Beat w)) → Type 0
@@ -33,14 +34,6 @@ AreRests x rest rest' = (ch : Channel) → rest' ch ≡ (if on ch x then grown x
 released-of : {w : ℕ} (i : ℕ) (y : BeatE) (t : History w) → release_of i (beat.E y ∷ t) ≡ release_of i t
 unfolding release_of
 released-of i y t = refl
-
-requested-of : {w : ℕ} (i : ℕ) (y : BeatE) (t : History w) → request_of i (beat.E y ∷ t) ≡ request_of i t
-unfolding request_of
-requested-of i y t = refl
-
-probed-of : {w : ℕ} (n : ℕ) (y : BeatE) (t : History w) → probe_of n (beat.E y ∷ t) ≡ probe_of n t
-unfolding probe_of
-probed-of n y t = refl
 
 sunk-of : {w : ℕ} (n : ℕ) (y : BeatE) (t : History w) → grant_sink n (beat.E y ∷ t) ≡ grant_sink n t
 unfolding grant_sink
@@ -71,7 +64,7 @@ flowed-grant_ack {w} {X} c n toks y asked asked' rest rest' s t first last rests
       rests = rests;
       held_is = set-part (held_by c) n new s.block (sym (ap (λ (v : View). if is_granting v then (b.pair c).held else (b.pair c).recorded) seen));
       requests = requests;
-      asked_is = λ i e. requested-of i y t ∙ before.asked_is i (before.requests i ∙ sym (requests i) ∙ e) ∙ sym (asks i);
+      asked_is = λ i e. request_of-e i y t ∙ before.asked_is i (before.requests i ∙ sym (requests i) ∙ e) ∙ sym (asks i);
       acquires = set-part (acquired_by c) n new s.block (sym (ap (λ (v : View). is_wanting (b.pair c).acquiring && not (is_unserved v)) seen));
       release_sources = lets;
       released = λ i m e f. ap (option_map (λ z. block_at z.address)) (released-of i y t) ∙ before.released i m e (before.release_sources i ∙ sym (lets i) ∙ f);
@@ -80,7 +73,7 @@ flowed-grant_ack {w} {X} c n toks y asked asked' rest rest' s t first last rests
       sinks = sinks;
       grants = grants;
       probes = set-part (λ (z : Block X). is_answered (z.pair c).probing) n new s.block refl;
-      probed = λ m e. probed-of m y t ∙ probed m e;
+      probed = λ m e. probe_of-e m y t ∙ probed m e;
       sunk = λ m e. sunk-of m y t ∙ tracked m e;
     }) before
   where

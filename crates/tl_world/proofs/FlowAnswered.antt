@@ -14,6 +14,8 @@ use Rattle.tl_params.specs.declared.key.Key.TheVariants.{ReleaseSource}
 use Rattle.tl_params.specs.declared.perm.Perm.{Perm}
 use Rattle.tl_rules.specs.Conformance.{comes_in_grant}
 use Rattle.tl_rules.specs.History.{begins, ends, block_at, pending, is_grant, is_release_ack, asks_for, request_of, release_of, probe_of, grant_sink, releases, capped, or_perm}
+use Rattle.tl_client.proofs.Opens.{request_of-d}
+use Rattle.tl_client.proofs.AccountedResponse.{release_of-d}
 use Rattle.tl_world.specs.Flowed.{IsFlowed, is_requested, is_let, is_let_by, is_sunk}
 use Rattle.tl_world.specs.Invariant.{is_of, releases_with}
 use Rattle.tl_world.specs.Known.{comes_granting}
@@ -23,17 +25,11 @@ use Rattle.tl_world.specs.Render.{probe_beat}
 use Rattle.tl_world.specs.Sources.{cap_waited}
 use Rattle.tl_world.proofs.FlowAlone.{AreRests}
 use Rattle.tl_world.proofs.FlowAside.{requested-blocks, let_by-same}
-use Rattle.tl_world.proofs.FlowReleased.{AreElsewhere, each-block, part-block, is_same}
+use Rattle.tl_world.proofs.FlowReleased.{AreElsewhere, each-block, part-block}
 use Rattle.tl_world.proofs.FlowStep.{flowed-next, held_by, acquired_by, let_of, granted_by, step, step_quiet}
 use Rattle.tl_world.proofs.Tokens.{same_number}
-
-pub released-of : {w : ℕ} (i : ℕ) (y : BeatD w) (t : History w) → release_of i (beat.D y ∷ t) ≡ release_of i t
-unfolding release_of
-released-of i y t = refl
-
-pub requested-of : {w : ℕ} (i : ℕ) (y : BeatD w) (t : History w) → request_of i (beat.D y ∷ t) ≡ request_of i t
-unfolding request_of
-requested-of i y t = refl
+use Rattle.tl_world.proofs.BothParts.{is_of-is}
+use Rattle.tl_world.proofs.FlowReport.{unopened}
 
 pub probed-of : {w : ℕ} (n : ℕ) (y : BeatD w) (t : History w) → probe_of n (beat.D y ∷ t) ≡ probe_of n t
 unfolding probe_of
@@ -48,9 +44,6 @@ sunk-of {w} n y t e = go (begins (beat.D y) t) (is_grant y.opcode) (asks_for n (
     go false q r f = refl
 
 -- ---- what a beat opens and closes
-
-pub unopened : (first last g q p : Bool) → g ≡ false → step first last (g && q) false p ≡ p
-unopened first last g q p e = rw e (step_quiet first last p)
 
 pub unclosed : (first last g q p : Bool) → g ≡ false → step first last false (g && q) p ≡ p
 unclosed first last g q p e = rw e (step_quiet first last p)
@@ -94,8 +87,8 @@ flowed-answer {w} {X} c y first last asked asked' rest rest' s s' t first_is las
       asked_is = λ i e. asked_still i e (last && (y.source == i)) refl;
       acquires = λ m. ap (acquired_by c) (is.blocks m) ∙ sym (unclosed first last (is_grant y.opcode) (asks_for m (request_of y.source t)) (acquired_by c (s.block m)) is.grant);
       release_sources = λ i. lets i ∙ sym (unclosed first last (is_release_ack y.opcode) (y.source == i) (is_let_by c i (rest channel.C) (s.lets c i) s) is.ack);
-      released = λ i m e f. ap (option_map (λ z. block_at z.address)) (released-of i y t) ∙ before.released i m (sym (is.lets i) ∙ e) (before.release_sources i ∙ sym (lets i) ∙ f);
-      sizes = λ i m e f. ap (option_map (λ z. z.size)) (released-of i y t) ∙ before.sizes i m (sym (is.lets i) ∙ e) (before.release_sources i ∙ sym (lets i) ∙ f);
+      released = λ i m e f. ap (option_map (λ z. block_at z.address)) (release_of-d i y t) ∙ before.released i m (sym (is.lets i) ∙ e) (before.release_sources i ∙ sym (lets i) ∙ f);
+      sizes = λ i m e f. ap (option_map (λ z. z.size)) (release_of-d i y t) ∙ before.sizes i m (sym (is.lets i) ∙ e) (before.release_sources i ∙ sym (lets i) ∙ f);
       releases = λ m. ap (λ (l : List (Beat w)). let_of c l (s'.block m)) (rests channel.C) ∙ ap (let_of c (rest channel.C)) (is.blocks m) ∙ sym (unclosed first last (is_release_ack y.opcode) (releases m (release_of y.source t)) (let_of c (rest channel.C) (s.block m)) is.ack);
       sinks = λ i. ap (λ (o : Option ℕ). is_sunk c i (rest' channel.D) o s') (is.tracked i) ∙ sinks i (s.tracked i) ∙ sym (unopened first last (is_grant y.opcode) (y.sink == i) (is_sunk c i (rest channel.D) (s.tracked i) s) is.grant);
       grants = λ m. grants m ∙ sym (unopened first last (is_grant y.opcode) (asks_for m (request_of y.source t)) (granted_by c m asked (rest channel.D) (s.block m)) is.grant);
@@ -119,7 +112,7 @@ flowed-answer {w} {X} c y first last asked asked' rest rest' s s' t first_is las
     asked_still : (i : ℕ) → is_requested c i (rest' channel.A) (s'.uses c i) s' ≡ true → (z : Bool) → (last && (y.source == i)) ≡ z → request_of i (beat.D y ∷ t) ≡ asked' i
     asked_still i e true f = absurd (let g : false ≡ true = sym (use_at i ∙ ap (λ (z : Bool). is_requested c i (rest channel.A) (if z then Closed else s.uses c i) s') f) ∙ e in cc)
     asked_still i e false f =
-        requested-of i y t
+        request_of-d i y t
         ∙ before.asked_is i (before.requests i ∙ sym (same_requested i (s.uses c i)) ∙ sym (use_at i ∙ ap (λ (z : Bool). is_requested c i (rest channel.A) (if z then Closed else s.uses c i) s') f) ∙ e)
         ∙ sym (is.asked_is i f)
 
@@ -179,11 +172,11 @@ flowed-let_go {w} {X} c n y asked asked' rest rest' s s' t first_is last_is rest
       rests = rests;
       held_is = λ m. part-block (held_by c) n s s' is.elsewhere is.held_is m ∙ sym (unsaid true (is_grant y.opcode) (asks_for m (request_of y.source t)) (capped y.param) (held_by c (s.block m)) is.grant);
       requests = λ i. requests i ∙ sym (ap (λ (z : Bool). step true true false (not z && (y.source == i)) (is_requested c i (rest channel.A) (s.uses c i) s)) is.ack);
-      asked_is = λ i e. requested-of i y t ∙ before.asked_is i (before.requests i ∙ sym (requests i) ∙ e) ∙ sym (is.asked_is i);
+      asked_is = λ i e. request_of-d i y t ∙ before.asked_is i (before.requests i ∙ sym (requests i) ∙ e) ∙ sym (is.asked_is i);
       acquires = λ m. acquires m ∙ sym (unclosed true true (is_grant y.opcode) (asks_for m (request_of y.source t)) (acquired_by c (s.block m)) is.grant);
       release_sources = λ i. lets i (y.source == i) refl;
-      released = λ i m e f. ap (option_map (λ z. block_at z.address)) (released-of i y t) ∙ before.released i m (is_another i m e (y.source == i) refl).1 (still_pending i m e f);
-      sizes = λ i m e f. ap (option_map (λ z. z.size)) (released-of i y t) ∙ before.sizes i m (is_another i m e (y.source == i) refl).1 (still_pending i m e f);
+      released = λ i m e f. ap (option_map (λ z. block_at z.address)) (release_of-d i y t) ∙ before.released i m (is_another i m e (y.source == i) refl).1 (still_pending i m e f);
+      sizes = λ i m e f. ap (option_map (λ z. z.size)) (release_of-d i y t) ∙ before.sizes i m (is_another i m e (y.source == i) refl).1 (still_pending i m e f);
       releases = λ m. ap (λ (l : List (Beat w)). let_of c l (s'.block m)) (rests channel.C) ∙ releases_at m;
       sinks = λ i. ap (λ (o : Option ℕ). is_sunk c i (rest' channel.D) o s') (is.tracked i) ∙ sinks i (s.tracked i) ∙ sym (unopened true true (is_grant y.opcode) (y.sink == i) (is_sunk c i (rest channel.D) (s.tracked i) s) is.grant);
       grants = λ m. grants m ∙ sym (unopened true true (is_grant y.opcode) (asks_for m (request_of y.source t)) (granted_by c m asked (rest channel.D) (s.block m)) is.grant);
@@ -196,7 +189,7 @@ flowed-let_go {w} {X} c n y asked asked' rest rest' s s' t first_is last_is rest
     b = s.block n
 
     of_block : s.lets c y.source ≡ Some n
-    of_block = is_same n (s.lets c y.source) (named y.source n ∙ rw (is.letting, is.source) (same_number (b.release_source c)))
+    of_block = is_of-is n (s.lets c y.source) (named y.source n ∙ rw (is.letting, is.source) (same_number (b.release_source c)))
 
     was_let : pending (ReleaseSource y.source) t ≡ true
     was_let = before.release_sources y.source ∙ ap (λ (o : Option ℕ). is_let_by c y.source (rest channel.C) o s) of_block ∙ ap (is_let y.source (rest channel.C)) is.letting

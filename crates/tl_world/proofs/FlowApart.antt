@@ -17,11 +17,11 @@ use Rattle.tl_world.specs.Phase.{View, Own, Other, Granting, GrantedOther, is_qu
 use Rattle.tl_world.specs.PhaseSteps.{after_report}
 use Rattle.tl_world.specs.Protocol.{Service, Free, Waits, GrantSent, GrantTaken, Block, State, Use, InService, Replied, Acquires, view, is_granting, is_acknowledging, is_answered, acquiring_block, acquire_asked, access_asked, releasing_block, release_asked, stored_block, block_stored, performed_block, access_answered, granted_at_once, acquire_granted, served_block, access_served, probed_block, probe_taken, reported_block, report_taken, ended_block, report_answers, granted_block, report_grants, let_block, release_taken, answer_taken, taken_block, grant_taken, let_go_block, release_ack_taken, freed_block, grant_ack_taken}
 use Rattle.tl_world.specs.Token.{Token, set, set_at}
-use Rattle.tl_world.proofs.Aside.{set_at-other, set_at-else, set_at-same}
+use Rattle.tl_world.proofs.Aside.{set_at-other, set_at-else}
 use Rattle.tl_world.proofs.FlowAside.{IsSameBlock, same-block, is_heard, IsSameUse, IsComing, IsAside}
 use Rattle.tl_world.proofs.FlowOthers.{is_outside, outside-waits, outside-sent, outside-taken, same-performed, same-served, same-granted_at_once, same-probed, same-reported, same-settled, same-granted, same-given, same-let, same-let_go, same-taken, same-freed, same-acquiring, same-releasing, same-stored}
 use Rattle.tl_world.proofs.FlowSunk.{sunk_in, sunk-as, IsWithin, sunk-elsewhere, tracked-new, tracked-free, outside-unsunk}
-use Rattle.tl_world.proofs.Tokens.{set-same, set-other, set-each, set-part}
+use Rattle.tl_world.proofs.Tokens.{set-same, set-other, set-each, set-part, set_at-same}
 
 -- the access with this source is answered, as far as its link is concerned
 abbrev pub replied : {X : Type 0} → ℕ → ℕ → State X → State X

@@ -17,12 +17,12 @@ use Rattle.tl_world.specs.PhaseSteps.{after_acquire, after_release}
 use Rattle.tl_world.specs.Protocol.{Block, State, Use, Closed, Asked, Acquires, view, is_acknowledging, is_answered, is_granting, is_wanting, is_unserved, access_asked, acquire_asked, acquiring_block, release_asked, releasing_block}
 use Rattle.tl_world.specs.Sources.{cap_waited}
 use Rattle.tl_world.specs.Token.{set_at}
-use Rattle.tl_world.proofs.Aside.{set_at-else, set_at-same}
+use Rattle.tl_world.proofs.Aside.{set_at-else}
 use Rattle.tl_world.proofs.FlowAside.{comes-same, requested-blocks, let_by-same}
 use Rattle.tl_world.proofs.FlowSame.{IsUntouched}
 use Rattle.tl_world.proofs.FlowStep.{held_by, acquired_by, let_of, granted_by}
 use Rattle.tl_world.proofs.FlowSunk.{sunk_in, sunk-as}
-use Rattle.tl_world.proofs.Tokens.{same_number, set-same, set-each, set-part}
+use Rattle.tl_world.proofs.Tokens.{same_number, set-same, set-each, set-part, set_at-same}
 
 -- ---- a request
 

@@ -46,10 +46,7 @@ use Rattle.tl_world.proofs.FlowResponses.{waits_on_a, not-coming_a}
 use Rattle.tl_world.proofs.FlowSame.{flowed-untouched}
 use Rattle.tl_world.proofs.FollowKept.{IsAskable}
 use Rattle.tl_world.proofs.Tokens.{set-same, set-part}
-
--- what each receiver of client d's link has of the message that is first
-abbrev pub rest_at : {w : ℕ} → System w → ℕ → Channel → List (Beat w)
-rest_at sys d ch = unfinished ch (receiver ch d sys)
+use Rattle.tl_world.proofs.Popped.{unfinished_at}
 
 -- what client d's end is left with asks for the same
 pub asks-left : {w : ℕ} (d : ℕ) (h h' : Shadow w) → Leaves d h h' → (i : ℕ) → asked_by h'.mail h'.state d i ≡ asked_by h.mail h.state d i
@@ -69,10 +66,10 @@ acquires_not u n e f = let g : Closed ≡ Acquires n = sym e ∙ f in cc
 module _ {w : ℕ} (config : Config) (log : Log w) (h : Shadow w) (sys : System w) (c : ℕ) (width : IsWidth w) (is : IsMatched config log h.mail h.request h.state sys) where
   -- what is delivered on client d's link is as it was
   abbrev pub IsAskedOn : ℕ → History w → Op w → Reply → Type 0
-  IsAskedOn d t o r = IsAskable (is_caching config) c o r h → IsFlowed (asked_by h.mail h.state d) (rest_at sys d) d h.state t → IsFlowed (asked_by (asked c o r h).mail (asked c o r h).state d) (rest_at sys d) d (asked c o r h).state t
+  IsAskedOn d t o r = IsAskable (is_caching config) c o r h → IsFlowed (asked_by h.mail h.state d) (unfinished_at sys d) d h.state t → IsFlowed (asked_by (asked c o r h).mail (asked c o r h).state d) (unfinished_at sys d) d (asked c o r h).state t
 
   asked-nothing : (d : ℕ) (t : History w) (o : Op w) (r : Reply) → IsPlain o r → IsAskedOn d t o r
-  asked-nothing d t o r plain may before = subst (λ (x : Shadow w). IsFlowed (asked_by x.mail x.state d) (rest_at sys d) d x.state t) (sym (plain c h).0) before
+  asked-nothing d t o r plain may before = subst (λ (x : Shadow w). IsFlowed (asked_by x.mail x.state d) (unfinished_at sys d) d x.state t) (sym (plain c h).0) before
 
   -- ---- the client's own link
 
@@ -82,14 +79,14 @@ module _ {w : ℕ} (config : Config) (log : Log w) (h : Shadow w) (sys : System 
       let bytes = stored address size value ((h.state.block n).copy c) in
       let asks : (i : ℕ) → asked_by h.mail (block_stored c n bytes h.state) c i ≡ asked_by h.mail h.state c i =
       λ i. asks-same c i h.mail h.mail h.state (block_stored c n bytes h.state) refl (inl refl) (λ j used. set-part (λ b. (b.pair c).acquiring) n _ h.state.block refl j) (λ j used. set-part (λ b. b.source c) n _ h.state.block refl j) in
-      flowed-aside (asked_by h.mail h.state c) (asked_by h.mail (block_stored c n bytes h.state) c) (rest_at sys c) c h.state (block_stored c n bytes h.state) t
-      (left-block_stored c (asked_by h.mail h.state c) (asked_by h.mail (block_stored c n bytes h.state) c) (rest_at sys c) h.state asks (coming-granting config log h.mail h.request h.state sys c is) c n bytes)
+      flowed-aside (asked_by h.mail h.state c) (asked_by h.mail (block_stored c n bytes h.state) c) (unfinished_at sys c) c h.state (block_stored c n bytes h.state) t
+      (left-block_stored c (asked_by h.mail h.state c) (asked_by h.mail (block_stored c n bytes h.state) c) (unfinished_at sys c) h.state asks (coming-granting config log h.mail h.request h.state sys c is) c n bytes)
 
   own-acquire : (t : History w) (n source : ℕ) (whole : Bool) (g : Grow) (bytes : List ℕ) → h.state.uses c source ≡ Closed → ((h.state.block n).pair c).acquiring ≡ Calm
-      → IsFlowed (asked_by h.mail h.state c) (rest_at sys c) c h.state t → IsFlowed (asked_by h.mail (acquire_asked c n source whole g bytes h.state) c) (rest_at sys c) c (acquire_asked c n source whole g bytes h.state) t
+      → IsFlowed (asked_by h.mail h.state c) (unfinished_at sys c) c h.state t → IsFlowed (asked_by h.mail (acquire_asked c n source whole g bytes h.state) c) (unfinished_at sys c) c (acquire_asked c n source whole g bytes h.state) t
   own-acquire t n source whole g bytes closed calm =
-      flowed-untouched before after (rest_at sys c) c h.state (acquire_asked c n source whole g bytes h.state) t
-      (untouched-acquire_asked c n source whole g bytes before after (rest_at sys c) h.state closed calm (unserved_calm ((h.state.block n).pair c) (view (h.state.block n).service c) ((is.invariant.blocks n).phases c) calm) asks
+      flowed-untouched before after (unfinished_at sys c) c h.state (acquire_asked c n source whole g bytes h.state) t
+      (untouched-acquire_asked c n source whole g bytes before after (unfinished_at sys c) h.state closed calm (unserved_calm ((h.state.block n).pair c) (view (h.state.block n).service c) ((is.invariant.blocks n).phases c) calm) asks
       (λ m. coming-asked config log h.mail h.request h.state sys c m before after is (λ i k used. asks i (λ e. acquires_not (h.state.uses c i) k (ap (h.state.uses c) e ∙ closed) used))))
     where
       before : ℕ → Option (BeatA w)
@@ -103,8 +100,8 @@ module _ {w : ℕ} (config : Config) (log : Log w) (h : Shadow w) (sys : System 
 
   own-release : (t : History w) (n source : ℕ) (r : Prune) → IsAskedOn c t (op.Release n r) (reply.Started source)
   own-release t n source r may =
-      flowed-untouched before after (rest_at sys c) c h.state (release_asked c n source r h.state) t
-      (untouched-release_asked c n source r before after (rest_at sys c) h.state may.1 (coming-free config log h.mail h.request h.state sys c source width is may.1) may.3
+      flowed-untouched before after (unfinished_at sys c) c h.state (release_asked c n source r h.state) t
+      (untouched-release_asked c n source r before after (unfinished_at sys c) h.state may.1 (coming-free config log h.mail h.request h.state sys c source width is may.1) may.3
       (λ i. is.invariant.named.releases c i n ∙ rw may.3 refl) (unserved_ungranted (view (h.state.block n).service c) (unserved_calm ((h.state.block n).pair c) (view (h.state.block n).service c) ((is.invariant.blocks n).phases c) may.2)) asks)
     where
       before : ℕ → Option (BeatA w)
@@ -123,8 +120,8 @@ module _ {w : ℕ} (config : Config) (log : Log w) (h : Shadow w) (sys : System 
 
   own-access : (t : History w) (m : MessageA w) (source : ℕ) → IsAskedOn c t (op.Access (message.A m)) (reply.Started source)
   own-access t m source closed =
-      flowed-untouched before after (rest_at sys c) c h.state (access_asked c source h.state) t
-      (untouched-access_asked c source before after (rest_at sys c) h.state closed (not-coming_a config log h.mail h.request h.state sys c source is (ap (λ (u : Use). waits_on_a c u h.state) closed)) asks
+      flowed-untouched before after (unfinished_at sys c) c h.state (access_asked c source h.state) t
+      (untouched-access_asked c source before after (unfinished_at sys c) h.state closed (not-coming_a config log h.mail h.request h.state sys c source is (ap (λ (u : Use). waits_on_a c u h.state) closed)) asks
       (λ k. coming-asked config log h.mail h.request h.state sys c k before after is (λ i n used. asks i (λ e. acquires_not (h.state.uses c i) n (ap (h.state.uses c) e ∙ closed) used))))
     where
       mail' : Mail w
@@ -148,11 +145,11 @@ module _ {w : ℕ} (config : Config) (log : Log w) (h : Shadow w) (sys : System 
 
   asked-other : (d : ℕ) (t : History w) (o : Op w) (r : Reply) → (d ≡ c → ⊥) → IsReply o r → IsAskedOn d t o r
   asked-other d t o r ne may_be = reply-cases (IsAskedOn d t) o r may_be
-      (λ address size value may. left (op.Store address size value) reply.Stored (λ asks. left-block_stored d before (after (op.Store address size value) reply.Stored) (rest_at sys d) h.state asks coming c (block_at address) (stored address size value ((h.state.block (block_at address)).copy c))))
-      (λ n g source may. left (op.Acquire n g) (reply.Started source) (λ asks. left-acquire_asked d before (after (op.Acquire n g) (reply.Started source)) (rest_at sys d) h.state asks coming c n source false g ((h.state.block n).waiting c) ne))
-      (λ n bytes source may. left (op.AcquireWhole n bytes) (reply.Started source) (λ asks. left-acquire_asked d before (after (op.AcquireWhole n bytes) (reply.Started source)) (rest_at sys d) h.state asks coming c n source true (whole_grow ((h.state.block n).pair c).held) bytes ne))
-      (λ n p source may. left (op.Release n p) (reply.Started source) (λ asks. left-release_asked d before (after (op.Release n p) (reply.Started source)) (rest_at sys d) h.state asks coming c n source p ne))
-      (λ m source may. left (op.Access (message.A m)) (reply.Started source) (λ asks. left-access_asked d before (after (op.Access (message.A m)) (reply.Started source)) (rest_at sys d) h.state asks coming c source ne))
+      (λ address size value may. left (op.Store address size value) reply.Stored (λ asks. left-block_stored d before (after (op.Store address size value) reply.Stored) (unfinished_at sys d) h.state asks coming c (block_at address) (stored address size value ((h.state.block (block_at address)).copy c))))
+      (λ n g source may. left (op.Acquire n g) (reply.Started source) (λ asks. left-acquire_asked d before (after (op.Acquire n g) (reply.Started source)) (unfinished_at sys d) h.state asks coming c n source false g ((h.state.block n).waiting c) ne))
+      (λ n bytes source may. left (op.AcquireWhole n bytes) (reply.Started source) (λ asks. left-acquire_asked d before (after (op.AcquireWhole n bytes) (reply.Started source)) (unfinished_at sys d) h.state asks coming c n source true (whole_grow ((h.state.block n).pair c).held) bytes ne))
+      (λ n p source may. left (op.Release n p) (reply.Started source) (λ asks. left-release_asked d before (after (op.Release n p) (reply.Started source)) (unfinished_at sys d) h.state asks coming c n source p ne))
+      (λ m source may. left (op.Access (message.A m)) (reply.Started source) (λ asks. left-access_asked d before (after (op.Access (message.A m)) (reply.Started source)) (unfinished_at sys d) h.state asks coming c source ne))
       (asked-nothing d t)
     where
       before : ℕ → Option (BeatA w)
@@ -161,12 +158,12 @@ module _ {w : ℕ} (config : Config) (log : Log w) (h : Shadow w) (sys : System 
       after : Op w → Reply → ℕ → Option (BeatA w)
       after i j = asked_by (asked c i j h).mail (asked c i j h).state d
 
-      coming : IsComing before (rest_at sys d channel.D) d h.state
+      coming : IsComing before (unfinished_at sys d channel.D) d h.state
       coming = coming-granting config log h.mail h.request h.state sys d is
 
-      left : (i : Op w) (j : Reply) → (((k : ℕ) → after i j k ≡ before k) → IsAside before (after i j) (rest_at sys d) d h.state (asked c i j h).state)
-          → IsFlowed before (rest_at sys d) d h.state t → IsFlowed (after i j) (rest_at sys d) d (asked c i j h).state t
-      left i j aside = flowed-aside before (after i j) (rest_at sys d) d h.state (asked c i j h).state t (aside (asks-left d h (asked c i j h) (leaves-asked c i j h d ne)))
+      left : (i : Op w) (j : Reply) → (((k : ℕ) → after i j k ≡ before k) → IsAside before (after i j) (unfinished_at sys d) d h.state (asked c i j h).state)
+          → IsFlowed before (unfinished_at sys d) d h.state t → IsFlowed (after i j) (unfinished_at sys d) d (asked c i j h).state t
+      left i j aside = flowed-aside before (after i j) (unfinished_at sys d) d h.state (asked c i j h).state t (aside (asks-left d h (asked c i j h) (leaves-asked c i j h d ne)))
 
   pub flowed-asked : (d : ℕ) (t : History w) (o : Op w) (r : Reply) → IsReply o r → IsAskedOn d t o r
   flowed-asked d t o r may_be = elim (cases_eq d c) [

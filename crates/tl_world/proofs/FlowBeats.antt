@@ -1,7 +1,7 @@
 -- What of a message was delivered before and after one of its beats.
-use Rattle.std.proofs.Common.{◌≡◌, ℕ, zero, suc, ◌<◌, Bool, true, false, not, ◌&&◌, List, [], ◌∷◌, Some, refl, sym, ◌∙◌, ap, arith, inl, inr}
+use Rattle.std.proofs.Common.{◌≡◌, ℕ, zero, suc, Bool, true, false, not, ◌&&◌, List, [], ◌∷◌, refl, sym, ◌∙◌, ap, inl, inr}
 use Rattle.std.specs.Prelude.{◌==◌, if◌then◌else◌}
-use Rattle.std.proofs.lemmas.Bool.{cases_eq, ne_eqb}
+use Rattle.std.proofs.lemmas.Bool.{cases_eq, ne_eqb, and_right}
 use Rattle.tl_beat.specs.declared.beat.Beat.{Beat}
 use Rattle.tl_burst.specs.declared.message.Message.{Message}
 use Rattle.tl_burst.specs.Burst.{beats_of, begun}
@@ -11,13 +11,12 @@ use Rattle.tl_params.specs.declared.perm.Perm.{Perm}
 use Rattle.tl_params.specs.declared.perm.Perm.TheVariants as perm
 use Rattle.tl_rules.specs.Conformance.{same_perm}
 use Rattle.tl_world.specs.Invariant.{AreNamed, acquires_of}
-use Rattle.tl_world.specs.Phase.{Probing, Quiet, Sent, Answered, is_quiet}
-use Rattle.tl_world.specs.Protocol.{State, is_wanting, is_answered}
+use Rattle.tl_world.specs.Protocol.{State, is_wanting}
 use Rattle.tl_world.specs.Token.{set_at}
-use Rattle.tl_world.proofs.Aside.{set_at-same, set_at-else}
+use Rattle.tl_world.proofs.Aside.{set_at-else}
 use Rattle.tl_world.proofs.Carried.{IsNext}
-use Rattle.tl_world.proofs.FlowReleased.{with_false}
-use Rattle.tl_world.proofs.Tokens.{same_number}
+use Rattle.tl_world.proofs.Tokens.{same_number, set_at-same}
+use Rattle.tl_world.proofs.ProbeDelivered.{first_beat}
 
 -- a test of what was delivered, which no beats pass, and all beginnings of the message alike
 pub came-so : {w : ℕ} (f : List (Beat w) → Bool) (m : Message w) (x : Beat w) (rest : List (Beat w)) (ms : List (Message w)) (queue : List (Beat w)) (v : Bool) → IsNext x rest m ms queue → f [] ≡ false → ((j : ℕ) → f (begun m (suc j)) ≡ v)
@@ -46,11 +45,8 @@ first-zero {w} m x rest ms queue next e = go next.k (sym (ap is_empty next.rest_
 -- a message of one beat
 pub one-beat : {w : ℕ} (m : Message w) (x : Beat w) (rest : List (Beat w)) (ms : List (Message w)) (queue : List (Beat w)) → (next : IsNext x rest m ms queue) → beats_of m ≡ 1 → (next.k ≡ 0) × (rest ≡ []) × (completes x rest ≡ true)
 one-beat m x rest ms queue next one =
-    let zeroth : next.k ≡ 0 = zero_of next.k (beats_of m) next.within one in
+    let zeroth : next.k ≡ 0 = first_beat next.k (beats_of m) next.within one in
     (zeroth, next.rest_is ∙ ap (begun m) zeroth, next.completes_is ∙ rw (zeroth, one) refl)
-  where
-    zero_of : (k n : ℕ) → k < n → n ≡ 1 → k ≡ 0
-    zero_of k n lt e = omega (arith, lt, e)
 
 -- ---- small facts
 
@@ -72,20 +68,12 @@ same_perms perm.Branch perm.Trunk e = absurd cc
 same_perms perm.Trunk perm.None e = absurd cc
 same_perms perm.Trunk perm.Branch e = absurd cc
 
-pub some_is : (i j : ℕ) → Some i ≡ Some j → i ≡ j
-some_is i j e = cc
-
 pub first_false : (p q : Bool) → p ≡ false → (p && q) ≡ false
 first_false p q e = rw e refl
 
-pub quiet_unanswered : (x : Probing) → is_quiet x ≡ true → is_answered x ≡ false
-quiet_unanswered Quiet e = refl
-quiet_unanswered (Sent k) e = refl
-quiet_unanswered (Answered r) e = absurd cc
-
 -- the source of a client's Acquire of a block is of no other
 pub unused-else : {X : Type 0} (c n i : ℕ) (s : State X) → AreNamed s → ((s.block n).source c == i) ≡ false → acquires_of n (s.uses c i) ≡ false
-unused-else c n i s named e = named.acquires c i n ∙ with_false (is_wanting ((s.block n).pair c).acquiring) (i == (s.block n).source c) (ne_eqb i ((s.block n).source c) apart)
+unused-else c n i s named e = named.acquires c i n ∙ and_right (is_wanting ((s.block n).pair c).acquiring) (i == (s.block n).source c) (ne_eqb i ((s.block n).source c) apart)
   where
     apart : i ≡ (s.block n).source c → ⊥
     apart same = let no : ((s.block n).source c == (s.block n).source c) ≡ false = rw same at e in let yes : true ≡ false = sym (same_number ((s.block n).source c)) ∙ no in cc

@@ -29,16 +29,15 @@ use Rattle.tl_world.specs.System.{System}
 use Rattle.tl_world.specs.Token.{Kind, Request, Acquire, Probe, ProbeAck, Release, Answer, Grant, ReleaseAck, GrantAck, Token}
 use Rattle.tl_world.specs.Whole.{IsMatched, is_caching, asked_by}
 use Rattle.tl_world.proofs.ClientEnd.{asks-acquire}
-use Rattle.tl_world.proofs.ClientTakes.{access_kind}
 use Rattle.tl_world.proofs.Due.{IsGrantDue, answer-due, grant-due, grant-rendered, grant_message, ack_message, own_view}
 use Rattle.tl_world.proofs.FirstToken.{own_kind}
 use Rattle.tl_world.proofs.FlowAside.{IsComing}
-use Rattle.tl_world.proofs.FollowKept.{releasing-is}
 use Rattle.tl_world.proofs.ManagedEndings.{tracker-of}
-use Rattle.tl_world.proofs.Moves.{is_of-is}
 use Rattle.tl_world.proofs.Phases.{and_left, and_right}
 use Rattle.tl_world.proofs.Reporting.{report-about, release-about}
 use Rattle.tl_world.proofs.Tokens.{same_number, holds-first}
+use Rattle.tl_world.proofs.BothParts.{is_of-is, releasing-is}
+use Rattle.tl_world.proofs.Codes.{access_kind}
 
 -- ---- a Grant
 

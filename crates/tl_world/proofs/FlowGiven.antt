@@ -1,7 +1,7 @@
 -- What is delivered on a link, as a beat of channel D is: of an answer, a Grant or a ReleaseAck.
 use Rattle.std.proofs.Common.{◌≡◌, subst, ℕ, Bool, true, false, not, ◌&&◌, List, [], ◌∷◌, Option, None, refl, sym, ◌∙◌, ap, inl}
 use Rattle.std.specs.Prelude.{◌==◌, if◌then◌else◌}
-use Rattle.std.proofs.lemmas.Bool.{ne_eqb, eqb-true}
+use Rattle.std.proofs.lemmas.Bool.{ne_eqb, eqb-true, and_right as with_false}
 use Rattle.tl_beat.specs.declared.beat.Beat.{Beat}
 use Rattle.tl_beat.specs.declared.beat.Beat.TheVariants as beat
 use Rattle.tl_beat.specs.declared.beat.BeatA.{BeatA}
@@ -19,7 +19,7 @@ use Rattle.tl_params.specs.Param.{cap_right}
 use Rattle.tl_rules.specs.Conformance.{comes_in_grant}
 use Rattle.tl_rules.specs.History.{is_grant, is_release_ack, asks_for}
 use Rattle.tl_client.proofs.HeldAfter.{same_block}
-use Rattle.tl_manager.specs.Handing.{grant_opcode}
+use Rattle.tl_manager.proofs.Recording.{cap-gives}
 use Rattle.tl_world.specs.Flowed.{IsFlowed}
 use Rattle.tl_world.specs.Follow.{Shadow}
 use Rattle.tl_world.specs.Invariant.{acquires_of, is_busy}
@@ -36,21 +36,19 @@ use Rattle.tl_world.proofs.Aside.{set_at-else}
 use Rattle.tl_world.proofs.Carried.{IsNext}
 use Rattle.tl_world.proofs.ClientDelivered.{ack_next}
 use Rattle.tl_world.proofs.ClientEnd.{asks-same, asks-acquire}
-use Rattle.tl_world.proofs.ClientTaken.{capped_is, grants_always}
-use Rattle.tl_world.proofs.ClientTakes.{access_kind}
 use Rattle.tl_world.proofs.Due.{IsAnswerDue, answer-due, IsGrantDue, grant-rendered, grant_message, ack_message, own_view}
 use Rattle.tl_world.proofs.Facts.{granting_alone}
 use Rattle.tl_world.proofs.FlowAlone.{AreRests}
 use Rattle.tl_world.proofs.FlowAnswered.{flowed-answer, flowed-let_go}
-use Rattle.tl_world.proofs.FlowAsking.{rest_at}
 use Rattle.tl_world.proofs.FlowBeats.{came-so, comes-so, one-beat, set_at-if, same_perms, unused-else, first_false}
 use Rattle.tl_world.proofs.FlowGranted.{seen_after, flowed-grant}
 use Rattle.tl_world.proofs.FlowResponses.{grant_quiet, grant_tracked}
-use Rattle.tl_world.proofs.FlowReleased.{with_false}
 use Rattle.tl_world.proofs.FlowStep.{held_by}
-use Rattle.tl_world.proofs.FollowKept.{acked-is}
 use Rattle.tl_world.proofs.Phases.{and_right}
 use Rattle.tl_world.proofs.Tokens.{same_number, set-same, set-other, holds-first}
+use Rattle.tl_world.proofs.BothParts.{acked-is}
+use Rattle.tl_world.proofs.Codes.{access_kind, grants-so, not_ack}
+use Rattle.tl_world.proofs.Popped.{unfinished_at}
 
 -- ---- numbers and opcodes
 
@@ -60,13 +58,7 @@ apart_numbers i j e same = let no : (j == j) ≡ false = rw same at e in let yes
 swapped : (i j : ℕ) → (j == i) ≡ false → (i == j) ≡ false
 swapped i j e = ne_eqb i j (apart_numbers i j e)
 
-grants_so : (d : Bool) → is_grant (grant_opcode d) ≡ true
-grants_so d = (grants_always d).0
-
-grants_no_ack : (d : Bool) → is_release_ack (grant_opcode d) ≡ false
-grants_no_ack d = (grants_always d).1
-
-module _ {w : ℕ} (config : Config) (log : Log w) (h : Shadow w) (sys : System w) (c : ℕ) (is : IsMatched config log h.mail h.request h.state sys) (t : History w) (flowed : IsFlowed (asked_by h.mail h.state c) (rest_at sys c) c h.state t) (rest' : Channel → List (Beat w)) (toks : List Token) where
+module _ {w : ℕ} (config : Config) (log : Log w) (h : Shadow w) (sys : System w) (c : ℕ) (is : IsMatched config log h.mail h.request h.state sys) (t : History w) (flowed : IsFlowed (asked_by h.mail h.state c) (unfinished_at sys c) c h.state t) (rest' : Channel → List (Beat w)) (toks : List Token) where
   abbrev s : State (List ℕ)
   s = h.state
 
@@ -75,48 +67,48 @@ module _ {w : ℕ} (config : Config) (log : Log w) (h : Shadow w) (sys : System 
 
   -- ---- a beat of channel D
 
-  module _ (m : MessageD w) (x : Beat w) (ms : List (Message w)) (queue : List (Beat w)) (next : IsNext x (rest_at sys c channel.D) (message.D m) ms queue) (rests : AreRests x (rest_at sys c) rest') (b : Bool) (last : completes x (rest_at sys c channel.D) ≡ b) where
-    rests_y : AreRests (beat.D (d_beat_of m next.k)) (rest_at sys c) rest'
-    rests_y = subst (λ (z : Beat w). AreRests z (rest_at sys c) rest') next.beat_is rests
+  module _ (m : MessageD w) (x : Beat w) (ms : List (Message w)) (queue : List (Beat w)) (next : IsNext x (unfinished_at sys c channel.D) (message.D m) ms queue) (rests : AreRests x (unfinished_at sys c) rest') (b : Bool) (last : completes x (unfinished_at sys c channel.D) ≡ b) where
+    rests_y : AreRests (beat.D (d_beat_of m next.k)) (unfinished_at sys c) rest'
+    rests_y = subst (λ (z : Beat w). AreRests z (unfinished_at sys c) rest') next.beat_is rests
 
-    last_y : completes (beat.D (d_beat_of m next.k)) (rest_at sys c channel.D) ≡ b
-    last_y = sym (ap (λ (z : Beat w). completes z (rest_at sys c channel.D)) next.beat_is) ∙ last
+    last_y : completes (beat.D (d_beat_of m next.k)) (unfinished_at sys c channel.D) ≡ b
+    last_y = sym (ap (λ (z : Beat w). completes z (unfinished_at sys c channel.D)) next.beat_is) ∙ last
 
-    next_y : IsNext (beat.D (d_beat_of m next.k)) (rest_at sys c channel.D) (message.D m) ms queue
-    next_y = subst (λ (z : Beat w). IsNext z (rest_at sys c channel.D) (message.D m) ms queue) next.beat_is next
+    next_y : IsNext (beat.D (d_beat_of m next.k)) (unfinished_at sys c channel.D) (message.D m) ms queue
+    next_y = subst (λ (z : Beat w). IsNext z (unfinished_at sys c channel.D) (message.D m) ms queue) next.beat_is next
 
     -- what of a Grant with sink i was delivered, before and afterwards
-    came : (i : ℕ) → comes_in_grant i (rest_at sys c channel.D) ≡ (not (is_empty (rest_at sys c channel.D)) && (is_grant m.opcode && (m.sink == i)))
-    came i = came-so (comes_in_grant i) (message.D m) (beat.D (d_beat_of m next.k)) (rest_at sys c channel.D) ms queue (is_grant m.opcode && (m.sink == i)) next_y refl (λ j. refl)
+    came : (i : ℕ) → comes_in_grant i (unfinished_at sys c channel.D) ≡ (not (is_empty (unfinished_at sys c channel.D)) && (is_grant m.opcode && (m.sink == i)))
+    came i = came-so (comes_in_grant i) (message.D m) (beat.D (d_beat_of m next.k)) (unfinished_at sys c channel.D) ms queue (is_grant m.opcode && (m.sink == i)) next_y refl (λ j. refl)
 
     comes : (i : ℕ) → comes_in_grant i (rest' channel.D) ≡ (not b && (is_grant m.opcode && (m.sink == i)))
     comes i =
-        ap (comes_in_grant i) (rests_y channel.D) ∙ comes-so (comes_in_grant i) (beat.D (d_beat_of m next.k)) (rest_at sys c channel.D) (is_grant m.opcode && (m.sink == i)) refl refl
+        ap (comes_in_grant i) (rests_y channel.D) ∙ comes-so (comes_in_grant i) (beat.D (d_beat_of m next.k)) (unfinished_at sys c channel.D) (is_grant m.opcode && (m.sink == i)) refl refl
         ∙ ap (λ (z : Bool). not z && (is_grant m.opcode && (m.sink == i))) last_y
 
     -- and of a Grant of block j
-    granted : (j : ℕ) → comes_granting j before (rest_at sys c channel.D) ≡ (not (is_empty (rest_at sys c channel.D)) && (is_grant m.opcode && asks_for j (before m.source)))
-    granted j = came-so (comes_granting j before) (message.D m) (beat.D (d_beat_of m next.k)) (rest_at sys c channel.D) ms queue (is_grant m.opcode && asks_for j (before m.source)) next_y refl (λ i. refl)
+    granted : (j : ℕ) → comes_granting j before (unfinished_at sys c channel.D) ≡ (not (is_empty (unfinished_at sys c channel.D)) && (is_grant m.opcode && asks_for j (before m.source)))
+    granted j = came-so (comes_granting j before) (message.D m) (beat.D (d_beat_of m next.k)) (unfinished_at sys c channel.D) ms queue (is_grant m.opcode && asks_for j (before m.source)) next_y refl (λ i. refl)
 
     grants : (asked' : ℕ → Option (BeatA w)) (j : ℕ) → comes_granting j asked' (rest' channel.D) ≡ (not b && (is_grant m.opcode && asks_for j (asked' m.source)))
     grants asked' j =
-        ap (comes_granting j asked') (rests_y channel.D) ∙ comes-so (comes_granting j asked') (beat.D (d_beat_of m next.k)) (rest_at sys c channel.D) (is_grant m.opcode && asks_for j (asked' m.source)) refl refl
+        ap (comes_granting j asked') (rests_y channel.D) ∙ comes-so (comes_granting j asked') (beat.D (d_beat_of m next.k)) (unfinished_at sys c channel.D) (is_grant m.opcode && asks_for j (asked' m.source)) refl refl
         ∙ ap (λ (z : Bool). not z && (is_grant m.opcode && asks_for j (asked' m.source))) last_y
 
-    begins_y : is_empty (unfinished channel.D t) ≡ is_empty (rest_at sys c channel.D)
+    begins_y : is_empty (unfinished channel.D t) ≡ is_empty (unfinished_at sys c channel.D)
     begins_y = ap is_empty (flowed.rest_is channel.D)
 
     ends_y : completes (beat.D (d_beat_of m next.k)) (unfinished channel.D t) ≡ b
     ends_y = ap (completes (beat.D (d_beat_of m next.k))) (flowed.rest_is channel.D) ∙ last_y
 
     -- nothing comes of a message that is no Grant
-    none_came : is_grant m.opcode ≡ false → (i : ℕ) → comes_in_grant i (rest' channel.D) ≡ comes_in_grant i (rest_at sys c channel.D)
+    none_came : is_grant m.opcode ≡ false → (i : ℕ) → comes_in_grant i (rest' channel.D) ≡ comes_in_grant i (unfinished_at sys c channel.D)
     none_came e i = comes i ∙ with_false (not b) (is_grant m.opcode && (m.sink == i)) (first_false (is_grant m.opcode) (m.sink == i) e)
-        ∙ sym (came i ∙ with_false (not (is_empty (rest_at sys c channel.D))) (is_grant m.opcode && (m.sink == i)) (first_false (is_grant m.opcode) (m.sink == i) e))
+        ∙ sym (came i ∙ with_false (not (is_empty (unfinished_at sys c channel.D))) (is_grant m.opcode && (m.sink == i)) (first_false (is_grant m.opcode) (m.sink == i) e))
 
-    none_granted : is_grant m.opcode ≡ false → (asked' : ℕ → Option (BeatA w)) (j : ℕ) → comes_granting j asked' (rest' channel.D) ≡ comes_granting j before (rest_at sys c channel.D)
+    none_granted : is_grant m.opcode ≡ false → (asked' : ℕ → Option (BeatA w)) (j : ℕ) → comes_granting j asked' (rest' channel.D) ≡ comes_granting j before (unfinished_at sys c channel.D)
     none_granted e asked' j = grants asked' j ∙ with_false (not b) (is_grant m.opcode && asks_for j (asked' m.source)) (first_false (is_grant m.opcode) (asks_for j (asked' m.source)) e)
-        ∙ sym (granted j ∙ with_false (not (is_empty (rest_at sys c channel.D))) (is_grant m.opcode && asks_for j (before m.source)) (first_false (is_grant m.opcode) (asks_for j (before m.source)) e))
+        ∙ sym (granted j ∙ with_false (not (is_empty (unfinished_at sys c channel.D))) (is_grant m.opcode && asks_for j (before m.source)) (first_false (is_grant m.opcode) (asks_for j (before m.source)) e))
 
   -- ---- an answer
 
@@ -131,11 +123,11 @@ module _ {w : ℕ} (config : Config) (log : Log w) (h : Shadow w) (sys : System 
   answer_asks source true i j e f = asks-same c i h.mail h.mail s (answer_taken c source toks s) refl (inl (set_at-else c source i Closed s.uses (apart_numbers i source (sym (ap (λ (k : ℕ). k == i) e) ∙ f)) c)) (λ n used. refl) (λ n used. refl)
   answer_asks source false i j e f = refl
 
-  pub own-answer : (source : ℕ) → (s.link c).d ≡ token Answer source ∷ toks → (x : Beat w) (ms : List (Message w)) (queue : List (Beat w)) → IsNext x (rest_at sys c channel.D) (h.mail.answer c source) ms queue → AreRests x (rest_at sys c) rest'
-      → (b : Bool) → completes x (rest_at sys c channel.D) ≡ b → IsFlowed (asked_by h.mail (answered_if source b) c) rest' c (answered_if source b) (x ∷ t)
+  pub own-answer : (source : ℕ) → (s.link c).d ≡ token Answer source ∷ toks → (x : Beat w) (ms : List (Message w)) (queue : List (Beat w)) → IsNext x (unfinished_at sys c channel.D) (h.mail.answer c source) ms queue → AreRests x (unfinished_at sys c) rest'
+      → (b : Bool) → completes x (unfinished_at sys c channel.D) ≡ b → IsFlowed (asked_by h.mail (answered_if source b) c) rest' c (answered_if source b) (x ∷ t)
   own-answer source tokens x ms queue next rests b last =
       subst (λ (z : Beat w). IsFlowed (asked_by h.mail (answered_if source b) c) rest' c (answered_if source b) (z ∷ t)) (sym here.beat_is)
-      (flowed-answer c (d_beat_of due.answer here.k) (is_empty (rest_at sys c channel.D)) b before (asked_by h.mail (answered_if source b) c) (rest_at sys c) rest' s (answered_if source b) t (begins_y due.answer x ms queue here rests b last) (ends_y due.answer x ms queue here rests b last)
+      (flowed-answer c (d_beat_of due.answer here.k) (is_empty (unfinished_at sys c channel.D)) b before (asked_by h.mail (answered_if source b) c) (unfinished_at sys c) rest' s (answered_if source b) t (begins_y due.answer x ms queue here rests b last) (ends_y due.answer x ms queue here rests b last)
       (rests_y due.answer x ms queue here rests b last) (record {
         grant = kind.0;
         ack = kind.1;
@@ -151,8 +143,8 @@ module _ {w : ℕ} (config : Config) (log : Log w) (h : Shadow w) (sys : System 
       due : IsAnswerDue c source h.mail s
       due = answer-due (is_caching config) c source toks h.mail s is.invariant (is.answered c source) tokens
 
-      here : IsNext x (rest_at sys c channel.D) (message.D due.answer) ms queue
-      here = subst (λ (i : Message w). IsNext x (rest_at sys c channel.D) i ms queue) due.answer_is next
+      here : IsNext x (unfinished_at sys c channel.D) (message.D due.answer) ms queue
+      here = subst (λ (i : Message w). IsNext x (unfinished_at sys c channel.D) i ms queue) due.answer_is next
 
       kind : (is_grant due.answer.opcode ≡ false) × (is_release_ack due.answer.opcode ≡ false)
       kind = access_kind due.answer.opcode due.answers_access
@@ -171,11 +163,11 @@ module _ {w : ℕ} (config : Config) (log : Log w) (h : Shadow w) (sys : System 
 
   -- ---- a ReleaseAck
 
-  pub own-release_ack : (n : ℕ) → (s.link c).d ≡ token ReleaseAck n ∷ toks → (x : Beat w) (ms : List (Message w)) (queue : List (Beat w)) → IsNext x (rest_at sys c channel.D) (rendered ReleaseAck c n (s.block n)) ms queue → AreRests x (rest_at sys c) rest'
+  pub own-release_ack : (n : ℕ) → (s.link c).d ≡ token ReleaseAck n ∷ toks → (x : Beat w) (ms : List (Message w)) (queue : List (Beat w)) → IsNext x (unfinished_at sys c channel.D) (rendered ReleaseAck c n (s.block n)) ms queue → AreRests x (unfinished_at sys c) rest'
       → (asked' : ℕ → Option (BeatA w)) → ((i : ℕ) → asked' i ≡ before i) → IsFlowed asked' rest' c (release_ack_taken c n toks s) (x ∷ t)
   own-release_ack n tokens x ms queue next rests asked' asks =
       subst (λ (z : Beat w). IsFlowed asked' rest' c (release_ack_taken c n toks s) (z ∷ t)) (sym here.beat_is)
-      (flowed-let_go c n (d_beat_of m here.k) before asked' (rest_at sys c) rest' s (release_ack_taken c n toks s) t (begins_y m x ms queue here rests true one.2 ∙ ap is_empty one.1) (ends_y m x ms queue here rests true one.2) (rests_y m x ms queue here rests true one.2)
+      (flowed-let_go c n (d_beat_of m here.k) before asked' (unfinished_at sys c) rest' s (release_ack_taken c n toks s) t (begins_y m x ms queue here rests true one.2 ∙ ap is_empty one.1) (ends_y m x ms queue here rests true one.2) (rests_y m x ms queue here rests true one.2)
       (λ i k. is.invariant.named.releases c i k) (record {
         grant = refl;
         ack = refl;
@@ -199,11 +191,11 @@ module _ {w : ℕ} (config : Config) (log : Log w) (h : Shadow w) (sys : System 
       m : MessageD w
       m = ack_message ((s.block n).release_source c)
 
-      here : IsNext x (rest_at sys c channel.D) (message.D m) ms queue
-      here = ack_next c n s x (rest_at sys c channel.D) ms queue next
+      here : IsNext x (unfinished_at sys c channel.D) (message.D m) ms queue
+      here = ack_next c n s x (unfinished_at sys c channel.D) ms queue next
 
-      one : (here.k ≡ 0) × (rest_at sys c channel.D ≡ []) × (completes x (rest_at sys c channel.D) ≡ true)
-      one = one-beat (message.D m) x (rest_at sys c channel.D) ms queue here refl
+      one : (here.k ≡ 0) × (unfinished_at sys c channel.D ≡ []) × (completes x (unfinished_at sys c channel.D) ≡ true)
+      one = one-beat (message.D m) x (unfinished_at sys c channel.D) ms queue here refl
 
       new : Block (List ℕ)
       new = let_go_block c (s.block n)
@@ -231,16 +223,16 @@ module _ {w : ℕ} (config : Config) (log : Log w) (h : Shadow w) (sys : System 
           let no : acquires_of n (Acquires n) ≡ false = sym (ap (acquires_of n) (used ∙ ap Acquires same)) ∙ unused-else c n i s is.invariant.named e in
           let yes : true ≡ false = sym (same_number n) ∙ no in cc
 
-  pub own-grant : (n : ℕ) → (s.link c).d ≡ token Grant n ∷ toks → (due : IsGrantDue c n s) → (whole : Bool) → (x : Beat w) (ms : List (Message w)) (queue : List (Beat w)) → IsNext x (rest_at sys c channel.D) (rendered Grant c n (s.block n)) ms queue → AreRests x (rest_at sys c) rest'
-      → (b : Bool) → completes x (rest_at sys c channel.D) ≡ b → IsFlowed (asked_by h.mail (granted_if n whole due.data_too due.k b) c) rest' c (granted_if n whole due.data_too due.k b) (x ∷ t)
+  pub own-grant : (n : ℕ) → (s.link c).d ≡ token Grant n ∷ toks → (due : IsGrantDue c n s) → (whole : Bool) → (x : Beat w) (ms : List (Message w)) (queue : List (Beat w)) → IsNext x (unfinished_at sys c channel.D) (rendered Grant c n (s.block n)) ms queue → AreRests x (unfinished_at sys c) rest'
+      → (b : Bool) → completes x (unfinished_at sys c channel.D) ≡ b → IsFlowed (asked_by h.mail (granted_if n whole due.data_too due.k b) c) rest' c (granted_if n whole due.data_too due.k b) (x ∷ t)
   own-grant n tokens due whole x ms queue next rests b last =
       subst (λ (z : Beat w). IsFlowed (asked_by h.mail (s_if b) c) rest' c (s_if b) (z ∷ t)) (sym here.beat_is)
-      (flowed-grant c n due.data_too due.k (d_beat_of m here.k) (is_empty (rest_at sys c channel.D)) b before (asked_by h.mail (s_if b) c) (rest_at sys c) rest' s (s_if b) t (begins_y m x ms queue here rests b last) (ends_y m x ms queue here rests b last)
+      (flowed-grant c n due.data_too due.k (d_beat_of m here.k) (is_empty (unfinished_at sys c channel.D)) b before (asked_by h.mail (s_if b) c) (unfinished_at sys c) rest' s (s_if b) t (begins_y m x ms queue here rests b last) (ends_y m x ms queue here rests b last)
       (rests_y m x ms queue here rests b last) (record {
-        grant = grants_so due.data_too;
-        ack = grants_no_ack due.data_too;
+        grant = grants-so due.data_too;
+        ack = not_ack due.data_too;
         sink = refl;
-        says = capped_is due.k;
+        says = cap-gives due.k;
         seen = seen;
         wants = ap is_wanting due.wants;
         quiet = grant_quiet (is_caching config) c n s is.invariant due;
@@ -249,11 +241,11 @@ module _ {w : ℕ} (config : Config) (log : Log w) (h : Shadow w) (sys : System 
         tracks = λ i e. ap s.tracked (sym (eqb-true (s.block n).tracker i e)) ∙ grant_tracked (is_caching config) c n s is.invariant due;
         tracks_not = λ i e. is.invariant.named.trackers i n ∙ with_false (is_busy (s.block n).service) (i == (s.block n).tracker) (swapped i (s.block n).tracker e);
         asks = asks;
-        came = λ i. came m x ms queue here rests b last i ∙ ap (λ (z : Bool). not (is_empty (rest_at sys c channel.D)) && (z && ((s.block n).tracker == i))) (grants_so due.data_too);
-        comes = λ i. comes m x ms queue here rests b last i ∙ ap (λ (z : Bool). not b && (z && ((s.block n).tracker == i))) (grants_so due.data_too);
-        granted = λ j. granted m x ms queue here rests b last j ∙ ap (λ (z : Bool). not (is_empty (rest_at sys c channel.D)) && (z && asks_for j (before ((s.block n).source c)))) (grants_so due.data_too)
-            ∙ ap (λ (z : Bool). not (is_empty (rest_at sys c channel.D)) && z) (asks j);
-        grants = λ j. grants m x ms queue here rests b last (asked_by h.mail (s_if b) c) j ∙ ap (λ (z : Bool). not b && (z && asks_for j (asked_by h.mail (s_if b) c ((s.block n).source c)))) (grants_so due.data_too) ∙ asks_now b j;
+        came = λ i. came m x ms queue here rests b last i ∙ ap (λ (z : Bool). not (is_empty (unfinished_at sys c channel.D)) && (z && ((s.block n).tracker == i))) (grants-so due.data_too);
+        comes = λ i. comes m x ms queue here rests b last i ∙ ap (λ (z : Bool). not b && (z && ((s.block n).tracker == i))) (grants-so due.data_too);
+        granted = λ j. granted m x ms queue here rests b last j ∙ ap (λ (z : Bool). not (is_empty (unfinished_at sys c channel.D)) && (z && asks_for j (before ((s.block n).source c)))) (grants-so due.data_too)
+            ∙ ap (λ (z : Bool). not (is_empty (unfinished_at sys c channel.D)) && z) (asks j);
+        grants = λ j. grants m x ms queue here rests b last (asked_by h.mail (s_if b) c) j ∙ ap (λ (z : Bool). not b && (z && asks_for j (asked_by h.mail (s_if b) c ((s.block n).source c)))) (grants-so due.data_too) ∙ asks_now b j;
         asked_is = grant_asks n whole due.data_too due.k b;
         elsewhere = elsewhere b;
         uses = uses b;
@@ -271,8 +263,8 @@ module _ {w : ℕ} (config : Config) (log : Log w) (h : Shadow w) (sys : System 
       m : MessageD w
       m = grant_message due.data_too due.k ((s.block n).source c) (s.block n).tracker (s.block n).truth
 
-      here : IsNext x (rest_at sys c channel.D) (message.D m) ms queue
-      here = subst (λ (i : Message w). IsNext x (rest_at sys c channel.D) i ms queue) (grant-rendered c n s due) next
+      here : IsNext x (unfinished_at sys c channel.D) (message.D m) ms queue
+      here = subst (λ (i : Message w). IsNext x (unfinished_at sys c channel.D) i ms queue) (grant-rendered c n s due) next
 
       s_if : Bool → State (List ℕ)
       s_if z = granted_if n whole due.data_too due.k z

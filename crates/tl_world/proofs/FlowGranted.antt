@@ -1,7 +1,7 @@
 -- What is delivered on a link, as a beat of a Grant is.
 use Rattle.std.proofs.Common.{◌≡◌, ℕ, Bool, true, false, not, ◌&&◌, ◌||◌, ◌∷◌, Option, Some, None, refl, sym, ◌∙◌, ap, List}
 use Rattle.std.specs.Prelude.{◌==◌, if◌then◌else◌, option_map}
-use Rattle.std.proofs.lemmas.Bool.{ne_eqb}
+use Rattle.std.proofs.lemmas.Bool.{ne_eqb, and_right}
 use Rattle.tl_beat.specs.declared.beat.Beat.{Beat}
 use Rattle.tl_beat.specs.declared.beat.Beat.TheVariants as beat
 use Rattle.tl_beat.specs.declared.beat.BeatA.{BeatA}
@@ -15,6 +15,8 @@ use Rattle.tl_params.specs.declared.perm.Perm.{Perm}
 use Rattle.tl_params.specs.Param.{cap_right}
 use Rattle.tl_rules.specs.Conformance.{comes_in_request, comes_in_grant}
 use Rattle.tl_rules.specs.History.{begins, ends, block_at, pending, is_grant, is_release_ack, asks_for, request_of, release_of, probe_of, grant_sink, releases, capped, or_perm}
+use Rattle.tl_client.proofs.Opens.{request_of-d}
+use Rattle.tl_client.proofs.AccountedResponse.{release_of-d}
 use Rattle.tl_world.specs.Flowed.{IsFlowed, is_requested, is_let_by, is_sunk}
 use Rattle.tl_world.specs.Invariant.{is_of, acquires_of}
 use Rattle.tl_world.specs.Known.{comes_granting}
@@ -23,10 +25,10 @@ use Rattle.tl_world.specs.Protocol.{Block, State, Use, Closed, Asked, InService,
 use Rattle.tl_world.specs.Render.{probe_beat}
 use Rattle.tl_world.specs.Sources.{cap_waited}
 use Rattle.tl_world.proofs.FlowAlone.{AreRests}
-use Rattle.tl_world.proofs.FlowAnswered.{released-of, requested-of, probed-of, unclosed, closes_last}
+use Rattle.tl_world.proofs.FlowAnswered.{probed-of, unclosed, closes_last}
 use Rattle.tl_world.proofs.FlowAside.{let_by-same}
 use Rattle.tl_world.proofs.FlowReport.{unclosed as not_last}
-use Rattle.tl_world.proofs.FlowReleased.{AreElsewhere, each-block, part-block, opened, with_true, with_false}
+use Rattle.tl_world.proofs.FlowReleased.{AreElsewhere, each-block, part-block, opened, with_true}
 use Rattle.tl_world.proofs.FlowStep.{flowed-next, held_by, acquired_by, let_of, granted_by, step, step_quiet}
 use Rattle.tl_world.proofs.Tokens.{same_number}
 
@@ -91,7 +93,7 @@ unended first last g p e = rw e (step_quiet first last p)
 pub begun : (first last g p : Bool) → g ≡ true → p ≡ not first → step first last g false p ≡ true
 begun first last g p e f = opened first last true g p refl e f
 
-unbegun : (first last g p : Bool) → g ≡ false → step first last g false p ≡ p
+pub unbegun : (first last g p : Bool) → g ≡ false → step first last g false p ≡ p
 unbegun first last g p e = rw e (step_quiet first last p)
 
 -- the sink of the last Grant of the block of the beat, and of another one
@@ -150,8 +152,8 @@ flowed-grant {w} {X} c n d k y first last asked asked' rest rest' s s' t first_i
           (now_acquired last d k (view new.service c) (is_wanting (new.pair c).acquiring) is.seen_is is.wants_is ∙ sym (ended first last (grants_at n) (acquired_by c b) (names n ∙ same_number n) (rw (is.wants, is.seen) refl)))
           (λ m ne. sym (unended first last (grants_at m) (acquired_by c (s.block m)) (apart m ne)));
       release_sources = λ i. lets i ∙ sym (unclosed first last (is_release_ack y.opcode) (y.source == i) (is_let_by c i (rest channel.C) (s.lets c i) s) is.ack);
-      released = λ i m e f. ap (option_map (λ z. block_at z.address)) (released-of i y t) ∙ before.released i m (sym (is.lets i) ∙ e) (before.release_sources i ∙ sym (lets i) ∙ f);
-      sizes = λ i m e f. ap (option_map (λ z. z.size)) (released-of i y t) ∙ before.sizes i m (sym (is.lets i) ∙ e) (before.release_sources i ∙ sym (lets i) ∙ f);
+      released = λ i m e f. ap (option_map (λ z. block_at z.address)) (release_of-d i y t) ∙ before.released i m (sym (is.lets i) ∙ e) (before.release_sources i ∙ sym (lets i) ∙ f);
+      sizes = λ i m e f. ap (option_map (λ z. z.size)) (release_of-d i y t) ∙ before.sizes i m (sym (is.lets i) ∙ e) (before.release_sources i ∙ sym (lets i) ∙ f);
       releases = λ m. ap (λ (l : List (Beat w)). let_of c l (s'.block m)) (rests channel.C) ∙ let_same m ∙ sym (unclosed first last (is_release_ack y.opcode) (releases m (release_of y.source t)) (let_of c (rest channel.C) (s.block m)) is.ack);
       sinks = λ i. ap (λ (o : Option ℕ). is_sunk c i (rest' channel.D) o s') (is.tracked i) ∙ sinks i (y.sink == i) (s.tracked i) refl refl;
       grants = each-block (λ m z. granted_by c m asked' (rest' channel.D) z ≡ step first last (is_grant y.opcode && asks_for m (request_of y.source t)) false (granted_by c m asked (rest channel.D) (s.block m))) n s s' is.elsewhere
@@ -188,7 +190,7 @@ flowed-grant {w} {X} c n d k y first last asked asked' rest rest' s s' t first_i
     grants_other : (m : ℕ) → (m ≡ n → ⊥) → granted_by c m asked' (rest' channel.D) (s.block m) ≡ granted_by c m asked (rest channel.D) (s.block m)
     grants_other m ne =
         ap (λ (z : Bool). is_acknowledging (view (s.block m).service c) || z)
-        (is.grants m ∙ with_false (not last) (n == m) (ne_eqb n m (λ e. ne (sym e))) ∙ sym (is.granted m ∙ with_false (not first) (n == m) (ne_eqb n m (λ e. ne (sym e)))))
+        (is.grants m ∙ and_right (not last) (n == m) (ne_eqb n m (λ e. ne (sym e))) ∙ sym (is.granted m ∙ and_right (not first) (n == m) (ne_eqb n m (λ e. ne (sym e)))))
 
     use_at : (i : ℕ) → is_requested c i (rest' channel.A) (s'.uses c i) s' ≡ is_requested c i (rest channel.A) (if last && (y.source == i) then Closed else s.uses c i) s'
     use_at i = ap (λ (l : List (Beat w)). is_requested c i l (s'.uses c i) s') (rests channel.A) ∙ ap (λ (u : Use). is_requested c i (rest channel.A) u s') (is.uses i)
@@ -208,7 +210,7 @@ flowed-grant {w} {X} c n d k y first last asked asked' rest rest' s s' t first_i
     asked_still : (i : ℕ) → is_requested c i (rest' channel.A) (s'.uses c i) s' ≡ true → (z : Bool) → (last && (y.source == i)) ≡ z → request_of i (beat.D y ∷ t) ≡ asked' i
     asked_still i e true f = absurd (let g : false ≡ true = sym (use_at i ∙ ap (λ (z : Bool). is_requested c i (rest channel.A) (if z then Closed else s.uses c i) s') f) ∙ e in cc)
     asked_still i e false f =
-        requested-of i y t
+        request_of-d i y t
         ∙ before.asked_is i (was_pending i (sym (use_at i ∙ ap (λ (z : Bool). is_requested c i (rest channel.A) (if z then Closed else s.uses c i) s') f) ∙ e) (y.source == i) refl)
         ∙ sym (is.asked_is i f)
 
@@ -230,11 +232,11 @@ flowed-grant {w} {X} c n d k y first last asked asked' rest rest' s s' t first_i
 
         then_sunk : is_sunk c i (rest channel.D) o s ≡ not first
         then_sunk = ap (λ (p : Option ℕ). is_sunk c i (rest channel.D) p s) at_n ∙ ap (λ (v : View). is_acknowledging v || (is_granting v && comes_in_grant i (rest channel.D))) is.seen ∙ is.came i ∙ with_true (not first) (y.sink == i) e
-    sinks i false None e f = sym (unbegun first last (is_grant y.opcode && (y.sink == i)) false (with_false (is_grant y.opcode) (y.sink == i) e))
+    sinks i false None e f = sym (unbegun first last (is_grant y.opcode && (y.sink == i)) false (and_right (is_grant y.opcode) (y.sink == i) e))
     sinks i false (Some m) e f =
         ap (λ (z : Block X). is_acknowledging (view z.service c) || (is_granting (view z.service c) && comes_in_grant i (rest' channel.D))) (is.elsewhere m (λ g. let h : (n == n) ≡ false = sym (rw (f, g) refl) ∙ is.tracks_not i e in let j : true ≡ false = sym (same_number n) ∙ h in cc))
-        ∙ ap (λ (z : Bool). is_acknowledging (view (s.block m).service c) || (is_granting (view (s.block m).service c) && z)) (is.comes i ∙ with_false (not last) (y.sink == i) e ∙ sym (is.came i ∙ with_false (not first) (y.sink == i) e))
-        ∙ sym (unbegun first last (is_grant y.opcode && (y.sink == i)) (is_sunk c i (rest channel.D) (Some m) s) (with_false (is_grant y.opcode) (y.sink == i) e))
+        ∙ ap (λ (z : Bool). is_acknowledging (view (s.block m).service c) || (is_granting (view (s.block m).service c) && z)) (is.comes i ∙ and_right (not last) (y.sink == i) e ∙ sym (is.came i ∙ and_right (not first) (y.sink == i) e))
+        ∙ sym (unbegun first last (is_grant y.opcode && (y.sink == i)) (is_sunk c i (rest channel.D) (Some m) s) (and_right (is_grant y.opcode) (y.sink == i) e))
 
     answered : (m : ℕ) → is_answered ((s'.block m).pair c).probing ≡ is_answered ((s.block m).pair c).probing
     answered = part-block (λ (z : Block X). is_answered (z.pair c).probing) n s s' is.elsewhere is.answered

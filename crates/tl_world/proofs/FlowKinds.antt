@@ -3,6 +3,7 @@
 use Rattle.std.proofs.Common.{◌≡◌, subst, ℕ, Bool, true, false, not, ◌&&◌, List, ◌∷◌, Option, Some, None, length, refl, sym, ◌∙◌, ap, inl}
 use Rattle.std.specs.Prelude.{◌==◌, if◌then◌else◌}
 use Rattle.std.proofs.lemmas.Bool.{ne_eqb}
+use Rattle.std.proofs.lemmas.Option.{same_Some}
 use Rattle.tl_beat.specs.declared.beat.Beat.{Beat}
 use Rattle.tl_beat.specs.declared.beat.BeatA.{BeatA}
 use Rattle.tl_beat.specs.declared.opcode.Channel.{Channel}
@@ -21,7 +22,7 @@ use Rattle.tl_world.specs.Flowed.{IsFlowed}
 use Rattle.tl_world.specs.Follow.{Shadow, with_state, some_below, performs, probes_some, access_taken, request_taken, is_unheld, gift, acquire_taken, granted_after, last_taken, ack_taken, is_whole, taken_by_client, kind_taken}
 use Rattle.tl_world.specs.Invariant.{cap_asked}
 use Rattle.tl_world.specs.Log.{Log}
-use Rattle.tl_world.specs.Phase.{View, Own, Granting, Acknowledging, GrantedOther, Answered, Acquiring, Calm, Wants, is_calm, is_quiet, is_kept}
+use Rattle.tl_world.specs.Phase.{Own, Granting, Acknowledging, GrantedOther, Answered, Acquiring, Calm, Wants, is_calm, is_quiet, is_kept}
 use Rattle.tl_world.specs.PhaseSteps.{is_granted_data, after_report}
 use Rattle.tl_world.specs.Protocol.{Service, Free, Waits, GrantSent, GrantTaken, Block, State, token, on, shown, view, is_answered, is_probed, acquire_served, acquire_granted, report_taken, report_grants}
 use Rattle.tl_world.specs.Render.{cap_sent, report_told, prune_told}
@@ -34,18 +35,16 @@ use Rattle.tl_world.proofs.Due.{IsGrantDue, grant-due}
 use Rattle.tl_world.proofs.Facts.{quiet_at_rest, own_alone, own_wants, answered_other, is_other}
 use Rattle.tl_world.proofs.FlowApart.{replied, left-replied, left-served, left-acquire_granted, left-probe_taken, left-report_taken, left-release_taken, left-answer_taken, left-grant_taken, left-release_ack_taken, left-grant_ack_taken, left-access_answered, left-access_served, left-report_answers, left-report_grants}
 use Rattle.tl_world.proofs.FlowAside.{is_heard, IsComing, flowed-aside, flowed-asks}
-use Rattle.tl_world.proofs.FlowAsking.{rest_at, asks-left}
-use Rattle.tl_world.proofs.FlowBeats.{same_perms, some_is, quiet_unanswered}
+use Rattle.tl_world.proofs.FlowAsking.{asks-left}
+use Rattle.tl_world.proofs.FlowBeats.{same_perms}
 use Rattle.tl_world.proofs.FlowComing.{coming-granting, coming-sink}
-use Rattle.tl_world.proofs.FollowKept.{IsReady, answered-is, acknowledging-is, settled_all}
+use Rattle.tl_world.proofs.FollowKept.{IsReady, settled_all}
 use Rattle.tl_world.proofs.ManagedEndings.{tracker-of}
 use Rattle.tl_world.proofs.Phases.{and_right}
-use Rattle.tl_world.proofs.Sized.{used-serving}
 use Rattle.tl_world.proofs.Tokens.{same_number, holds-first}
-
-not_other : (x : Bool) (u v : View) → is_other u ≡ false → is_other v ≡ false → is_other (if x then u else v) ≡ false
-not_other true u v e f = e
-not_other false u v e f = f
+use Rattle.tl_world.proofs.BothParts.{answered-is, quiet_unanswered, acknowledging-is, not-other}
+use Rattle.tl_world.proofs.Owing.{serving-use}
+use Rattle.tl_world.proofs.Popped.{unfinished_at}
 
 module _ {w : ℕ} (config : Config) (log : Log w) (h : Shadow w) (sys : System w) (c : ℕ) (is : IsMatched config log h.mail h.request h.state sys) (tracker : ℕ) where
   abbrev s : State (List ℕ)
@@ -57,7 +56,7 @@ module _ {w : ℕ} (config : Config) (log : Log w) (h : Shadow w) (sys : System 
 
   -- ---- what comes of the last beat at the manager, for client d's link
 
-  module _ (d : ℕ) (rest : Channel → List (Beat w)) (same_d : rest channel.D ≡ rest_at sys d channel.D) (t : History w) where
+  module _ (d : ℕ) (rest : Channel → List (Beat w)) (same_d : rest channel.D ≡ unfinished_at sys d channel.D) (t : History w) where
     -- what was delivered on it is so
     abbrev pub FlowedAs : Shadow w → Type 0
     FlowedAs z = IsFlowed (asked_by z.mail z.state d) rest d z.state t
@@ -117,13 +116,13 @@ module _ {w : ℕ} (config : Config) (log : Log w) (h : Shadow w) (sys : System 
 
         -- no Grant that was delivered in part is of a block that waits
         none_comes : (q source : ℕ) (k : Cap) → (s.block n).service ≡ Waits q true source k → (i : ℕ) → s.tracked i ≡ Some n → comes_in_grant i (rest channel.D) ≡ false
-        none_comes q source k waits i tracks = ap (comes_in_grant i) same_d ∙ go (comes_in_grant i (rest_at sys d channel.D)) refl
+        none_comes q source k waits i tracks = ap (comes_in_grant i) same_d ∙ go (comes_in_grant i (unfinished_at sys d channel.D)) refl
           where
-            go : (b : Bool) → comes_in_grant i (rest_at sys d channel.D) ≡ b → b ≡ false
+            go : (b : Bool) → comes_in_grant i (unfinished_at sys d channel.D) ≡ b → b ≡ false
             go false f = refl
             go true f =
                 let of = coming-sink config log h.mail h.request s sys d i is f in
-                let here : of.0 ≡ n = some_is of.0 n (sym of.2 ∙ tracks) in
+                let here : of.0 ≡ n = same_Some of.0 n (sym of.2 ∙ tracks) in
                 absurd (let no : GrantSent d of.1.data_too of.1.k ≡ Waits q true source k = sym of.1.service ∙ ap (λ (j : ℕ). (s.block j).service) here ∙ waits in cc)
 
         granted : (q source : ℕ) (k : Cap) → (s.block n).service ≡ Waits q true source k → ((i : ℕ) → (i ≡ c → ⊥) → is_quiet ((s.block n).pair i).probing ≡ true) → (a : Acquiring) → not (is_calm a) ≡ true
@@ -149,15 +148,15 @@ module _ {w : ℕ} (config : Config) (log : Log w) (h : Shadow w) (sys : System 
         last : ((i : ℕ) → (i ≡ c → ⊥) → is_quiet ((s.block n).pair i).probing ≡ true) → (service : Service) → (s.block n).service ≡ service → Leaves d h (last_taken (length config.clients.items) config.profile c n r service toks h)
             → FlowedAs (last_taken (length config.clients.items) config.profile c n r service toks h)
         last quiet Free e l = absurd (let no : false ≡ true = rw e at seen in cc)
-        last quiet (GrantSent q x k) e l = absurd (let one : is_other (view (GrantSent q x k) c) ≡ true = rw e at seen in let none = not_other (c == q) (Granting x k) GrantedOther refl refl in let no : false ≡ true = sym none ∙ one in cc)
-        last quiet (GrantTaken q) e l = absurd (let one : is_other (view (GrantTaken q) c) ≡ true = rw e at seen in let none = not_other (c == q) Acknowledging GrantedOther refl refl in let no : false ≡ true = sym none ∙ one in cc)
+        last quiet (GrantSent q x k) e l = absurd (let one : is_other (view (GrantSent q x k) c) ≡ true = rw e at seen in let none = not-other (c == q) (Granting x k) GrantedOther refl refl in let no : false ≡ true = sym none ∙ one in cc)
+        last quiet (GrantTaken q) e l = absurd (let one : is_other (view (GrantTaken q) c) ≡ true = rw e at seen in let none = not-other (c == q) Acknowledging GrantedOther refl refl in let no : false ≡ true = sym none ∙ one in cc)
         last quiet (Waits q true source k) e l =
             granted q source k e quiet ((s.block n).pair q).acquiring (own_wants ((s.block n).pair q) (view (s.block n).service q) ((is.invariant.blocks n).phases q) (rw (e, same_number q) refl)) l
         last quiet (Waits q false source k) e l =
             let after = last_taken (length config.clients.items) config.profile c n r (Waits q false source k) toks h in
             flowed-aside before (asked_by after.mail after.state d) rest d (report_taken c n r toks s) after.state t
             (left-report_answers d before (asked_by after.mail after.state d) rest s (asks-left d h after l) coming c n r toks q source k (performs (h.request n)) e (unanswered quiet) (tracker-of n s is.invariant.named (rw e refl))
-            (ap is_heard (used-serving (is_caching config) s n q source k is.invariant e))) flowed
+            (ap is_heard (serving-use (is_caching config) s n q source k is.invariant e))) flowed
 
         others : (x : Bool) → some_below (length config.clients.items) (λ i. not (i == c) && not (is_quiet ((s.block n).pair i).probing)) ≡ x
             → Leaves d h (if x then with_state (report_taken c n r toks s) h else last_taken (length config.clients.items) config.profile c n r (s.block n).service toks h)
@@ -170,12 +169,12 @@ module _ {w : ℕ} (config : Config) (log : Log w) (h : Shadow w) (sys : System 
   module _ (d : ℕ) (ne : d ≡ c → ⊥) (t : History w) where
     -- as it was
     abbrev pub FlowsAs : Shadow w → Type 0
-    FlowsAs z = IsFlowed (asked_by z.mail z.state d) (rest_at sys d) d z.state t
+    FlowsAs z = IsFlowed (asked_by z.mail z.state d) (unfinished_at sys d) d z.state t
 
     abbrev then_asked : ℕ → Option (BeatA w)
     then_asked = asked_by h.mail h.state d
 
-    comes : IsComing (asked_by h.mail h.state d) (rest_at sys d channel.D) d h.state
+    comes : IsComing (asked_by h.mail h.state d) (unfinished_at sys d channel.D) d h.state
     comes = coming-granting config log h.mail h.request h.state sys d is
 
     other_request : (source : ℕ) (m : Message w) (toks : List Token) → IsReady tracker c Request source h → m ≡ h.mail.request c source → Leaves d h (request_taken (length config.clients.items) c source m tracker toks h) → FlowsAs h → FlowsAs (request_taken (length config.clients.items) c source m tracker toks h)
@@ -184,8 +183,8 @@ module _ {w : ℕ} (config : Config) (log : Log w) (h : Shadow w) (sys : System 
     other_request source (message.D m) toks ready e l flowed = flowed
     other_request source (message.E m) toks ready e l flowed = flowed
     other_request source (message.A m) toks ready e l flowed =
-        settled-request d (rest_at sys d) refl t source m toks (ap (λ (i : MessageA w). (s.block (block_at i.address)).service) same ∙ ready.3) ready.4 l
-        (flowed-aside then_asked then_asked (rest_at sys d) d s (replied c source s) t (left-replied d then_asked then_asked (rest_at sys d) s (λ i. refl) comes c source ne) flowed)
+        settled-request d (unfinished_at sys d) refl t source m toks (ap (λ (i : MessageA w). (s.block (block_at i.address)).service) same ∙ ready.3) ready.4 l
+        (flowed-aside then_asked then_asked (unfinished_at sys d) d s (replied c source s) t (left-replied d then_asked then_asked (unfinished_at sys d) s (λ i. refl) comes c source ne) flowed)
       where
         same : m ≡ ready.0
         same = let both : message.A m ≡ message.A ready.0 = e ∙ ready.1 in cc
@@ -206,12 +205,12 @@ module _ {w : ℕ} (config : Config) (log : Log w) (h : Shadow w) (sys : System 
 
         go : (x : Bool) → Leaves d h (with_state (if x then served else granted) h) → FlowsAs (with_state (if x then served else granted) h)
         go true i =
-            flowed-aside then_asked (asked_by h.mail served d) (rest_at sys d) d s served t
-            (left-served d then_asked (asked_by h.mail served d) (rest_at sys d) s (asks-left d h (with_state served h) i) comes c n (b.source c) tracker true (cap_asked (Wants whole g)) served (λ m. refl) (ne_eqb d c ne) free (free_quiet n free d)
+            flowed-aside then_asked (asked_by h.mail served d) (unfinished_at sys d) d s served t
+            (left-served d then_asked (asked_by h.mail served d) (unfinished_at sys d) s (asks-left d h (with_state served h) i) comes c n (b.source c) tracker true (cap_asked (Wants whole g)) served (λ m. refl) (ne_eqb d c ne) free (free_quiet n free d)
             (λ j. inl refl) (λ j. refl) unused (λ j. refl)) flowed
         go false i =
-            flowed-aside then_asked (asked_by h.mail granted d) (rest_at sys d) d s granted t
-            (left-acquire_granted d then_asked (asked_by h.mail granted d) (rest_at sys d) s (asks-left d h (with_state granted h) i) comes c n tracker (is_granted_data whole g (b.pair c).recorded) (gift config.profile whole g (is_unheld (length config.clients.items) b.pair)) toks ne free
+            flowed-aside then_asked (asked_by h.mail granted d) (unfinished_at sys d) d s granted t
+            (left-acquire_granted d then_asked (asked_by h.mail granted d) (unfinished_at sys d) s (asks-left d h (with_state granted h) i) comes c n tracker (is_granted_data whole g (b.pair c).recorded) (gift config.profile whole g (is_unheld (length config.clients.items) b.pair)) toks ne free
             (quiet_unanswered (b.pair d).probing (free_quiet n free d)) unused) flowed
 
     other_grant : (n : ℕ) (toks : List Token) (due : IsGrantDue c n s) (service : Service) → service ≡ GrantSent c due.data_too due.k → Leaves d h (taken_by_client c n service toks h) → FlowsAs h → FlowsAs (taken_by_client c n service toks h)
@@ -220,8 +219,8 @@ module _ {w : ℕ} (config : Config) (log : Log w) (h : Shadow w) (sys : System 
         go : Leaves d h (taken_by_client c n (GrantSent c due.data_too due.k) toks h) → FlowsAs (taken_by_client c n (GrantSent c due.data_too due.k) toks h)
         go i =
             let after = taken_by_client c n (GrantSent c due.data_too due.k) toks h in
-            flowed-aside then_asked (asked_by after.mail after.state d) (rest_at sys d) d s after.state t
-            (left-grant_taken d then_asked (asked_by after.mail after.state d) (rest_at sys d) s (asks-left d h after i) comes c n (is_whole ((s.block n).pair c).acquiring) due.data_too due.k toks ne due.service) flowed
+            flowed-aside then_asked (asked_by after.mail after.state d) (unfinished_at sys d) d s after.state t
+            (left-grant_taken d then_asked (asked_by after.mail after.state d) (unfinished_at sys d) s (asks-left d h after i) comes c n (is_whole ((s.block n).pair c).acquiring) due.data_too due.k toks ne due.service) flowed
 
     -- a message of client c's link that is taken
     by_kind : (k : Kind) (i : ℕ) (toks : List Token) → on k (s.link c) ≡ token k i ∷ toks → IsReady tracker c k i h → Leaves d h (kind_taken config tracker c k i toks h) → FlowsAs h → FlowsAs (kind_taken config tracker c k i toks h)
@@ -229,32 +228,32 @@ module _ {w : ℕ} (config : Config) (log : Log w) (h : Shadow w) (sys : System 
     by_kind Acquire n toks first ready l flowed = other_acquire n ((s.block n).pair c).acquiring toks ready.0 ready.1 l flowed
     by_kind Probe n toks first ready l flowed =
         let after = kind_taken config tracker c Probe n toks h in
-        flowed-aside then_asked (asked_by after.mail after.state d) (rest_at sys d) d s after.state t
-        (left-probe_taken d then_asked (asked_by after.mail after.state d) (rest_at sys d) s (asks-left d h after l) comes c n (cap_sent ((s.block n).pair c).probing) toks ne) flowed
+        flowed-aside then_asked (asked_by after.mail after.state d) (unfinished_at sys d) d s after.state t
+        (left-probe_taken d then_asked (asked_by after.mail after.state d) (unfinished_at sys d) s (asks-left d h after l) comes c n (cap_sent ((s.block n).pair c).probing) toks ne) flowed
     by_kind ProbeAck n toks first ready l flowed =
-        settled-report d (rest_at sys d) refl t n toks first l
-        (flowed-aside then_asked then_asked (rest_at sys d) d s (report_taken c n (report_told ((s.block n).pair c).probing) toks s) t
-        (left-report_taken d then_asked then_asked (rest_at sys d) s (λ i. refl) comes c n (report_told ((s.block n).pair c).probing) toks ne) flowed)
+        settled-report d (unfinished_at sys d) refl t n toks first l
+        (flowed-aside then_asked then_asked (unfinished_at sys d) d s (report_taken c n (report_told ((s.block n).pair c).probing) toks s) t
+        (left-report_taken d then_asked then_asked (unfinished_at sys d) s (λ i. refl) comes c n (report_told ((s.block n).pair c).probing) toks ne) flowed)
     by_kind Release n toks first ready l flowed =
         let after = kind_taken config tracker c Release n toks h in
-        flowed-aside then_asked (asked_by after.mail after.state d) (rest_at sys d) d s after.state t
-        (left-release_taken d then_asked (asked_by after.mail after.state d) (rest_at sys d) s (asks-left d h after l) comes c n (prune_told ((s.block n).pair c).letting) toks ne) flowed
+        flowed-aside then_asked (asked_by after.mail after.state d) (unfinished_at sys d) d s after.state t
+        (left-release_taken d then_asked (asked_by after.mail after.state d) (unfinished_at sys d) s (asks-left d h after l) comes c n (prune_told ((s.block n).pair c).letting) toks ne) flowed
     by_kind Answer source toks first ready l flowed =
         let after = kind_taken config tracker c Answer source toks h in
-        flowed-aside then_asked (asked_by after.mail after.state d) (rest_at sys d) d s after.state t
-        (left-answer_taken d then_asked (asked_by after.mail after.state d) (rest_at sys d) s (asks-left d h after l) comes c source toks ne) flowed
+        flowed-aside then_asked (asked_by after.mail after.state d) (unfinished_at sys d) d s after.state t
+        (left-answer_taken d then_asked (asked_by after.mail after.state d) (unfinished_at sys d) s (asks-left d h after l) comes c source toks ne) flowed
     by_kind Grant n toks first ready l flowed =
         let due = grant-due (is_caching config) c n toks s is.invariant first in
         other_grant n toks due (s.block n).service due.service l flowed
     by_kind ReleaseAck n toks first ready l flowed =
         let after = kind_taken config tracker c ReleaseAck n toks h in
-        flowed-aside then_asked (asked_by after.mail after.state d) (rest_at sys d) d s after.state t
-        (left-release_ack_taken d then_asked (asked_by after.mail after.state d) (rest_at sys d) s (asks-left d h after l) comes c n toks ne) flowed
+        flowed-aside then_asked (asked_by after.mail after.state d) (unfinished_at sys d) d s after.state t
+        (left-release_ack_taken d then_asked (asked_by after.mail after.state d) (unfinished_at sys d) s (asks-left d h after l) comes c n toks ne) flowed
     by_kind GrantAck n toks first ready l flowed =
         let after = kind_taken config tracker c GrantAck n toks h in
         let taken = acknowledging-is (s.block n).service c (holds-first GrantAck (s.link c).e toks (token GrantAck n) (λ i. shown GrantAck c (s.block i)) first refl (is.invariant.transfers c GrantAck refl)) in
-        flowed-aside then_asked (asked_by after.mail after.state d) (rest_at sys d) d s after.state t
-        (left-grant_ack_taken d then_asked (asked_by after.mail after.state d) (rest_at sys d) s (asks-left d h after l) comes c n toks ne taken (tracker-of n s is.invariant.named (rw taken refl))) flowed
+        flowed-aside then_asked (asked_by after.mail after.state d) (unfinished_at sys d) d s after.state t
+        (left-grant_ack_taken d then_asked (asked_by after.mail after.state d) (unfinished_at sys d) s (asks-left d h after l) comes c n toks ne taken (tracker-of n s is.invariant.named (rw taken refl))) flowed
 
     pub other-kind : (k : Kind) (i : ℕ) (toks : List Token) → on k (s.link c) ≡ token k i ∷ toks → IsReady tracker c k i h → FlowsAs h → FlowsAs (kind_taken config tracker c k i toks h)
     other-kind k i toks first ready = by_kind k i toks first ready (left (is_for_manager k) refl)

@@ -1,5 +1,5 @@
 -- A beat of channel B or C that is delivered breaks no rule after what was delivered before it.
-use Rattle.std.proofs.Common.{◌≡◌, ℕ, ◌*◌, true, false, List, [], ◌∷◌, Option, Some, None, refl, sym, ◌∙◌, ap, subst, arith}
+use Rattle.std.proofs.Common.{◌≡◌, ℕ, true, false, List, [], ◌∷◌, Option, Some, None, refl, sym, ◌∙◌, ap, subst}
 use Rattle.std.specs.Prelude.{map}
 use Rattle.tl_beat.specs.Width.{IsWidth}
 use Rattle.tl_beat.specs.declared.beat.Beat.{Beat}
@@ -19,8 +19,8 @@ use Rattle.tl_params.specs.declared.perm.Perm.TheVariants as perm
 use Rattle.tl_params.specs.declared.profile.Profile.{Profile}
 use Rattle.tl_params.specs.Param.{prune_code, prune_left, report_at, report_code, report_left}
 use Rattle.tl_rules.specs.Conformance.{on_link, broken_in_order, broken_after, same_perm}
-use Rattle.tl_rules.specs.History.{block_at}
 use Rattle.tl_rules.specs.Legality.{illegal}
+use Rattle.tl_client.proofs.HeldAfter.{same_block}
 use Rattle.tl_manager.specs.Kept.{illegal_at}
 use Rattle.tl_manager.specs.Slave.{level_of}
 use Rattle.tl_world.specs.Flow.{flow}
@@ -38,13 +38,12 @@ use Rattle.tl_world.proofs.ClientTakes.{sound-beat}
 use Rattle.tl_world.proofs.Facts.{acknowledging_quiet, answered_other, granting_alone, is_other, release_alone, release_begins, report_first, report_fits}
 use Rattle.tl_world.proofs.FirstToken.{IsFirst, first-token}
 use Rattle.tl_world.proofs.FlowOrders.{beat-flows, probe-flows, report-flows, release-flows}
-use Rattle.tl_world.proofs.FollowKept.{answered-is, releasing-is}
-use Rattle.tl_world.proofs.ManagerTakes.{by-first_c, same_report-is, seen_cap, unanswered, answered_same}
-use Rattle.tl_world.proofs.Moves.{is_of-is}
+use Rattle.tl_world.proofs.ManagerTakes.{by-first_c, same_report-is, seen_cap, unanswered}
 use Rattle.tl_world.proofs.Phases.{and_left, and_right}
 use Rattle.tl_world.proofs.ProbeDelivered.{not_coming}
 use Rattle.tl_world.proofs.Reporting.{IsAbout, report-about, release-about}
 use Rattle.tl_world.proofs.Tokens.{same_number, holds-first}
+use Rattle.tl_world.proofs.BothParts.{is_of-is, answered-is, releasing-is}
 
 -- the next beat of a message whose first breaks no rule of order
 pub next-flows : {w : ℕ} (l : Level) (p : Profile) (m : Message w) (x : Beat w) (rest : List (Beat w)) (ms : List (Message w)) (queue : List (Beat w)) (t : History w) → illegal l (channel_of x) x ≡ None → IsNext x rest m ms queue → unfinished (channel_in m) t ≡ rest
@@ -56,9 +55,6 @@ next-flows {w} l p m x rest ms queue t lawful next is first =
 pub lawful-beat : {w : ℕ} (config : Config) (log : Log w) (mail : Mail w) (request : ℕ → MessageA w) (s : State (List ℕ)) (sys : System w) (c : ℕ) (ch : Channel) (l : Level) (x : Beat w) (queue : List (Beat w)) → IsMatched config log mail request s sys
     → sys.channels c ch ≡ x ∷ queue → level_of config c ≡ Some l → illegal l (channel_of x) x ≡ None
 lawful-beat {w} config log mail request s sys c ch l x queue is beats level = sym (ap (λ (o : Option Level). illegal_at o x) level) ∙ (sound-beat config log mail request s sys c ch x queue is beats).lawful
-
-same_block : (n : ℕ) → block_at (64 * n) ≡ n
-same_block n = omega arith
 
 -- ---- channel C
 
@@ -160,7 +156,7 @@ release-lawful {w} config log mail request s sys c n toks l x ms queue width is 
     ungranted GrantedOther f = refl
 
     fits : same_perm (prune_left r) (b.pair c).recorded ≡ true
-    fits = release_begins r (b.pair c) (view b.service c) ok_is releasing (answered_same (b.pair c).probing ∙ unanswered (is_caching config) c n toks s is.invariant tokens)
+    fits = release_begins r (b.pair c) (view b.service c) ok_is releasing (unanswered (is_caching config) c n toks s is.invariant tokens)
 
 pub flows-c : {w : ℕ} (config : Config) (log : Log w) (mail : Mail w) (request : ℕ → MessageA w) (s : State (List ℕ)) (sys : System w) (c : ℕ) (l : Level) (x : Beat w) (queue : List (Beat w)) → IsWidth w → IsMatched config log mail request s sys → AreFlowed log mail s sys
     → sys.channels c channel.C ≡ x ∷ queue → level_of config c ≡ Some l → broken_after l config.profile x (flow c log) ≡ None

@@ -1,5 +1,6 @@
 -- A message of channel A, B, C or E that is delivered breaks no rule of order after what was delivered before it.
 use Rattle.std.proofs.Common.{◌≡◌, ℕ, zero, suc, Bool, true, false, not, ◌&&◌, ◌||◌, [], Option, Some, None, refl, ◌∙◌, ap, List}
+use Rattle.std.proofs.Math.Bool.{and-false}
 use Rattle.std.specs.Prelude.{if◌then◌else◌}
 use Rattle.tl_beat.specs.declared.beat.Beat.{Beat}
 use Rattle.tl_beat.specs.declared.beat.Beat.TheVariants as beat
@@ -33,10 +34,6 @@ use Rattle.tl_world.specs.Render.{probe_beat}
 use Rattle.tl_world.specs.Sources.{cap_waited}
 use Rattle.tl_world.proofs.Orders.{report-legal, acquire-legal}
 
-never : (b : Bool) → (b && false) ≡ false
-never true = refl
-never false = refl
-
 -- who isn't granted the block holds what is recorded, as far as was delivered
 held_as : {w : ℕ} {X : Type 0} (c n : ℕ) (asked : ℕ → Option (BeatA w)) (rest : Channel → List (Beat w)) (s : State X) (t : History w) → IsFlowed asked rest c s t → is_granting (view (s.block n).service c) ≡ false → held n t ≡ ((s.block n).pair c).recorded
 held_as c n asked rest s t flowed none = flowed.held_is n ∙ ap (λ (g : Bool). if g then ((s.block n).pair c).held else ((s.block n).pair c).recorded) none
@@ -57,7 +54,7 @@ pub acquire-flows : {w : ℕ} {X : Type 0} (p : Profile) (c n : ℕ) (x : BeatA 
 acquire-flows {w} p c n x asked rest s t flowed whole acquires block used idle kept grows =
     acquire-legal p n ((s.block n).pair c).recorded x t acquires block (flowed.rest_is channel.A ∙ whole)
     (flowed.requests x.source ∙ ap (λ (u : Use). is_requested c x.source (rest channel.A) u s) used ∙ ap (λ (v : View). not (is_unserved v)) idle)
-    (flowed.acquires n ∙ ap (λ (v : View). is_wanting ((s.block n).pair c).acquiring && not (is_unserved v)) idle ∙ never (is_wanting ((s.block n).pair c).acquiring))
+    (flowed.acquires n ∙ ap (λ (v : View). is_wanting ((s.block n).pair c).acquiring && not (is_unserved v)) idle ∙ and-false (is_wanting ((s.block n).pair c).acquiring))
     (flowed.releases n ∙ ap (is_let ((s.block n).release_source c) (rest channel.C)) kept)
     (held_as c n asked rest s t flowed (ap is_granting idle)) grows
 

@@ -6,13 +6,14 @@ use Rattle.tl_params.specs.declared.param.Cap.{Cap}
 use Rattle.tl_params.specs.declared.param.Grow.{Grow}
 use Rattle.tl_params.specs.declared.param.Prune.{Prune}
 use Rattle.tl_params.specs.declared.param.Report.{Report}
-use Rattle.tl_world.specs.Phase.{Pair, View, Idle, Own, Other, Granting, Acknowledging, GrantedOther, Probing, Quiet, Sent, Answered, is_quiet}
+use Rattle.tl_world.specs.Phase.{Pair, View, Idle, Own, Other, Granting, Acknowledging, GrantedOther, Probing, Sent, is_quiet}
 use Rattle.tl_world.specs.PhaseSteps.{after_acquire, after_release, is_above, after_served, after_grant_sent, after_probe, after_report, after_release_taken, after_grant, after_release_ack}
 use Rattle.tl_world.specs.Protocol.{Service, Free, Waits, GrantSent, GrantTaken, Block, view, is_granting, is_acknowledging, is_answered, is_wanting, is_unserved, acquiring_block, releasing_block, stored_block, performed_block, granted_at_once, served_block, served_pair, probed_block, reported_block, ended_block, granted_block, let_block, taken_block, let_go_block, freed_block}
 use Rattle.tl_world.specs.Sources.{cap_waited}
 use Rattle.tl_world.specs.Token.{set}
 use Rattle.tl_world.proofs.FlowAside.{IsSameBlock}
 use Rattle.tl_world.proofs.Tokens.{same_number, set-same, set-other}
+use Rattle.tl_world.proofs.BothParts.{quiet_unanswered}
 
 -- the service looks the same to the client's link
 pub record IsSameView (v v' : View) : Type 0 where
@@ -109,7 +110,7 @@ same-served {X} d r source tracker own k b other free quiet = record {
   letting = ap (λ (p : Pair). p.letting) pair;
   source = refl;
   acknowledging = sees.acknowledging;
-  answered = ap (λ (p : Pair). is_answered p.probing) pair ∙ nor_now (is_above k (b.pair d).recorded) (b.pair d).probing quiet ∙ sym (nor_then (b.pair d).probing quiet);
+  answered = ap (λ (p : Pair). is_answered p.probing) pair ∙ nor_now (is_above k (b.pair d).recorded) (b.pair d).probing quiet ∙ sym (quiet_unanswered (b.pair d).probing quiet);
   cap = λ e. absurd (let f : false ≡ true = sym (ap (λ (p : Pair). is_answered p.probing) pair ∙ nor_now (is_above k (b.pair d).recorded) (b.pair d).probing quiet) ∙ e in cc);
   tracker = inr (not_in (view b.service d) before);
 }
@@ -123,14 +124,9 @@ same-served {X} d r source tracker own k b other free quiet = record {
     pair : served_pair r own k b.pair d ≡ after_served k (b.pair d)
     pair = rw other refl
 
-    nor_then : (p : Probing) → is_quiet p ≡ true → is_answered p ≡ false
-    nor_then Quiet e = refl
-    nor_then (Sent j) e = absurd cc
-    nor_then (Answered j) e = absurd cc
-
     nor_now : (a : Bool) (p : Probing) → is_quiet p ≡ true → is_answered (if a then Sent k else p) ≡ false
     nor_now true p e = refl
-    nor_now false p e = nor_then p e
+    nor_now false p e = quiet_unanswered p e
 
 pub same-granted_at_once : {X : Type 0} (d r tracker : ℕ) (x : Bool) (k : Cap) (b : Block X) → (d ≡ r → ⊥) → b.service ≡ Free → is_answered (b.pair d).probing ≡ false → IsSameBlock d b (granted_at_once r tracker x k b)
 same-granted_at_once {X} d r tracker x k b ne free quiet =

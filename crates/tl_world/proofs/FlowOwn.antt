@@ -34,7 +34,7 @@ use Rattle.tl_world.proofs.ClientEnd.{asks-same}
 use Rattle.tl_world.proofs.Due.{IsGrantDue, grant-due, ack_message}
 use Rattle.tl_world.proofs.FlowAlone.{AreRests}
 use Rattle.tl_world.proofs.FlowAside.{flowed-asks}
-use Rattle.tl_world.proofs.FlowAsking.{rest_at, asks-left}
+use Rattle.tl_world.proofs.FlowAsking.{asks-left}
 use Rattle.tl_world.proofs.FlowBeats.{one-beat}
 use Rattle.tl_world.proofs.FlowGiven.{own-answer, own-release_ack, own-grant}
 use Rattle.tl_world.proofs.FlowKinds.{settled-request, settled-report}
@@ -46,8 +46,9 @@ use Rattle.tl_world.proofs.Fronts.{IsAsked, asked-first, IsWanted, wanted-first,
 use Rattle.tl_world.proofs.ProbeDelivered.{probe-beat}
 use Rattle.tl_world.proofs.RequestsTaken.{acquire_wanted}
 use Rattle.tl_world.proofs.Tokens.{set-same, set-part}
+use Rattle.tl_world.proofs.Popped.{unfinished_at}
 
-module _ {w : ℕ} (config : Config) (log : Log w) (h : Shadow w) (sys : System w) (c : ℕ) (width : IsWidth w) (is : IsMatched config log h.mail h.request h.state sys) (tracker : ℕ) (t : History w) (flowed : IsFlowed (asked_by h.mail h.state c) (rest_at sys c) c h.state t) (rest' : Channel → List (Beat w)) where
+module _ {w : ℕ} (config : Config) (log : Log w) (h : Shadow w) (sys : System w) (c : ℕ) (width : IsWidth w) (is : IsMatched config log h.mail h.request h.state sys) (tracker : ℕ) (t : History w) (flowed : IsFlowed (asked_by h.mail h.state c) (unfinished_at sys c) c h.state t) (rest' : Channel → List (Beat w)) where
   abbrev s : State (List ℕ)
   s = h.state
 
@@ -55,19 +56,19 @@ module _ {w : ℕ} (config : Config) (log : Log w) (h : Shadow w) (sys : System 
   abbrev pub FlowsWith : Beat w → Shadow w → Type 0
   FlowsWith x z = IsFlowed (asked_by z.mail z.state c) rest' c z.state (x ∷ t)
 
-  module _ (i : ℕ) (toks : List Token) (x : Beat w) (ms : List (Message w)) (queue : List (Beat w)) (rests : AreRests x (rest_at sys c) rest') where
+  module _ (i : ℕ) (toks : List Token) (x : Beat w) (ms : List (Message w)) (queue : List (Beat w)) (rests : AreRests x (unfinished_at sys c) rest') where
     -- after the beat, which was the last of its message or not
     abbrev Goes : Channel → Kind → Type 0
     Goes ch k =
-        tokens_on ch (h.state.link c) ≡ token k i ∷ toks → IsNext x (rest_at sys c ch) (message_of_kind k h.mail h.state c i) ms queue → (b : Bool) → completes x (rest_at sys c ch) ≡ b → (b ≡ true → IsReady tracker c k i h)
+        tokens_on ch (h.state.link c) ≡ token k i ∷ toks → IsNext x (unfinished_at sys c ch) (message_of_kind k h.mail h.state c i) ms queue → (b : Bool) → completes x (unfinished_at sys c ch) ≡ b → (b ≡ true → IsReady tracker c k i h)
         → FlowsWith x (if b then kind_taken config tracker c k i toks h else h)
 
     contrary : {A : Type 0} (b : Bool) → b ≡ true → b ≡ false → A
     contrary b e f = absurd (let no : true ≡ false = sym e ∙ f in cc)
 
     -- what of channel D's first message was delivered stays
-    d_same : (m : Message w) (k : ℕ) → x ≡ beat_of m k → on channel.D (beat_of m k) ≡ false → rest' channel.D ≡ rest_at sys c channel.D
-    d_same m k e off = rests channel.D ∙ ap (λ (z : Beat w). if on channel.D z then grown x (rest_at sys c channel.D) else rest_at sys c channel.D) e ∙ ap (λ (b : Bool). if b then grown x (rest_at sys c channel.D) else rest_at sys c channel.D) off
+    d_same : (m : Message w) (k : ℕ) → x ≡ beat_of m k → on channel.D (beat_of m k) ≡ false → rest' channel.D ≡ unfinished_at sys c channel.D
+    d_same m k e off = rests channel.D ∙ ap (λ (z : Beat w). if on channel.D z then grown x (unfinished_at sys c channel.D) else unfinished_at sys c channel.D) e ∙ ap (λ (b : Bool). if b then grown x (unfinished_at sys c channel.D) else unfinished_at sys c channel.D) off
 
     -- ---- channel A
 
@@ -77,10 +78,10 @@ module _ {w : ℕ} (config : Config) (log : Log w) (h : Shadow w) (sys : System 
         asked : IsAsked config c i h.mail s
         asked = asked-first config log h.mail h.request s sys c i toks is tokens
 
-        here : IsNext x (rest_at sys c channel.A) (message.A asked.request) ms queue
-        here = subst (λ (m : Message w). IsNext x (rest_at sys c channel.A) m ms queue) asked.is_it next
+        here : IsNext x (unfinished_at sys c channel.A) (message.A asked.request) ms queue
+        here = subst (λ (m : Message w). IsNext x (unfinished_at sys c channel.A) m ms queue) asked.is_it next
 
-        go : (z : Bool) → completes x (rest_at sys c channel.A) ≡ z → (z ≡ true → IsReady tracker c Request i h) → FlowsWith x (if z then kind_taken config tracker c Request i toks h else h)
+        go : (z : Bool) → completes x (unfinished_at sys c channel.A) ≡ z → (z ≡ true → IsReady tracker c Request i h) → FlowsWith x (if z then kind_taken config tracker c Request i toks h else h)
         go false e r = own-access config log h sys c is t flowed rest' i asked x ms queue here rests false e
         go true e r =
             let told = r refl in
@@ -100,11 +101,11 @@ module _ {w : ℕ} (config : Config) (log : Log w) (h : Shadow w) (sys : System 
         m : MessageA w
         m = acquire_wanted c i s wanted
 
-        here : IsNext x (rest_at sys c channel.A) (message.A m) ms queue
-        here = subst (λ (z : Message w). IsNext x (rest_at sys c channel.A) z ms queue) wanted.renders next
+        here : IsNext x (unfinished_at sys c channel.A) (message.A m) ms queue
+        here = subst (λ (z : Message w). IsNext x (unfinished_at sys c channel.A) z ms queue) wanted.renders next
 
-        one : completes x (rest_at sys c channel.A) ≡ true
-        one = (one-beat (message.A m) x (rest_at sys c channel.A) ms queue here (acquisition_beats w wanted.whole wanted.grow ((s.block i).source c) i)).2
+        one : completes x (unfinished_at sys c channel.A) ≡ true
+        one = (one-beat (message.A m) x (unfinished_at sys c channel.A) ms queue here (acquisition_beats w wanted.whole wanted.grow ((s.block i).source c) i)).2
 
         taken : IsReady tracker c Acquire i h → Leaves c h (acquire_taken (length config.clients.items) config.profile c i (Wants wanted.whole wanted.grow) tracker toks h) → FlowsWith x (acquire_taken (length config.clients.items) config.profile c i (Wants wanted.whole wanted.grow) tracker toks h)
         taken r = either (some_below (length config.clients.items) (λ d. is_probed c true (cap_asked (Wants wanted.whole wanted.grow)) ((s.block i).pair d).recorded d))
@@ -122,8 +123,8 @@ module _ {w : ℕ} (config : Config) (log : Log w) (h : Shadow w) (sys : System 
                 own-acquire_granted config log h sys c is t flowed rest' i wanted r.0 tracker r.1 (asked_by h.mail granted c) (asks-left c h (with_state granted h) l) (is_granted_data wanted.whole wanted.grow ((s.block i).pair c).recorded)
                 (gift config.profile wanted.whole wanted.grow (is_unheld (length config.clients.items) (s.block i).pair)) toks x ms queue here rests
 
-        go : (z : Bool) → completes x (rest_at sys c channel.A) ≡ z → (z ≡ true → IsReady tracker c Acquire i h) → FlowsWith x (if z then kind_taken config tracker c Acquire i toks h else h)
-        go false e r = contrary (completes x (rest_at sys c channel.A)) one e
+        go : (z : Bool) → completes x (unfinished_at sys c channel.A) ≡ z → (z ≡ true → IsReady tracker c Acquire i h) → FlowsWith x (if z then kind_taken config tracker c Acquire i toks h else h)
+        go false e r = contrary (completes x (unfinished_at sys c channel.A)) one e
         go true e r =
             subst (λ (a : Acquiring). FlowsWith x (acquire_taken (length config.clients.items) config.profile c i a tracker toks h)) (sym wanted.wants)
             (taken (r refl) (subst (λ (a : Acquiring). Leaves c h (acquire_taken (length config.clients.items) config.profile c i a tracker toks h)) wanted.wants (leaves-at_manager (is_caching config) config tracker c Acquire i toks h c refl is.invariant tokens)))
@@ -136,8 +137,8 @@ module _ {w : ℕ} (config : Config) (log : Log w) (h : Shadow w) (sys : System 
         k : Cap
         k = cap_sent ((s.block i).pair c).probing
 
-        one : completes x (rest_at sys c channel.B) ≡ true
-        one = ap (completes x) (is.kept c).b_whole ∙ ap (λ (z : Beat w). completes z []) (probe-beat c i s x (rest_at sys c channel.B) ms queue next)
+        one : completes x (unfinished_at sys c channel.B) ≡ true
+        one = ap (completes x) (is.kept c).b_whole ∙ ap (λ (z : Beat w). completes z []) (probe-beat c i s x (unfinished_at sys c channel.B) ms queue next)
 
         new : Block (List ℕ)
         new = probed_block c k (s.block i)
@@ -147,8 +148,8 @@ module _ {w : ℕ} (config : Config) (log : Log w) (h : Shadow w) (sys : System 
             (λ n used. set-part (λ (z : Block (List ℕ)). (z.pair c).acquiring) i new s.block (ap (λ (p : Pair). p.acquiring) (set-same c (after_probe k ((s.block i).pair c)) (s.block i).pair)) n)
             (λ n used. set-part (λ (z : Block (List ℕ)). z.source c) i new s.block refl n)
 
-        go : (z : Bool) → completes x (rest_at sys c channel.B) ≡ z → FlowsWith x (if z then kind_taken config tracker c Probe i toks h else h)
-        go false e = contrary (completes x (rest_at sys c channel.B)) one e
+        go : (z : Bool) → completes x (unfinished_at sys c channel.B) ≡ z → FlowsWith x (if z then kind_taken config tracker c Probe i toks h else h)
+        go false e = contrary (completes x (unfinished_at sys c channel.B)) one e
         go true e = own-probe config log h sys c is t flowed rest' toks i tokens x ms queue next rests (asked_by h.mail (probe_taken c i k toks s) c) asks
 
     -- ---- channel C
@@ -159,10 +160,10 @@ module _ {w : ℕ} (config : Config) (log : Log w) (h : Shadow w) (sys : System 
         about : (m : MessageC w) × (rendered ProbeAck c i (s.block i) ≡ message.C m)
         about = let told = report_rendered c i (s.block i) width (is.sized i).truth in (told.0, told.1)
 
-        here : IsNext x (rest_at sys c channel.C) (message.C about.0) ms queue
-        here = subst (λ (m : Message w). IsNext x (rest_at sys c channel.C) m ms queue) about.1 next
+        here : IsNext x (unfinished_at sys c channel.C) (message.C about.0) ms queue
+        here = subst (λ (m : Message w). IsNext x (unfinished_at sys c channel.C) m ms queue) about.1 next
 
-        go : (z : Bool) → completes x (rest_at sys c channel.C) ≡ z → FlowsWith x (if z then kind_taken config tracker c ProbeAck i toks h else h)
+        go : (z : Bool) → completes x (unfinished_at sys c channel.C) ≡ z → FlowsWith x (if z then kind_taken config tracker c ProbeAck i toks h else h)
         go false e = own-report config log h sys c width is t flowed rest' i toks tokens x ms queue next rests false e
         go true e =
             settled-report config log h sys c is tracker c rest' (d_same (message.C about.0) here.k here.beat_is refl) (x ∷ t) i toks tokens (leaves-at_manager (is_caching config) config tracker c ProbeAck i toks h c refl is.invariant tokens)
@@ -174,7 +175,7 @@ module _ {w : ℕ} (config : Config) (log : Log w) (h : Shadow w) (sys : System 
         after : State (List ℕ)
         after = release_taken c i (prune_told ((s.block i).pair c).letting) toks s
 
-        go : (z : Bool) → completes x (rest_at sys c channel.C) ≡ z → FlowsWith x (if z then kind_taken config tracker c Release i toks h else h)
+        go : (z : Bool) → completes x (unfinished_at sys c channel.C) ≡ z → FlowsWith x (if z then kind_taken config tracker c Release i toks h else h)
         go false e = own-release config log h sys c width is t flowed rest' i toks tokens x ms queue next rests false e
         go true e =
             flowed-asks (asked_by h.mail s c) (asked_by h.mail after c) rest' c after (x ∷ t) (asks-left c h (with_state after h) (leaves-at_manager (is_caching config) config tracker c Release i toks h c refl is.invariant tokens))
@@ -185,7 +186,7 @@ module _ {w : ℕ} (config : Config) (log : Log w) (h : Shadow w) (sys : System 
     goes-answer : Goes channel.D Answer
     goes-answer tokens next b last ready = go b last
       where
-        go : (z : Bool) → completes x (rest_at sys c channel.D) ≡ z → FlowsWith x (if z then kind_taken config tracker c Answer i toks h else h)
+        go : (z : Bool) → completes x (unfinished_at sys c channel.D) ≡ z → FlowsWith x (if z then kind_taken config tracker c Answer i toks h else h)
         go false e = own-answer config log h sys c is t flowed rest' toks i tokens x ms queue next rests false e
         go true e = own-answer config log h sys c is t flowed rest' toks i tokens x ms queue next rests true e
 
@@ -195,7 +196,7 @@ module _ {w : ℕ} (config : Config) (log : Log w) (h : Shadow w) (sys : System 
         due : IsGrantDue c i s
         due = grant-due (is_caching config) c i toks s is.invariant tokens
 
-        go : (z : Bool) → completes x (rest_at sys c channel.D) ≡ z → FlowsWith x (if z then kind_taken config tracker c Grant i toks h else h)
+        go : (z : Bool) → completes x (unfinished_at sys c channel.D) ≡ z → FlowsWith x (if z then kind_taken config tracker c Grant i toks h else h)
         go false e = own-grant config log h sys c is t flowed rest' toks i tokens due (is_whole ((s.block i).pair c).acquiring) x ms queue next rests false e
         go true e =
             subst (λ (q : Service). FlowsWith x (taken_by_client c i q toks h)) (sym due.service) (own-grant config log h sys c is t flowed rest' toks i tokens due (is_whole ((s.block i).pair c).acquiring) x ms queue next rests true e)
@@ -203,8 +204,8 @@ module _ {w : ℕ} (config : Config) (log : Log w) (h : Shadow w) (sys : System 
     goes-release_ack : Goes channel.D ReleaseAck
     goes-release_ack tokens next b last ready = go b last
       where
-        one : completes x (rest_at sys c channel.D) ≡ true
-        one = (one-beat (message.D (ack_message ((s.block i).release_source c))) x (rest_at sys c channel.D) ms queue (ack_next c i s x (rest_at sys c channel.D) ms queue next) refl).2
+        one : completes x (unfinished_at sys c channel.D) ≡ true
+        one = (one-beat (message.D (ack_message ((s.block i).release_source c))) x (unfinished_at sys c channel.D) ms queue (ack_next c i s x (unfinished_at sys c channel.D) ms queue next) refl).2
 
         new : Block (List ℕ)
         new = let_go_block c (s.block i)
@@ -214,8 +215,8 @@ module _ {w : ℕ} (config : Config) (log : Log w) (h : Shadow w) (sys : System 
             (λ n used. set-part (λ (z : Block (List ℕ)). (z.pair c).acquiring) i new s.block (ap (λ (p : Pair). p.acquiring) (set-same c (after_release_ack ((s.block i).pair c)) (s.block i).pair)) n)
             (λ n used. set-part (λ (z : Block (List ℕ)). z.source c) i new s.block refl n)
 
-        go : (z : Bool) → completes x (rest_at sys c channel.D) ≡ z → FlowsWith x (if z then kind_taken config tracker c ReleaseAck i toks h else h)
-        go false e = contrary (completes x (rest_at sys c channel.D)) one e
+        go : (z : Bool) → completes x (unfinished_at sys c channel.D) ≡ z → FlowsWith x (if z then kind_taken config tracker c ReleaseAck i toks h else h)
+        go false e = contrary (completes x (unfinished_at sys c channel.D)) one e
         go true e = own-release_ack config log h sys c is t flowed rest' toks i tokens x ms queue next rests (asked_by h.mail (release_ack_taken c i toks s) c) asks
 
     -- ---- channel E
@@ -226,11 +227,11 @@ module _ {w : ℕ} (config : Config) (log : Log w) (h : Shadow w) (sys : System 
         m : MessageE
         m = record { sink = (s.block i).tracker }
 
-        one : completes x (rest_at sys c channel.E) ≡ true
-        one = (one-beat (message.E m) x (rest_at sys c channel.E) ms queue (subst (λ (z : Message w). IsNext x (rest_at sys c channel.E) z ms queue) (ack_rendered c i (s.block i)) next) refl).2
+        one : completes x (unfinished_at sys c channel.E) ≡ true
+        one = (one-beat (message.E m) x (unfinished_at sys c channel.E) ms queue (subst (λ (z : Message w). IsNext x (unfinished_at sys c channel.E) z ms queue) (ack_rendered c i (s.block i)) next) refl).2
 
-        go : (z : Bool) → completes x (rest_at sys c channel.E) ≡ z → FlowsWith x (if z then kind_taken config tracker c GrantAck i toks h else h)
-        go false e = contrary (completes x (rest_at sys c channel.E)) one e
+        go : (z : Bool) → completes x (unfinished_at sys c channel.E) ≡ z → FlowsWith x (if z then kind_taken config tracker c GrantAck i toks h else h)
+        go false e = contrary (completes x (unfinished_at sys c channel.E)) one e
         go true e =
             let after = kind_taken config tracker c GrantAck i toks h in
             own-grant_ack config log h sys c width is t flowed rest' i toks tokens x ms queue next rests (asked_by after.mail after.state c)

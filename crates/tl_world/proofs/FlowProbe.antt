@@ -11,7 +11,8 @@ use Rattle.tl_beat.specs.declared.opcode.Channel.TheVariants as channel
 use Rattle.tl_burst.specs.Messages.{History}
 use Rattle.tl_params.specs.declared.param.Cap.{Cap}
 use Rattle.tl_rules.specs.Conformance.{comes_in_grant}
-use Rattle.tl_rules.specs.History.{begins, ends, block_at, is_probe, request_of, release_of, probe_of, grant_sink}
+use Rattle.tl_rules.specs.History.{begins, ends, block_at, is_probe, release_of, probe_of, grant_sink}
+use Rattle.tl_client.proofs.Opens.{request_of-b}
 use Rattle.tl_world.specs.Flowed.{IsFlowed, is_requested, is_let, is_let_by, is_sunk}
 use Rattle.tl_world.specs.Known.{comes_granting}
 use Rattle.tl_world.specs.Phase.{View, Other, Pair}
@@ -22,16 +23,12 @@ use Rattle.tl_world.specs.Sources.{cap_waited}
 use Rattle.tl_world.specs.Token.{Token, set}
 use Rattle.tl_world.proofs.FlowAlone.{AreRests}
 use Rattle.tl_world.proofs.FlowAside.{requested-blocks, let_by-same}
-use Rattle.tl_world.proofs.FlowStep.{flowed-next, held_by, acquired_by, let_of, granted_by, step}
+use Rattle.tl_world.proofs.FlowStep.{flowed-next, held_by, acquired_by, let_of, granted_by, step, whole_opened, whole_unopened}
 use Rattle.tl_world.proofs.Tokens.{same_number, set-same, set-each, set-part}
 
 released-of : {w : ℕ} (i : ℕ) (y : BeatB w) (t : History w) → release_of i (beat.B y ∷ t) ≡ release_of i t
 unfolding release_of
 released-of i y t = refl
-
-requested-of : {w : ℕ} (i : ℕ) (y : BeatB w) (t : History w) → request_of i (beat.B y ∷ t) ≡ request_of i t
-unfolding request_of
-requested-of i y t = refl
 
 sunk-of : {w : ℕ} (n : ℕ) (y : BeatB w) (t : History w) → grant_sink n (beat.B y ∷ t) ≡ grant_sink n t
 unfolding grant_sink
@@ -58,7 +55,7 @@ flowed-probe {w} {X} c n k toks asked asked' rest rest' s t first last rests ask
           (ap (λ (v : View). if is_granting v then (new.pair c).held else (new.pair c).recorded) seen ∙ part_of (λ (p : Pair). p.recorded) c (after_probe k (b.pair c)) b.pair refl
           ∙ sym (ap (λ (v : View). if is_granting v then (b.pair c).held else (b.pair c).recorded) seen));
       requests = requests;
-      asked_is = λ i e. requested-of i y t ∙ before.asked_is i (before.requests i ∙ sym (requests i) ∙ e) ∙ sym (asks i);
+      asked_is = λ i e. request_of-b i y t ∙ before.asked_is i (before.requests i ∙ sym (requests i) ∙ e) ∙ sym (asks i);
       acquires = set-part (acquired_by c) n new s.block (ap (λ (z : Bool). z && not (is_unserved (view b.service c))) (part_of (λ (p : Pair). is_wanting p.acquiring) c (after_probe k (b.pair c)) b.pair refl));
       release_sources = lets;
       released = λ i m e f. ap (option_map (λ z. block_at z.address)) (released-of i y t) ∙ before.released i m e (before.release_sources i ∙ sym (lets i) ∙ f);
@@ -67,8 +64,8 @@ flowed-probe {w} {X} c n k toks asked asked' rest rest' s t first last rests ask
       sinks = λ i. ap (λ (r : List (Beat w)). is_sunk c i r (s.tracked i) s') (rests channel.D) ∙ sunk_same i (s.tracked i);
       grants = grants;
       probes = set-each (λ m z. is_answered (z.pair c).probing ≡ step true true (block_at (64 * n) == m) false (is_answered ((s.block m).pair c).probing)) n new s.block
-          (part_true ∙ sym (opened (block_at (64 * n) == n) (is_answered (b.pair c).probing) (rw at (same_number n))))
-          (λ m ne. sym (unopened (block_at (64 * n) == m) (is_answered ((s.block m).pair c).probing) (rw at (ne_eqb n m (λ e. ne (sym e))))));
+          (part_true ∙ sym (whole_opened (block_at (64 * n) == n) (is_answered (b.pair c).probing) (rw at (same_number n))))
+          (λ m ne. sym (whole_unopened (block_at (64 * n) == m) (is_answered ((s.block m).pair c).probing) (rw at (ne_eqb n m (λ e. ne (sym e))))));
       probed = λ m e. probed-of m y t first ∙ probed m e;
       sunk = λ m e. sunk-of m y t ∙ before.sunk m (before.grants m ∙ sym (grants m) ∙ e) ∙ ap Some (sym (set-part (λ (z : Block X). z.tracker) n new s.block refl m));
     }) before
@@ -90,12 +87,6 @@ flowed-probe {w} {X} c n k toks asked asked' rest rest' s t first last rests ask
 
     part_true : is_answered (new.pair c).probing ≡ true
     part_true = ap (λ (p : Pair). is_answered p.probing) (set-same c (after_probe k (b.pair c)) b.pair)
-
-    opened : (o p : Bool) → o ≡ true → step true true o false p ≡ true
-    opened o p e = rw e refl
-
-    unopened : (o p : Bool) → o ≡ false → step true true o false p ≡ p
-    unopened o p e = rw e refl
 
     requests : (i : ℕ) → is_requested c i (rest' channel.A) (s'.uses c i) s' ≡ is_requested c i (rest channel.A) (s.uses c i) s
     requests i =

@@ -26,12 +26,12 @@ use Rattle.tl_world.specs.Whole.{IsMatched, asked_by}
 use Rattle.tl_world.proofs.Carried.{IsNext}
 use Rattle.tl_world.proofs.FlowAlone.{AreRests}
 use Rattle.tl_world.proofs.FlowAside.{comes-same}
-use Rattle.tl_world.proofs.FlowAsking.{rest_at}
 use Rattle.tl_world.proofs.FlowProbe.{flowed-probe}
-use Rattle.tl_world.proofs.FollowKept.{sent-is}
 use Rattle.tl_world.proofs.Phases.{and_left}
 use Rattle.tl_world.proofs.ProbeDelivered.{probe-beat}
 use Rattle.tl_world.proofs.Tokens.{holds-first}
+use Rattle.tl_world.proofs.BothParts.{sent-is}
+use Rattle.tl_world.proofs.Popped.{unfinished_at}
 
 -- ---- who is probed
 
@@ -79,7 +79,7 @@ waited_as k (GrantTaken r) c e = absurd (go (c == r) e)
     go true f = cc
     go false f = cc
 
-module _ {w : ℕ} (config : Config) (log : Log w) (h : Shadow w) (sys : System w) (c : ℕ) (is : IsMatched config log h.mail h.request h.state sys) (t : History w) (flowed : IsFlowed (asked_by h.mail h.state c) (rest_at sys c) c h.state t) (rest' : Channel → List (Beat w)) (toks : List Token) where
+module _ {w : ℕ} (config : Config) (log : Log w) (h : Shadow w) (sys : System w) (c : ℕ) (is : IsMatched config log h.mail h.request h.state sys) (t : History w) (flowed : IsFlowed (asked_by h.mail h.state c) (unfinished_at sys c) c h.state t) (rest' : Channel → List (Beat w)) (toks : List Token) where
   abbrev s : State (List ℕ)
   s = h.state
 
@@ -88,20 +88,20 @@ module _ {w : ℕ} (config : Config) (log : Log w) (h : Shadow w) (sys : System 
 
   -- ---- a Probe
 
-  pub own-probe : (n : ℕ) → (s.link c).b ≡ token Probe n ∷ toks → (x : Beat w) (ms : List (Message w)) (queue : List (Beat w)) → IsNext x (rest_at sys c channel.B) (rendered Probe c n (s.block n)) ms queue → AreRests x (rest_at sys c) rest'
+  pub own-probe : (n : ℕ) → (s.link c).b ≡ token Probe n ∷ toks → (x : Beat w) (ms : List (Message w)) (queue : List (Beat w)) → IsNext x (unfinished_at sys c channel.B) (rendered Probe c n (s.block n)) ms queue → AreRests x (unfinished_at sys c) rest'
       → (asked' : ℕ → Option (BeatA w)) → ((i : ℕ) → asked' i ≡ before i) → IsFlowed asked' rest' c (probe_taken c n (cap_sent ((s.block n).pair c).probing) toks s) (x ∷ t)
   own-probe n tokens x ms queue next rests asked' asks =
       subst (λ (z : Beat w). IsFlowed asked' rest' c (probe_taken c n k toks s) (z ∷ t)) (sym x_is)
-      (flowed-probe c n k toks before asked' (rest_at sys c) rest' s t (ap is_empty (flowed.rest_is channel.B ∙ whole)) (ap (completes {w = w} (beat.B (probe_beat n k))) (flowed.rest_is channel.B ∙ whole)) (subst (λ (z : Beat w). AreRests z (rest_at sys c) rest') x_is rests) asks
-      (same_block n) seen (waited_as k (s.block n).service c seen) (λ m. comes-same m before asked' (rest_at sys c channel.D) asks) flowed)
+      (flowed-probe c n k toks before asked' (unfinished_at sys c) rest' s t (ap is_empty (flowed.rest_is channel.B ∙ whole)) (ap (completes {w = w} (beat.B (probe_beat n k))) (flowed.rest_is channel.B ∙ whole)) (subst (λ (z : Beat w). AreRests z (unfinished_at sys c) rest') x_is rests) asks
+      (same_block n) seen (waited_as k (s.block n).service c seen) (λ m. comes-same m before asked' (unfinished_at sys c channel.D) asks) flowed)
     where
       k : Cap
       k = cap_sent ((s.block n).pair c).probing
 
       x_is : x ≡ beat.B (probe_beat n k)
-      x_is = probe-beat c n s x (rest_at sys c channel.B) ms queue next
+      x_is = probe-beat c n s x (unfinished_at sys c channel.B) ms queue next
 
-      whole : rest_at sys c channel.B ≡ []
+      whole : unfinished_at sys c channel.B ≡ []
       whole = (is.kept c).b_whole
 
       seen : view (s.block n).service c ≡ Other k

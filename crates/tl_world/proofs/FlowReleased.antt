@@ -1,7 +1,7 @@
 -- What is delivered on a link, as the beats of a Release are.
 use Rattle.std.proofs.Common.{◌≡◌, ℕ, Bool, true, false, not, ◌&&◌, ◌||◌, ◌∷◌, Option, Some, None, refl, sym, ◌∙◌, ap, List, ◌⊎◌, inl, inr}
 use Rattle.std.specs.Prelude.{◌==◌, if◌then◌else◌, option_map}
-use Rattle.std.proofs.lemmas.Bool.{cases_eq, ne_eqb, eqb-true}
+use Rattle.std.proofs.lemmas.Bool.{cases_eq, ne_eqb, and_right}
 use Rattle.tl_beat.specs.declared.beat.Beat.{Beat}
 use Rattle.tl_beat.specs.declared.beat.Beat.TheVariants as beat
 use Rattle.tl_beat.specs.declared.beat.BeatA.{BeatA}
@@ -24,10 +24,12 @@ use Rattle.tl_world.specs.Render.{probe_beat}
 use Rattle.tl_world.specs.Sources.{cap_waited}
 use Rattle.tl_world.proofs.FlowAlone.{AreRests}
 use Rattle.tl_world.proofs.FlowAside.{requested-blocks}
-use Rattle.tl_world.proofs.FlowReport.{requested-of, probed-of, sunk-of}
+use Rattle.tl_world.proofs.FlowReport.{sunk-of}
 use Rattle.tl_world.proofs.FlowReported.{unsaid}
 use Rattle.tl_world.proofs.FlowStep.{flowed-next, held_by, acquired_by, let_of, granted_by, step, step_quiet}
 use Rattle.tl_world.proofs.Tokens.{same_number}
+use Rattle.tl_world.proofs.BothParts.{is_of-is}
+use Rattle.tl_world.proofs.Unsaid.{request_of-c, probe_of-c}
 
 -- ---- another value of one block
 
@@ -102,14 +104,6 @@ pub with_true : (p q : Bool) → q ≡ true → (p && q) ≡ p
 with_true true q e = e
 with_true false q e = refl
 
-pub with_false : (p q : Bool) → q ≡ false → (p && q) ≡ false
-with_false true q e = e
-with_false false q e = refl
-
-pub is_same : (n : ℕ) (o : Option ℕ) → is_of n o ≡ true → o ≡ Some n
-is_same n None e = absurd cc
-is_same n (Some m) e = ap Some (sym (eqb-true n m e))
-
 let_other : {w : ℕ} (i : ℕ) (rest rest' : List (Beat w)) (l : Letting) → (is_kept l ≡ false → comes_in_release i rest' ≡ comes_in_release i rest) → is_let i rest' l ≡ is_let i rest l
 let_other i rest rest' Kept h = refl
 let_other i rest rest' (Releasing r) h = h refl
@@ -147,7 +141,7 @@ flowed-release {w} {X} c n r y first last asked rest rest' s s' t first_is last_
           (is.held_is ∙ ap (λ (q : Perm). if last then q else held_by c b) (sym is.says) ∙ sym (said last (is_probe_ack y.opcode) (is_release y.opcode) (block_at y.address == n) (reported y.param) (held_by c b) is.release here_at))
           (λ m ne. sym (unsaid_any last (is_probe_ack y.opcode) (is_release y.opcode) (block_at y.address == m) (reported y.param) (held_by c (s.block m)) (apart m ne)));
       requests = λ i. requests i ∙ sym (step_quiet first last (is_requested c i (rest channel.A) (s.uses c i) s));
-      asked_is = λ i e. requested-of i y t ∙ before.asked_is i (before.requests i ∙ sym (requests i) ∙ e);
+      asked_is = λ i e. request_of-c i y t ∙ before.asked_is i (before.requests i ∙ sym (requests i) ∙ e);
       acquires = λ m. acquires m ∙ sym (step_quiet first last (acquired_by c (s.block m)));
       release_sources = lets;
       released = λ i m e f. released i m (sym (is.lets i) ∙ e) f (cases_eq i y.source);
@@ -159,7 +153,7 @@ flowed-release {w} {X} c n r y first last asked rest rest' s s' t first_is last_
       sinks = λ i. sinks i ∙ sym (step_quiet first last (is_sunk c i (rest channel.D) (s.tracked i) s));
       grants = λ m. grants m ∙ sym (step_quiet first last (granted_by c m asked (rest channel.D) (s.block m)));
       probes = λ m. answered m ∙ sym (not_closed m);
-      probed = λ m e. probed-of m y t ∙ before.probed m (sym (answered m) ∙ e) ∙ sym (ap (λ k. Some (probe_beat m k)) (part-block (λ (z : Block X). cap_waited z.service) n s s' is.elsewhere (ap cap_waited is.service) m));
+      probed = λ m e. probe_of-c m y t ∙ before.probed m (sym (answered m) ∙ e) ∙ sym (ap (λ k. Some (probe_beat m k)) (part-block (λ (z : Block X). cap_waited z.service) n s s' is.elsewhere (ap cap_waited is.service) m));
       sunk = λ m e. sunk-of m y t ∙ before.sunk m (before.grants m ∙ sym (grants m) ∙ e) ∙ ap Some (sym (part-block (λ (z : Block X). z.tracker) n s s' is.elsewhere is.tracker m));
     }) before
   where
@@ -180,7 +174,7 @@ flowed-release {w} {X} c n r y first last asked rest rest' s s' t first_is last_
 
     -- the source is that of the block's Release, and of no other
     of_block : (i : ℕ) → i ≡ y.source → s.lets c i ≡ Some n
-    of_block i e = is_same n (s.lets c i) (named i n ∙ rw (is.letting, e, is.source) (same_number (b.release_source c)))
+    of_block i e = is_of-is n (s.lets c i) (named i n ∙ rw (is.letting, e, is.source) (same_number (b.release_source c)))
 
     of_no_block : (i : ℕ) → (i ≡ y.source → ⊥) → is_of n (s.lets c i) ≡ false
     of_no_block i ne = named i n ∙ rw is.letting (ne_eqb i (b.release_source c) (λ e. ne (e ∙ sym is.source)))
@@ -189,10 +183,10 @@ flowed-release {w} {X} c n r y first last asked rest rest' s s' t first_is last_
     another i ne = ne_eqb y.source i (λ e. ne (sym e))
 
     comes_other : (i : ℕ) → (i ≡ y.source → ⊥) → comes_in_release i (rest' channel.C) ≡ comes_in_release i (rest channel.C)
-    comes_other i ne = is.comes i ∙ with_false (not last) (y.source == i) (another i ne) ∙ sym (is.came i ∙ with_false (not first) (y.source == i) (another i ne))
+    comes_other i ne = is.comes i ∙ and_right (not last) (y.source == i) (another i ne) ∙ sym (is.came i ∙ and_right (not first) (y.source == i) (another i ne))
 
     open_other : (m : ℕ) → (m ≡ n → ⊥) → (i : ℕ) → i ≡ (s.block m).release_source c → is_kept ((s.block m).pair c).letting ≡ false → i ≡ y.source → ⊥
-    open_other m ne i at begun same = ne (both_some m n (s.lets c i) (is_same m (s.lets c i) (named i m ∙ rw (begun, at) (same_number ((s.block m).release_source c)))) (of_block i same))
+    open_other m ne i at begun same = ne (both_some m n (s.lets c i) (is_of-is m (s.lets c i) (named i m ∙ rw (begun, at) (same_number ((s.block m).release_source c)))) (of_block i same))
 
     let_rest : (m : ℕ) → (m ≡ n → ⊥) → let_of c (rest' channel.C) (s.block m) ≡ let_of c (rest channel.C) (s.block m)
     let_rest m ne =

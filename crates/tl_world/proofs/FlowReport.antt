@@ -15,6 +15,7 @@ use Rattle.tl_world.specs.Phase.{Letting, Kept, Releasing, Acked}
 use Rattle.tl_world.specs.Protocol.{State, view, is_answered, is_wanting, is_unserved}
 use Rattle.tl_world.proofs.FlowAlone.{AreRests}
 use Rattle.tl_world.proofs.FlowStep.{flowed-next, let_of, granted_by, step, step_quiet}
+use Rattle.tl_world.proofs.Unsaid.{request_of-c, probe_of-c}
 
 pub released-of : {w : ℕ} (i : ℕ) (y : BeatC w) (t : History w) → is_release y.opcode ≡ false → release_of i (beat.C y ∷ t) ≡ release_of i t
 unfolding release_of
@@ -23,14 +24,6 @@ released-of {w} i y t e = go (begins (beat.C y) t) (is_release y.opcode) e
     go : (b r : Bool) → r ≡ false → (if b && (r && (y.source == i)) then Some y else release_of i t) ≡ release_of i t
     go true r f = rw f refl
     go false r f = refl
-
-pub requested-of : {w : ℕ} (i : ℕ) (y : BeatC w) (t : History w) → request_of i (beat.C y ∷ t) ≡ request_of i t
-unfolding request_of
-requested-of i y t = refl
-
-pub probed-of : {w : ℕ} (n : ℕ) (y : BeatC w) (t : History w) → probe_of n (beat.C y ∷ t) ≡ probe_of n t
-unfolding probe_of
-probed-of n y t = refl
 
 pub sunk-of : {w : ℕ} (n : ℕ) (y : BeatC w) (t : History w) → grant_sink n (beat.C y ∷ t) ≡ grant_sink n t
 unfolding grant_sink
@@ -63,7 +56,7 @@ flowed-report_part {w} {X} c y first asked rest rest' s t first_is last_is rests
       rests = rests;
       held_is = λ n. refl;
       requests = λ i. requests i ∙ sym (step_quiet first false (is_requested c i (rest channel.A) (s.uses c i) s));
-      asked_is = λ i e. requested-of i y t ∙ before.asked_is i (before.requests i ∙ sym (requests i) ∙ e);
+      asked_is = λ i e. request_of-c i y t ∙ before.asked_is i (before.requests i ∙ sym (requests i) ∙ e);
       acquires = λ n. sym (step_quiet first false (is_wanting ((s.block n).pair c).acquiring && not (is_unserved (view (s.block n).service c))));
       release_sources = λ i. lets i ∙ sym (unopened first false (is_release y.opcode) (y.source == i) (is_let_by c i (rest channel.C) (s.lets c i) s) other);
       released = λ i m e f. ap (option_map (λ z. block_at z.address)) (released-of i y t other) ∙ before.released i m e (before.release_sources i ∙ sym (lets i) ∙ f);
@@ -72,7 +65,7 @@ flowed-report_part {w} {X} c y first asked rest rest' s t first_is last_is rests
       sinks = λ i. ap (λ (r : List (Beat w)). is_sunk c i r (s.tracked i) s) (rests channel.D) ∙ sym (step_quiet first false (is_sunk c i (rest channel.D) (s.tracked i) s));
       grants = λ n. grants n ∙ sym (step_quiet first false (granted_by c n asked (rest channel.D) (s.block n)));
       probes = λ n. sym (unclosed first (is_probe_ack y.opcode && (block_at y.address == n)) (is_answered ((s.block n).pair c).probing));
-      probed = λ n e. probed-of n y t ∙ before.probed n e;
+      probed = λ n e. probe_of-c n y t ∙ before.probed n e;
       sunk = λ n e. sunk-of n y t ∙ before.sunk n (before.grants n ∙ sym (grants n) ∙ e);
     }) before
   where

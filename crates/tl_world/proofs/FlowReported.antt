@@ -24,9 +24,10 @@ use Rattle.tl_world.specs.Token.{Token}
 use Rattle.tl_world.proofs.FlowAlone.{AreRests}
 use Rattle.tl_world.proofs.FlowAside.{requested-blocks, let_by-same}
 use Rattle.tl_world.proofs.FlowProbe.{part_of}
-use Rattle.tl_world.proofs.FlowReport.{released-of, requested-of, probed-of, sunk-of, let_rest, let_by_rest, unopened}
+use Rattle.tl_world.proofs.FlowReport.{released-of, sunk-of, let_rest, let_by_rest, unopened}
 use Rattle.tl_world.proofs.FlowStep.{flowed-next, held_by, acquired_by, let_of, granted_by, step, step_quiet}
 use Rattle.tl_world.proofs.Tokens.{same_number, set-same, set-each, set-part}
+use Rattle.tl_world.proofs.Unsaid.{request_of-c, probe_of-c}
 
 closed : (first ack here p : Bool) → ack ≡ true → here ≡ true → step first true false (ack && here) p ≡ false
 closed true ack here p e f = rw (e, f) refl
@@ -60,7 +61,7 @@ flowed-report {w} {X} c n r toks y first asked rest rest' s t first_is last_is r
           (ap (λ (g : Bool). if g then (new.pair c).held else (new.pair c).recorded) alone ∙ recorded ∙ sym says ∙ sym (said (is_probe_ack y.opcode) (is_release y.opcode) (block_at y.address == n) (reported y.param) (held_by c b) ack (rw at (same_number n))))
           (λ m ne. sym (unsaid (is_probe_ack y.opcode) (is_release y.opcode) (block_at y.address == m) (reported y.param) (held_by c (s.block m)) (apart m ne)));
       requests = λ i. requests i ∙ sym (step_quiet first true (is_requested c i (rest channel.A) (s.uses c i) s));
-      asked_is = λ i e. requested-of i y t ∙ before.asked_is i (before.requests i ∙ sym (requests i) ∙ e);
+      asked_is = λ i e. request_of-c i y t ∙ before.asked_is i (before.requests i ∙ sym (requests i) ∙ e);
       acquires = λ m. acquires m ∙ sym (step_quiet first true (acquired_by c (s.block m)));
       release_sources = λ i. lets i ∙ sym (unopened first true (is_release y.opcode) (y.source == i) (is_let_by c i (rest channel.C) (s.lets c i) s) other);
       released = λ i m e f. ap (option_map (λ z. block_at z.address)) (released-of i y t other) ∙ before.released i m e (before.release_sources i ∙ sym (lets i) ∙ f);
@@ -71,7 +72,7 @@ flowed-report {w} {X} c n r toks y first asked rest rest' s t first_is last_is r
       probes = set-each (λ m z. is_answered (z.pair c).probing ≡ step first true false (is_probe_ack y.opcode && (block_at y.address == m)) (is_answered ((s.block m).pair c).probing)) n new s.block
           (quiet ∙ sym (closed first (is_probe_ack y.opcode) (block_at y.address == n) (is_answered (b.pair c).probing) ack (rw at (same_number n))))
           (λ m ne. sym (elsewhere first (is_probe_ack y.opcode) (block_at y.address == m) (is_answered ((s.block m).pair c).probing) (apart m ne)));
-      probed = λ m e. probed-of m y t ∙ probed m e;
+      probed = λ m e. probe_of-c m y t ∙ probed m e;
       sunk = λ m e. sunk-of m y t ∙ before.sunk m (before.grants m ∙ sym (grants m) ∙ e) ∙ ap Some (sym (set-part (λ (z : Block X). z.tracker) n new s.block refl m));
     }) before
   where

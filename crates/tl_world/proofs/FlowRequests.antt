@@ -17,12 +17,13 @@ use Rattle.tl_rules.specs.History.{block_at, ends}
 use Rattle.tl_rules.specs.Legality.{illegal}
 use Rattle.tl_rules.proofs.Sent.{is_last}
 use Rattle.std.proofs.lemmas.Bool.{or_parts}
+use Rattle.tl_client.proofs.HeldAfter.{same_block}
 use Rattle.tl_manager.specs.Service.{services, is_in_service}
 use Rattle.tl_manager.specs.Slave.{level_of, must_wait}
 use Rattle.tl_world.specs.Flow.{flow}
 use Rattle.tl_world.specs.Log.{Log}
 use Rattle.tl_world.specs.Matched.{receiver}
-use Rattle.tl_world.specs.Phase.{Pair, Idle, Letting, Kept, Releasing, Acked, is_kept, is_quiet, ok}
+use Rattle.tl_world.specs.Phase.{Pair, Idle, is_kept, is_quiet, ok}
 use Rattle.tl_world.specs.Protocol.{Free, State, token, view, is_on}
 use Rattle.tl_world.specs.Render.{Mail, message_of, message_of_kind}
 use Rattle.tl_world.specs.System.{System}
@@ -34,10 +35,12 @@ use Rattle.tl_world.proofs.Facts.{acquire_fits, asked_alone}
 use Rattle.tl_world.proofs.FirstToken.{IsFirst, first-token}
 use Rattle.tl_world.proofs.FlowLawful.{lawful-beat, next-flows}
 use Rattle.tl_world.proofs.FlowOrders.{acquire-flows, request-flows}
-use Rattle.tl_world.proofs.Fronts.{acquires-so, IsAsked, asked-first, IsWanted, wanted-first, acquisition_beats}
+use Rattle.tl_world.proofs.Fronts.{IsAsked, asked-first, IsWanted, wanted-first, acquisition_beats}
 use Rattle.tl_world.proofs.Phases.{and_left, and_right}
 use Rattle.tl_world.proofs.RequestsDelivered.{ends-burst}
-use Rattle.tl_world.proofs.RequestsTaken.{acquire_wanted, acquire_block}
+use Rattle.tl_world.proofs.RequestsTaken.{acquire_wanted}
+use Rattle.tl_world.proofs.BothParts.{kept-is}
+use Rattle.tl_world.proofs.Codes.{acquires-so}
 
 access-lawful : {w : ℕ} (config : Config) (log : Log w) (mail : Mail w) (request : ℕ → MessageA w) (s : State (List ℕ)) (sys : System w) (c source : ℕ) (l : Level) (x : Beat w) (ms : List (Message w)) (queue : List (Beat w))
     → IsMatched config log mail request s sys → AreFlowed log mail s sys → illegal l (channel_of x) x ≡ None → IsAsked config c source mail s → IsNext x (unfinished channel.A (on_link c sys.manager.trace)) (mail.request c source) ms queue
@@ -54,8 +57,8 @@ acquire-lawful : {w : ℕ} (config : Config) (log : Log w) (mail : Mail w) (requ
     → must_wait config (record { 0 = c }) x sys.manager.trace ≡ false → broken_after l config.profile x (flow c log) ≡ None
 acquire-lawful {w} config log mail request s sys c n l x ms queue is flowed lawful wanted next moves =
     next-flows l config.profile (message.A m) x (unfinished channel.A (on_link c sys.manager.trace)) ms queue (flow c log) lawful next ((flowed c).rest_is channel.A)
-    (λ none. acquire-flows config.profile c n (a_beat_of m 0) (asked_by mail s c) (λ ch. unfinished ch (receiver ch c sys)) s (flow c log) (flowed c) none (acquires-so wanted.whole) (acquire_block n) wanted.used idle
-    (kept_is p.letting (and_right (is_quiet p.probing) (is_kept p.letting) (and_left (is_quiet p.probing && is_kept p.letting) (same_perm p.recorded p.held) settled)))
+    (λ none. acquire-flows config.profile c n (a_beat_of m 0) (asked_by mail s c) (λ ch. unfinished ch (receiver ch c sys)) s (flow c log) (flowed c) none (acquires-so wanted.whole) (same_block n) wanted.used idle
+    (kept-is p.letting (and_right (is_quiet p.probing) (is_kept p.letting) (and_left (is_quiet p.probing && is_kept p.letting) (same_perm p.recorded p.held) settled)))
     (grows wanted.grow p.recorded p.held wanted.whole (acquire_fits wanted.whole wanted.grow p (view (s.block n).service c) well wanted.wants) (and_right (is_quiet p.probing && is_kept p.letting) (same_perm p.recorded p.held) settled)))
   where
     m : MessageA w
@@ -73,18 +76,13 @@ acquire-lawful {w} config log mail request s sys c n l x ms queue is flowed lawf
         let moves_so : must_wait config (record { 0 = c }) (beat.A (a_beat_of m next.k)) sys.manager.trace ≡ false = rw next.beat_is at moves in
         let ended : ends (beat.A (a_beat_of m next.k)) (on_link c sys.manager.trace) ≡ true = ends-burst c next.k m sys.manager next.rest_is ∙ is_last next.k (beats_of (message.A m)) (omega (arith, next.within, one)) in
         let free_at = unserved-free request s sys.manager.trace (block_at m.address) is.managed (or_parts (is_in_service (block_at m.address) (services sys.manager.trace)) (nat_le config.trackers (length (services sys.manager.trace))) (rw ended at moves_so)).0 in
-        ap (λ i. (s.block i).service) (sym (acquire_block n)) ∙ free_at
+        ap (λ i. (s.block i).service) (sym (same_block n)) ∙ free_at
 
     idle : view (s.block n).service c ≡ Idle
     idle = rw free refl
 
     settled : ((is_quiet p.probing && is_kept p.letting) && same_perm p.recorded p.held) ≡ true
     settled = first_three (is_quiet p.probing) (is_kept p.letting) (same_perm p.recorded p.held) _ (asked_alone wanted.whole wanted.grow p (view (s.block n).service c) well idle wanted.wants)
-
-    kept_is : (y : Letting) → is_kept y ≡ true → y ≡ Kept
-    kept_is Kept e = refl
-    kept_is (Releasing r) e = absurd cc
-    kept_is Acked e = absurd cc
 
 pub flows-a : {w : ℕ} (config : Config) (log : Log w) (mail : Mail w) (request : ℕ → MessageA w) (s : State (List ℕ)) (sys : System w) (c : ℕ) (l : Level) (x : Beat w) (queue : List (Beat w)) → IsWidth w → IsMatched config log mail request s sys → AreFlowed log mail s sys
     → sys.channels c channel.A ≡ x ∷ queue → level_of config c ≡ Some l → must_wait config (record { 0 = c }) x sys.manager.trace ≡ false → broken_after l config.profile x (flow c log) ≡ None

@@ -1,7 +1,8 @@
 -- A response that is delivered breaks no rule of order after what was delivered on its link.
 use Rattle.std.proofs.Common.{◌≡◌, subst, ℕ, zero, suc, Bool, true, false, not, ◌&&◌, ◌||◌, List, [], ◌∷◌, Option, Some, None, refl, sym, ◌∙◌, ap}
 use Rattle.std.specs.Prelude.{◌==◌, if◌then◌else◌, map}
-use Rattle.std.proofs.lemmas.Bool.{eqb-true}
+use Rattle.std.proofs.lemmas.Bool.{eqb-true, and_from}
+use Rattle.std.proofs.lemmas.Option.{same_Some}
 use Rattle.tl_beat.specs.Width.{IsWidth}
 use Rattle.tl_beat.specs.declared.beat.Beat.{Beat}
 use Rattle.tl_beat.specs.declared.beat.BeatA.{BeatA}
@@ -40,7 +41,7 @@ use Rattle.tl_world.specs.Flowed.{is_requested, is_sunk, is_let, is_let_by}
 use Rattle.tl_world.specs.Follow.{acquire_opcode}
 use Rattle.tl_world.specs.Invariant.{is_busy, IsInvariant}
 use Rattle.tl_world.specs.Log.{Log}
-use Rattle.tl_world.specs.Phase.{View, Probing, Quiet, Sent, Answered, Letting, Kept, Releasing, Acked, Acquiring, Wants, is_quiet, is_kept}
+use Rattle.tl_world.specs.Phase.{View, Letting, Kept, Releasing, Acked, Acquiring, Wants, is_kept}
 use Rattle.tl_world.specs.Protocol.{Service, GrantSent, is_answered, is_acked, is_releasing, is_granting, is_acknowledging, State, Use, Asked, Acquires, view, token, shown, is_on, is_unserved, is_wanting}
 use Rattle.tl_world.specs.Render.{Mail, report_told, prune_told, rendered, message_of, message_of_kind}
 use Rattle.tl_world.specs.System.{System}
@@ -49,18 +50,17 @@ use Rattle.tl_world.specs.Whole.{IsMatched, AreFlowed, IsGivenAsked, gives_asked
 use Rattle.tl_world.proofs.Carried.{IsNext}
 use Rattle.tl_world.proofs.ClientDelivered.{ack_next}
 use Rattle.tl_world.proofs.ClientEnd.{is_access, asks-access, asks-acquire}
-use Rattle.tl_world.proofs.ClientTakes.{access_kind, answers_acquire, not_ack, fits_asked, fitting, has_data, next-legal}
+use Rattle.tl_world.proofs.ClientTakes.{answers_acquire, fits_asked, fitting, has_data, next-legal}
 use Rattle.tl_world.proofs.Due.{IsAnswerDue, answer-due, IsGrantDue, grant-due, grant-rendered, ack-due, acquire-used, grant_message, ack_message, own_view}
 use Rattle.tl_world.proofs.Facts.{granting_alone}
 use Rattle.tl_world.proofs.FirstToken.{IsFirst, first-token, own_kind}
 use Rattle.tl_world.proofs.Fronts.{asked-first, rendered-acquire}
-use Rattle.tl_world.proofs.FlowBeats.{some_is}
 use Rattle.tl_world.proofs.FlowLawful.{lawful-beat}
-use Rattle.tl_world.proofs.FollowKept.{wanting-is}
-use Rattle.tl_world.proofs.Moves.{is_of-is}
 use Rattle.tl_world.proofs.Phases.{and_left, and_right}
 use Rattle.tl_world.proofs.ResponseOrder.{answer-legal, grant-legal, ack-legal}
 use Rattle.tl_world.proofs.Tokens.{same_number, holds-first}
+use Rattle.tl_world.proofs.BothParts.{is_of-is, wanting-is, quiet_unanswered}
+use Rattle.tl_world.proofs.Codes.{not_ack, access_kind}
 
 -- ---- what is half taken on channel A
 
@@ -163,11 +163,6 @@ grant_quiet caching c n s inv due =
     let mine = own_view c due.data_too due.k (s.block n).service due.service in
     let alone = granting_alone due.data_too due.k ((s.block n).pair c) (view (s.block n).service c) ((inv.blocks n).phases c) mine in
     quiet_unanswered ((s.block n).pair c).probing (and_left _ _ alone)
-  where
-    quiet_unanswered : (x : Probing) → is_quiet x ≡ true → is_answered x ≡ false
-    quiet_unanswered Quiet e = refl
-    quiet_unanswered (Sent k) e = refl
-    quiet_unanswered (Answered r) e = absurd cc
 
 -- the tracker of a Grant is of its block
 pub grant_tracked : (caching : ℕ → Bool) (c n : ℕ) (s : State (List ℕ)) → IsInvariant caching s → IsGrantDue c n s → s.tracked (s.block n).tracker ≡ Some n
@@ -258,16 +253,13 @@ not-coming_c {w} config log mail request s sys c n h let_ acked = go (s.link c).
     open_release Kept e = absurd cc
     open_release Acked e = absurd cc
 
-    both : (x y : Bool) → x ≡ true → y ≡ true → (x && y) ≡ true
-    both x y e f = rw (e, f) refl
-
     differ : (i : ℕ) → is_releasing ((s.block i).pair c).letting ≡ true → (b : Bool) → ((s.block i).release_source c == source) ≡ b → b ≡ false
     differ i releasing false e = refl
     differ i releasing true e =
         let open_ = open_release ((s.block i).pair c).letting releasing in
         let lets : s.lets c ((s.block i).release_source c) ≡ Some i = is_of-is i (s.lets c ((s.block i).release_source c))
-        (h.invariant.named.releases c ((s.block i).release_source c) i ∙ both (not (is_kept ((s.block i).pair c).letting)) ((s.block i).release_source c == (s.block i).release_source c) open_ (same_number ((s.block i).release_source c))) in
-        let same : i ≡ n = some_is i n (sym lets ∙ ap (s.lets c) (eqb-true ((s.block i).release_source c) source e) ∙ let_) in
+        (h.invariant.named.releases c ((s.block i).release_source c) i ∙ and_from (not (is_kept ((s.block i).pair c).letting)) ((s.block i).release_source c == (s.block i).release_source c) open_ (same_number ((s.block i).release_source c))) in
+        let same : i ≡ n = same_Some i n (sym lets ∙ ap (s.lets c) (eqb-true ((s.block i).release_source c) source e) ∙ let_) in
         absurd (apart ((s.block n).pair c).letting acked (sym (ap (λ (j : ℕ). is_releasing ((s.block j).pair c).letting) same) ∙ releasing))
 
     each : (k : Kind) (i : ℕ) (rest : List Token) → (s.link c).c ≡ token k i ∷ rest → is_on channel.C k ≡ true → IsUnreleased source (message_of_kind k mail s c i)

@@ -2,7 +2,8 @@
 -- still coming.
 use Rattle.std.proofs.Common.{◌≡◌, ℕ, zero, suc, Bool, true, false, ◌&&◌, List, [], ◌∷◌, Some, None, refl, sym, ◌∙◌, ap, subst}
 use Rattle.std.specs.Prelude.{◌==◌, map}
-use Rattle.std.proofs.lemmas.Bool.{ne_eqb}
+use Rattle.std.proofs.lemmas.Bool.{ne_eqb, and_right}
+use Rattle.std.proofs.lemmas.Option.{same_Some}
 use Rattle.tl_beat.specs.Width.{IsWidth}
 use Rattle.tl_beat.specs.declared.beat.Beat.{Beat}
 use Rattle.tl_beat.specs.declared.beat.BeatE.{BeatE}
@@ -31,17 +32,16 @@ use Rattle.tl_world.specs.System.{System}
 use Rattle.tl_world.specs.Token.{Kind, Request, Acquire, Probe, ProbeAck, Release, Answer, Grant, ReleaseAck, GrantAck, Token}
 use Rattle.tl_world.specs.Whole.{IsMatched, AreFlowed, is_caching, asked_by}
 use Rattle.tl_world.proofs.Carried.{IsNext}
-use Rattle.tl_world.proofs.ClientTakes.{access_kind}
 use Rattle.tl_world.proofs.Due.{ack_message, answer-due, grant-due, grant-rendered, grant_message}
 use Rattle.tl_world.proofs.FirstToken.{first-token, own_kind}
-use Rattle.tl_world.proofs.FlowBeats.{some_is, first_false}
+use Rattle.tl_world.proofs.FlowBeats.{first_false}
 use Rattle.tl_world.proofs.FlowLawful.{lawful-beat, next-flows}
 use Rattle.tl_world.proofs.FlowOrders.{grant_ack-flows}
-use Rattle.tl_world.proofs.FlowReleased.{with_false}
-use Rattle.tl_world.proofs.FollowKept.{acknowledging-is}
 use Rattle.tl_world.proofs.ManagedEndings.{tracker-of}
 use Rattle.tl_world.proofs.ManagerTakes.{by-first_e}
 use Rattle.tl_world.proofs.Tokens.{holds-first}
+use Rattle.tl_world.proofs.BothParts.{acknowledging-is}
+use Rattle.tl_world.proofs.Codes.{access_kind}
 
 -- the message is no Grant with this sink
 IsElse : {w : ℕ} → ℕ → Message w → Type 0
@@ -73,8 +73,8 @@ else_grant {w} config log mail request s sys c n i rest h first taken =
     let mine : s.tracked (s.block i).tracker ≡ Some i = tracker-of i s h.invariant.named (rw due.service refl) in
     let theirs : s.tracked (s.block n).tracker ≡ Some n = tracker-of n s h.invariant.named (rw taken refl) in
     let apart : (s.block i).tracker ≡ (s.block n).tracker → ⊥ =
-    λ e. not_both c due.data_too due.k (s.block i).service due.service (ap (λ (j : ℕ). (s.block j).service) (some_is i n (sym mine ∙ ap s.tracked e ∙ theirs)) ∙ taken) in
-    (grant_message due.data_too due.k ((s.block i).source c) (s.block i).tracker (s.block i).truth, grant-rendered c i s due, with_false (is_grant (grant_opcode due.data_too)) ((s.block i).tracker == (s.block n).tracker) (ne_eqb (s.block i).tracker (s.block n).tracker apart))
+    λ e. not_both c due.data_too due.k (s.block i).service due.service (ap (λ (j : ℕ). (s.block j).service) (same_Some i n (sym mine ∙ ap s.tracked e ∙ theirs)) ∙ taken) in
+    (grant_message due.data_too due.k ((s.block i).source c) (s.block i).tracker (s.block i).truth, grant-rendered c i s due, and_right (is_grant (grant_opcode due.data_too)) ((s.block i).tracker == (s.block n).tracker) (ne_eqb (s.block i).tracker (s.block n).tracker apart))
 
 else_ack : {w : ℕ} (mail : Mail w) (s : State (List ℕ)) (c sink i : ℕ) → IsElse {w = w} sink (rendered {w = w} ReleaseAck c i (s.block i))
 unfolding IsElse rendered

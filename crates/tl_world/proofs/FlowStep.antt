@@ -26,6 +26,13 @@ step_quiet true false p = refl
 step_quiet false true p = refl
 step_quiet false false p = refl
 
+-- a beat that is a whole message, which opens it or not
+pub whole_opened : (o p : Bool) → o ≡ true → step true true o false p ≡ true
+whole_opened o p e = rw e refl
+
+pub whole_unopened : (o p : Bool) → o ≡ false → step true true o false p ≡ p
+whole_unopened o p e = rw e refl
+
 pending-next : {w : ℕ} (k : Key) (x : Beat w) (t : History w) (first last : Bool) → begins x t ≡ first → ends x t ≡ last → pending k (x ∷ t) ≡ step first last (opens k x t) (closes k x t) (pending k t)
 unfolding pending
 pending-next k x t first last e f = rw (e, f) refl

@@ -1,5 +1,6 @@
 -- What is delivered on a link, as a beat of channel C or E is: of a ProbeAck, a Release or a GrantAck.
 use Rattle.std.proofs.Common.{◌≡◌, subst, ℕ, Bool, true, false, not, ◌&&◌, List, [], ◌∷◌, Option, refl, sym, ◌∙◌, ap, length}
+use Rattle.std.proofs.lemmas.Bool.{and_right as with_false}
 use Rattle.std.specs.Prelude.{◌==◌, if◌then◌else◌}
 use Rattle.tl_beat.specs.Width.{IsWidth}
 use Rattle.tl_beat.specs.declared.beat.Beat.{Beat}
@@ -38,18 +39,18 @@ use Rattle.tl_world.proofs.Carried.{IsNext}
 use Rattle.tl_world.proofs.Facts.{answered_other, granting_alone}
 use Rattle.tl_world.proofs.FlowAlone.{AreRests, flowed-grant_ack}
 use Rattle.tl_world.proofs.FlowAside.{comes-same}
-use Rattle.tl_world.proofs.FlowAsking.{rest_at}
 use Rattle.tl_world.proofs.FlowBeats.{came-so, comes-so, one-beat, first_false}
 use Rattle.tl_world.proofs.FlowComing.{coming-granting}
 use Rattle.tl_world.proofs.FlowLawful.{other_ungranted}
-use Rattle.tl_world.proofs.FlowReleased.{letting_after, flowed-release, with_false}
+use Rattle.tl_world.proofs.FlowReleased.{letting_after, flowed-release}
 use Rattle.tl_world.proofs.FlowReport.{flowed-report_part}
 use Rattle.tl_world.proofs.FlowReported.{flowed-report}
 use Rattle.tl_world.proofs.FlowStep.{held_by}
-use Rattle.tl_world.proofs.FollowKept.{answered-is, releasing-is}
 use Rattle.tl_world.proofs.Phases.{and_left, and_right}
 use Rattle.tl_world.proofs.Reporting.{IsAbout, report-about, release-about, reported-report, reported-prune}
 use Rattle.tl_world.proofs.Tokens.{set-same, set-other, holds-first}
+use Rattle.tl_world.proofs.BothParts.{answered-is, releasing-is}
+use Rattle.tl_world.proofs.Popped.{unfinished_at}
 
 -- ---- what the messages say
 
@@ -103,7 +104,7 @@ pub ack_rendered : {w : ℕ} (c n : ℕ) (b : Block (List ℕ)) → rendered {w 
 unfolding rendered
 ack_rendered c n b = refl
 
-module _ {w : ℕ} (config : Config) (log : Log w) (h : Shadow w) (sys : System w) (c : ℕ) (width : IsWidth w) (is : IsMatched config log h.mail h.request h.state sys) (t : History w) (flowed : IsFlowed (asked_by h.mail h.state c) (rest_at sys c) c h.state t) (rest' : Channel → List (Beat w)) (n : ℕ) (toks : List Token) where
+module _ {w : ℕ} (config : Config) (log : Log w) (h : Shadow w) (sys : System w) (c : ℕ) (width : IsWidth w) (is : IsMatched config log h.mail h.request h.state sys) (t : History w) (flowed : IsFlowed (asked_by h.mail h.state c) (unfinished_at sys c) c h.state t) (rest' : Channel → List (Beat w)) (n : ℕ) (toks : List Token) where
   abbrev s : State (List ℕ)
   s = h.state
 
@@ -111,29 +112,29 @@ module _ {w : ℕ} (config : Config) (log : Log w) (h : Shadow w) (sys : System 
   before = asked_by h.mail h.state c
 
   abbrev rest : Channel → List (Beat w)
-  rest = rest_at sys c
+  rest = unfinished_at sys c
 
   well : ok ((s.block n).pair c) (view (s.block n).service c) ≡ true
   well = (is.invariant.blocks n).phases c
 
   -- the beat of a message of channel C
-  module _ (m : MessageC w) (x : Beat w) (ms : List (Message w)) (queue : List (Beat w)) (next : IsNext x (rest_at sys c channel.C) (message.C m) ms queue) (rests : AreRests x (rest_at sys c) rest') (b : Bool) (last : completes x (rest_at sys c channel.C) ≡ b) where
-    rests_y : AreRests (beat.C (c_beat_of m next.k)) (rest_at sys c) rest'
-    rests_y = subst (λ (z : Beat w). AreRests z (rest_at sys c) rest') next.beat_is rests
+  module _ (m : MessageC w) (x : Beat w) (ms : List (Message w)) (queue : List (Beat w)) (next : IsNext x (unfinished_at sys c channel.C) (message.C m) ms queue) (rests : AreRests x (unfinished_at sys c) rest') (b : Bool) (last : completes x (unfinished_at sys c channel.C) ≡ b) where
+    rests_y : AreRests (beat.C (c_beat_of m next.k)) (unfinished_at sys c) rest'
+    rests_y = subst (λ (z : Beat w). AreRests z (unfinished_at sys c) rest') next.beat_is rests
 
-    last_y : completes (beat.C (c_beat_of m next.k)) (rest_at sys c channel.C) ≡ b
-    last_y = sym (ap (λ (z : Beat w). completes z (rest_at sys c channel.C)) next.beat_is) ∙ last
+    last_y : completes (beat.C (c_beat_of m next.k)) (unfinished_at sys c channel.C) ≡ b
+    last_y = sym (ap (λ (z : Beat w). completes z (unfinished_at sys c channel.C)) next.beat_is) ∙ last
 
-    next_y : IsNext (beat.C (c_beat_of m next.k)) (rest_at sys c channel.C) (message.C m) ms queue
-    next_y = subst (λ (z : Beat w). IsNext z (rest_at sys c channel.C) (message.C m) ms queue) next.beat_is next
+    next_y : IsNext (beat.C (c_beat_of m next.k)) (unfinished_at sys c channel.C) (message.C m) ms queue
+    next_y = subst (λ (z : Beat w). IsNext z (unfinished_at sys c channel.C) (message.C m) ms queue) next.beat_is next
 
     -- what of a Release with source i was delivered, before and afterwards
-    came : (i : ℕ) → comes_in_release i (rest_at sys c channel.C) ≡ (not (is_empty (rest_at sys c channel.C)) && (is_release m.opcode && (m.source == i)))
-    came i = came-so (comes_in_release i) (message.C m) (beat.C (c_beat_of m next.k)) (rest_at sys c channel.C) ms queue (is_release m.opcode && (m.source == i)) next_y refl (λ j. refl)
+    came : (i : ℕ) → comes_in_release i (unfinished_at sys c channel.C) ≡ (not (is_empty (unfinished_at sys c channel.C)) && (is_release m.opcode && (m.source == i)))
+    came i = came-so (comes_in_release i) (message.C m) (beat.C (c_beat_of m next.k)) (unfinished_at sys c channel.C) ms queue (is_release m.opcode && (m.source == i)) next_y refl (λ j. refl)
 
     comes : (i : ℕ) → comes_in_release i (rest' channel.C) ≡ (not b && (is_release m.opcode && (m.source == i)))
     comes i =
-        ap (comes_in_release i) (rests_y channel.C) ∙ comes-so (comes_in_release i) (beat.C (c_beat_of m next.k)) (rest_at sys c channel.C) (is_release m.opcode && (m.source == i)) refl refl
+        ap (comes_in_release i) (rests_y channel.C) ∙ comes-so (comes_in_release i) (beat.C (c_beat_of m next.k)) (unfinished_at sys c channel.C) (is_release m.opcode && (m.source == i)) refl refl
         ∙ ap (λ (z : Bool). not z && (is_release m.opcode && (m.source == i))) last_y
 
   -- ---- a ProbeAck
@@ -141,8 +142,8 @@ module _ {w : ℕ} (config : Config) (log : Log w) (h : Shadow w) (sys : System 
   abbrev reported_if : Report → Bool → State (List ℕ)
   reported_if r b = if b then report_taken c n r toks h.state else h.state
 
-  pub own-report : (s.link c).c ≡ token ProbeAck n ∷ toks → (x : Beat w) (ms : List (Message w)) (queue : List (Beat w)) → IsNext x (rest_at sys c channel.C) (rendered ProbeAck c n (s.block n)) ms queue → AreRests x (rest_at sys c) rest'
-      → (b : Bool) → completes x (rest_at sys c channel.C) ≡ b → IsFlowed before rest' c (if b then report_taken c n (report_told ((s.block n).pair c).probing) toks s else s) (x ∷ t)
+  pub own-report : (s.link c).c ≡ token ProbeAck n ∷ toks → (x : Beat w) (ms : List (Message w)) (queue : List (Beat w)) → IsNext x (unfinished_at sys c channel.C) (rendered ProbeAck c n (s.block n)) ms queue → AreRests x (unfinished_at sys c) rest'
+      → (b : Bool) → completes x (unfinished_at sys c channel.C) ≡ b → IsFlowed before rest' c (if b then report_taken c n (report_told ((s.block n).pair c).probing) toks s else s) (x ∷ t)
   own-report tokens x ms queue next rests b last = subst (λ (z : Beat w). IsFlowed before rest' c (reported_if r b) (z ∷ t)) (sym here.beat_is) (go b last)
     where
       r : Report
@@ -154,25 +155,25 @@ module _ {w : ℕ} (config : Config) (log : Log w) (h : Shadow w) (sys : System 
       m : MessageC w
       m = about.0
 
-      here : IsNext x (rest_at sys c channel.C) (message.C m) ms queue
-      here = subst (λ (i : Message w). IsNext x (rest_at sys c channel.C) i ms queue) about.1 next
+      here : IsNext x (unfinished_at sys c channel.C) (message.C m) ms queue
+      here = subst (λ (i : Message w). IsNext x (unfinished_at sys c channel.C) i ms queue) about.1 next
 
       alone : is_granting (view (s.block n).service c) ≡ false
       alone =
           other_ungranted (view (s.block n).service c)
           (answered_other r ((s.block n).pair c) (view (s.block n).service c) well (answered-is ((s.block n).pair c).probing (holds-first ProbeAck (s.link c).c toks (token ProbeAck n) (λ i. shown ProbeAck c (s.block i)) tokens refl (is.invariant.transfers c ProbeAck refl))))
 
-      same : (z : Bool) → completes x (rest_at sys c channel.C) ≡ z → (i : ℕ) → comes_in_release i (rest' channel.C) ≡ comes_in_release i (rest_at sys c channel.C)
+      same : (z : Bool) → completes x (unfinished_at sys c channel.C) ≡ z → (i : ℕ) → comes_in_release i (rest' channel.C) ≡ comes_in_release i (unfinished_at sys c channel.C)
       same z e i =
           comes m x ms queue here rests z e i ∙ with_false (not z) (is_release m.opcode && (m.source == i)) (first_false (is_release m.opcode) (m.source == i) about.2.releases)
-          ∙ sym (came m x ms queue here rests z e i ∙ with_false (not (is_empty (rest_at sys c channel.C))) (is_release m.opcode && (m.source == i)) (first_false (is_release m.opcode) (m.source == i) about.2.releases))
+          ∙ sym (came m x ms queue here rests z e i ∙ with_false (not (is_empty (unfinished_at sys c channel.C))) (is_release m.opcode && (m.source == i)) (first_false (is_release m.opcode) (m.source == i) about.2.releases))
 
-      go : (z : Bool) → completes x (rest_at sys c channel.C) ≡ z → IsFlowed before rest' c (reported_if r z) (beat.C (c_beat_of m here.k) ∷ t)
+      go : (z : Bool) → completes x (unfinished_at sys c channel.C) ≡ z → IsFlowed before rest' c (reported_if r z) (beat.C (c_beat_of m here.k) ∷ t)
       go false e =
-          flowed-report_part c (c_beat_of m here.k) (is_empty (rest_at sys c channel.C)) before (rest_at sys c) rest' s t (ap is_empty (flowed.rest_is channel.C))
+          flowed-report_part c (c_beat_of m here.k) (is_empty (unfinished_at sys c channel.C)) before (unfinished_at sys c) rest' s t (ap is_empty (flowed.rest_is channel.C))
           (ap (completes (beat.C (c_beat_of m here.k))) (flowed.rest_is channel.C) ∙ last_y m x ms queue here rests false e) (rests_y m x ms queue here rests false e) about.2.releases (same false e) flowed
       go true e =
-          flowed-report c n r toks (c_beat_of m here.k) (is_empty (rest_at sys c channel.C)) before (rest_at sys c) rest' s t (ap is_empty (flowed.rest_is channel.C))
+          flowed-report c n r toks (c_beat_of m here.k) (is_empty (unfinished_at sys c channel.C)) before (unfinished_at sys c) rest' s t (ap is_empty (flowed.rest_is channel.C))
           (ap (completes (beat.C (c_beat_of m here.k))) (flowed.rest_is channel.C) ∙ last_y m x ms queue here rests true e) (rests_y m x ms queue here rests true e) about.2.reports about.2.releases (same true e) about.2.block
           (ap reported about.2.param_is ∙ reported-report r) alone flowed
 
@@ -181,11 +182,11 @@ module _ {w : ℕ} (config : Config) (log : Log w) (h : Shadow w) (sys : System 
   abbrev released_if : Prune → Bool → State (List ℕ)
   released_if r b = if b then release_taken c n r toks h.state else h.state
 
-  pub own-release : (s.link c).c ≡ token Release n ∷ toks → (x : Beat w) (ms : List (Message w)) (queue : List (Beat w)) → IsNext x (rest_at sys c channel.C) (rendered Release c n (s.block n)) ms queue → AreRests x (rest_at sys c) rest'
-      → (b : Bool) → completes x (rest_at sys c channel.C) ≡ b → IsFlowed before rest' c (if b then release_taken c n (prune_told ((s.block n).pair c).letting) toks s else s) (x ∷ t)
+  pub own-release : (s.link c).c ≡ token Release n ∷ toks → (x : Beat w) (ms : List (Message w)) (queue : List (Beat w)) → IsNext x (unfinished_at sys c channel.C) (rendered Release c n (s.block n)) ms queue → AreRests x (unfinished_at sys c) rest'
+      → (b : Bool) → completes x (unfinished_at sys c channel.C) ≡ b → IsFlowed before rest' c (if b then release_taken c n (prune_told ((s.block n).pair c).letting) toks s else s) (x ∷ t)
   own-release tokens x ms queue next rests b last =
       subst (λ (z : Beat w). IsFlowed before rest' c (released_if r b) (z ∷ t)) (sym here.beat_is)
-      (flowed-release c n r (c_beat_of m here.k) (is_empty (rest_at sys c channel.C)) b before (rest_at sys c) rest' s (released_if r b) t (ap is_empty (flowed.rest_is channel.C))
+      (flowed-release c n r (c_beat_of m here.k) (is_empty (unfinished_at sys c channel.C)) b before (unfinished_at sys c) rest' s (released_if r b) t (ap is_empty (flowed.rest_is channel.C))
       (ap (completes (beat.C (c_beat_of m here.k))) (flowed.rest_is channel.C) ∙ last_y m x ms queue here rests b last) (rests_y m x ms queue here rests b last) (λ i k. is.invariant.named.releases c i k) (record {
         release = about.2.releases;
         ack = about.2.reports;
@@ -194,7 +195,7 @@ module _ {w : ℕ} (config : Config) (log : Log w) (h : Shadow w) (sys : System 
         size = about.4;
         says = ap reported about.2.param_is ∙ reported-prune r;
         letting = releasing;
-        came = λ i. came m x ms queue here rests b last i ∙ ap (λ (z : Bool). not (is_empty (rest_at sys c channel.C)) && (z && (m.source == i))) about.2.releases;
+        came = λ i. came m x ms queue here rests b last i ∙ ap (λ (z : Bool). not (is_empty (unfinished_at sys c channel.C)) && (z && (m.source == i))) about.2.releases;
         comes = λ i. comes m x ms queue here rests b last i ∙ ap (λ (z : Bool). not b && (z && (m.source == i))) about.2.releases;
         elsewhere = elsewhere b;
         uses = uses b;
@@ -218,8 +219,8 @@ module _ {w : ℕ} (config : Config) (log : Log w) (h : Shadow w) (sys : System 
       m : MessageC w
       m = about.0
 
-      here : IsNext x (rest_at sys c channel.C) (message.C m) ms queue
-      here = subst (λ (i : Message w). IsNext x (rest_at sys c channel.C) i ms queue) about.1 next
+      here : IsNext x (unfinished_at sys c channel.C) (message.C m) ms queue
+      here = subst (λ (i : Message w). IsNext x (unfinished_at sys c channel.C) i ms queue) about.1 next
 
       releasing : ((s.block n).pair c).letting ≡ Releasing r
       releasing = releasing-is ((s.block n).pair c).letting (holds-first Release (s.link c).c toks (token Release n) (λ i. shown Release c (s.block i)) tokens refl (is.invariant.transfers c Release refl))
@@ -286,22 +287,22 @@ module _ {w : ℕ} (config : Config) (log : Log w) (h : Shadow w) (sys : System 
 
   -- ---- a GrantAck
 
-  pub own-grant_ack : (s.link c).e ≡ token GrantAck n ∷ toks → (x : Beat w) (ms : List (Message w)) (queue : List (Beat w)) → IsNext x (rest_at sys c channel.E) (rendered GrantAck c n (s.block n)) ms queue → AreRests x (rest_at sys c) rest'
+  pub own-grant_ack : (s.link c).e ≡ token GrantAck n ∷ toks → (x : Beat w) (ms : List (Message w)) (queue : List (Beat w)) → IsNext x (unfinished_at sys c channel.E) (rendered GrantAck c n (s.block n)) ms queue → AreRests x (unfinished_at sys c) rest'
       → (asked' : ℕ → Option (BeatA w)) → ((i : ℕ) → asked' i ≡ before i) → IsFlowed asked' rest' c (grant_ack_taken c n toks s) (x ∷ t)
   own-grant_ack tokens x ms queue next rests asked' asks =
       subst (λ (z : Beat w). IsFlowed asked' rest' c (grant_ack_taken c n toks s) (z ∷ t)) (sym x_is)
-      (flowed-grant_ack c n toks y before asked' (rest_at sys c) rest' s t (ap is_empty (flowed.rest_is channel.E ∙ one.1)) (ap (completes {w = w} (beat.E y)) (flowed.rest_is channel.E ∙ one.1))
-      (subst (λ (z : Beat w). AreRests z (rest_at sys c) rest') x_is rests) asks refl seen is.invariant.named (busy_seen is_acknowledging refl (s.block n).service c shows) (λ k e. busy_seen is_acknowledging refl (s.block k).service c e)
-      (λ k e. busy_seen is_granting refl (s.block k).service c e) (coming-granting config log h.mail h.request h.state sys c is) (λ k. comes-same k before asked' (rest_at sys c channel.D) asks) flowed)
+      (flowed-grant_ack c n toks y before asked' (unfinished_at sys c) rest' s t (ap is_empty (flowed.rest_is channel.E ∙ one.1)) (ap (completes {w = w} (beat.E y)) (flowed.rest_is channel.E ∙ one.1))
+      (subst (λ (z : Beat w). AreRests z (unfinished_at sys c) rest') x_is rests) asks refl seen is.invariant.named (busy_seen is_acknowledging refl (s.block n).service c shows) (λ k e. busy_seen is_acknowledging refl (s.block k).service c e)
+      (λ k e. busy_seen is_granting refl (s.block k).service c e) (coming-granting config log h.mail h.request h.state sys c is) (λ k. comes-same k before asked' (unfinished_at sys c channel.D) asks) flowed)
     where
       y : BeatE
       y = record { sink = (s.block n).tracker }
 
-      here : IsNext x (rest_at sys c channel.E) (message.E (record { sink = (s.block n).tracker })) ms queue
-      here = subst (λ (i : Message w). IsNext x (rest_at sys c channel.E) i ms queue) (ack_rendered c n (s.block n)) next
+      here : IsNext x (unfinished_at sys c channel.E) (message.E (record { sink = (s.block n).tracker })) ms queue
+      here = subst (λ (i : Message w). IsNext x (unfinished_at sys c channel.E) i ms queue) (ack_rendered c n (s.block n)) next
 
-      one : (here.k ≡ 0) × (rest_at sys c channel.E ≡ []) × (completes x (rest_at sys c channel.E) ≡ true)
-      one = one-beat (message.E (record { sink = (s.block n).tracker })) x (rest_at sys c channel.E) ms queue here refl
+      one : (here.k ≡ 0) × (unfinished_at sys c channel.E ≡ []) × (completes x (unfinished_at sys c channel.E) ≡ true)
+      one = one-beat (message.E (record { sink = (s.block n).tracker })) x (unfinished_at sys c channel.E) ms queue here refl
 
       x_is : x ≡ beat.E y
       x_is = here.beat_is

@@ -46,7 +46,7 @@ use Rattle.tl_world.proofs.Conveyed.{on_it, flow_moved, taken_at, flow_still}
 use Rattle.tl_world.proofs.Firsts.{first-of}
 use Rattle.tl_world.proofs.FirstToken.{IsFirst, first-token}
 use Rattle.tl_world.proofs.FlowAlone.{AreRests}
-use Rattle.tl_world.proofs.FlowAsking.{rest_at, flowed-asked}
+use Rattle.tl_world.proofs.FlowAsking.{flowed-asked}
 use Rattle.tl_world.proofs.FlowKinds.{FlowsAs, other-kind}
 use Rattle.tl_world.proofs.FlowOwn.{own-kind}
 use Rattle.tl_world.proofs.FlowLawful.{flows-b, flows-c}
@@ -68,6 +68,7 @@ use Rattle.tl_world.proofs.Outstanding.{first-moved}
 use Rattle.tl_world.proofs.RequestsTaken.{next_tracker}
 use Rattle.tl_world.proofs.Steps.{stepped-asked, clients-with_messages, manager-with_messages}
 use Rattle.tl_world.proofs.Tokens.{same_number}
+use Rattle.tl_world.proofs.Popped.{unfinished_at}
 
 -- ---- what the receivers have after a delivery
 
@@ -86,9 +87,9 @@ pub record IsMovedOn {w : ℕ} (config : Config) (log : Log w) (link : Link) (ch
   pub on_ch : IsOn ch x
   pub delivered : (d : ℕ) → flow d ((Deliver link ch, (stepped config (Deliver link ch) (after config log)).outcome) ∷ log) ≡ (if link.0 == d then x ∷ flow d log else flow d log)
   pub rests : (d : ℕ) (at : Channel)
-      → rest_at (stepped config (Deliver link ch) (after config log)).after d at ≡ (if (d == link.0) && same_channel at ch then grown x (rest_at (after config log) d at) else rest_at (after config log) d at)
+      → unfinished_at (stepped config (Deliver link ch) (after config log)).after d at ≡ (if (d == link.0) && same_channel at ch then grown x (unfinished_at (after config log) d at) else unfinished_at (after config log) d at)
   pub follows : followed config (Deliver link ch) (after config log) h
-      ≡ (if completes x (rest_at (after config log) link.0 ch) then kind_taken config (next_tracker (after config log)) link.0 first.kind first.number first.rest h else h)
+      ≡ (if completes x (unfinished_at (after config log) link.0 ch) then kind_taken config (next_tracker (after config log)) link.0 first.kind first.number first.rest h else h)
 
 moved-to_manager : {w : ℕ} (config : Config) (log : Log w) (link : Link) (ch : Channel) (h : Shadow w) (terms : Terms) (x : Beat w) (queue : List (Beat w)) → IsWidth w → IsMatched config log h.mail h.request h.state (after config log)
     → terms_at config link.0 ≡ Some terms → is_to_client ch ≡ false → (after config log).channels link.0 ch ≡ x ∷ queue → is_moving (stepped config (Deliver link ch) (after config log)).outcome ≡ true → IsMovedOn config log link ch h x queue
@@ -97,7 +98,7 @@ moved-to_manager {w} config log link ch h terms x queue width is known down beat
   first = at.first;
   on_ch = at.on_it;
   delivered = λ d. ap (λ (y : Step w). flow d ((Deliver link ch, y.outcome) ∷ log)) at.step_is ∙ flow_moved link ch (outcome.Moved x) x log d refl;
-  rests = λ d i. ap (λ (y : Step w). rest_at y.after d i) at.step_is ∙ ap (unfinished i) (receiver_handed handed base d i)
+  rests = λ d i. ap (λ (y : Step w). unfinished_at y.after d i) at.step_is ∙ ap (unfinished i) (receiver_handed handed base d i)
       ∙ (landed-manager link.0 ch x queue (λ k j. None) [] e sys down at.beats at.on_it at.heard (λ k j. refl)).rests d i;
   follows = at.follows;
 }
@@ -124,10 +125,10 @@ moved-to_client {w} config log link ch h terms x queue width is known up beats m
   on_ch = on_ch;
   delivered = λ d. ap (λ (y : Step w). flow d ((Deliver link ch, y.outcome) ∷ log)) t.step_is
       ∙ flow_moved link ch (outcome_of x t.verdict_is) x log d (taken_at link ch x t.verdict_is d (sym (ap (λ (y : Step w). is_moving y.outcome) t.step_is) ∙ moving));
-  rests = λ d i. ap (λ (y : Step w). rest_at y.after d i) t.step_is
+  rests = λ d i. ap (λ (y : Step w). unfinished_at y.after d i) t.step_is
       ∙ (landed-client link.0 ch x queue t.message (offer.taken x (sys.clients link.0)).after sys up beats on_ch (client-heard terms link.0 ch x queue sys (stepped config (Deliver link ch) sys) width (is.kept link.0) t)).rests d i;
   follows = followed-moving config link ch sys h x queue moving beats
-      ∙ ap (λ (l : List Token). if completes x (rest_at sys link.0 ch) then token_taken config (next_tracker sys) link.0 l h else h) first.tokens;
+      ∙ ap (λ (l : List Token). if completes x (unfinished_at sys link.0 ch) then token_taken config (next_tracker sys) link.0 l h else h) first.tokens;
 }
   where
     sys : System w
@@ -160,7 +161,7 @@ moved-flowed {w} config log link ch h x queue width is flowed beats moving at d 
     subst (λ (z : Shadow w). Here z (flow d ((Deliver link ch, (stepped config (Deliver link ch) sys).outcome) ∷ log))) (sym at.follows)
     (subst (λ (t : History w). Here h' t) (sym (at.delivered d))
     (elim (cases_eq d c) [
-      | inl same ↦ subst (λ (i : ℕ). IsFlowed (asked_by h'.mail h'.state i) (rest_at sys' i) i h'.state (if c == i then x ∷ flow i log else flow i log)) (sym same) own
+      | inl same ↦ subst (λ (i : ℕ). IsFlowed (asked_by h'.mail h'.state i) (unfinished_at sys' i) i h'.state (if c == i then x ∷ flow i log else flow i log)) (sym same) own
       | inr other ↦ others other
     ]))
   where
@@ -174,13 +175,13 @@ moved-flowed {w} config log link ch h x queue width is flowed beats moving at d 
     c = link.0
 
     last : Bool
-    last = completes x (rest_at sys c ch)
+    last = completes x (unfinished_at sys c ch)
 
     h' : Shadow w
     h' = if last then kind_taken config (next_tracker sys) c at.first.kind at.first.number at.first.rest h else h
 
     Here : Shadow w → History w → Type 0
-    Here z t = IsFlowed (asked_by z.mail z.state d) (rest_at sys' d) d z.state t
+    Here z t = IsFlowed (asked_by z.mail z.state d) (unfinished_at sys' d) d z.state t
 
     ready : last ≡ true → IsReady (next_tracker sys) c at.first.kind at.first.number h
     ready e = ready-delivered config log h.mail h.request h.state sys link ch x queue width is (record { moves = moving; beats = beats; whole = e; first = at.first })
@@ -188,23 +189,23 @@ moved-flowed {w} config log link ch h x queue width is flowed beats moving at d 
     on_kind : on at.first.kind (h.state.link c) ≡ token at.first.kind at.first.number ∷ at.first.rest
     on_kind = on_same ch at.first.kind (h.state.link c) at.first.own ∙ at.first.tokens
 
-    own : IsFlowed (asked_by h'.mail h'.state c) (rest_at sys' c) c h'.state (if c == c then x ∷ flow c log else flow c log)
+    own : IsFlowed (asked_by h'.mail h'.state c) (unfinished_at sys' c) c h'.state (if c == c then x ∷ flow c log else flow c log)
     own =
-        subst (λ (b : Bool). IsFlowed (asked_by h'.mail h'.state c) (rest_at sys' c) c h'.state (if b then x ∷ flow c log else flow c log)) (sym (same_number c))
-        (own-kind config log h sys c width is (next_tracker sys) (flow c log) (flowed c) (rest_at sys' c) at.first.number at.first.rest x (map (message_of h.mail h.state c) at.first.rest) queue rests ch at.first.kind at.first.own at.first.tokens at.first.next last refl ready)
+        subst (λ (b : Bool). IsFlowed (asked_by h'.mail h'.state c) (unfinished_at sys' c) c h'.state (if b then x ∷ flow c log else flow c log)) (sym (same_number c))
+        (own-kind config log h sys c width is (next_tracker sys) (flow c log) (flowed c) (unfinished_at sys' c) at.first.number at.first.rest x (map (message_of h.mail h.state c) at.first.rest) queue rests ch at.first.kind at.first.own at.first.tokens at.first.next last refl ready)
       where
-        rests : AreRests x (rest_at sys c) (rest_at sys' c)
+        rests : AreRests x (unfinished_at sys c) (unfinished_at sys' c)
         rests i =
-            at.rests c i ∙ ap (λ (b : Bool). if b && same_channel i ch then grown x (rest_at sys c i) else rest_at sys c i) (same_number c)
-            ∙ ap (λ (b : Bool). if b then grown x (rest_at sys c i) else rest_at sys c i) (sym (at.on_ch i))
+            at.rests c i ∙ ap (λ (b : Bool). if b && same_channel i ch then grown x (unfinished_at sys c i) else unfinished_at sys c i) (same_number c)
+            ∙ ap (λ (b : Bool). if b then grown x (unfinished_at sys c i) else unfinished_at sys c i) (sym (at.on_ch i))
 
-    others : (d ≡ c → ⊥) → IsFlowed (asked_by h'.mail h'.state d) (rest_at sys' d) d h'.state (if c == d then x ∷ flow d log else flow d log)
+    others : (d ≡ c → ⊥) → IsFlowed (asked_by h'.mail h'.state d) (unfinished_at sys' d) d h'.state (if c == d then x ∷ flow d log else flow d log)
     others ne =
-        subst (λ (b : Bool). IsFlowed (asked_by h'.mail h'.state d) (rest_at sys' d) d h'.state (if b then x ∷ flow d log else flow d log)) (sym (ne_eqb c d (λ e. ne (sym e))))
-        (flowed-rests (asked_by h'.mail h'.state d) (rest_at sys d) (rest_at sys' d) d h'.state (flow d log) rests (either last refl))
+        subst (λ (b : Bool). IsFlowed (asked_by h'.mail h'.state d) (unfinished_at sys' d) d h'.state (if b then x ∷ flow d log else flow d log)) (sym (ne_eqb c d (λ e. ne (sym e))))
+        (flowed-rests (asked_by h'.mail h'.state d) (unfinished_at sys d) (unfinished_at sys' d) d h'.state (flow d log) rests (either last refl))
       where
-        rests : (i : Channel) → rest_at sys' d i ≡ rest_at sys d i
-        rests i = at.rests d i ∙ ap (λ (b : Bool). if b && same_channel i ch then grown x (rest_at sys d i) else rest_at sys d i) (ne_eqb d c ne)
+        rests : (i : Channel) → unfinished_at sys' d i ≡ unfinished_at sys d i
+        rests i = at.rests d i ∙ ap (λ (b : Bool). if b && same_channel i ch then grown x (unfinished_at sys d i) else unfinished_at sys d i) (ne_eqb d c ne)
 
         either : (b : Bool) → last ≡ b → FlowsAs config log h sys c is (next_tracker sys) d ne (flow d log) (if b then kind_taken config (next_tracker sys) c at.first.kind at.first.number at.first.rest h else h)
         either true e = other-kind config log h sys c is (next_tracker sys) d ne (flow d log) at.first.kind at.first.number at.first.rest on_kind (ready e) (flowed d)
@@ -222,9 +223,9 @@ delivered-flowed {w} config log link ch h width is flowed = go (is_moving (stepp
         let at = first-moved config link ch sys moving in
         moved-flowed config log link ch h at.0 at.1 width is flowed at.3.0 moving (moved-on config log link ch h at.0 at.1 at.2 width is at.3.0 at.3.1 moving (is_to_client ch) refl)
     go false still =
-        λ d. subst (λ (z : Shadow w). IsFlowed (asked_by z.mail z.state d) (rest_at (stepped config (Deliver link ch) sys).after d) d z.state (flow d ((Deliver link ch, (stepped config (Deliver link ch) sys).outcome) ∷ log))) (sym (followed-still config link ch sys h still))
-        (subst (λ (t : History w). IsFlowed (asked_by h.mail h.state d) (rest_at (stepped config (Deliver link ch) sys).after d) d h.state t) (sym (flow_still (Deliver link ch) (stepped config (Deliver link ch) sys).outcome log d still))
-        (flowed-rests (asked_by h.mail h.state d) (rest_at sys d) (rest_at (stepped config (Deliver link ch) sys).after d) d h.state (flow d log) (λ i. (unmoved config link ch sys still).rests d i) (flowed d)))
+        λ d. subst (λ (z : Shadow w). IsFlowed (asked_by z.mail z.state d) (unfinished_at (stepped config (Deliver link ch) sys).after d) d z.state (flow d ((Deliver link ch, (stepped config (Deliver link ch) sys).outcome) ∷ log))) (sym (followed-still config link ch sys h still))
+        (subst (λ (t : History w). IsFlowed (asked_by h.mail h.state d) (unfinished_at (stepped config (Deliver link ch) sys).after d) d h.state t) (sym (flow_still (Deliver link ch) (stepped config (Deliver link ch) sys).outcome log d still))
+        (flowed-rests (asked_by h.mail h.state d) (unfinished_at sys d) (unfinished_at (stepped config (Deliver link ch) sys).after d) d h.state (flow d log) (λ i. (unmoved config link ch sys still).rests d i) (flowed d)))
 
 -- ---- and after a client was asked
 
@@ -238,10 +239,10 @@ asked-flowed {w} config log c o h width is flowed = go (terms_at config c) refl
     After x = AreFlowed ((Ask c o, x.outcome) ∷ log) (followed_by config (Ask c o) x.outcome sys h).mail (followed_by config (Ask c o) x.outcome sys h).state x.after
 
     go : (i : Option Terms) → terms_at config c ≡ i → After (stepped config (Ask c o) sys)
-    go None none = subst After (sym (stepped-nobody config (Ask c o) sys none)) (λ d. subst (λ (t : History w). IsFlowed (asked_by h.mail h.state d) (rest_at sys d) d h.state t) (sym (flow_still (Ask c o) outcome.NoSuchClient log d refl)) (flowed d))
+    go None none = subst After (sym (stepped-nobody config (Ask c o) sys none)) (λ d. subst (λ (t : History w). IsFlowed (asked_by h.mail h.state d) (unfinished_at sys d) d h.state t) (sym (flow_still (Ask c o) outcome.NoSuchClient log d refl)) (flowed d))
     go (Some terms) known = subst After (sym (stepped-asked config c o sys terms known)) (λ d.
-        subst (λ (t : History w). IsFlowed (asked_by h'.mail h'.state d) (rest_at (replied c a sys).after d) d h'.state t) (sym (flow_still (Ask c o) (outcome.Replied a.reply) log d refl))
-        (flowed-rests (asked_by h'.mail h'.state d) (rest_at sys d) (rest_at (replied c a sys).after d) d h'.state (flow d log)
+        subst (λ (t : History w). IsFlowed (asked_by h'.mail h'.state d) (unfinished_at (replied c a sys).after d) d h'.state t) (sym (flow_still (Ask c o) (outcome.Replied a.reply) log d refl))
+        (flowed-rests (asked_by h'.mail h'.state d) (unfinished_at sys d) (unfinished_at (replied c a sys).after d) d h'.state (flow d log)
         (λ i. (handed-client c a.message a.after sys (λ j. unfinished-asked terms o (sys.clients c) j width (is.kept c))).rests d i)
         (flowed-asked config log h sys c width is d (flow d log) o a.reply well.reply well.may (flowed d))))
       where

@@ -1,8 +1,9 @@
 -- The protocol keeps its invariant as it follows the world: at each message that is taken, the first token and the
 -- invariant give what its event asks for.
-use Rattle.std.proofs.Common.{◌≡◌, subst, ℕ, zero, suc, ◌+◌, ◌*◌, ◌<◌, ◌≤◌, Bool, true, false, not, ◌&&◌, ◌||◌, List, [], ◌∷◌, Option, Some, None, length, refl, sym, ◌∙◌, ap, ◌⊎◌, inl, inr, arith}
+use Rattle.std.proofs.Common.{◌≡◌, subst, ℕ, zero, suc, ◌*◌, ◌<◌, ◌≤◌, Bool, true, false, not, ◌&&◌, ◌||◌, List, ◌∷◌, Option, Some, None, length, refl, sym, ◌∙◌, ap, ◌⊎◌, inl, inr, arith}
 use Rattle.std.specs.Prelude.{◌==◌, if◌then◌else◌, slice_index}
-use Rattle.std.proofs.lemmas.Bool.{cases_lt, ne_eqb, eqb-true}
+use Rattle.std.proofs.lemmas.Bool.{cases_lt, ne_eqb, eqb-true, not-true, not-false}
+use Rattle.std.proofs.lemmas.Option.{same_Some}
 use Rattle.tl_beat.specs.declared.opcode.OpA.{OpA}
 use Rattle.tl_beat.specs.declared.opcode.OpA.TheVariants as a
 use Rattle.tl_burst.specs.declared.message.Message.TheVariants as message
@@ -27,11 +28,12 @@ use Rattle.tl_client.specs.declared.reply.Reply.{Reply}
 use Rattle.tl_client.specs.declared.reply.Reply.TheVariants as reply
 use Rattle.tl_client.specs.Ask.{stored, whole_grow}
 use Rattle.tl_manager.specs.Holders.{cap_probed}
+use Rattle.tl_manager.proofs.Written.{bytes_are}
 use Rattle.tl_world.specs.Follow.{Shadow, with_state, asked, some_below, bytes_at, performs, probes_some, access_taken, request_taken, is_unheld, gift, acquire_taken, granted_after, last_taken, ack_taken, is_whole, taken_by_client, kind_taken}
 use Rattle.tl_world.specs.Invariant.{cap_asked, is_asked, is_replied, IsInvariant, AreOutside}
-use Rattle.tl_world.specs.Phase.{Pair, View, Own, Other, Granting, Acknowledging, GrantedOther, is_calm, Probing, Quiet, Sent, Answered, Letting, Kept, Releasing, Acked, Acquiring, Calm, Wants, same_cap, is_quiet, cap_fits, grow_fits}
+use Rattle.tl_world.specs.Phase.{Pair, View, Own, Other, Granting, Acknowledging, GrantedOther, Answered, Kept, Acquiring, Calm, Wants, same_cap, is_quiet, cap_fits, grow_fits}
 use Rattle.tl_world.specs.PhaseSteps.{is_above, is_granted_data, after_report}
-use Rattle.tl_world.specs.Protocol.{Service, Free, Waits, GrantSent, GrantTaken, Block, Use, Closed, Asked, InService, Replied, Acquires, view, token, shown, is_wanting, is_unserved, is_granting, is_acknowledging, is_sent, is_answered, is_releasing, is_acked, is_probed, on, acquire_served, acquire_granted, report_taken, grant_taken}
+use Rattle.tl_world.specs.Protocol.{Service, Free, Waits, GrantSent, GrantTaken, Block, Closed, Asked, view, token, shown, is_wanting, is_unserved, is_granting, is_answered, is_probed, on, acquire_served, acquire_granted, report_taken, grant_taken}
 use Rattle.tl_world.specs.Render.{cap_sent, report_told, prune_told}
 use Rattle.tl_world.specs.Token.{Kind, Request, Acquire, Probe, ProbeAck, Release, Answer, Grant, ReleaseAck, GrantAck, Token, set}
 use Rattle.tl_world.proofs.Phases.{and_left, and_right}
@@ -49,6 +51,9 @@ use Rattle.tl_world.proofs.Ended.{report_answers-kept}
 use Rattle.tl_world.proofs.Reported.{report_taken-kept, release_taken-kept}
 use Rattle.tl_world.proofs.TakenAll.{grant_taken-kept}
 use Rattle.tl_world.proofs.Acknowledged.{release_ack_taken-kept, grant_ack_taken-kept}
+use Rattle.tl_world.proofs.BothParts.{is_asked-is, is_replied-is, wanting-is, sent-is, answered-is, releasing-is, acked-is, acknowledging-is, not-other, not-calm, granting-own}
+use Rattle.tl_world.proofs.Codes.{low_cap}
+use Rattle.tl_world.proofs.Perms.{none-above, nothing-above}
 
 -- ---- clients that pass a test
 
@@ -78,43 +83,20 @@ unprobed : (clients : ℕ) (caching : ℕ → Bool) (c : ℕ) (own : Bool) (k : 
     → some_below clients (λ d. is_probed c own k (pair d).recorded d) ≡ false → (d : ℕ) → (own && (d == c)) ≡ false → is_above k (pair d).recorded ≡ false
 unprobed clients caching c own k pair plain outside none d spared = elim (cases_lt d clients) [
   | inl lt ↦ let e : (not (own && (d == c)) && is_above k (pair d).recorded) ≡ false = some-none clients (λ i. is_probed c own k (pair i).recorded i) none d lt in rw spared at e
-  | inr le ↦ rw (outside d (plain d le)) (nothing_above k)
+  | inr le ↦ rw (outside d (plain d le)) (nothing-above k)
 ]
-  where
-    nothing_above : (j : Cap) → is_above j perm.None ≡ false
-    nothing_above cap.ToT = refl
-    nothing_above cap.ToB = refl
-    nothing_above cap.ToN = refl
-
-spares_none : (p : Perm) → is_above cap.ToN p ≡ false → same_perm p perm.None ≡ true
-spares_none perm.None e = refl
-spares_none perm.Branch e = absurd cc
-spares_none perm.Trunk e = absurd cc
 
 pub settled_all : (clients : ℕ) (caching : ℕ → Bool) (c : ℕ) (pair : ℕ → Pair) → ((d : ℕ) → clients ≤ d → caching d ≡ false) → AreOutside caching pair
     → some_below clients (λ d. not (d == c) && not (is_quiet (pair d).probing)) ≡ false → (d : ℕ) → (d ≡ c → ⊥) → is_quiet (pair d).probing ≡ true
 settled_all clients caching c pair plain outside none d ne = elim (cases_lt d clients) [
-  | inl lt ↦ let e : (not (d == c) && not (is_quiet (pair d).probing)) ≡ false = some-none clients (λ i. not (i == c) && not (is_quiet (pair i).probing)) none d lt in twice (is_quiet (pair d).probing) (rw (ne_eqb d c ne) at e)
+  | inl lt ↦ let e : (not (d == c) && not (is_quiet (pair d).probing)) ≡ false = some-none clients (λ i. not (i == c) && not (is_quiet (pair i).probing)) none d lt in not-false (is_quiet (pair d).probing) (rw (ne_eqb d c ne) at e)
   | inr le ↦ rw (outside d (plain d le)) refl
 ]
-  where
-    twice : (b : Bool) → not b ≡ false → b ≡ true
-    twice true e = refl
-    twice false e = absurd cc
 
 -- ---- what accesses do to the bytes of a block
 
--- (To stand in tl_rules.)
-bytes_again : (f : Memory) (x : ℕ) (bytes : List ℕ) → ((i : ℕ) → i < length bytes → f (x + i) ≡ slice_index bytes i) → bytes_from f x (length bytes) ≡ bytes
-unfolding bytes_from
-bytes_again f x [] same = refl
-bytes_again f x (y ∷ ys) same =
-    let first : f x ≡ y = ap f (omega arith) ∙ same 0 (omega arith) in
-    let more : (i : ℕ) → i < length ys → f (x + 1 + i) ≡ slice_index ys i = λ i lt. ap f (omega arith) ∙ same (suc i) (omega (arith, lt)) in
-    rw (first, bytes_again f (x + 1) ys more) refl
-
 block_again : (n : ℕ) (bytes : List ℕ) → length bytes ≡ 64 → bytes_from (bytes_at n bytes) (64 * n) 64 ≡ bytes
-block_again n bytes e = rw e at (bytes_again (bytes_at n bytes) (64 * n) bytes (λ i lt. ap (slice_index bytes) (omega arith)))
+block_again n bytes e = rw e at (bytes_are (bytes_at n bytes) (64 * n) bytes (λ i lt. ap (slice_index bytes) (omega arith)))
 
 -- an access that doesn't probe all leaves the memory
 leaves_memory : {w : ℕ} (m : MessageA w) (memory : Memory) → is_acquire m.opcode ≡ false → (cap_probed m.opcode m.param ≡ Some cap.ToN) ⊎ ((effect (message.A m) memory).0 ≡ memory)
@@ -137,34 +119,7 @@ leaves-bytes m bytes e long = elim (leaves_memory m (bytes_at (block_at m.addres
   | inr same ↦ inl (ap (λ (f : Memory). bytes_from f (64 * block_at m.address) 64) same ∙ block_again (block_at m.address) bytes long)
 ]
 
-low_probed : (o : OpA) (param : ℕ) (k : Cap) → cap_probed o param ≡ Some k → same_cap k cap.ToT ≡ false
-low_probed o param cap.ToB e = refl
-low_probed o param cap.ToN e = refl
-low_probed a.Get param cap.ToT e = absurd cc
-low_probed a.Intent param cap.ToT e = absurd cc
-low_probed a.AcquireBlock param cap.ToT e = absurd (never (param == 0) e)
-  where
-    never : (b : Bool) → Some (if b then cap.ToB else cap.ToN) ≡ Some cap.ToT → ⊥
-    never true f = cc
-    never false f = cc
-low_probed a.AcquirePerm param cap.ToT e = absurd (never (param == 0) e)
-  where
-    never : (b : Bool) → Some (if b then cap.ToB else cap.ToN) ≡ Some cap.ToT → ⊥
-    never true f = cc
-    never false f = cc
-low_probed a.PutFullData param cap.ToT e = absurd cc
-low_probed a.PutPartialData param cap.ToT e = absurd cc
-low_probed a.ArithmeticData param cap.ToT e = absurd cc
-low_probed a.LogicalData param cap.ToT e = absurd cc
-
 -- ---- requests
-
-is_asked-is : (u : Use) → is_asked u ≡ true → u ≡ Asked
-is_asked-is Asked e = refl
-is_asked-is Closed e = absurd cc
-is_asked-is (InService n) e = absurd cc
-is_asked-is Replied e = absurd cc
-is_asked-is (Acquires n) e = absurd cc
 
 pub request_taken-kept : {w : ℕ} (caching : ℕ → Bool) (clients c source tracker : ℕ) (m : MessageA w) (rest : List Token) (h : Shadow w) → IsInvariant caching h.state
     → ((d : ℕ) → clients ≤ d → caching d ≡ false)
@@ -185,7 +140,7 @@ request_taken-kept {w} caching clients c source tracker m rest h inv plain first
     spares : (o : Option Cap) → cap_probed m.opcode m.param ≡ o → probes_some clients c false o b.pair ≡ false → Spares (performs m) b
     spares o e none = elim (leaves-bytes m b.truth access long) [
       | inl same ↦ inl same
-      | inr all ↦ inr (λ d. spares_none (b.pair d).recorded (unprobed clients caching c false cap.ToN b.pair plain (inv.blocks n).outside (asked_all o e all none) d refl))
+      | inr all ↦ inr (λ d. none-above (b.pair d).recorded (unprobed clients caching c false cap.ToN b.pair plain (inv.blocks n).outside (asked_all o e all none) d refl))
     ]
       where
         asked_all : (o : Option Cap) → cap_probed m.opcode m.param ≡ o → cap_probed m.opcode m.param ≡ Some cap.ToN → probes_some clients c false o b.pair ≡ false
@@ -197,16 +152,12 @@ request_taken-kept {w} caching clients c source tracker m rest h inv plain first
     go true (Some k) e f =
         let some : some_below clients (λ d. is_probed c false k (b.pair d).recorded d) ≡ true = rw f at e in
         let one = some-one clients (λ d. is_probed c false k (b.pair d).recorded d) some in
-        access_served-kept caching c n source tracker k rest h.state inv first free asked (low_probed m.opcode m.param k f) unused one.0 one.1
+        access_served-kept caching c n source tracker k rest h.state inv first free asked (low_cap m.opcode m.param k f) unused one.0 one.1
     go true None e f = absurd (let no : false ≡ true = rw f at e in cc)
     go false None e f = access_answered-kept caching c n source (performs m) rest h.state inv first asked (spares None f refl)
     go false (Some k) e f = access_answered-kept caching c n source (performs m) rest h.state inv first asked (spares (Some k) f (rw f at e))
 
 -- ---- Acquires
-
-pub wanting-is : (x : Acquiring) → is_wanting x ≡ true → (whole : Bool) × (g : Grow) × (x ≡ Wants whole g)
-wanting-is Calm e = absurd cc
-wanting-is (Wants whole g) e = (whole, g, refl)
 
 -- what is granted fits what was asked for
 gift_fits : (p : Profile) (whole : Bool) (g : Grow) (held : Perm) (unheld : Bool) → grow_fits held (Wants whole g) ≡ true → cap_fits whole g (gift p whole g unheld) ≡ true
@@ -239,17 +190,9 @@ gift_trunk profile.Two false grow.NtoB held false e f = absurd cc
 unheld_none : (clients : ℕ) (caching : ℕ → Bool) (pair : ℕ → Pair) → ((d : ℕ) → clients ≤ d → caching d ≡ false) → AreOutside caching pair → is_unheld clients pair ≡ true → (d : ℕ)
     → same_perm (pair d).recorded perm.None ≡ true
 unheld_none clients caching pair plain outside e d = elim (cases_lt d clients) [
-  | inl lt ↦ twice (same_perm (pair d).recorded perm.None) (some-none clients (λ i. not (same_perm (pair i).recorded perm.None)) (once (some_below clients (λ i. not (same_perm (pair i).recorded perm.None))) e) d lt)
+  | inl lt ↦ not-false (same_perm (pair d).recorded perm.None) (some-none clients (λ i. not (same_perm (pair i).recorded perm.None)) (not-true (some_below clients (λ i. not (same_perm (pair i).recorded perm.None))) e) d lt)
   | inr le ↦ rw (outside d (plain d le)) refl
 ]
-  where
-    once : (b : Bool) → not b ≡ true → b ≡ false
-    once true f = absurd cc
-    once false f = refl
-
-    twice : (b : Bool) → not b ≡ false → b ≡ true
-    twice true f = refl
-    twice false f = absurd cc
 
 pub acquire_taken-kept : {w : ℕ} (caching : ℕ → Bool) (clients : ℕ) (p : Profile) (c n tracker : ℕ) (rest : List Token) (h : Shadow w) → IsInvariant caching h.state
     → ((d : ℕ) → clients ≤ d → caching d ≡ false)
@@ -301,35 +244,10 @@ acquire_taken-kept {w} caching clients p c n tracker rest h inv plain first free
 
 -- ---- Probes, ProbeAcks and Releases
 
-pub sent-is : (x : Probing) → is_sent x ≡ true → x ≡ Sent (cap_sent x)
-sent-is Quiet e = absurd cc
-sent-is (Sent k) e = refl
-sent-is (Answered r) e = absurd cc
-
-pub answered-is : (x : Probing) → is_answered x ≡ true → x ≡ Answered (report_told x)
-answered-is Quiet e = absurd cc
-answered-is (Sent k) e = absurd cc
-answered-is (Answered r) e = refl
-
-pub releasing-is : (x : Letting) → is_releasing x ≡ true → x ≡ Releasing (prune_told x)
-releasing-is Kept e = absurd cc
-releasing-is (Releasing r) e = refl
-releasing-is Acked e = absurd cc
-
-pub acked-is : (x : Letting) → is_acked x ≡ true → x ≡ Acked
-acked-is Kept e = absurd cc
-acked-is (Releasing r) e = absurd cc
-acked-is Acked e = refl
-
 -- the access that has a block in service is one, and probes with the cap of the service
 abbrev pub IsServing : {w : ℕ} → Service → MessageA w → Type 0
 IsServing (Waits q false source k) m = (is_acquire m.opcode ≡ false) × (cap_probed m.opcode m.param ≡ Some k)
 IsServing _ m = Unit {0}
-
--- who sees another's service sees no Grant
-not_other : (x : Bool) (u v : View) → is_other u ≡ false → is_other v ≡ false → is_other (if x then u else v) ≡ false
-not_other true u v e f = e
-not_other false u v e f = f
 
 pub ack_taken-kept : {w : ℕ} (caching : ℕ → Bool) (clients : ℕ) (p : Profile) (c n : ℕ) (rest : List Token) (h : Shadow w) → IsInvariant caching h.state → ((d : ℕ) → clients ≤ d → caching d ≡ false)
     → (h.state.link c).c ≡ token ProbeAck n ∷ rest → length (h.state.block n).truth ≡ 64 → IsServing (h.state.block n).service (h.request n)
@@ -350,10 +268,6 @@ ack_taken-kept {w} caching clients p c n rest h inv plain first long serving = o
 
     inside : caching c ≡ false → ⊥
     inside = busy-inside caching c b.pair (λ x. is_answered x.probing) refl (rw answered refl) (inv.blocks n).outside
-
-    falls : (x : Bool) → not x ≡ true → x ≡ false
-    falls true e = absurd cc
-    falls false e = refl
 
     apart : (d : ℕ) → (not (d == c) && not (is_quiet (b.pair d).probing)) ≡ true → d ≡ c → ⊥
     apart d e f = let g : false ≡ true = rw (f, same_number c) at e in cc
@@ -391,19 +305,12 @@ ack_taken-kept {w} caching clients p c n rest h inv plain first long serving = o
         differ e = let other : false ≡ true = rw (waits, e, same_number q) at seen in cc
 
     own_wanting : (q source : ℕ) (k : Cap) → b.service ≡ Waits q true source k → is_wanting (b.pair q).acquiring ≡ true
-    own_wanting q source k waits = wanting_again (b.pair q).acquiring (own_wants (b.pair q) (view b.service q) ((inv.blocks n).phases q) (rw (waits, same_number q) refl))
-      where
-        wanting_again : (x : Acquiring) → not (is_calm x) ≡ true → is_wanting x ≡ true
-        wanting_again Calm e = absurd cc
-        wanting_again (Wants whole g) e = refl
-
-    some_injective : (k j : Cap) → Some k ≡ Some j → k ≡ j
-    some_injective k j e = cc
+    own_wanting q source k waits = not-calm (b.pair q).acquiring (own_wants (b.pair q) (view b.service q) ((inv.blocks n).phases q) (rw (waits, same_number q) refl))
 
     last : ((d : ℕ) → (d ≡ c → ⊥) → is_quiet (b.pair d).probing ≡ true) → (service : Service) → b.service ≡ service → IsInvariant caching (last_taken clients p c n r service rest h).state
     last quiet Free e = absurd (let other : false ≡ true = rw e at seen in cc)
-    last quiet (GrantSent q d k) e = absurd (let one : is_other (view (GrantSent q d k) c) ≡ true = rw e at seen in let none = not_other (c == q) (Granting d k) GrantedOther refl refl in let no : false ≡ true = sym none ∙ one in cc)
-    last quiet (GrantTaken q) e = absurd (let one : is_other (view (GrantTaken q) c) ≡ true = rw e at seen in let none = not_other (c == q) Acknowledging GrantedOther refl refl in let no : false ≡ true = sym none ∙ one in cc)
+    last quiet (GrantSent q d k) e = absurd (let one : is_other (view (GrantSent q d k) c) ≡ true = rw e at seen in let none = not-other (c == q) (Granting d k) GrantedOther refl refl in let no : false ≡ true = sym none ∙ one in cc)
+    last quiet (GrantTaken q) e = absurd (let one : is_other (view (GrantTaken q) c) ≡ true = rw e at seen in let none = not-other (c == q) Acknowledging GrantedOther refl refl in let no : false ≡ true = sym none ∙ one in cc)
     last quiet (Waits q true source k) e =
         let wants = wanting-is (b.pair q).acquiring (own_wanting q source k e) in
         subst (λ (x : Acquiring). IsInvariant caching (granted_after clients p c q n r x rest h).state) (sym wants.2) (granted q source k e quiet wants.0 wants.1 wants.2)
@@ -415,7 +322,7 @@ ack_taken-kept {w} caching clients p c n rest h inv plain first long serving = o
           settled = quiet;
           spares = elim (leaves-bytes (h.request n) b.truth for.0 long) [
             | inl same ↦ inl same
-            | inr all ↦ inr (some_injective k cap.ToN (sym for.1 ∙ all))
+            | inr all ↦ inr (same_Some k cap.ToN (sym for.1 ∙ all))
           ];
         })
 
@@ -423,7 +330,7 @@ ack_taken-kept {w} caching clients p c n rest h inv plain first long serving = o
         → IsInvariant caching (if x then with_state (report_taken c n r rest h.state) h else last_taken clients p c n r b.service rest h).state
     others true e =
         let one = some-one clients (λ d. not (d == c) && not (is_quiet (b.pair d).probing)) e in
-        report_taken-kept caching c n r rest h.state inv first answered one.0 (apart one.0 one.1) (falls (is_quiet (b.pair one.0).probing) (and_right (not (one.0 == c)) (not (is_quiet (b.pair one.0).probing)) one.1))
+        report_taken-kept caching c n r rest h.state inv first answered one.0 (apart one.0 one.1) (not-true (is_quiet (b.pair one.0).probing) (and_right (not (one.0 == c)) (not (is_quiet (b.pair one.0).probing)) one.1))
     others false e = last (settled e) b.service refl
 
 -- ---- Grants
@@ -438,17 +345,9 @@ grant_followed-kept {w} caching c n rest h inv first = go b.service refl
     seen : is_granting (view b.service c) ≡ true
     seen = holds-first Grant (h.state.link c).d rest (token Grant n) (λ i. shown Grant c (h.state.block i)) first refl (inv.transfers c Grant refl)
 
-    wanting_again : (x : Acquiring) → not (is_calm x) ≡ true → is_wanting x ≡ true
-    wanting_again Calm e = absurd cc
-    wanting_again (Wants whole g) e = refl
-
     never : (x : Bool) (u v : View) → is_granting u ≡ false → is_granting v ≡ false → is_granting (if x then u else v) ≡ false
     never true u v e f = e
     never false u v e f = f
-
-    own : (x : Bool) (d : Bool) (k : Cap) → is_granting (if x then Granting d k else GrantedOther) ≡ true → x ≡ true
-    own true d k e = refl
-    own false d k e = absurd cc
 
     go : (service : Service) → b.service ≡ service → IsInvariant caching (taken_by_client c n service rest h).state
     go Free e = absurd (let no : false ≡ true = rw e at seen in cc)
@@ -456,10 +355,10 @@ grant_followed-kept {w} caching c n rest h inv first = go b.service refl
     go (GrantTaken q) e = absurd (let one : is_granting (view (GrantTaken q) c) ≡ true = rw e at seen in let none = never (c == q) Acknowledging GrantedOther refl refl in let no : false ≡ true = sym none ∙ one in cc)
     go (GrantSent q d k) e =
         let one : is_granting (view (GrantSent q d k) c) ≡ true = rw e at seen in
-        let same : c ≡ q = eqb-true c q (own (c == q) d k one) in
+        let same : c ≡ q = eqb-true c q (granting-own (c == q) d k one) in
         let here : b.service ≡ GrantSent c d k = rw same e in
         let asks = granting_asks d k (b.pair c) (view b.service c) ((inv.blocks n).phases c) (rw (here, same_number c) refl) in
-        let wants = wanting-is (b.pair c).acquiring (wanting_again (b.pair c).acquiring asks) in
+        let wants = wanting-is (b.pair c).acquiring (not-calm (b.pair c).acquiring asks) in
         let is : is_whole (b.pair c).acquiring ≡ wants.0 = ap is_whole wants.2 in
         subst (λ (z : Bool). IsInvariant caching (grant_taken c n z d k rest h.state)) (sym is) (grant_taken-kept caching c n d wants.0 wants.1 k rest h.state inv first here wants.2)
 
@@ -472,32 +371,6 @@ IsReady {w} tracker c Request source h =
 IsReady tracker c Acquire n h = ((h.state.block n).service ≡ Free) × (h.state.tracked tracker ≡ None)
 IsReady tracker c Probe n h = ((h.state.block n).pair c).letting ≡ Kept
 IsReady tracker c _ n h = Unit {0}
-
-pub is_replied-is : (u : Use) → is_replied u ≡ true → u ≡ Replied
-is_replied-is Replied e = refl
-is_replied-is Closed e = absurd cc
-is_replied-is Asked e = absurd cc
-is_replied-is (InService n) e = absurd cc
-is_replied-is (Acquires n) e = absurd cc
-
--- who sees its GrantAck under way
-pub acknowledging-is : (s : Service) (c : ℕ) → is_acknowledging (view s c) ≡ true → s ≡ GrantTaken c
-acknowledging-is Free c e = absurd cc
-acknowledging-is (Waits q o source k) c e = absurd (never (o && (c == q)) e)
-  where
-    never : (x : Bool) → is_acknowledging (if x then Own else Other k) ≡ true → ⊥
-    never true f = cc
-    never false f = cc
-acknowledging-is (GrantSent q d k) c e = absurd (never (c == q) e)
-  where
-    never : (x : Bool) → is_acknowledging (if x then Granting d k else GrantedOther) ≡ true → ⊥
-    never true f = cc
-    never false f = cc
-acknowledging-is (GrantTaken q) c e = let same : c ≡ q = eqb-true c q (own (c == q) e) in rw same refl
-  where
-    own : (x : Bool) → is_acknowledging (if x then Acknowledging else GrantedOther) ≡ true → x ≡ true
-    own true f = refl
-    own false f = absurd cc
 
 pub kind_taken-kept : {w : ℕ} (caching : ℕ → Bool) (config : Config) (tracker c : ℕ) (k : Kind) (i : ℕ) (rest : List Token) (h : Shadow w) → IsInvariant caching h.state
     → ((d : ℕ) → length config.clients.items ≤ d → caching d ≡ false) → ((n : ℕ) → length (h.state.block n).truth ≡ 64) → ((n : ℕ) → IsServing (h.state.block n).service (h.request n))

@@ -1,7 +1,7 @@
 -- What is owed for what an event leaves alone.
 use Rattle.std.proofs.Common.{◌≡◌, ℕ, ◌+◌, ◌<◌, ◌≤◌, Bool, true, false, List, refl, sym, ◌∙◌, arith, ◌⊎◌, inl, inr}
-use Rattle.std.specs.Prelude.{◌&&◌, Option, Some, None}
-use Rattle.std.proofs.lemmas.Bool.{cases_eq}
+use Rattle.std.specs.Prelude.{Option, Some, None}
+use Rattle.std.proofs.lemmas.Bool.{cases_eq, and_from}
 use Rattle.tl_beat.specs.declared.beat.Beat.{Beat}
 use Rattle.tl_beat.specs.declared.opcode.Channel.{Channel}
 use Rattle.tl_params.specs.declared.config.Config.{Config}
@@ -46,9 +46,6 @@ module _ {X : Type 0} (caching : ℕ → Bool) (s : State X) (inv : IsInvariant 
 -- the Acquire with a source is one that its block has
 pub wants-used : {X : Type 0} (caching : ℕ → Bool) (s : State X) → IsInvariant caching s → (d i m : ℕ) → s.uses d i ≡ Acquires m → is_wanting ((s.block m).pair d).acquiring ≡ true
 wants-used caching s inv d i m e = and_left (is_wanting ((s.block m).pair d).acquiring) _ (sym (inv.named.acquires d i m) ∙ rw e (same_number m))
-
-both-true : (a b : Bool) → a ≡ true → b ≡ true → (a && b) ≡ true
-both-true a b e f = rw (e, f) refl
 
 -- an Acquire that isn't served
 pub unserved-weight : (n a g p : ℕ) (v : View) → is_unserved v ≡ true → acquire_weight n a g p v ≡ a + n + 32
@@ -130,7 +127,7 @@ module _ {w : ℕ} (config : Config) (caching : ℕ → Bool) (n : ℕ) (moves :
       → acquire_weight size (left' d Acquire m) (left' d Grant m) (probes_weight number size left' m (s'.block m)) (view (s'.block m).service d)
       ≤ acquire_weight size (left d Acquire m) (left d Grant m) (probes_weight number size left m (s.block m)) (view (s.block m).service d)
   unserved-stays d i m e f before after =
-      let a = same d Acquire m (acquire-here caching s showing.before d m (both-true _ _ (wants-used caching s showing.before d i m e) before)) (acquire-here caching s' showing.after d m (both-true _ _ (wants-used caching s' showing.after d i m f) after)) in
+      let a = same d Acquire m (acquire-here caching s showing.before d m (and_from _ _ (wants-used caching s showing.before d i m e) before)) (acquire-here caching s' showing.after d m (and_from _ _ (wants-used caching s' showing.after d i m f) after)) in
       rw (
         unserved-weight size (left' d Acquire m) (left' d Grant m) (probes_weight number size left' m (s'.block m)) (view (s'.block m).service d) after,
         unserved-weight size (left d Acquire m) (left d Grant m) (probes_weight number size left m (s.block m)) (view (s.block m).service d) before,

@@ -1,5 +1,6 @@
 -- The request whose beat is first on channel A of a link: an access that was asked, or an Acquire that is wanted.
 use Rattle.std.proofs.Common.{◌≡◌, ℕ, ◌-◌, ◌*◌, ◌^◌, ◌<◌, Bool, true, false, ◌&&◌, List, ◌∷◌, Some, None, refl, sym, ◌∙◌, ap, inl, inr, arith}
+use Rattle.std.proofs.lemmas.Option.{same_Some}
 use Rattle.std.specs.Prelude.{map}
 use Rattle.tl_beat.specs.Width.{IsWidth}
 use Rattle.tl_beat.specs.declared.beat.Beat.{Beat}
@@ -17,31 +18,26 @@ use Rattle.tl_rules.proofs.Bursts.{has_beats}
 use Rattle.tl_client.specs.Requests.{open_beat}
 use Rattle.tl_client.specs.Kept.{acquires}
 use Rattle.tl_client.specs.Send.{acquisition}
+use Rattle.tl_client.proofs.HeldAfter.{same_block}
 use Rattle.tl_manager.specs.Kept.{illegal_message_at}
 use Rattle.tl_manager.specs.Slave.{level_of}
 use Rattle.tl_world.specs.Carried.{IsCarried}
 use Rattle.tl_world.specs.Follow.{acquire_opcode}
 use Rattle.tl_world.specs.Invariant.{is_asked}
 use Rattle.tl_world.specs.Log.{Log}
-use Rattle.tl_world.specs.Phase.{Acquiring, Calm, Wants}
-use Rattle.tl_world.specs.Protocol.{Block, State, Use, Closed, Asked, InService, Replied, Acquires, token, shown, is_wanting, is_unserved, view}
+use Rattle.tl_world.specs.Phase.{Wants}
+use Rattle.tl_world.specs.Protocol.{Block, State, Asked, Acquires, token, shown, is_wanting, is_unserved, view}
 use Rattle.tl_world.specs.Render.{Mail, rendered, message_of, messages_on}
 use Rattle.tl_world.specs.System.{System}
 use Rattle.tl_world.specs.Token.{Request, Acquire, Token}
 use Rattle.tl_world.specs.Whole.{IsMatched, IsRequest, first_of, request_source}
 use Rattle.tl_world.proofs.Carried.{carried-next, IsNext}
-use Rattle.tl_world.proofs.Moves.{acquires_of-is}
 use Rattle.tl_world.proofs.Phases.{and_left, and_right}
 use Rattle.tl_world.proofs.Tokens.{same_number, holds-first}
+use Rattle.tl_world.proofs.BothParts.{acquires_of-is, is_asked-is, wanting-is}
+use Rattle.tl_world.proofs.Codes.{acquires-so}
 
 -- ---- an access that was asked
-
-asked-is : (u : Use) → is_asked u ≡ true → u ≡ Asked
-asked-is Asked e = refl
-asked-is Closed e = absurd cc
-asked-is (InService n) e = absurd cc
-asked-is Replied e = absurd cc
-asked-is (Acquires n) e = absurd cc
 
 -- a message of channel A with this source
 pub record IsOfSource {w : ℕ} (source : ℕ) (m : Message w) : Type 0 where
@@ -50,10 +46,7 @@ pub record IsOfSource {w : ℕ} (source : ℕ) (m : Message w) : Type 0 where
   pub source_is : request.source ≡ source
 
 of_source : {w : ℕ} (source : ℕ) (m : Message w) → request_source m ≡ Some source → IsOfSource source m
-of_source source (message.A m) e = record { request = m; is_it = refl; source_is = some_number m.source source e }
-  where
-    some_number : (i j : ℕ) → Some i ≡ Some j → i ≡ j
-    some_number i j f = cc
+of_source source (message.A m) e = record { request = m; is_it = refl; source_is = same_Some m.source source e }
 of_source source (message.B m) e = absurd cc
 of_source source (message.C m) e = absurd cc
 of_source source (message.D m) e = absurd cc
@@ -68,22 +61,10 @@ pub record IsAsked {w : ℕ} (config : Config) (c source : ℕ) (mail : Mail w) 
   pub lawful : illegal_message_at (level_of config c) (message.A request) ≡ None
   pub blank : IsBlankAfter (beats_of (message.A request)) (message.A request)
 
--- what is wanted
-pub wanted : (x : Acquiring) → is_wanting x ≡ true → (whole : Bool) × (g : Grow) × (x ≡ Wants whole g)
-wanted Calm e = absurd cc
-wanted (Wants whole g) e = (whole, g, refl)
-
 pub rendered-acquire : {w : ℕ} (c n : ℕ) (b : Block (List ℕ)) (whole : Bool) (g : Grow) → (b.pair c).acquiring ≡ Wants whole g → rendered {w = w} Acquire c n b ≡ message.A (acquisition (acquire_opcode whole) g (b.source c) n)
 unfolding rendered
 rendered-acquire {w} c n b true g e = rw e refl
 rendered-acquire {w} c n b false g e = rw e refl
-
-pub acquires-so : (whole : Bool) → is_acquire (acquire_opcode whole) ≡ true
-acquires-so true = refl
-acquires-so false = refl
-
-same_block : (n : ℕ) → block_at (64 * n) ≡ n
-same_block n = omega arith
 
 -- an access that was asked is no Acquire: the client has one Acquire of a block open at most, and that is another one
 asked-access : {w : ℕ} (config : Config) (log : Log w) (mail : Mail w) (request : ℕ → MessageA w) (s : State (List ℕ)) (sys : System w) (c source : ℕ) (m : MessageA w)
@@ -103,7 +84,7 @@ asked-access {w} config log mail request s sys c source m is used mailed = go (i
     both e =
         let mine : acquires n (open_beat source (sys.clients c).past) ≡ true = rw (opens, e, same_number n) refl in
         let wants : is_wanting (b.pair c).acquiring ≡ true = sym ((is.known c).acquires n) ∙ (is.kept c).outstanding source n mine in
-        let asks = wanted (b.pair c).acquiring wants in
+        let asks = wanting-is (b.pair c).acquiring wants in
         let used_too : s.uses c (b.source c) ≡ Acquires n = acquires_of-is n (s.uses c (b.source c)) (is.invariant.named.acquires c (b.source c) n ∙ rw (wants, same_number (b.source c)) refl) in
         let opens_too : open_beat (b.source c) (sys.clients c).past ≡ Some (a_beat_of (acquisition (acquire_opcode asks.0) asks.1 (b.source c) n) 0) =
         (is.known c).opens (b.source c) ∙ rw used_too (ap first_of (rendered-acquire c n b asks.0 asks.1 asks.2)) in
@@ -129,7 +110,7 @@ asked-first {w} config log mail request s sys c source rest is first = record {
 }
   where
     used : s.uses c source ≡ Asked
-    used = asked-is (s.uses c source) (holds-first Request (s.link c).a rest (token Request source) (λ i. is_asked (s.uses c i)) first refl (is.invariant.requests c))
+    used = is_asked-is (s.uses c source) (holds-first Request (s.link c).a rest (token Request source) (λ i. is_asked (s.uses c i)) first refl (is.invariant.requests c))
 
     sourced : IsRequest config c source (mail.request c source)
     sourced = rw used at (is.sourced c source)
@@ -168,7 +149,7 @@ wanted-first {w} config log mail request s sys c n rest is first = record {
     wants = and_left (is_wanting (b.pair c).acquiring) (is_unserved (view b.service c)) shows
 
     asks : (whole : Bool) × (g : Grow) × ((b.pair c).acquiring ≡ Wants whole g)
-    asks = wanted (b.pair c).acquiring wants
+    asks = wanting-is (b.pair c).acquiring wants
 
 -- all that no beat of it carries is zero
 narrow : (w : ℕ) → IsWidth w → 2 ^ w - 1 < 2 ^ (w * 1)

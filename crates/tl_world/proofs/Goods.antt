@@ -1,5 +1,5 @@
 -- Each beat on a channel is sound, and has the lanes of its width: of those that stay, and of those that are handed out.
-use Rattle.std.proofs.Common.{◌≡◌, ℕ, zero, suc, ◌+◌, ◌*◌, ◌<◌, Bool, true, false, ◌&&◌, ◌||◌, List, [], ◌∷◌, ◌++◌, Option, Some, None, refl, sym, ◌∙◌, ap, inl, inr, arith}
+use Rattle.std.proofs.Common.{◌≡◌, ℕ, zero, suc, ◌+◌, ◌<◌, Bool, true, false, ◌&&◌, ◌||◌, List, [], ◌∷◌, ◌++◌, Option, Some, None, refl, sym, ◌∙◌, ap, inl, inr, arith}
 use Rattle.std.specs.Prelude.{◌==◌, if◌then◌else◌, All, slice_get, nat_le, length, option_map, Result, Ok, Err}
 use Rattle.std.proofs.lemmas.Bool.{cases_eq, ne_eqb}
 use Rattle.std.proofs.lemmas.List.Elements.{All-nil, All-cons, All-append, All-rest}
@@ -38,6 +38,7 @@ use Rattle.tl_world.specs.Headline.{IsTypedOp}
 use Rattle.tl_client.specs.End.{Terms, End, copy_at, held_at, with_past}
 use Rattle.tl_client.specs.Offer.{Offered, taken, ended, responded, silent, report_for}
 use Rattle.tl_client.proofs.Cases.{NotBusy, asked-cases, probe_ack-cases}
+use Rattle.tl_client.proofs.HeldAfter.{same_block}
 use Rattle.tl_rules.specs.Legality.{beats_from, illegal}
 use Rattle.tl_rules.specs.Typed as rules
 use Rattle.tl_rules.specs.Typed.{HasBlock}
@@ -198,9 +199,6 @@ level-terms config c terms e = go (slice_get config.clients.items c) e
     go (Some x) f = let g : terms_in config x ≡ terms = some_is (terms_in config x) terms f in (ap (λ (t : Terms). Some t.level) g, sym (ap (λ (t : Terms). t.blocks) g))
 
 -- ---- what a client is asked for
-
-same_block : (n : ℕ) → block_at (64 * n) ≡ n
-same_block n = omega arith
 
 copied_release : (w : ℕ) (p : Prune) (source n : ℕ) (copy : List ℕ) → length copy ≡ 64 → HasBlock {w = w} (release p source n copy) × IsOfClient {w = w} (release p source n copy)
 copied_release w prune.TtoB source n copy long = (long, tt)

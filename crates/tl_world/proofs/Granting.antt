@@ -27,6 +27,7 @@ use Rattle.tl_client.specs.End.{End}
 use Rattle.tl_client.specs.Offer.{address_asked, finish_of}
 use Rattle.tl_manager.specs.Handing.{grant_opcode}
 use Rattle.tl_manager.specs.Service.{is_access_answer}
+use Rattle.tl_manager.proofs.Recording.{cap-gives}
 use Rattle.tl_world.specs.declared.event.Event.TheVariants.{Deliver}
 use Rattle.tl_world.specs.declared.event.Outcome.TheVariants as outcome
 use Rattle.tl_world.specs.Beside.{IsOpened, op_of}
@@ -47,7 +48,6 @@ use Rattle.tl_world.proofs.Coherence.{opened-started}
 use Rattle.tl_world.proofs.Due.{IsGrantDue, ack_message, answer-due, grant-due, grant-rendered, grant_message}
 use Rattle.tl_world.proofs.Ending.{IsEnding, ending}
 use Rattle.tl_world.proofs.Heard.{finish_at}
-use Rattle.tl_world.proofs.ManagerSettles.{capped_again}
 use Rattle.tl_world.proofs.Matching.{matched-event}
 use Rattle.tl_world.proofs.RequestsTaken.{next_tracker}
 use Rattle.tl_world.proofs.Tokens.{set-same}
@@ -58,8 +58,8 @@ pub same-response : {w : ℕ} (m n : MessageD w) → message.D m ≡ message.D n
 same-response m n e = cc
 
 pub granted-finish : (w : ℕ) (d : Bool) (k : Cap) (size address : ℕ) (payload : List ℕ) → finish_of w (grant_opcode d) (cap_code k) size address payload ≡ finish.Granted (cap_right k)
-granted-finish w true k size address payload = ap finish.Granted (capped_again k)
-granted-finish w false k size address payload = ap finish.Granted (capped_again k)
+granted-finish w true k size address payload = ap finish.Granted (cap-gives k)
+granted-finish w false k size address payload = ap finish.Granted (cap-gives k)
 
 answer_grants : (w : ℕ) (o : OpD) (param size address : ℕ) (payload : List ℕ) (p : Perm) → is_access_answer o ≡ true → finish.Granted p ≡ finish_of w o param size address payload → ⊥
 answer_grants w opd.AccessAck param size address payload p e f = absurd cc

@@ -25,8 +25,9 @@ use Rattle.tl_world.proofs.Firsts.{first-of}
 use Rattle.tl_world.proofs.Landed.{IsOn, landed-client, rests-manager, rests-ended}
 use Rattle.tl_world.proofs.ManagersAfter.{IsAtManager, at-manager}
 use Rattle.tl_world.proofs.Moved.{IsTakenByClient, client-moves, client-heard}
-use Rattle.tl_world.proofs.Popped.{unfinished_at, IsReceived, same_again, elsewhere}
+use Rattle.tl_world.proofs.Popped.{unfinished_at, IsReceived, elsewhere}
 use Rattle.tl_world.proofs.Tokens.{same_number}
+use Rattle.tl_world.proofs.Steps.{same_channel-refl}
 
 -- The receiver of channel ch of client c's link has this beat too, and the others have what they had.
 abbrev pub IsGrown : {w : ℕ} → ℕ → Channel → Beat w → System w → System w → Type 0
@@ -60,6 +61,6 @@ grown-received c ch x sys sys' is last d at = is d at ∙ rests-ended c ch x sys
 -- and with another one it has one beat more
 pub grown-begun : {w : ℕ} (c : ℕ) (ch : Channel) (x : Beat w) (sys sys' : System w) → IsGrown c ch x sys sys' → completes x (unfinished_at sys c ch) ≡ false → IsBegun c ch x (unfinished_at sys) (unfinished_at sys')
 grown-begun c ch x sys sys' is part = record {
-  here = is c ch ∙ rw (same_number c, same_again ch, part) refl;
+  here = is c ch ∙ rw (same_number c, same_channel-refl ch, part) refl;
   others = λ d at ne. is d at ∙ ap (λ (b : Bool). if b then grown x (unfinished_at sys d at) else unfinished_at sys d at) (elsewhere c d ch at ne);
 }

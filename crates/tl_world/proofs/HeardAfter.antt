@@ -9,7 +9,6 @@ use Rattle.tl_beat.specs.declared.beat.Link.{Link}
 use Rattle.tl_beat.specs.declared.opcode.Channel.{Channel}
 use Rattle.tl_beat.specs.declared.opcode.Channel.TheVariants as channel
 use Rattle.tl_beat.specs.declared.opcode.OpD.{OpD}
-use Rattle.tl_beat.specs.declared.opcode.OpD.TheVariants as opd
 use Rattle.tl_burst.specs.declared.message.Message.{Message}
 use Rattle.tl_burst.specs.declared.message.MessageD.{MessageD}
 use Rattle.tl_burst.specs.Messages.{unfinished}
@@ -21,7 +20,6 @@ use Rattle.tl_client.specs.declared.verdict.Finish.{Finish}
 use Rattle.tl_client.specs.Offer as offer
 use Rattle.tl_client.specs.Send.{grant_ack}
 use Rattle.tl_manager.specs.Handing.{grant_opcode}
-use Rattle.tl_manager.specs.Service.{is_access_answer}
 use Rattle.tl_world.specs.declared.event.Event.TheVariants.{Deliver}
 use Rattle.tl_world.specs.Beside.{IsBeside}
 use Rattle.tl_world.specs.Draining.{is_moving}
@@ -46,6 +44,7 @@ use Rattle.tl_world.proofs.Heard.{finish_at, acked, finish-pool}
 use Rattle.tl_world.proofs.Landed.{pushes_of, IsOn, HasHeard, landed-client, taken-landed}
 use Rattle.tl_world.proofs.RequestsTaken.{next_tracker, invariant-taken}
 use Rattle.tl_world.proofs.Showing.{carries}
+use Rattle.tl_world.proofs.Codes.{grants-so, not_ack, access_kind}
 
 -- ---- a delivery that moves a beat, as the protocol follows it
 
@@ -97,14 +96,6 @@ taken_d {w} c x queue sys mm m is =
 finish_pool_is : {w : ℕ} (c : ℕ) (x : Beat w) (queue : List (Beat w)) (sys : System w) (mm : MessageD w) (is : IsLastBeat c x queue sys mm) → pool_of (finish_at is.y (sys.clients c)) ≡ (if is_release_ack mm.opcode then Releases else Requests)
 finish_pool_is {w} c x queue sys mm is = finish-pool w is.y.opcode is.y.param is.y.size _ _ ∙ ap (λ (o : OpD). if is_release_ack o then Releases else Requests) is.opcode
 
-access_plain : (o : OpD) → is_access_answer o ≡ true → (is_grant o ≡ false) × (is_release_ack o ≡ false)
-access_plain opd.AccessAck e = (refl, refl)
-access_plain opd.AccessAckData e = (refl, refl)
-access_plain opd.HintAck e = (refl, refl)
-access_plain opd.Grant e = absurd cc
-access_plain opd.GrantData e = absurd cc
-access_plain opd.ReleaseAck e = absurd cc
-
 acked_none : {w : ℕ} (o : OpD) (sink : ℕ) → is_grant o ≡ false → acked {w = w} o sink ≡ None
 acked_none o sink e = rw e refl
 
@@ -113,7 +104,7 @@ pub responded-answer : {w : ℕ} (config : Config) (log : Log w) (h : Shadow w) 
     → IsResponded c x queue sys (remembered config log) is.y.source (finish_at is.y (sys.clients c)) (acked is.y.opcode is.y.sink) (kind_taken config (next_tracker sys) c Answer source rest h)
 unfolding accesses_answered
 responded-answer {w} config log h sys c source rest x queue due width matched first is =
-    let plain = access_plain due.answer.opcode due.answers_access in
+    let plain = access_kind due.answer.opcode due.answers_access in
     let none : acked {w = w} is.y.opcode is.y.sink ≡ None = acked_none is.y.opcode is.y.sink (ap is_grant is.opcode ∙ plain.0) in
     let pool : pool_of (finish_at is.y (sys.clients c)) ≡ Requests = finish_pool_is c x queue sys due.answer is ∙ rw plain.1 refl in
     let from : is.y.source ≡ source = is.source ∙ due.from in
@@ -143,14 +134,6 @@ responded-release_ack {w} config log h sys c n rest x queue width matched first 
           (beside-release_ack (is_caching config) c n rest h.mail h.state (remembered config log) matched.invariant open_ matched.beside));
       quiet = ap (λ (m : Option (Message w)). accesses_answered (handed_by c m)) none;
     }
-
-grant_kind : (b : Bool) → is_grant (grant_opcode b) ≡ true
-grant_kind true = refl
-grant_kind false = refl
-
-grant_plain : (b : Bool) → is_release_ack (grant_opcode b) ≡ false
-grant_plain true = refl
-grant_plain false = refl
 
 rendered_ack : {w : ℕ} (c n : ℕ) (whole d : Bool) (k : Cap) (b : Block (List ℕ)) → rendered {w = w} GrantAck c n (taken_block c whole d k b) ≡ grant_ack b.tracker
 unfolding rendered
@@ -182,10 +165,10 @@ responded-grant {w} config log h sys c n rest x queue due width matched first ba
     mm = grant_message due.data_too due.k ((h.state.block n).source c) (h.state.block n).tracker (h.state.block n).truth
 
     some : acked {w = w} is.y.opcode is.y.sink ≡ Some (grant_ack (h.state.block n).tracker)
-    some = ap (λ (o : OpD). acked {w = w} o is.y.sink) is.opcode ∙ ap (λ (i : ℕ). acked {w = w} (grant_opcode due.data_too) i) is.sink ∙ ap (λ (b : Bool). if b then Some (grant_ack {w = w} (h.state.block n).tracker) else None) (grant_kind due.data_too)
+    some = ap (λ (o : OpD). acked {w = w} o is.y.sink) is.opcode ∙ ap (λ (i : ℕ). acked {w = w} (grant_opcode due.data_too) i) is.sink ∙ ap (λ (b : Bool). if b then Some (grant_ack {w = w} (h.state.block n).tracker) else None) (grants-so due.data_too)
 
     pool : pool_of (finish_at is.y (sys.clients c)) ≡ Requests
-    pool = finish_pool_is c x queue sys mm is ∙ ap (λ (b : Bool). if b then Releases else Requests) (grant_plain due.data_too)
+    pool = finish_pool_is c x queue sys mm is ∙ ap (λ (b : Bool). if b then Releases else Requests) (not_ack due.data_too)
 
     same : kind_taken config (next_tracker sys) c Grant n rest h ≡ record h { state = grant_taken c n due.whole due.data_too due.k rest h.state }
     same = ap (λ (v : Service). taken_by_client c n v rest h) due.service ∙ ap (λ (a : Acquiring). record h { state = grant_taken c n (is_whole a) due.data_too due.k rest h.state }) due.wants

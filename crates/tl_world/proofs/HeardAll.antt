@@ -1,7 +1,7 @@
 -- Every delivery on channel D, and every one that moves no beat: the channels and the one memory afterwards.
-use Rattle.std.proofs.Common.{◌≡◌, ℕ, Bool, true, false, not, ◌||◌, List, [], ◌∷◌, Option, Some, None, refl, sym, ◌∙◌, ap, subst, ◌⊎◌, inl, inr}
+use Rattle.std.proofs.Common.{◌≡◌, ℕ, Bool, true, false, List, [], ◌∷◌, Option, Some, None, refl, sym, ◌∙◌, ap, subst, ◌⊎◌, inl, inr}
 use Rattle.std.specs.Prelude.{◌==◌, if◌then◌else◌, map, Result, Ok, Err}
-use Rattle.std.proofs.lemmas.Bool.{cases_eq, ne_eqb}
+use Rattle.std.proofs.lemmas.Bool.{cases_eq, ne_eqb, not-true, or_right}
 use Rattle.tl_beat.specs.Width.{IsWidth}
 use Rattle.tl_beat.specs.declared.beat.Beat.{Beat}
 use Rattle.tl_beat.specs.declared.beat.Beat.TheVariants as beat
@@ -41,8 +41,8 @@ use Rattle.tl_world.specs.Invariant.{IsInvariant}
 use Rattle.tl_world.specs.Log.{Log, after}
 use Rattle.tl_world.specs.Machine.{Machine, moved}
 use Rattle.tl_world.specs.Matched.{AreCarried, receiver}
-use Rattle.tl_world.specs.Phase.{Letting, Kept, Releasing, Acked, Wants, is_kept, grant_fits}
-use Rattle.tl_world.specs.Protocol.{Block, State, token, is_on, is_acked, is_granting, shown, view, taken_block}
+use Rattle.tl_world.specs.Phase.{Wants, grant_fits}
+use Rattle.tl_world.specs.Protocol.{Block, State, token, is_on, is_granting, shown, view, taken_block}
 use Rattle.tl_world.specs.Remembered.{remembered, performing, accesses_answered}
 use Rattle.tl_world.specs.Render.{Mail, rendered, message_of, message_of_kind, messages_on}
 use Rattle.tl_world.specs.Step.{Step, stepped, stepped_at, handing, handed_by, only, judged, client_took, manager_took, is_to_client}
@@ -62,6 +62,7 @@ use Rattle.tl_world.proofs.Phases.{and_left}
 use Rattle.tl_world.proofs.RequestsTaken.{next_tracker}
 use Rattle.tl_world.proofs.Showing.{is_given, is_told, carries, untold, uncarried, granted-untold}
 use Rattle.tl_world.proofs.Tokens.{same_number, holds-first}
+use Rattle.tl_world.proofs.BothParts.{acked-open}
 
 -- ---- a Grant of a whole block
 
@@ -84,10 +85,6 @@ whole_fits perm.None held d cap.ToN grow.NtoB e = absurd cc
 whole_fits perm.None held d cap.ToN grow.NtoT e = absurd cc
 whole_fits perm.None held d cap.ToN grow.BtoT e = absurd cc
 
-not_true : (b : Bool) → not b ≡ true → b ≡ false
-not_true false e = refl
-not_true true e = absurd cc
-
 pub bare : {w : ℕ} (caching : ℕ → Bool) (c n : ℕ) (h : Shadow w) (due : IsGrantDue c n h.state) → IsInvariant caching h.state → IsBare c due.whole due.data_too due.k (h.state.block n)
 bare {w} caching c n h due inv j i before now = go due.whole refl
   where
@@ -100,14 +97,10 @@ bare {w} caching c n h due inv j i before now = go due.whole refl
         uncarried j i b (quiet fits.0 at) (ap is_given due.service ∙ fits.1)
       where
         quiet : same_perm (b.pair c).recorded perm.Trunk ≡ true → (i ≡ c) ⊎ (i ≡ c → ⊥) → is_told (b.pair i) ≡ false
-        quiet top (inl same) = not_true _ (granted-untold (b.pair i) (view b.service i) ((inv.blocks n).phases i) (rw same (ap (λ v. is_granting v) (own_view c due.data_too due.k b.service due.service))))
+        quiet top (inl same) = not-true _ (granted-untold (b.pair i) (view b.service i) ((inv.blocks n).phases i) (rw same (ap (λ v. is_granting v) (own_view c due.data_too due.k b.service due.service))))
         quiet top (inr other) =
             let none = (inv.blocks n).one_owner c i top other in
-            not_true _ (and_left _ _ (untold (b.pair i) (view b.service i) ((inv.blocks n).phases i) (either (same_perm (b.pair i).held perm.Trunk) (same_perm (b.pair i).recorded perm.None) none)))
-          where
-            either : (x y : Bool) → y ≡ true → (x || y) ≡ true
-            either true y e = refl
-            either false y e = e
+            not-true _ (and_left _ _ (untold (b.pair i) (view b.service i) ((inv.blocks n).phases i) (or_right (same_perm (b.pair i).held perm.Trunk) (same_perm (b.pair i).recorded perm.None) none)))
 
     go : (x : Bool) → due.whole ≡ x → (carries j i b ≡ false) ⊎ ((taken_block c due.whole due.data_too due.k b).truth ≡ b.truth)
     go true e = inl (told e (cases_eq i c))
@@ -296,11 +289,6 @@ part_d {w} config log link h terms x queue mm k width is first x_is part t same 
         ∙ ap (λ (v : Verdict). handing (step.outcome_of x v) (handed_by link.0 t.message) (with_client link.0 (offer.taken x e).after (with_channel link.0 channel.D queue sys))) same_parts.0
         ∙ ap (λ (m : Option (Message w)). handing (outcome.Moved x) (handed_by link.0 m) (with_client link.0 (offer.taken x e).after (with_channel link.0 channel.D queue sys))) same_parts.1
 
-acked_kept : (x : Letting) → is_acked x ≡ true → is_kept x ≡ false
-acked_kept Acked e = refl
-acked_kept Kept e = absurd cc
-acked_kept (Releasing r) e = absurd cc
-
 pub rendered_release_ack : {w : ℕ} (c n : ℕ) (b : Block (List ℕ)) → rendered {w = w} ReleaseAck c n b ≡ message.D (ack_message (b.release_source c))
 unfolding rendered
 rendered_release_ack c n b = refl
@@ -358,7 +346,7 @@ delivered-d {w} config log link h terms x queue width is known beats moving = ki
     kinds ReleaseAck n tokens own next =
         let acked_there = holds-first ReleaseAck (h.state.link c).d first.rest (token ReleaseAck n) (λ i. shown ReleaseAck c (h.state.block i)) tokens refl (is.invariant.transfers c ReleaseAck refl) in
         by_message ReleaseAck n (ack_message ((h.state.block n).release_source c)) tokens (rendered_release_ack c n (h.state.block n)) next
-        (λ last. responded-release_ack config log h sys c n first.rest x queue width is tokens (acked_kept ((h.state.block n).pair c).letting acked_there) last)
+        (λ last. responded-release_ack config log h sys c n first.rest x queue width is tokens (acked-open ((h.state.block n).pair c).letting acked_there) last)
     kinds Request i tokens own next = absurd cc
     kinds Acquire i tokens own next = absurd cc
     kinds Probe i tokens own next = absurd cc

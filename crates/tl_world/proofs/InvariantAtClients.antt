@@ -26,13 +26,14 @@ use Rattle.tl_world.specs.Step.{Step, stepped, stepped_at, client_took, is_to_cl
 use Rattle.tl_world.specs.System.{System, terms_at}
 use Rattle.tl_world.specs.Token.{Kind, Request, Acquire, Probe, ProbeAck, Release, Answer, Grant, ReleaseAck, GrantAck, Token}
 use Rattle.tl_world.specs.Whole.{IsMatched, is_caching}
-use Rattle.tl_world.proofs.Askable.{kept-letting, askable}
+use Rattle.tl_world.proofs.Askable.{askable}
 use Rattle.tl_world.proofs.Carried.{IsNext}
 use Rattle.tl_world.proofs.ClientDelivered.{shadow_of}
 use Rattle.tl_world.proofs.FollowKept.{IsReady, asked-kept}
 use Rattle.tl_world.proofs.ProbeDelivered.{probe-delivered}
 use Rattle.tl_world.proofs.RequestsTaken.{next_tracker}
 use Rattle.tl_world.proofs.Steps.{stepped-to-client}
+use Rattle.tl_world.proofs.BothParts.{kept-letting}
 
 pub invariant-asked : {w : ℕ} (config : Config) (log : Log w) (mail : Mail w) (request : ℕ → MessageA w) (s : State (List ℕ)) (sys : System w) (terms : Terms) (c : ℕ) (o : Op w) → IsMatched config log mail request s sys
     → terms_at config c ≡ Some terms → IsInvariant (is_caching config) (asked c o (ask.asked terms o (sys.clients c)).reply (shadow_of mail request s)).state

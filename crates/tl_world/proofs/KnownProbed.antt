@@ -1,6 +1,6 @@
 -- What a client knows after a Probe: the landed answer has exactly the effect of the abstract event.
-use Rattle.std.proofs.Common.{◌≡◌, ℕ, Bool, true, false, not, cond, List, [], ◌∷◌, Option, Some, None, refl, sym, ◌∙◌, ap, ◌⊎◌, inl, inr, arith}
-use Rattle.std.specs.Prelude.{◌==◌, ◌*◌, if◌then◌else◌, nat_le, option_map}
+use Rattle.std.proofs.Common.{◌≡◌, ℕ, Bool, true, false, not, cond, List, [], ◌∷◌, Option, None, refl, sym, ◌∙◌, ap, ◌⊎◌, inl, inr}
+use Rattle.std.specs.Prelude.{◌==◌, if◌then◌else◌, nat_le, option_map}
 use Rattle.std.proofs.lemmas.Bool.{cases_eq, ne_eqb}
 use Rattle.tl_beat.specs.Width.{IsWidth}
 use Rattle.tl_beat.specs.declared.beat.Beat.{Beat}
@@ -17,13 +17,12 @@ use Rattle.tl_burst.specs.Messages.{History, unfinished}
 use Rattle.tl_params.specs.declared.key.Key.{Key}
 use Rattle.tl_params.specs.declared.key.Key.TheVariants as key
 use Rattle.tl_params.specs.declared.param.Cap.{Cap}
-use Rattle.tl_params.specs.declared.param.Cap.TheVariants as cap
 use Rattle.tl_params.specs.declared.profile.Profile.{Profile}
 use Rattle.tl_params.specs.declared.rule.Rule.{Rule}
 use Rattle.tl_params.specs.declared.param.Report.{Report}
 use Rattle.tl_params.specs.declared.perm.Perm.{Perm}
 use Rattle.tl_params.specs.declared.perm.Perm.TheVariants as perm
-use Rattle.tl_params.specs.Param.{cap_code, cap_of, report_at, report_code, report_right}
+use Rattle.tl_params.specs.Param.{report_at, report_code, report_right}
 use Rattle.tl_rules.specs.Agent.{sent, is_outside}
 use Rattle.tl_rules.specs.Conformance.{broken_order, broken_in_order}
 use Rattle.tl_rules.specs.History.{block_at, opens, closes, held, pending, is_release, is_probe_ack, release_of}
@@ -34,7 +33,7 @@ use Rattle.tl_client.specs.End.{Terms, End, zeros, copy_at, held_at, with_past, 
 use Rattle.tl_client.specs.Offer.{silent, offered, broken_before, broken_later, waits, judged, judged_later, taken, probed, report_for}
 use Rattle.tl_client.specs.declared.verdict.Verdict.TheVariants as verdict
 use Rattle.tl_client.specs.Send.{about, probe_ack}
-use Rattle.tl_client.proofs.HeldAfter.{held-probe_ack, kept_past}
+use Rattle.tl_client.proofs.HeldAfter.{held-probe_ack, kept_past, same_block}
 use Rattle.tl_rules.proofs.Sent.{pending-quiet}
 use Rattle.tl_client.proofs.Opens.{open_beat-b, open_beat-c}
 use Rattle.tl_rules.proofs.Sent.{held_unsaid}
@@ -46,20 +45,13 @@ use Rattle.tl_world.specs.Render.{probe_beat}
 use Rattle.tl_world.specs.Known.{IsKnown}
 use Rattle.tl_world.specs.Sources.{AreOpen}
 use Rattle.tl_world.proofs.Tokens.{same_number, set-same, set-other}
-use Rattle.tl_world.proofs.Whole.{pending-whole, release_of-sent}
+use Rattle.tl_world.proofs.Codes.{cap-again}
+use Rattle.tl_rules.proofs.Handed.{pending-whole, release_of-whole}
 
 -- ---- the Probe
 
-same_block : (block : ℕ) → block_at (64 * block) ≡ block
-same_block block = omega arith
-
-cap_again : (k : Cap) → cap_of (cap_code k) ≡ Some k
-cap_again cap.ToT = refl
-cap_again cap.ToB = refl
-cap_again cap.ToN = refl
-
 pub report_is : (w n : ℕ) (k : Cap) (p : Perm) → report_for (probe_beat {w = w} n k) p ≡ report_at k p
-report_is w n k p = rw (cap_again k) refl
+report_is w n k p = rw (cap-again k) refl
 
 -- ---- the answer isn't a refusal or a stall
 
@@ -225,7 +217,7 @@ known-probed {w} {X} asked burst c n k rest s e width none known =
 same_release : {w : ℕ} (source : ℕ) (x : BeatB w) (m : MessageC w) (t : History w) → IsWidth w → is_release m.opcode ≡ false → unfinished channel.C t ≡ []
     → release_of source (after x m t) ≡ release_of source t
 unfolding release_of
-same_release source x m t width off none = release_of-sent source m (beat.B x ∷ t) (still_whole x t ∙ none) (has_beats (message.C m) width) ∙ rw off refl
+same_release source x m t width off none = release_of-whole source (message.C m) (beat.B x ∷ t) (still_whole x t ∙ none) (has_beats (message.C m) width) ∙ rw off refl
 
 -- no source is opened or closed
 pub opened-probed : {w : ℕ} {X : Type 0} (asked : ℕ → Option (BeatA w)) (c n : ℕ) (k : Cap) (rest : List Token) (s : State X) (e : End w) → IsWidth w → unfinished channel.C e.past ≡ []

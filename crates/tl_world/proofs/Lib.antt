@@ -25,6 +25,7 @@ pub mod BesideKinds
 pub mod BesideRequests
 pub mod BesideTaken
 pub mod Blocks
+mod BothParts
 mod Bounded
 mod Brought
 mod Capacities
@@ -46,6 +47,7 @@ pub mod ClientSent
 pub mod ClientStep
 pub mod ClientTaken
 pub mod ClientTakes
+pub mod Codes
 pub mod Coherence
 pub mod Continuing
 pub mod Conveyed
@@ -115,11 +117,9 @@ pub mod InvariantAtClients
 pub mod InvariantKept
 pub mod KnownProbed
 pub mod Landed
-pub mod Lawful
 mod Leftover
 mod Lessening
 pub mod Loads
-pub mod Local
 mod Lone
 pub mod Machined
 pub mod Made
@@ -161,6 +161,7 @@ mod Owned
 pub mod Passes
 pub mod Passing
 pub mod Performing
+pub mod Perms
 pub mod PhaseSteps
 pub mod Phases
 pub mod Play
@@ -211,8 +212,8 @@ pub mod TakenAll
 pub mod Tokens
 pub mod Traces
 pub mod Unmoved
+pub mod Unsaid
 pub mod Unseen
 pub mod UnseenSteps
 pub mod Waiting
 mod Weights
-pub mod Whole

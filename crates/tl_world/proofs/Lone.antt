@@ -18,25 +18,27 @@ use Rattle.tl_rules.specs.Conformance.{same_perm}
 use Rattle.tl_world.specs.Draining.{grown_to}
 use Rattle.tl_world.specs.Follow.{Shadow, acquire_taken, gift, granted_after, is_unheld, kind_taken, last_taken, some_below, taken_by_client, with_state}
 use Rattle.tl_world.specs.Invariant.{IsInvariant, cap_asked, is_replied}
-use Rattle.tl_world.specs.Phase.{Pair, Own, Other, Granting, Acknowledging, GrantedOther, Acquiring, Calm, Wants, cap_fits, grant_fits}
+use Rattle.tl_world.specs.Phase.{Pair, Own, Other, Acquiring, Calm, Wants, cap_fits, grant_fits}
 use Rattle.tl_world.specs.PhaseSteps.{after_grant_sent, after_probe, after_report, is_granted_data}
 use Rattle.tl_world.specs.Protocol.{Service, Free, Waits, GrantSent, GrantTaken, Block, State, Use, Closed, Asked, InService, Replied, Acquires, view, token, on, shown, is_probed, is_sent, acquire_granted, acquire_served, granted_at_once, granted_pair, probe_taken, report_taken, reported_block, served_block, served_pair}
 use Rattle.tl_world.specs.Render.{report_told}
 use Rattle.tl_world.specs.Token.{Kind, Request, Acquire, Probe, ProbeAck, Release, Answer, Grant, ReleaseAck, GrantAck, Token, set, set_at}
 use Rattle.tl_world.specs.Whole.{IsGivenAsked, gives_asked}
-use Rattle.tl_world.proofs.Beside.{IsElsewhere, place-cases, set_at-here}
+use Rattle.tl_world.proofs.Beside.{IsElsewhere, place-cases}
 use Rattle.tl_world.proofs.Capacities.{source_of_acquire}
 use Rattle.tl_world.proofs.ClientEnd.{is_access}
 use Rattle.tl_world.proofs.Due.{IsGrantDue, grant-due}
-use Rattle.tl_world.proofs.FollowKept.{is_replied-is}
 use Rattle.tl_world.proofs.GivenKept.{AreGiven}
 use Rattle.tl_world.proofs.Granting.{held_granted}
 use Rattle.tl_world.proofs.ManagerAfter.{others_probed}
 use Rattle.tl_world.proofs.Phases.{and_left, and_right}
-use Rattle.tl_world.proofs.Sized.{each-set_at, used-serving}
+use Rattle.tl_world.proofs.Sized.{each-set_at}
 use Rattle.tl_world.proofs.SizedAfter.{first-asked}
-use Rattle.tl_world.proofs.Still.{is_other, not-sent, owns_ask, serves_another}
-use Rattle.tl_world.proofs.Tokens.{same_number, set-each, set-other, set-same, holds-first}
+use Rattle.tl_world.proofs.Still.{owns_ask, serves_another}
+use Rattle.tl_world.proofs.Tokens.{same_number, set-each, set-other, set-same, holds-first, set_at-same}
+use Rattle.tl_world.proofs.BothParts.{is_replied-is, not-sent, taken-unseen, granted-unseen}
+use Rattle.tl_world.proofs.Owing.{serving-use}
+use Rattle.tl_world.proofs.Facts.{is_other}
 
 -- what an Acquire has brought so far, by the use of its source: it is still wanted, or what it was granted is held
 abbrev pub Brings : Profile → ℕ → Grow → Use → Pair → Type 0
@@ -159,17 +161,9 @@ module _ (p : Profile) (c n source : ℕ) (g : Grow) where
     where
       go : (service : Service) → (s.block n).service ≡ service → is_other (view service c) ≡ true → ⊥
       go Free e other = absurd cc
-      go (GrantSent q d k) e other = never (c == q) other
-        where
-          never : (b : Bool) → is_other (if b then Granting d k else GrantedOther) ≡ true → ⊥
-          never true f = absurd cc
-          never false f = absurd cc
-      go (GrantTaken q) e other = never (c == q) other
-        where
-          never : (b : Bool) → is_other (if b then Acknowledging else GrantedOther) ≡ true → ⊥
-          never true f = absurd cc
-          never false f = absurd cc
-      go (Waits r false i k) e other = no_access s r i (InService n) is (used-serving caching s n r i k inv e) refl
+      go (GrantSent q d k) e other = granted-unseen (c == q) d k other
+      go (GrantTaken q) e other = taken-unseen (c == q) other
+      go (Waits r false i k) e other = no_access s r i (InService n) is (serving-use caching s n r i k inv e) refl
       go (Waits r true i k) e other =
           let own : view (s.block n).service r ≡ Own = rw (e, same_number r) refl in
           let wants = owns_ask ((s.block n).pair r) (view (s.block n).service r) ((inv.blocks n).phases r) (rw own refl) in
@@ -229,7 +223,7 @@ module _ (p : Profile) (c n source : ℕ) (g : Grow) where
   lone_grant {w} config tracker d m rest h given due is = record {
     others = λ e i else_. uses_are e i ∙ each-set_at (λ j k (v : Use). IsElsewhere c source j k → v ≡ Closed) d src Closed h.state.uses (λ any. refl) is.others e i else_;
     brings = brings_granted p n g (after.uses c source) ((after.block n).pair c) (cap_right due.k)
-        (uses_are c source ∙ ap₂ (set_at d src Closed h.state.uses) (sym mine.0.0) (sym mine.0.1) ∙ set_at-here d src Closed h.state.uses)
+        (uses_are c source ∙ ap₂ (set_at d src Closed h.state.uses) (sym mine.0.0) (sym mine.0.1) ∙ set_at-same d src Closed h.state.uses)
         (ap₂ (λ (i j : ℕ). ((after.block i).pair j).held) (sym mine.1) (sym mine.0.0) ∙ held_granted config tracker d m rest h due)
         (grows p g due.k (fits_cap ((h.state.block m).pair d).recorded ((h.state.block m).pair d).held due.data_too due.k g (Wants due.whole due.g) wants due.fits) gives);
   }
@@ -277,7 +271,7 @@ module _ (p : Profile) (c n source : ℕ) (g : Grow) where
 
       either : (b : Bool) → IsLone p c n source g (if b then with_state told h else last).state
       either true = lone_steady h.state told (λ e j. refl) (steady_at i (reported_block d r (h.state.block i)) h.state.block n c (λ here. steady_pair d (after_report r ((h.state.block i).pair d)) (h.state.block i).pair (refl, refl) c)) is
-      either false = lone_last (length config.clients.items) config.profile d i r (h.state.block i).service rest h (λ q j k e. used-serving caching h.state i q j k inv e) is
+      either false = lone_last (length config.clients.items) config.profile d i r (h.state.block i).service rest h (λ q j k e. serving-use caching h.state i q j k inv e) is
   lone-kind_taken caching config tracker d Release i rest h inv given first is = lone_steady h.state _ (λ e j. refl) (steady_at i _ h.state.block n c (λ here. steady_pair d _ (h.state.block i).pair (refl, refl) c)) is
   lone-kind_taken caching config tracker d Grant i rest h inv given first is = lone_grant config tracker d i rest h given (grant-due caching d i rest h.state inv first) is
   lone-kind_taken caching config tracker d ReleaseAck i rest h inv given first is = lone_steady h.state _ (λ e j. refl) (steady_at i _ h.state.block n c (λ here. steady_pair d _ (h.state.block i).pair (refl, refl) c)) is

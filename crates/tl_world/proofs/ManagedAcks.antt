@@ -2,6 +2,7 @@
 use Rattle.std.proofs.Common.{◌≡◌, ℕ, ◌==◌, Bool, true, false, not, ◌&&◌, ◌||◌, List, ◌∷◌, Option, Some, None, refl, sym, ◌∙◌, ap, inl, inr}
 use Rattle.std.specs.Prelude.{if◌then◌else◌}
 use Rattle.std.proofs.lemmas.Bool.{cases_eq, ne_eqb}
+use Rattle.std.proofs.lemmas.Option.{same_Some}
 use Rattle.tl_beat.specs.declared.beat.Beat.TheVariants as beat
 use Rattle.tl_beat.specs.declared.beat.BeatE.{BeatE}
 use Rattle.tl_beat.specs.declared.opcode.Channel.TheVariants as channel
@@ -29,16 +30,10 @@ use Rattle.tl_world.specs.Sources.{AreServed, is_served, is_granted, cap_waited}
 use Rattle.tl_world.specs.Token.{Token, set}
 use Rattle.tl_world.proofs.ManagedEndings.{tracker-of, tracker-alone}
 use Rattle.tl_world.proofs.Tokens.{same_number, set-same, set-other, set-part}
+use Rattle.tl_world.proofs.Quieted.{part_none}
+use Rattle.tl_world.proofs.Unsaid.{request_of-e, probe_of-e}
 
 -- ---- a beat of channel E
-
-request_of-e : {w : ℕ} (q : ℕ) (x : BeatE) (t : History w) → request_of q (beat.E x ∷ t) ≡ request_of q t
-unfolding request_of
-request_of-e q x t = refl
-
-probe_of-e : {w : ℕ} (n : ℕ) (x : BeatE) (t : History w) → probe_of n (beat.E x ∷ t) ≡ probe_of n t
-unfolding probe_of
-probe_of-e n x t = refl
 
 burst-e : {w : ℕ} (x : BeatE) (t : History w) → unfinished channel.A (beat.E x ∷ t) ≡ unfinished channel.A t
 unfolding unfinished
@@ -105,10 +100,7 @@ serving-acked {w} c n x request s t is known i = passed ∙ elim (cases_eq i n) 
         let first = tracker-of i s is.named (client_busy (s.block i).service r e) in
         let second = tracker-of n s is.named (rw is.taken refl) in
         let both : Some i ≡ Some n = sym first ∙ ap s.tracked (same ∙ is.sink_is) ∙ second in
-        other (one i n both))
-      where
-        one : (a b : ℕ) → Some a ≡ Some b → a ≡ b
-        one a b e = cc
+        other (same_Some i n both))
 
     never : (a b : Bool) → (a && (b && false)) ≡ false
     never true true = refl
@@ -218,16 +210,12 @@ are_served-acked {w} {X} request c n rest x s t is known = record {
       | inr other ↦ let differ : d ≡ c → ⊥ = λ e. other (sym e) in rw (ne_eqb c d other, ne_eqb d c differ) refl
     ]
 
-    never : (a b : Bool) → (if a && false then false else b) ≡ b
-    never true b = refl
-    never false b = refl
-
     sinks_now : (d i : ℕ) → (if (c == d) && (x.sink == i) then false else pending (key.GrantSink i) (on_link d t)) ≡ is_granted d (set (s.block n).tracker None s.tracked i) z
     sinks_now d i = elim (cases_eq i (s.block n).tracker) [
       | inl same ↦ rw (same, set-same (s.block n).tracker None s.tracked, is.sink_is, same_number (s.block n).tracker, known.sinks d (s.block n).tracker, tracked_here, here d) (closed_or d)
       | inr other ↦
           let differ : (s.block n).tracker ≡ i → ⊥ = λ e. other (sym e) in
-          rw (set-other (s.block n).tracker i None s.tracked other, is.sink_is, ne_eqb (s.block n).tracker i differ) (never (c == d) (pending (key.GrantSink i) (on_link d t)) ∙ known.sinks d i ∙ elsewhere d i other (s.tracked i) refl)
+          rw (set-other (s.block n).tracker i None s.tracked other, is.sink_is, ne_eqb (s.block n).tracker i differ) (part_none (c == d) (pending (key.GrantSink i) (on_link d t)) ∙ known.sinks d i ∙ elsewhere d i other (s.tracked i) refl)
     ]
 
     asked_now : (i p from : ℕ) (own : Bool) (low : Cap) → (set n new s.block i).service ≡ Waits p own from low → request_of from (on_link p t) ≡ Some (a_beat_of (request i) 0)

@@ -1,7 +1,7 @@
 -- What the manager knows after the last ProbeAck that an access waited for, whose answer is handed out.
 use Rattle.std.proofs.Common.{◌≡◌, ℕ, ◌+◌, ◌==◌, Bool, true, false, ◌&&◌, ◌||◌, List, ◌∷◌, Option, Some, None, refl, sym, ◌∙◌, ap, inl, inr, arith}
 use Rattle.std.specs.Prelude.{if◌then◌else◌}
-use Rattle.std.proofs.lemmas.Bool.{cases_eq, eqb-true, ne_eqb}
+use Rattle.std.proofs.lemmas.Bool.{cases_eq, eqb-true, ne_eqb, and_parts}
 use Rattle.tl_beat.specs.declared.beat.Beat.TheVariants as beat
 use Rattle.tl_beat.specs.declared.beat.BeatC.{BeatC}
 use Rattle.tl_beat.specs.declared.opcode.Channel.TheVariants as channel
@@ -24,7 +24,7 @@ use Rattle.tl_manager.proofs.Counts.{serving-without}
 use Rattle.tl_manager.proofs.Handed.{after_sent}
 use Rattle.tl_manager.proofs.Replied.{IsReply, source-reply}
 use Rattle.tl_manager.proofs.Replies.{reply-quiet, burst-reply, request-reply, probe-reply}
-use Rattle.tl_world.specs.Invariant.{AreNamed, is_of, is_busy}
+use Rattle.tl_world.specs.Invariant.{AreNamed, is_busy}
 use Rattle.tl_world.specs.Managed.{IsManaged, is_own}
 use Rattle.tl_world.specs.Phase.{is_quiet}
 use Rattle.tl_world.specs.PhaseSteps.{after_report}
@@ -34,12 +34,10 @@ use Rattle.tl_world.specs.Render.{probe_beat}
 use Rattle.tl_world.specs.Token.{Token, set, set_at}
 use Rattle.tl_world.proofs.Quieted.{quiet-c, IsLastOf, recorded-answer, pair-part}
 use Rattle.tl_world.proofs.ManagedReports.{reported-records, reported-missing, reported-probing}
-use Rattle.tl_world.proofs.Tokens.{same_number, set-same, set-other, set-part}
+use Rattle.tl_world.proofs.Tokens.{same_number, set-same, set-other, set-part, set_at-same}
+use Rattle.tl_world.proofs.BothParts.{is_of-is}
 
 -- ---- one place of two numbers
-
-pub set_at-same : {X : Type 0} (c k : ℕ) (x : X) (f : ℕ → ℕ → X) → set_at c k x f c k ≡ x
-set_at-same c k x f = rw (same_number c, same_number k) refl
 
 pub set_at-other : {X : Type 0} (c k : ℕ) (x : X) (f : ℕ → ℕ → X) (d i : ℕ) → ((c == d) && (k == i)) ≡ false → set_at c k x f d i ≡ f d i
 set_at-other c k x f d i other = elim (cases_eq d c) [
@@ -52,13 +50,9 @@ set_at-other c k x f d i other = elim (cases_eq d c) [
 
 -- ---- a tracker
 
-of_is : (n : ℕ) (o : Option ℕ) → is_of n o ≡ true → o ≡ Some n
-of_is n None e = absurd cc
-of_is n (Some m) e = ap Some (sym (eqb-true n m e))
-
 -- the tracker of a block that is in service is of the block, and no other one is
 pub tracker-of : {X : Type 0} (n : ℕ) (s : State X) → AreNamed s → is_busy (s.block n).service ≡ true → s.tracked (s.block n).tracker ≡ Some n
-tracker-of n s named busy = of_is n (s.tracked (s.block n).tracker) (named.trackers (s.block n).tracker n ∙ rw (busy, same_number (s.block n).tracker) refl)
+tracker-of n s named busy = is_of-is n (s.tracked (s.block n).tracker) (named.trackers (s.block n).tracker n ∙ rw (busy, same_number (s.block n).tracker) refl)
 
 pub tracker-alone : {X : Type 0} (n i : ℕ) (s : State X) → AreNamed s → s.tracked i ≡ Some n → i ≡ (s.block n).tracker
 tracker-alone n i s named e = eqb-true i (s.block n).tracker (later (is_busy (s.block n).service) (sym (named.trackers i n) ∙ rw (e, same_number n) refl))
@@ -178,16 +172,12 @@ are_served-ended {w} {X} request c q n source k r f rest x m s t is known = reco
     sources_now : (d i : ℕ) (b : Bool) → ((q == d) && (source == i)) ≡ b
         → pending (key.RequestSource i) (on_link d v) ≡ (is_served d (set_at q source Replied s.uses d i) z || comes_in_request i (unfinished channel.A (on_link d v)))
     sources_now d i true e =
-        let p = both (q == d) (source == i) e in
+        let p = and_parts (q == d) (source == i) e in
         let client : q ≡ d = eqb-true q d p.0 in
         let mine : source ≡ i = eqb-true source i p.1 in
         let free : pending (key.RequestSource i) (on_link d v) ≡ false = source_now d i ∙ rw e refl in
         let none : comes_in_request i (unfinished channel.A (on_link d v)) ≡ false = no-burst d i v (accounted-answer n (service_for q n request s) m u is.reply is.answers is.access is.accounted) free in
         rw (free, none, ← client, ← mine, set_at-same q source Replied s.uses) refl
-      where
-        both : (a b : Bool) → (a && b) ≡ true → (a ≡ true) × (b ≡ true)
-        both true b f = (refl, f)
-        both false b f = absurd cc
     sources_now d i false e =
         source_now d i ∙ rw (e, set_at-other q source Replied s.uses d i e, served_now d (s.uses d i), burst-reply (record { 0 = q }) m u d, (quiet-c (record { 0 = c }) x t).bursts d)
         ((quiet-c (record { 0 = c }) x t).sources d i ∙ known.sources d i)

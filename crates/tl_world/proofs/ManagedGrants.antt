@@ -1,7 +1,7 @@
 -- What the manager knows after the last ProbeAck that an Acquire waited for, whose Grant is handed out.
 use Rattle.std.proofs.Common.{◌≡◌, ℕ, ◌==◌, Bool, true, false, not, ◌&&◌, ◌||◌, List, [], Option, Some, None, refl, sym, ◌∙◌, ap, ◌⊎◌, inl, inr, subst}
 use Rattle.std.specs.Prelude.{if◌then◌else◌}
-use Rattle.std.proofs.lemmas.Bool.{cases_eq, eqb-true, ne_eqb}
+use Rattle.std.proofs.lemmas.Bool.{cases_eq, eqb-true, ne_eqb, and_parts}
 use Rattle.tl_beat.specs.Width.{IsWidth}
 use Rattle.tl_beat.specs.declared.beat.BeatC.{BeatC}
 use Rattle.tl_beat.specs.declared.opcode.Channel.TheVariants as channel
@@ -19,6 +19,7 @@ use Rattle.tl_rules.specs.Conformance.{Trace, on_link, comes_in_request}
 use Rattle.tl_rules.specs.History.{block_at, asks_for, capped, held, is_grant, is_probe_ack, or_perm, pending, probe_of, request_of}
 use Rattle.tl_rules.proofs.Handed.{after_whole}
 use Rattle.tl_rules.proofs.Sent.{held-sent_d}
+use Rattle.tl_client.proofs.HeldAfter.{swapped}
 use Rattle.tl_manager.specs.Holders.{recorded}
 use Rattle.tl_manager.specs.Pending.{IsAccounted}
 use Rattle.tl_manager.specs.Service.{serving}
@@ -158,12 +159,6 @@ waits_ungranted : (b : Bool) (k : Cap) → (is_granting (if true && b then Own e
 waits_ungranted true k = refl
 waits_ungranted false k = refl
 
-swapped : (m n : ℕ) → (m == n) ≡ (n == m)
-swapped m n = elim (cases_eq m n) [
-  | inl same ↦ rw same refl
-  | inr other ↦ let differ : n ≡ m → ⊥ = λ e. other (sym e) in rw (ne_eqb m n other, ne_eqb n m differ) refl
-]
-
 twice : (b : Bool) → (if b then false else b) ≡ false
 twice true = refl
 twice false = refl
@@ -218,14 +213,10 @@ managed-conceded {w} {X} request c q n source k gift r dt rest x m s t is known 
     others : q ≡ c → ⊥
     others e = is.apart (sym e)
 
-    both : (a b : Bool) → (a && b) ≡ true → (a ≡ true) × (b ≡ true)
-    both true b e = (refl, e)
-    both false b e = absurd cc
-
     probing_same : (d i : ℕ) (b : Bool) → ((q == d) && (n == i)) ≡ b → (if b then not (is_quiet gives.probing) else not (is_quiet ((set n mid s.block i).pair d).probing)) ≡ not (is_quiet ((set n mid s.block i).pair d).probing)
     probing_same d i false e = refl
     probing_same d i true e =
-        let p = both (q == d) (n == i) e in
+        let p = and_parts (q == d) (n == i) e in
         rw (← eqb-true q d p.0, ← eqb-true n i p.1, set-same n mid s.block, set-other c q (after_report r ((s.block n).pair c)) (s.block n).pair others) refl
 
     acquires_now : (d i : ℕ) → (if (q == d) && (n == i) then false else pending (key.AcquireOf i) (on_link d u)) ≡ is_own (view (set n new s.block i).service d)
@@ -292,10 +283,6 @@ are_served-conceded {w} {X} request c q n source k gift r dt rest x m s t is kno
     given : IsGiven q n (s.block n).tracker m u
     given = conceded-given c q n source k gift r x m request s t is
 
-    both : (a b : Bool) → (a && b) ≡ true → (a ≡ true) × (b ≡ true)
-    both true b e = (refl, e)
-    both false b e = absurd cc
-
     -- a request of another client or source
     unlike : (d i j : ℕ) → ((q == d) && (source == i)) ≡ false → s.uses d i ≡ Acquires j → j ≡ n → (d == q) ≡ false
     unlike d i j apart e same = elim (cases_eq d q) [
@@ -323,7 +310,7 @@ are_served-conceded {w} {X} request c q n source k gift r dt rest x m s t is kno
 
     sources_now : (d i : ℕ) (b : Bool) → ((q == d) && (source == i)) ≡ b → pending (key.RequestSource i) (on_link d v) ≡ (is_served d (s.uses d i) z || comes_in_request i (unfinished channel.A (on_link d v)))
     sources_now d i true e =
-        let p = both (q == d) (source == i) e in
+        let p = and_parts (q == d) (source == i) e in
         let client : q ≡ d = eqb-true q d p.0 in
         let mine : source ≡ i = eqb-true source i p.1 in
         let free : pending (key.RequestSource i) (on_link d v) ≡ false = source_now d i ∙ rw e refl in
@@ -352,7 +339,7 @@ are_served-conceded {w} {X} request c q n source k gift r dt rest x m s t is kno
 
     sinks_now : (d i : ℕ) (b : Bool) → ((q == d) && ((s.block n).tracker == i)) ≡ b → (if (q == d) && ((s.block n).tracker == i) then true else pending (key.GrantSink i) (on_link d u)) ≡ is_granted d (s.tracked i) z
     sinks_now d i true e =
-        let p = both (q == d) ((s.block n).tracker == i) e in
+        let p = and_parts (q == d) ((s.block n).tracker == i) e in
         rw (e, ← eqb-true q d p.0, ← eqb-true (s.block n).tracker i p.1) (sym (ap (λ o. is_granted q o z) (tracker-of n s is.named (rw is.waits refl)) ∙ granted_here))
     sinks_now d i false e = rw e ((quiet-c (record { 0 = c }) x t).sinks d i ∙ known.sinks d i ∙ granted_now d i e (s.tracked i) refl)
 

@@ -1,17 +1,15 @@
 -- The manager's end after any beat that is delivered on channel C or E: it takes the beat, and all that is kept of it
 -- is kept as the protocol follows.
-use Rattle.tl_world.proofs.Moves.{acquires_of-is}
 use Rattle.tl_world.proofs.FirstToken.{first-token}
 use Rattle.tl_world.specs.PhaseSteps.{is_granted_data}
 use Rattle.tl_world.specs.Protocol as protocol
-use Rattle.tl_world.proofs.ManagedEndings.{set_at-same}
 use Rattle.tl_world.proofs.RequestsTaken.{invariant-taken}
 use Rattle.tl_world.proofs.ManagersEnd.{at_manager-matched}
 use Rattle.tl_world.proofs.ManagerHanded.{grant-rendered}
 use Rattle.tl_manager.proofs.Events.{deed-part, deed-ack}
 use Rattle.tl_manager.specs.Handing.{Deed, Handed, release_ack}
-use Rattle.std.proofs.Common.{[], ◌≡◌, ℕ, ◌+◌, Bool, true, false, not, ◌&&◌, List, ◌∷◌, None, length, refl, sym, ◌∙◌, ap, subst, arith}
-use Rattle.std.specs.Prelude.{◌==◌, if◌then◌else◌, All, map}
+use Rattle.std.proofs.Common.{[], ◌≡◌, ℕ, ◌+◌, Bool, true, false, ◌&&◌, List, ◌∷◌, None, length, refl, sym, ◌∙◌, ap, subst}
+use Rattle.std.specs.Prelude.{◌==◌, if◌then◌else◌, map}
 use Rattle.std.proofs.lemmas.Bool.{eqb-true}
 use Rattle.tl_beat.specs.Width.{IsWidth}
 use Rattle.tl_beat.specs.declared.beat.Beat.{Beat}
@@ -43,7 +41,7 @@ use Rattle.tl_manager.specs.Slave.{End, deed}
 use Rattle.tl_world.specs.Follow.{Shadow, acquire_opcode, ack_taken, granted_after, last_taken, some_below, token_taken, with_state, answers}
 use Rattle.tl_world.specs.Invariant.{IsInvariant, IsOwnSource, IsWell}
 use Rattle.tl_world.specs.Log.{Log}
-use Rattle.tl_world.specs.Phase.{View, Own, Other, Granting, Acknowledging, GrantedOther, Answered, Releasing, Acquiring, Calm, Wants, is_calm}
+use Rattle.tl_world.specs.Phase.{View, Own, Other, Granting, Acknowledging, GrantedOther, Answered, Releasing, Acquiring, Calm, Wants}
 use Rattle.tl_world.specs.Protocol.{Service, Free, Waits, GrantSent, GrantTaken, Block, Use, Acquires, is_wanting, report_taken, release_taken, grant_ack_taken, shown, token, view, granted_block, let_block}
 use Rattle.tl_world.specs.Render.{message_of, prune_told, rendered, report_told}
 use Rattle.tl_world.specs.System.{System}
@@ -51,29 +49,25 @@ use Rattle.tl_world.specs.Token.{Kind, ProbeAck, Release, GrantAck, Acquire, Tok
 use Rattle.tl_world.specs.Whole.{IsMatched, IsAcquireOf, is_caching}
 use Rattle.tl_world.proofs.Carried.{IsNext}
 use Rattle.tl_world.proofs.Facts.{answered_other, is_other, own_wants}
-use Rattle.tl_world.proofs.FollowKept.{acknowledging-is, answered-is, releasing-is}
 use Rattle.tl_world.proofs.ManagedAcks.{IsAcked}
 use Rattle.tl_world.proofs.ManagerAfter.{IsManagerOf, left, IsEnd, others_probed, report_part-left, reported-left, released-left, acked-left, deed-reported, deed-released}
 use Rattle.tl_world.proofs.ManagerSettles.{IsWanted, IsSettling, ended-left, conceded-left, deed-ended, deed-conceded, gift_after}
 use Rattle.tl_world.proofs.ManagerTakes.{IsTakenUp, ack-order, by-first_c, by-first_e, release-order, report-order, takes}
 use Rattle.tl_world.proofs.Reporting.{IsAbout, report-about, release-about}
-use Rattle.tl_world.proofs.Tokens.{holds-first, same_number, set-same}
-
-pub first_of : {X : Type 0} (P : X → Type 0) (x : X) (xs ys : List X) → ys ≡ x ∷ xs → All P ys → P x
-first_of P x xs ys e all = let whole : All P (x ∷ xs) = rw e at all in whole 0 x (omega arith)
+use Rattle.tl_world.proofs.Tokens.{holds-first, same_number, set-same, set_at-same}
+use Rattle.tl_world.proofs.BothParts.{acquires_of-is, answered-is, releasing-is, acknowledging-is, not-calm}
+use Rattle.tl_world.proofs.Admitted.{head_all}
+use Rattle.tl_world.proofs.BesideTaken.{same_message}
 
 -- ---- the Acquire that is granted
-
-a_is : {w : ℕ} (x y : MessageA w) → message.A x ≡ message.A y → x ≡ y
-a_is x y e = cc
 
 wanted_fields : {w : ℕ} (q n : ℕ) (whole : Bool) (g : Grow) (b : Block (List ℕ)) (v : MessageA w) → (b.pair q).acquiring ≡ Wants whole g → rendered Acquire q n b ≡ message.A v → (v.opcode ≡ acquire_opcode whole) × (v.param ≡ grow_code g)
 unfolding rendered
 wanted_fields {w} q n true g b v wants e =
-    let same = a_is _ v (rw wants at e) in
+    let same = same_message _ v (rw wants at e) in
     (ap (λ (m : MessageA w). m.opcode) (sym same), ap (λ (m : MessageA w). m.param) (sym same))
 wanted_fields {w} q n false g b v wants e =
-    let same = a_is _ v (rw wants at e) in
+    let same = same_message _ v (rw wants at e) in
     (ap (λ (m : MessageA w). m.opcode) (sym same), ap (λ (m : MessageA w). m.param) (sym same))
 
 -- what a client sees that has answered a Probe
@@ -137,10 +131,6 @@ reported-last {w} config log h sys c n k rest m is tokens answered up end =
     unseen true u v f g i = cc
     unseen false u v f g i = cc
 
-    wanting_again : (x : Acquiring) → not (is_calm x) ≡ true → is_wanting x ≡ true
-    wanting_again Calm f = absurd cc
-    wanting_again (Wants whole g) f = refl
-
     last : some_below (length config.clients.items) (others_probed c b.pair) ≡ false → (service : Service) → b.service ≡ service → IsInvariant (is_caching config) (last_taken (length config.clients.items) config.profile c n r service rest h).state
         → Result (last_taken (length config.clients.items) config.profile c n r service rest h) (pushed_last n service (last_taken (length config.clients.items) config.profile c n r service rest h))
     last alone Free f inv = absurd (let other : false ≡ true = rw f at seen in cc)
@@ -155,7 +145,7 @@ reported-last {w} config log h sys c n k rest m is tokens answered up end =
         own_source = let here : IsOwnSource (Waits q true source low) b.source = rw f at ((is.invariant.blocks n).own_source) in here
 
         wants : is_wanting (b.pair q).acquiring ≡ true
-        wants = wanting_again (b.pair q).acquiring (own_wants (b.pair q) (view b.service q) ((is.invariant.blocks n).phases q) (rw (f, same_number q) refl))
+        wants = not-calm (b.pair q).acquiring (own_wants (b.pair q) (view b.service q) ((is.invariant.blocks n).phases q) (rw (f, same_number q) refl))
 
         used : h.state.uses q source ≡ Acquires n
         used = acquires_of-is n (h.state.uses q source) (is.invariant.named.acquires q source n ∙ rw (wants, ← own_source, same_number source) refl)
@@ -246,7 +236,7 @@ pub reports-delivered : {w : ℕ} (config : Config) (log : Log w) (h : Shadow w)
     (pushed config c ProbeAck n h (ack_taken (length config.clients.items) config.profile c n (report_told ((h.state.block n).pair c).probing) rest h)) sys.manager x
 unfolding rendered
 reports-delivered {w} config log h sys c n rest x queue ms width is beats tokens next =
-    delivered-c config h _ ProbeAck c n x m ms queue sys.manager width (at_manager-matched config log h.mail h.request h.state sys is) (first_of (λ y. manager.IsSound config (record { 0 = c }, y)) x queue (sys.channels c channel.C) beats (is.sound c channel.C))
+    delivered-c config h _ ProbeAck c n x m ms queue sys.manager width (at_manager-matched config log h.mail h.request h.state sys is) (head_all (λ y. manager.IsSound config (record { 0 = c }, y)) x queue (sys.channels c channel.C) beats (is.sound c channel.C))
     (subst (λ (i : Message w). IsNext x (unfinished channel.C (on_link c sys.manager.trace)) i ms queue) about.1 next)
     (λ k before. report-order config (is_caching config) h.request c n k r (h.state.block n).truth (same_perm (report_left r) perm.Trunk) m h.state sys.manager is.invariant is.managed is.served is.manager_kept answered about.2 before)
     (λ k all before up. reported-last config log h sys c n k rest m is tokens answered up (record { width = width; about = about.2; rest = before; last = all; long = (is.sized n).truth }))
@@ -271,7 +261,7 @@ pub releases-delivered : {w : ℕ} (config : Config) (log : Log w) (h : Shadow w
     (pushed config c Release n h (with_state (release_taken c n (prune_told ((h.state.block n).pair c).letting) rest h.state) h)) sys.manager x
 unfolding rendered
 releases-delivered {w} config log h sys c n rest x queue ms width is beats tokens next =
-    delivered-c config h _ Release c n x m ms queue sys.manager width (at_manager-matched config log h.mail h.request h.state sys is) (first_of (λ y. manager.IsSound config (record { 0 = c }, y)) x queue (sys.channels c channel.C) beats (is.sound c channel.C))
+    delivered-c config h _ Release c n x m ms queue sys.manager width (at_manager-matched config log h.mail h.request h.state sys is) (head_all (λ y. manager.IsSound config (record { 0 = c }, y)) x queue (sys.channels c channel.C) beats (is.sound c channel.C))
     (subst (λ (i : Message w). IsNext x (unfinished channel.C (on_link c sys.manager.trace)) i ms queue) about.1 next)
     (λ k before. release-order config (is_caching config) h.request c n k r rest (h.state.block n).truth (same_perm (prune_left r) perm.Trunk) m h.state sys.manager is.invariant is.managed is.manager_kept tokens releasing about.2 before)
     (λ k all before up.
@@ -328,7 +318,7 @@ acks-delivered {w} config log h sys c n rest x queue ms width is beats tokens ne
     up : IsTakenUp config c channel.E (beat.E y) e
     up =
         takes config c channel.E (beat.E y) e
-        (subst (λ (i : Beat w). manager.IsSound config (record { 0 = c }, i)) next.beat_is (first_of (λ i. manager.IsSound config (record { 0 = c }, i)) x queue (sys.channels c channel.E) beats (is.sound c channel.E)))
+        (subst (λ (i : Beat w). manager.IsSound config (record { 0 = c }, i)) next.beat_is (head_all (λ i. manager.IsSound config (record { 0 = c }, i)) x queue (sys.channels c channel.E) beats (is.sound c channel.E)))
         refl refl is.all_live order.1 refl
 
     whole : completes {w = w} (beat.E y) before ≡ true

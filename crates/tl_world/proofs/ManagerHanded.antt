@@ -1,18 +1,16 @@
 -- What the manager hands out at a beat of channel C or E: the messages of the tokens that the protocol pushes.
 use Rattle.std.proofs.Common.{◌≡◌, ℕ, Bool, true, false, not, ◌&&◌, List, refl, sym, ◌∙◌, ap, inl, inr}
 use Rattle.std.specs.Prelude.{◌==◌, if◌then◌else◌}
-use Rattle.std.proofs.lemmas.Bool.{cases_eq}
+use Rattle.std.proofs.lemmas.Bool.{cases_eq, false_from_ne_true}
+use Rattle.std.proofs.Math.Bool.{and-false}
 use Rattle.tl_params.specs.declared.config.Config.{Config}
 use Rattle.tl_params.specs.declared.param.Cap.{Cap}
 use Rattle.tl_params.specs.declared.param.Grow.{Grow}
-use Rattle.tl_params.specs.declared.param.Grow.TheVariants as grow
 use Rattle.tl_params.specs.declared.param.Report.{Report}
 use Rattle.tl_params.specs.declared.perm.Perm.TheVariants as perm
-use Rattle.tl_params.specs.declared.profile.Profile.{Profile}
-use Rattle.tl_params.specs.declared.profile.Profile.TheVariants as profile
 use Rattle.tl_params.specs.Param.{cap_right}
 use Rattle.tl_rules.specs.Conformance.{same_perm}
-use Rattle.tl_world.specs.Follow.{Shadow, gift}
+use Rattle.tl_world.specs.Follow.{Shadow}
 use Rattle.tl_world.specs.Invariant.{IsWell, is_out}
 use Rattle.tl_world.specs.Phase.{Pair, Granting, GrantedOther}
 use Rattle.tl_world.specs.PhaseSteps.{after_report, after_grant_sent, is_granted_data}
@@ -22,59 +20,16 @@ use Rattle.tl_world.specs.Render.{rendered}
 use Rattle.tl_world.specs.Token.{Grant, set}
 use Rattle.tl_world.proofs.ManagerSettles.{gift_after, grant_after}
 use Rattle.tl_world.proofs.Tokens.{same_number, set-same}
+use Rattle.tl_world.proofs.Codes.{gives-some}
+use Rattle.tl_world.proofs.RequestsHanded.{memory-granted}
 
 -- ---- the Grant
-
--- a Grant gives something
-gives_some : (p : Profile) (whole : Bool) (g : Grow) (unheld : Bool) → same_perm (cap_right (gift p whole g unheld)) perm.None ≡ false
-gives_some profile.One true grow.NtoB unheld = refl
-gives_some profile.One true grow.NtoT unheld = refl
-gives_some profile.One true grow.BtoT unheld = refl
-gives_some profile.One false grow.NtoB unheld = refl
-gives_some profile.One false grow.NtoT unheld = refl
-gives_some profile.One false grow.BtoT unheld = refl
-gives_some profile.Two true grow.NtoB unheld = refl
-gives_some profile.Two true grow.NtoT unheld = refl
-gives_some profile.Two true grow.BtoT unheld = refl
-gives_some profile.Two false grow.NtoB true = refl
-gives_some profile.Two false grow.NtoB false = refl
-gives_some profile.Two false grow.NtoT unheld = refl
-gives_some profile.Two false grow.BtoT unheld = refl
 
 -- who is granted the block is recorded with what it is given, so that nobody else has it to write: the memory is its truth
 pub granted-memory : (caching : ℕ → Bool) (c q : ℕ) (r : Report) (d : Bool) (k : Cap) (b : Block (List ℕ)) → same_perm (cap_right k) perm.None ≡ false → IsWell caching (granted_block c q r d k b)
     → protocol.written r b.truth b.memory ≡ b.truth
-granted-memory caching c q r d k b some well = well.memory nobody
-  where
-    new : Block (List ℕ)
-    new = granted_block c q r d k b
-
-    given : (new.pair q).recorded ≡ cap_right k
-    given = ap (λ (p : Pair). p.recorded) (set-same q (after_grant_sent k (b.pair q)) (set c (after_report r (b.pair c)) b.pair))
-
-    granting : (x : Bool) → x ≡ true → is_granting (if x then Granting d k else GrantedOther) ≡ true
-    granting x e = rw e refl
-
-    never : (x : Bool) → (x && false) ≡ false
-    never true = refl
-    never false = refl
-
-    falls : (x : Bool) → (x ≡ true → ⊥) → x ≡ false
-    falls true f = absurd (f refl)
-    falls false f = refl
-
-    not_trunk : (e : ℕ) → (e ≡ q → ⊥) → same_perm (new.pair e).recorded perm.Trunk ≡ false
-    not_trunk e other = falls (same_perm (new.pair e).recorded perm.Trunk) (λ top.
-        let alone : same_perm (new.pair q).recorded perm.None ≡ true = well.one_owner e q top (λ f. other (sym f)) in
-        let none : same_perm (cap_right k) perm.None ≡ true = rw given at alone in
-        let differ : false ≡ true = sym some ∙ none in
-        cc)
-
-    nobody : (e : ℕ) → is_out (new.pair e) (view new.service e) ≡ false
-    nobody e = elim (cases_eq e q) [
-      | inl same ↦ rw same (ap (λ x. same_perm (new.pair q).recorded perm.Trunk && not x) (granting (q == q) (same_number q)) ∙ never (same_perm (new.pair q).recorded perm.Trunk))
-      | inr other ↦ ap (λ x. x && not (is_granting (view new.service e))) (not_trunk e other)
-    ]
+granted-memory caching c q r d k b some well =
+    memory-granted caching q d k (granted_block c q r d k b) well refl (ap (λ (p : Pair). p.recorded) (set-same q (after_grant_sent k (b.pair q)) (set c (after_report r (b.pair c)) b.pair))) some
 
 -- the Grant that is handed out is the one of the token
 pub grant-rendered : {w : ℕ} (config : Config) (caching : ℕ → Bool) (c q n source : ℕ) (r : Report) (whole : Bool) (g : Grow) (h : Shadow w) → source ≡ (h.state.block n).source q
@@ -82,4 +37,4 @@ pub grant-rendered : {w : ℕ} (config : Config) (caching : ℕ → Bool) (c q n
     → grant_after config c q n source r whole g h ≡ rendered Grant q n (granted_block c q r (is_granted_data whole g ((h.state.block n).pair q).recorded) (gift_after config c n r whole g h) (h.state.block n))
 unfolding rendered
 grant-rendered config caching c q n source r whole g h own well =
-    rw (own, granted-memory caching c q r (is_granted_data whole g ((h.state.block n).pair q).recorded) (gift_after config c n r whole g h) (h.state.block n) (gives_some config.profile whole g _) well) refl
+    rw (own, granted-memory caching c q r (is_granted_data whole g ((h.state.block n).pair q).recorded) (gift_after config c n r whole g h) (h.state.block n) (gives-some config.profile whole g _) well) refl

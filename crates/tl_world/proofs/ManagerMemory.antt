@@ -1,6 +1,6 @@
 -- The manager's memory, block by block, after what it takes from channel C and after an access is performed.
-use Rattle.std.proofs.Common.{◌≡◌, ℕ, zero, suc, ◌+◌, ◌*◌, ◌%◌, ◌^◌, ◌<◌, ◌≤◌, Bool, true, false, List, ◌∷◌, length, Option, Some, None, refl, sym, ◌∙◌, ap, ap₂, arith, inl, inr}
-use Rattle.std.specs.Prelude.{◌-◌, if◌then◌else◌, slice_index}
+use Rattle.std.proofs.Common.{◌≡◌, ℕ, ◌+◌, ◌*◌, ◌%◌, ◌^◌, ◌<◌, ◌≤◌, Bool, true, false, List, length, Option, Some, None, refl, sym, ◌∙◌, ap, arith, inl, inr}
+use Rattle.std.specs.Prelude.{◌-◌, if◌then◌else◌}
 use Rattle.std.proofs.lemmas.Bool.{cases_eq, eqb-true, ne_eqb}
 use Rattle.tl_beat.specs.Width.{IsWidth}
 use Rattle.tl_beat.specs.Opcode.{c_carries_data}
@@ -24,30 +24,24 @@ use Rattle.tl_manager.specs.Kept.{IsKept, illegal_message_at}
 use Rattle.tl_manager.specs.Slave as slave
 use Rattle.tl_manager.specs.Slave.{with_block, written, offered}
 use Rattle.tl_manager.proofs.Memories.{memory-elsewhere}
+use Rattle.tl_manager.proofs.Written.{block-written}
 use Rattle.tl_world.specs.Follow.{answers, bytes_at, performs}
 use Rattle.tl_world.specs.Protocol.{Block, State}
 use Rattle.tl_world.specs.Token.{set}
-use Rattle.tl_world.proofs.Lawful.{block-written}
 use Rattle.tl_world.proofs.Tokens.{set-same, set-other}
+use Rattle.tl_world.proofs.Memories.{byte_in, bytes-same}
 
 -- ---- the bytes of a block
 
 abbrev pub block_in : Memory → ℕ → List ℕ
 block_in memory n = bytes_from memory (64 * n) 64
 
-bytes_alike : (f g : Memory) (x n : ℕ) → ((i : ℕ) → i < n → f (x + i) ≡ g (x + i)) → bytes_from f x n ≡ bytes_from g x n
-unfolding bytes_from
-bytes_alike f g x zero e = refl
-bytes_alike f g x (suc n) e =
-    let here : f x ≡ g x = rw (let none : x + 0 ≡ x = omega arith in none) at (e 0 (omega arith)) in
-    ap₂ (λ b bs. b ∷ bs) here (bytes_alike f g (x + 1) n (λ i lt. let next : x + 1 + i ≡ x + (i + 1) = omega arith in rw next (e (i + 1) (omega (arith, lt)))))
-
 in_block : (n i : ℕ) → i < 64 → block_at (64 * n + i) ≡ n
 in_block n i lt = omega (arith, lt)
 
 -- memories that have the same bytes in a block
 pub block-alike : (n : ℕ) (f g : Memory) → SameBlock n f g → block_in f n ≡ block_in g n
-block-alike n f g same = bytes_alike f g (64 * n) 64 (λ i lt. same (64 * n + i) (in_block n i lt))
+block-alike n f g same = bytes-same f g (64 * n) 64 (λ i lt. same (64 * n + i) (in_block n i lt))
 
 -- ---- other blocks than the one of a beat
 
@@ -81,12 +75,6 @@ block-taken x beats memory n carries truth block is payload long = rw is (go car
 pub room-lawful : {w : ℕ} (o : Option Level) (m : MessageA w) → IsWidth w → illegal_message_at o (message.A m) ≡ None → m.address % 64 + 2 ^ m.size ≤ 64
 room-lawful None m width e = absurd cc
 room-lawful {w} (Some l) m width e = room_in_block m.size m.address m.small (eqb-true (m.address % 2 ^ m.size) 0 (control_aligned w l m.opcode m.param m.size m.address (control_of_legal l m width e)))
-
-byte_in : (f : Memory) (x n i : ℕ) → i < n → slice_index (bytes_from f x n) i ≡ f (x + i)
-unfolding bytes_from
-byte_in f x zero i lt = absurd (omega (arith, lt))
-byte_in f x (suc n) zero lt = ap f (omega arith)
-byte_in f x (suc n) (suc i) lt = byte_in f (x + 1) n i (omega (arith, lt)) ∙ ap f (omega arith)
 
 bytes_at-same : (n : ℕ) (memory : Memory) → SameBlock n memory (bytes_at n (block_in memory n))
 bytes_at-same n memory address here =

@@ -1,8 +1,6 @@
 -- All that is kept of the manager's end, after the last ProbeAck that a request waited for.
 use Rattle.tl_manager.specs.Holders as holders
 use Rattle.tl_manager.specs.Handing as handing
-use Rattle.tl_params.specs.declared.param.Cap.TheVariants as cap
-use Rattle.tl_params.specs.declared.param.Grow.TheVariants as grow
 use Rattle.tl_manager.specs.Ready.{IsReady}
 use Rattle.tl_world.proofs.ManagedReports.{reported-records}
 use Rattle.tl_world.proofs.ManagedGrants.{IsConceded, managed-conceded, are_served-conceded}
@@ -12,7 +10,7 @@ use Rattle.tl_world.specs.Render.{grant_of}
 use Rattle.tl_params.specs.declared.param.Grow.{Grow}
 use Rattle.std.proofs.Common.{◌≡◌, ℕ, Bool, true, false, not, ◌&&◌, List, [], ◌∷◌, Some, length, refl, sym, ◌∙◌, ap, ap₂, subst, inl, inr}
 use Rattle.std.specs.Prelude.{◌==◌, if◌then◌else◌}
-use Rattle.std.proofs.lemmas.Bool.{cases_eq, ne_eqb}
+use Rattle.std.proofs.lemmas.Bool.{cases_eq, ne_eqb, not-false}
 use Rattle.tl_beat.specs.declared.beat.Beat.TheVariants as beat
 use Rattle.tl_beat.specs.declared.beat.BeatC.{BeatC}
 use Rattle.tl_beat.specs.declared.opcode.Channel.TheVariants as channel
@@ -27,7 +25,7 @@ use Rattle.tl_params.specs.declared.key.Key.TheVariants as key
 use Rattle.tl_params.specs.declared.param.Cap.{Cap}
 use Rattle.tl_params.specs.declared.param.Report.{Report}
 use Rattle.tl_params.specs.declared.perm.Perm.TheVariants as perm
-use Rattle.tl_params.specs.Param.{report_code, report_left, report_right, cap_code, cap_right, grow_code}
+use Rattle.tl_params.specs.Param.{report_code, report_left, report_right, cap_code, grow_code}
 use Rattle.tl_rules.specs.declared.answer.Answer.{Answer}
 use Rattle.tl_rules.specs.declared.answer.Answer.TheVariants as answer
 use Rattle.tl_rules.specs.Conformance.{Trace, on_link, same_perm}
@@ -44,6 +42,7 @@ use Rattle.tl_manager.proofs.Judged.{passed}
 use Rattle.tl_manager.proofs.Keeping.{is_taken}
 use Rattle.tl_manager.proofs.Replied.{IsReply}
 use Rattle.tl_manager.proofs.SteadyReports.{report-ready}
+use Rattle.tl_manager.proofs.Recording.{cap-gives}
 use Rattle.tl_world.specs.Follow.{Shadow, answers, performs, some_below, with_answer, with_state, acquire_opcode, gift, is_unheld}
 use Rattle.tl_world.specs.Invariant.{AreNamed}
 use Rattle.tl_world.specs.Managed.{IsManaged}
@@ -62,6 +61,7 @@ use Rattle.tl_world.proofs.ManagerTakes.{IsTakenUp}
 use Rattle.tl_world.proofs.Quieted.{quiet-c, IsLastOf, missing-last}
 use Rattle.tl_world.proofs.Reporting.{reported-report}
 use Rattle.tl_world.proofs.Tokens.{set-same, set-other}
+use Rattle.tl_world.proofs.Codes.{grants_always, data-same}
 
 -- ---- the service of the block
 
@@ -111,11 +111,7 @@ settling-quiet config c q n source k own low r m h e at d other =
     let now = missing-last c n (report_right r) (c_beat_of m k) e.trace (settling-last config c q n source k own low r m h e at) at.end.about.reports d n in
     let none : (if (c == d) && (n == n) then false else pending (key.ProbeOf n) (on_link d e.trace)) ≡ false = sym now ∙ (settling-ready config c q n source k own low r m h e at).settled d in
     let before : pending (key.ProbeOf n) (on_link d e.trace) ≡ false = rw (ne_eqb c d differ) at none in
-    twice (is_quiet ((h.state.block n).pair d).probing) (sym (at.is.managed.probes d n) ∙ before)
-  where
-    twice : (b : Bool) → not b ≡ false → b ≡ true
-    twice true f = refl
-    twice false f = absurd cc
+    not-false (is_quiet ((h.state.block n).pair d).probing) (sym (at.is.managed.probes d n) ∙ before)
 
 -- the request is lawful
 settling-lawful : {w : ℕ} (config : Config) (c q n source k : ℕ) (own : Bool) (low : Cap) (r : Report) (m : MessageC w) (h : Shadow w) (e : End w) → IsSettling config c q n source k own low r m h e
@@ -237,39 +233,22 @@ ended-left {w} config c q n source k low r rest m h e at =
 
 -- ---- an Acquire
 
-data_same : (whole : Bool) (g : Grow) (p : Perm) → handing.is_granted_data (acquire_opcode whole) (grow_code g) p ≡ is_granted_data whole g p
-data_same true g p = refl
-data_same false grow.NtoB p = refl
-data_same false grow.NtoT p = refl
-data_same false grow.BtoT perm.None = refl
-data_same false grow.BtoT perm.Branch = refl
-data_same false grow.BtoT perm.Trunk = refl
-
 -- the Grant of an Acquire, by what is recorded
 pub grant-made : {w : ℕ} (config : Config) (q n tracker : ℕ) (v : MessageA w) (t : Trace w) (memory : Memory) (whole : Bool) (g : Grow) (unheld : Bool) (p : Perm) → v.opcode ≡ acquire_opcode whole → v.param ≡ grow_code g → block_at v.address ≡ n
     → holders.is_unheld config n t ≡ unheld → recorded q n t ≡ p
     → grant config (record { tracker = tracker; link = record { 0 = q }; request = v }) t memory ≡ grant_of (GrantSent q (is_granted_data whole g p) (gift config.profile whole g unheld)) v.source tracker (block_in memory n)
 grant-made {w} config q n tracker v t memory whole g unheld p opcode param block none held_is =
     let cap_is : cap_granted config.profile v.opcode v.param (holders.is_unheld config (block_at v.address) t) ≡ gift config.profile whole g unheld = rw (opcode, param, block, none) refl in
-    let data_is : handing.is_granted_data v.opcode v.param (recorded q (block_at v.address) t) ≡ is_granted_data whole g p = rw (opcode, param, block, held_is) (data_same whole g p) in
+    let data_is : handing.is_granted_data v.opcode v.param (recorded q (block_at v.address) t) ≡ is_granted_data whole g p = rw (opcode, param, block, held_is) (data-same whole g p) in
     ap₂ (λ k d. handing.grant_with (record { tracker = tracker; link = record { 0 = q }; request = v }) k d memory) cap_is data_is ∙ go (is_granted_data whole g p)
   where
     go : (d : Bool) → handing.grant_with (record { tracker = tracker; link = record { 0 = q }; request = v }) (gift config.profile whole g unheld) d memory ≡ grant_of (GrantSent q d (gift config.profile whole g unheld)) v.source tracker (block_in memory n)
     go true = rw block refl
     go false = refl
 
-grant_kinds : (d : Bool) → (is_grant (grant_opcode d) ≡ true) × (is_release_ack (grant_opcode d) ≡ false)
-grant_kinds true = (refl, refl)
-grant_kinds false = (refl, refl)
-
 given_is : {w : ℕ} (q : ℕ) (d : Bool) (k : Cap) (source sink : ℕ) (payload : List ℕ)
     → (m : MessageD w) × (grant_of (GrantSent q d k) source sink payload ≡ message.D m) × (is_grant m.opcode ≡ true) × (is_release_ack m.opcode ≡ false) × (m.source ≡ source) × (m.sink ≡ sink) × (m.param ≡ cap_code k)
-given_is q d k source sink payload = let kinds = grant_kinds d in (_, refl, kinds.0, kinds.1, refl, refl, refl)
-
-pub capped_again : (k : Cap) → capped (cap_code k) ≡ cap_right k
-capped_again cap.ToT = refl
-capped_again cap.ToB = refl
-capped_again cap.ToN = refl
+given_is q d k source sink payload = let kinds = grants_always d in (_, refl, kinds.0, kinds.1, refl, refl, refl)
 
 -- what is recorded of the block before the Grant
 abbrev pub pairs_after : ℕ → Report → (ℕ → Pair) → ℕ → Pair
@@ -393,7 +372,7 @@ conceded-left {w} config c q n source k low r whole g rest m h e at wanted =
       source_is = for.1;
       block_is = for.2;
       asked = at.is.served.asked n q source true low at.waits;
-      cap_is = ap capped reply.6 ∙ capped_again given;
+      cap_is = ap capped reply.6 ∙ cap-gives given;
     }
 
     still : (i : ℕ) → IsServedWith h.mail (after.block i).service (h.request i)

@@ -27,6 +27,7 @@ use Rattle.tl_params.specs.Param.{prune_code, prune_left, prune_of, report_at, r
 use Rattle.tl_rules.specs.Conformance.{on_link, broken_in_order, broken_order, prunes_from, same_perm}
 use Rattle.tl_rules.specs.History.{held, pending}
 use Rattle.tl_rules.specs.Legality.{rule_if}
+use Rattle.tl_rules.proofs.Later.{later-legal}
 use Rattle.tl_manager.specs.Kept.{IsSound, IsKept, illegal_at}
 use Rattle.tl_manager.specs.Slave as slave
 use Rattle.tl_manager.specs.Slave.{End, Passes, is_from_client, judged, level_of, must_wait, open_level, unlawful, offered, deed, taken}
@@ -42,9 +43,8 @@ use Rattle.tl_world.specs.System.{System}
 use Rattle.tl_world.specs.Token.{Kind, Request, Acquire, Probe, ProbeAck, Release, Answer, Grant, ReleaseAck, GrantAck, Token, is, one_if, count}
 use Rattle.tl_world.proofs.Carried.{IsNext}
 use Rattle.tl_world.proofs.Facts.{is_other, report_fits, own_alone, release_begins}
-use Rattle.tl_world.proofs.Orders.{report-legal, later-legal}
+use Rattle.tl_world.proofs.Orders.{report-legal}
 use Rattle.tl_world.proofs.Phases.{and_left, and_right}
-use Rattle.tl_world.proofs.PhaseSteps as steps
 use Rattle.tl_world.proofs.PhaseSteps.{on_other}
 use Rattle.tl_world.proofs.ManagedEndings.{tracker-of}
 use Rattle.tl_world.proofs.Reporting.{IsAbout}
@@ -200,11 +200,6 @@ unanswered caching c n rest s inv first =
     none true e = absurd (omega (arith, e))
     none false e = refl
 
-pub answered_same : (p : Probing) → steps.is_answered p ≡ is_answered p
-answered_same Quiet = refl
-answered_same (Sent k) = refl
-answered_same (Answered r) = refl
-
 pub release-order : {w : ℕ} (config : Config) (caching : ℕ → Bool) (request : ℕ → MessageA w) (c n k : ℕ) (r : Prune) (rest : List Token) (truth : List ℕ) (carries : Bool) (m : MessageC w) (s : State (List ℕ)) (e : End w) → IsInvariant caching s
     → IsManaged request s e.trace → IsKept config e → (s.link c).c ≡ token Release n ∷ rest → ((s.block n).pair c).letting ≡ Releasing r → IsAbout false n (prune_code r) carries truth m
     → unfinished channel.C (on_link c e.trace) ≡ begun (message.C m) k → broken_in_order config.profile (beat.C (c_beat_of m k)) (on_link c e.trace) ≡ None
@@ -225,7 +220,7 @@ release-order {w} config caching request c n k r rest truth carries m s e inv ma
     not_own x f = refl
 
     fits : same_perm (prune_left r) (b.pair c).recorded ≡ true
-    fits = release_begins r (b.pair c) (view b.service c) ((inv.blocks n).phases c) releasing (answered_same (b.pair c).probing ∙ unanswered caching c n rest s inv tokens)
+    fits = release_begins r (b.pair c) (view b.service c) ((inv.blocks n).phases c) releasing (unanswered caching c n rest s inv tokens)
 
     first : unfinished channel.C t ≡ [] → NextOrder config.profile m 0 t
     first none =

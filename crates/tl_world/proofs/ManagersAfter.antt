@@ -95,12 +95,12 @@ acquire_channel w Calm source n = refl
 acquire_channel w (Wants true g) source n = refl
 acquire_channel w (Wants false g) source n = refl
 
-ack_channel : (w : ℕ) (p : Perm) (r : Report) (n : ℕ) (x : List ℕ) → channel_of_message {w = w} (probe_ack opb.ProbeBlock p r n x) ≡ channel.C
+pub ack_channel : (w : ℕ) (p : Perm) (r : Report) (n : ℕ) (x : List ℕ) → channel_of_message {w = w} (probe_ack opb.ProbeBlock p r n x) ≡ channel.C
 ack_channel w perm.None r n x = refl
 ack_channel w perm.Branch r n x = refl
 ack_channel w perm.Trunk r n x = refl
 
-release_channel : (w : ℕ) (p : Prune) (source n : ℕ) (x : List ℕ) → channel_of_message {w = w} (release p source n x) ≡ channel.C
+pub release_channel : (w : ℕ) (p : Prune) (source n : ℕ) (x : List ℕ) → channel_of_message {w = w} (release p source n x) ≡ channel.C
 release_channel w prune.TtoB source n x = refl
 release_channel w prune.TtoN source n x = refl
 release_channel w prune.BtoN source n x = refl

@@ -26,7 +26,7 @@ bytes-same f g x (suc n) e =
 pub block-same : (f g : Memory) (n : ℕ) → SameBlock n f g → bytes_from f (64 * n) 64 ≡ bytes_from g (64 * n) 64
 block-same f g n same = bytes-same f g (64 * n) 64 (λ i lt. same (64 * n + i) (omega (arith, lt)))
 
-byte_in : (f : Memory) (x n i : ℕ) → i < n → slice_index (bytes_from f x n) i ≡ f (x + i)
+pub byte_in : (f : Memory) (x n i : ℕ) → i < n → slice_index (bytes_from f x n) i ≡ f (x + i)
 unfolding bytes_from
 byte_in f x zero i lt = absurd (omega (arith, lt))
 byte_in f x (suc n) zero lt = ap f (omega arith)

@@ -1,7 +1,9 @@
 -- A delivery is movable exactly where a channel carries a message.
 use Rattle.std.proofs.Common.{◌≡◌, ℕ, ◌<◌, Bool, true, false, List, [], ◌∷◌, refl, sym, ◌∙◌, ap, arith}
-use Rattle.std.specs.Prelude.{not, ◌&&◌, map, nat_le, Option, Some, None}
+use Rattle.std.specs.Prelude.{not, map, nat_le, Option, Some, None}
 use Rattle.std.proofs.lemmas.Bool.Decides.{nat_tests}
+use Rattle.std.proofs.Math.Bool.{and-false}
+use Rattle.std.proofs.lemmas.Bool.{true_from_ne_false}
 use Rattle.tl_beat.specs.Width.{IsWidth}
 use Rattle.tl_beat.specs.declared.beat.Beat.{Beat}
 use Rattle.tl_beat.specs.declared.beat.Beat.TheVariants as beat
@@ -139,12 +141,8 @@ module _ {w : ℕ} (config : Config) (log : Log w) (mail : Mail w) (request : �
     empty_b : (c : ℕ) (terms : Terms) → terms_at config c ≡ Some terms → (after config log).channels c channel.B ≡ []
     empty_b c terms is = nothing_first c terms channel.B is (λ x rest e. go x (firsts c terms channel.B x rest is e) (moving c terms channel.B x rest is e))
       where
-        true_unless : (b : Bool) → (b ≡ false → ⊥) → b ≡ true
-        true_unless true h = refl
-        true_unless false h = absurd (h refl)
-
         go : (x : Beat w) → IsFirst config terms c channel.B x (after config log) → Moves config log c x → is_movable config c channel.B (after config log) ≡ true
-        go (beat.B y) first m = true_unless _ (λ still.
+        go (beat.B y) first m = true_from_ne_false _ (λ still.
             let p = started-releasing config log mail request s matched coherent c (block_at y.address) (m.0 still) in
             absurd (let both : true ≡ false = sym p ∙ none_releasing c (block_at y.address) terms is in cc))
         go (beat.A y) first m = absurd (let on = first.on in cc)
@@ -171,14 +169,10 @@ module _ {w : ℕ} (config : Config) (log : Log w) (mail : Mail w) (request : �
       empty_a : (c : ℕ) (terms : Terms) → terms_at config c ≡ Some terms → (after config log).channels c channel.A ≡ []
       empty_a c terms is = nothing_first c terms channel.A is (λ x rest e. go x (firsts c terms channel.A x rest is e) (moving c terms channel.A x rest is e))
         where
-          never : (b : Bool) → (b && false) ≡ false
-          never true = refl
-          never false = refl
-
           go : (x : Beat w) → IsFirst config terms c channel.A x (after config log) → Moves config log c x → is_movable config c channel.A (after config log) ≡ true
           go (beat.A y) first m =
               let free : nat_le config.trackers 0 ≡ false = few_test config.trackers trackers in
-              m ∙ rw (none_in_service, free) (rw (never (ends (beat.A y) (on_link c (after config log).manager.trace))) refl)
+              m ∙ rw (none_in_service, free) (rw (and-false (ends (beat.A y) (on_link c (after config log).manager.trace))) refl)
           go (beat.B y) first m = absurd (let on = first.on in cc)
           go (beat.C y) first m = absurd (let on = first.on in cc)
           go (beat.D y) first m = absurd (let on = first.on in cc)

@@ -1,7 +1,7 @@
 -- The one memory, block by block: after an access, a Store, and a store of a whole block.
 use Rattle.std.proofs.Common.{◌≡◌, ℕ, zero, suc, ◌+◌, ◌-◌, ◌*◌, ◌/◌, ◌%◌, ◌^◌, ◌<◌, ◌≤◌, Bool, true, false, ◌&&◌, List, [], ◌∷◌, Option, Some, None, length, refl, sym, ◌∙◌, ap, ◌⊎◌, inl, inr, arith}
 use Rattle.std.specs.Prelude.{◌≢◌, if◌then◌else◌, slice_index, get_or, nat_le, nat_lt}
-use Rattle.std.proofs.lemmas.Bool.{cases_lt, ne_eqb, le-leb, lt-ltb, leb-true, ltb-true}
+use Rattle.std.proofs.lemmas.Bool.{cases_lt, ne_eqb, le-leb, lt-ltb, leb-true, ltb-true, and_parts}
 use Rattle.tl_beat.specs.Width.{IsWidth}
 use Rattle.tl_beat.specs.declared.opcode.OpA.{OpA}
 use Rattle.tl_beat.specs.declared.opcode.OpA.TheVariants as a
@@ -19,32 +19,19 @@ use Rattle.tl_client.specs.Send.{sourced}
 use Rattle.tl_client.proofs.Stores.{stored-inside, stored-outside, length-stored}
 use Rattle.tl_manager.specs.Kept.{illegal_message_at}
 use Rattle.tl_manager.specs.Slave.{with_block}
+use Rattle.tl_manager.proofs.Written.{bytes_are}
 use Rattle.tl_world.specs.Follow.{bytes_at, performs}
 use Rattle.tl_world.specs.Machine.{with_number}
-use Rattle.tl_world.proofs.Memories.{performed-block, performed-reply}
+use Rattle.tl_world.proofs.Memories.{performed-block, performed-reply, byte_in}
 use Rattle.tl_world.proofs.Tokens.{same_number}
 
 -- ---- a block's bytes, as a list and by their places
 
-byte_in : (f : Memory) (x n i : ℕ) → i < n → slice_index (bytes_from f x n) i ≡ f (x + i)
-unfolding bytes_from
-byte_in f x zero i lt = absurd (omega (arith, lt))
-byte_in f x (suc n) zero lt = ap f (omega arith)
-byte_in f x (suc n) (suc i) lt = byte_in f (x + 1) n i (omega (arith, lt)) ∙ ap f (omega arith)
-
 pub block-of-bytes : (f : Memory) (n : ℕ) (bytes : List ℕ) → bytes_from f (64 * n) 64 ≡ bytes → IsBlock f n bytes
 block-of-bytes f n bytes e i lt = sym (ap (λ (b : List ℕ). slice_index b i) (sym e) ∙ byte_in f (64 * n) 64 i lt)
 
-bytes_again : (f : Memory) (x : ℕ) (bytes : List ℕ) → ((i : ℕ) → i < length bytes → f (x + i) ≡ slice_index bytes i) → bytes_from f x (length bytes) ≡ bytes
-unfolding bytes_from
-bytes_again f x [] same = refl
-bytes_again f x (y ∷ ys) same =
-    let first : f x ≡ y = ap f (omega arith) ∙ same 0 (omega arith) in
-    let more : (i : ℕ) → i < length ys → f (x + 1 + i) ≡ slice_index ys i = λ i lt. ap f (omega arith) ∙ same (suc i) (omega (arith, lt)) in
-    rw (first, bytes_again f (x + 1) ys more) refl
-
 pub bytes-of-block : (f : Memory) (n : ℕ) (bytes : List ℕ) → IsBlock f n bytes → length bytes ≡ 64 → bytes_from f (64 * n) 64 ≡ bytes
-bytes-of-block f n bytes is long = rw long at (bytes_again f (64 * n) bytes (λ i lt. is i (omega (arith, lt, long))))
+bytes-of-block f n bytes is long = rw long at (bytes_are f (64 * n) bytes (λ i lt. is i (omega (arith, lt, long))))
 
 -- ---- an access
 
@@ -136,13 +123,8 @@ block-stored address size value copy f room long is i lt = go (reaches address s
     outside : (i < address % 64) ⊎ (address % 64 + 2 ^ size ≤ i) → f x ≡ slice_index new i
     outside side = is i lt ∙ get_slice copy i (omega (arith, lt, long)) ∙ sym (slice_new ∙ stored-outside address size value i copy long room side)
 
-    both : (y z : Bool) → (y && z) ≡ true → (y ≡ true) × (z ≡ true)
-    both true true e = (refl, refl)
-    both true false e = absurd cc
-    both false z e = absurd cc
-
     go : (b : Bool) → reaches address size x ≡ b → (if b then byte_of value (x - address) else f x) ≡ slice_index new i
-    go true e = let parts = both (nat_le address x) (nat_lt x (address + 2 ^ size)) e in inside (leb-true address x parts.0) (ltb-true x (address + 2 ^ size) parts.1)
+    go true e = let parts = and_parts (nat_le address x) (nat_lt x (address + 2 ^ size)) e in inside (leb-true address x parts.0) (ltb-true x (address + 2 ^ size) parts.1)
     go false e = elim (cases_lt x address) [
       | inl below ↦ outside (inl (omega (arith, lt, below)))
       | inr from ↦ elim (cases_lt x (address + 2 ^ size)) [
@@ -154,15 +136,10 @@ block-stored address size value copy f room long is i lt = go (reaches address s
 pub block-unstored : (address size value k : ℕ) (old : List ℕ) (f : Memory) → address % 64 + 2 ^ size ≤ 64 → (k ≡ block_at address → ⊥) → IsBlock f k old → IsBlock (with_number address size value f) k old
 block-unstored address size value k old f room ne is i lt = go (reaches address size (64 * k + i)) refl
   where
-    both : (y z : Bool) → (y && z) ≡ true → (y ≡ true) × (z ≡ true)
-    both true true e = (refl, refl)
-    both true false e = absurd cc
-    both false z e = absurd cc
-
     go : (b : Bool) → reaches address size (64 * k + i) ≡ b → (if b then byte_of value (64 * k + i - address) else f (64 * k + i)) ≡ slice_index old i
     go false e = is i lt
     go true e =
-        let parts = both (nat_le address (64 * k + i)) (nat_lt (64 * k + i) (address + 2 ^ size)) e in
+        let parts = and_parts (nat_le address (64 * k + i)) (nat_lt (64 * k + i) (address + 2 ^ size)) e in
         let from = leb-true address (64 * k + i) parts.0 in
         let to = ltb-true (64 * k + i) (address + 2 ^ size) parts.1 in
         absurd (ne (omega (arith, lt, from, to, room)))

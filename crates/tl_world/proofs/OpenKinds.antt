@@ -28,9 +28,9 @@ use Rattle.tl_world.specs.Whole.{IsMatched, is_caching}
 use Rattle.tl_world.proofs.Capacities.{AreBounded}
 use Rattle.tl_world.proofs.Due.{answer-due, grant-due, ack-due}
 use Rattle.tl_world.proofs.Fronts.{asked-first}
-use Rattle.tl_world.proofs.Moves.{serves_of-is}
 use Rattle.tl_world.proofs.OpenCounts.{marked-set, set_at-part, acks-set, acks-same, clients_in, sources_in, IsBalance, requests-split, balance-same}
 use Rattle.tl_world.proofs.Tokens.{same_number, set-part}
+use Rattle.tl_world.proofs.BothParts.{serves_of-is}
 
 -- ---- links whose channel E stays
 

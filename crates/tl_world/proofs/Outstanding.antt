@@ -47,7 +47,6 @@ use Rattle.tl_world.proofs.Bounded.{matched-bounded}
 use Rattle.tl_world.proofs.Capacities.{AreBounded}
 use Rattle.tl_world.proofs.Carried.{IsNext}
 use Rattle.tl_world.proofs.ClientStep.{on_same}
-use Rattle.tl_world.proofs.ClientTakes.{access_kind}
 use Rattle.tl_world.proofs.Due.{answer-due, grant-due, grant_message, ack_message, grant-rendered}
 use Rattle.tl_world.proofs.FirstToken.{IsFirst, first-token}
 use Rattle.tl_world.proofs.Heard.{finish_at, answer-last, answer-part, same_answers, acked}
@@ -61,6 +60,7 @@ use Rattle.tl_world.proofs.OpenKinds.{is_ending, is_letting_go, balance-kind}
 use Rattle.tl_world.proofs.Owned.{sources-own}
 use Rattle.tl_world.proofs.Standing.{client_below}
 use Rattle.tl_world.proofs.RequestsTaken.{next_tracker}
+use Rattle.tl_world.proofs.Codes.{access_kind}
 
 -- ---- what an outcome ends
 

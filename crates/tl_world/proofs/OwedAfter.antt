@@ -21,7 +21,6 @@ use Rattle.tl_world.specs.Render.{Mail, rendered}
 use Rattle.tl_world.specs.System.{System, channel_of_message}
 use Rattle.tl_world.specs.Token.{Kind, Request, Acquire, Probe, ProbeAck, Release, Answer, Grant, ReleaseAck, GrantAck, Token, set_at}
 use Rattle.tl_world.specs.Whole.{IsMatched, IsSourced, IsAnswered, is_caching}
-use Rattle.tl_world.proofs.Aside.{set_at-same}
 use Rattle.tl_world.proofs.CarriedEvents.{probe_taken-shown, report_taken-shown, access_answered-shown, acquire_granted-shown, release_taken-shown, answer_taken-shown, release_ack_taken-shown, grant_taken-shown, grant_ack_taken-shown}
 use Rattle.tl_world.proofs.CarriedProbes.{served-shown, report_answers-shown, report_grants-shown, probe_pushes}
 use Rattle.tl_world.proofs.Channels.{pushes_at}
@@ -34,6 +33,7 @@ use Rattle.tl_world.proofs.Popped.{unfinished_at, IsReceived, are-clients}
 use Rattle.tl_world.proofs.Remainders.{answer_to, is-left, answer-left, wide-block}
 use Rattle.tl_world.proofs.Showing.{carries}
 use Rattle.tl_world.proofs.Weights.{IsLeft}
+use Rattle.tl_world.proofs.Tokens.{set_at-same}
 
 -- ---- the channels of what is handed out
 
@@ -54,7 +54,7 @@ taken_on_e : (w c n : ℕ) (whole d : Bool) (k : Cap) (b : Block (List ℕ)) →
 unfolding rendered
 taken_on_e w c n whole d k b = refl
 
-once_on_d : (w c n tracker : ℕ) (d : Bool) (k : Cap) (b : Block (List ℕ)) → channel_of_message (rendered {w = w} Grant c n (granted_at_once c tracker d k b)) ≡ channel.D
+pub once_on_d : (w c n tracker : ℕ) (d : Bool) (k : Cap) (b : Block (List ℕ)) → channel_of_message (rendered {w = w} Grant c n (granted_at_once c tracker d k b)) ≡ channel.D
 unfolding rendered
 once_on_d w c n tracker d k b = refl
 

@@ -1,7 +1,6 @@
 -- What is owed in a world falls as the last beat of a message on channels B, D and E, or of a Release, is taken.
 use Rattle.std.proofs.Common.{◌≡◌, ℕ, ◌+◌, ◌<◌, ◌≤◌, Bool, true, false, List, ◌∷◌, refl, sym, ◌∙◌, ap, subst}
-use Rattle.std.specs.Prelude.{◌==◌, ◌&&◌, if◌then◌else◌, length}
-use Rattle.std.proofs.lemmas.Bool.{eqb-true}
+use Rattle.std.specs.Prelude.{if◌then◌else◌, length}
 use Rattle.tl_beat.specs.Width.{IsWidth}
 use Rattle.tl_beat.specs.declared.opcode.Channel.TheVariants as channel
 use Rattle.tl_params.specs.declared.config.Config.{Config}
@@ -9,9 +8,9 @@ use Rattle.tl_params.specs.declared.param.Grow.{Grow}
 use Rattle.tl_world.specs.Follow.{Shadow, kind_taken, taken_by_client, acquire_taken, some_below, gift, is_unheld, is_whole}
 use Rattle.tl_world.specs.Invariant.{cap_asked}
 use Rattle.tl_world.specs.Log.{Log, after}
-use Rattle.tl_world.specs.Phase.{Own, Other, Granting, Acknowledging, GrantedOther, Probing, Quiet, Sent, Answered, Acquiring, Calm, Wants}
+use Rattle.tl_world.specs.Phase.{Acquiring, Calm, Wants}
 use Rattle.tl_world.specs.PhaseSteps.{is_granted_data}
-use Rattle.tl_world.specs.Protocol.{Service, Free, Waits, GrantSent, GrantTaken, Block, State, token, view, is_sent, is_acknowledging, is_wanting, is_probed, acquire_served, acquire_granted, grant_taken}
+use Rattle.tl_world.specs.Protocol.{Service, Free, Block, State, token, is_wanting, is_probed, acquire_served, acquire_granted, grant_taken}
 use Rattle.tl_world.specs.Render.{cap_sent, prune_told}
 use Rattle.tl_world.specs.System.{System}
 use Rattle.tl_world.specs.Token.{Kind, Acquire, Probe, Release, Answer, Grant, ReleaseAck, GrantAck, Token}
@@ -23,29 +22,7 @@ use Rattle.tl_world.proofs.Due.{IsGrantDue, grant-due}
 use Rattle.tl_world.proofs.HeardAll.{bare}
 use Rattle.tl_world.proofs.Phases.{and_left}
 use Rattle.tl_world.proofs.Popped.{IsReceived}
-
-sent_with : (x : Probing) → is_sent x ≡ true → x ≡ Sent (cap_sent x)
-sent_with (Sent k) e = refl
-sent_with Quiet e = absurd cc
-sent_with (Answered r) e = absurd cc
-
-acknowledged_by : (service : Service) (c : ℕ) → is_acknowledging (view service c) ≡ true → service ≡ GrantTaken c
-acknowledged_by Free c e = absurd cc
-acknowledged_by (Waits r own source k) c e = never (own && (c == r)) e
-  where
-    never : (b : Bool) → is_acknowledging (if b then Own else Other k) ≡ true → Waits r own source k ≡ GrantTaken c
-    never true f = absurd cc
-    never false f = absurd cc
-acknowledged_by (GrantSent q d k) c e = never (c == q) e
-  where
-    never : (b : Bool) → is_acknowledging (if b then Granting d k else GrantedOther) ≡ true → GrantSent q d k ≡ GrantTaken c
-    never true f = absurd cc
-    never false f = absurd cc
-acknowledged_by (GrantTaken q) c e = go (c == q) refl e
-  where
-    go : (b : Bool) → (c == q) ≡ b → is_acknowledging (if b then Acknowledging else GrantedOther) ≡ true → GrantTaken q ≡ GrantTaken c
-    go true same f = ap (λ (i : ℕ). GrantTaken i) (sym (eqb-true c q same))
-    go false differs f = absurd cc
+use Rattle.tl_world.proofs.BothParts.{sent-is, acknowledging-is}
 
 module _ {w : ℕ} (config : Config) (log : Log w) (h : Shadow w) (sys' : System w) (width : IsWidth w) (matched : IsMatched config log h.mail h.request h.state (after config log)) (tracker c n : ℕ) (rest : List Token)
     (lt : c < length config.clients.items) where
@@ -60,7 +37,7 @@ module _ {w : ℕ} (config : Config) (log : Log w) (h : Shadow w) (sys' : System
   pub probe-owed : (h.state.link c).b ≡ token Probe n ∷ rest → IsReceived c channel.B (after config log) sys' → Kept Probe → TakenFalls Probe
   probe-owed first received kept =
       probe_taken-owed config log h.mail h.request h.state sys' width matched c n rest lt (cap_sent ((h.state.block n).pair c).probing) first
-      (sent_with ((h.state.block n).pair c).probing (shown-first (is_caching config) channel.B c Probe n rest h.state matched.invariant refl first)) received kept
+      (sent-is ((h.state.block n).pair c).probing (shown-first (is_caching config) channel.B c Probe n rest h.state matched.invariant refl first)) received kept
 
   pub release-owed : (h.state.link c).c ≡ token Release n ∷ rest → IsReceived c channel.C (after config log) sys' → Kept Release → TakenFalls Release
   release-owed first received kept = release_taken-owed config log h.mail h.request h.state sys' width matched c n rest lt (prune_told ((h.state.block n).pair c).letting) first received kept
@@ -74,7 +51,7 @@ module _ {w : ℕ} (config : Config) (log : Log w) (h : Shadow w) (sys' : System
   pub grant_ack-owed : (h.state.link c).e ≡ token GrantAck n ∷ rest → IsReceived c channel.E (after config log) sys' → Kept GrantAck → TakenFalls GrantAck
   grant_ack-owed first received kept =
       grant_ack_taken-owed config log h.mail h.request h.state sys' width matched c n rest lt first
-      (acknowledged_by (h.state.block n).service c (shown-first (is_caching config) channel.E c GrantAck n rest h.state matched.invariant refl first)) received kept
+      (acknowledging-is (h.state.block n).service c (shown-first (is_caching config) channel.E c GrantAck n rest h.state matched.invariant refl first)) received kept
 
   -- a Grant
   pub grant-owed : (h.state.link c).d ≡ token Grant n ∷ rest → IsReceived c channel.D (after config log) sys' → Kept Grant → TakenFalls Grant

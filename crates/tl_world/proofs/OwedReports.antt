@@ -10,7 +10,7 @@ use Rattle.tl_params.specs.declared.param.Report.{Report}
 use Rattle.tl_world.specs.Follow.{Shadow, kind_taken, last_taken, granted_after, performs, answers, some_below, with_state}
 use Rattle.tl_world.specs.Invariant.{IsInvariant, IsWell}
 use Rattle.tl_world.specs.Log.{Log, after}
-use Rattle.tl_world.specs.Phase.{Granting, GrantedOther, Acknowledging, Acquiring, Calm, Wants, Answered}
+use Rattle.tl_world.specs.Phase.{Acquiring, Calm, Wants, Answered}
 use Rattle.tl_world.specs.PhaseSteps.{is_granted_data}
 use Rattle.tl_world.specs.Protocol as protocol
 use Rattle.tl_world.specs.Protocol.{Service, Free, Waits, GrantSent, GrantTaken, Block, State, token, view, ended_block, report_taken}
@@ -24,15 +24,16 @@ use Rattle.tl_world.proofs.CarriedRequests.{answer_on_d}
 use Rattle.tl_world.proofs.Choices.{plain-past}
 use Rattle.tl_world.proofs.EventFalls.{shown-first}
 use Rattle.tl_world.proofs.Facts.{answered_other, is_other, own_wants}
-use Rattle.tl_world.proofs.FollowKept.{answered-is, settled_all}
+use Rattle.tl_world.proofs.FollowKept.{settled_all}
 use Rattle.tl_world.proofs.ManagerAfter.{others_probed}
 use Rattle.tl_world.proofs.ManagerDelivered.{seen_apart}
 use Rattle.tl_world.proofs.ManagerSettles.{gift_after}
 use Rattle.tl_world.proofs.Owed.{owed}
 use Rattle.tl_world.proofs.OwedAfter.{IsKeptAfter, report_taken-owed, report_answers-owed, report_grants-owed}
 use Rattle.tl_world.proofs.Popped.{IsReceived}
-use Rattle.tl_world.proofs.Sized.{used-serving}
 use Rattle.tl_world.proofs.Tokens.{same_number, set-same}
+use Rattle.tl_world.proofs.BothParts.{answered-is, taken-unseen, granted-unseen}
+use Rattle.tl_world.proofs.Owing.{serving-use}
 
 pub report-owed : {w : ℕ} (config : Config) (log : Log w) (h : Shadow w) (sys' : System w) (tracker c n : ℕ) (rest : List Token) → IsWidth w → IsMatched config log h.mail h.request h.state (after config log) → c < length config.clients.items
     → (h.state.link c).c ≡ token ProbeAck n ∷ rest → IsReceived c channel.C (after config log) sys' → IsKeptAfter config (kind_taken config tracker c ProbeAck n rest h).mail (kind_taken config tracker c ProbeAck n rest h).state
@@ -65,18 +66,10 @@ report-owed {w} config log h sys' tracker c n rest width matched lt first receiv
 
     last : some_below clients (others_probed c b.pair) ≡ false → (service : Service) → b.service ≡ service → Kept (last_taken clients config.profile c n r service rest h) → Falls (last_taken clients config.profile c n r service rest h)
     last alone Free f is = absurd (let other : false ≡ true = rw f at seen in cc)
-    last alone (GrantSent q d low) f is = absurd (unseen (c == q) (rw f at seen))
-      where
-        unseen : (y : Bool) → is_other (if y then Granting d low else GrantedOther) ≡ true → ⊥
-        unseen true g = cc
-        unseen false g = cc
-    last alone (GrantTaken q) f is = absurd (unseen (c == q) (rw f at seen))
-      where
-        unseen : (y : Bool) → is_other (if y then Acknowledging else GrantedOther) ≡ true → ⊥
-        unseen true g = cc
-        unseen false g = cc
+    last alone (GrantSent q d low) f is = absurd (granted-unseen (c == q) d low (rw f at seen))
+    last alone (GrantTaken q) f is = absurd (taken-unseen (c == q) (rw f at seen))
     last alone (Waits q false source low) f is =
-        report_answers-owed config log h.mail h.request h.state sys' width matched c n rest lt q source r low (performs v) said first f (rw (used-serving (is_caching config) h.state n q source low inv f) refl)
+        report_answers-owed config log h.mail h.request h.state sys' width matched c n rest lt q source r low (performs v) said first f (rw (serving-use (is_caching config) h.state n q source low inv f) refl)
         (ended-bytes (is_caching config) c q source r low v b (inv.blocks n) (subst (IsWell (is_caching config)) (set-same n (ended_block c r (performs v) b) h.state.block) (is.invariant.blocks n)) f answered
         (settled_all clients (is_caching config) c b.pair (plain-past config) (inv.blocks n).outside alone) for.0 for.3 (matched.sized n).truth)
         (answer_on_d v _) received is

@@ -20,9 +20,10 @@ use Rattle.tl_world.proofs.Channels.{IsShowing}
 use Rattle.tl_world.proofs.Falls.{IsNoMore, owed_use, owed_use', owed_let, owed_let', clients, use-falls, let-falls, ack-falls, grant-falls, total-falls}
 use Rattle.tl_world.proofs.Frames.{IsBlockNoMore, acquire-stays, use-stays, let-all, let-stays, pair-stays, wants-used}
 use Rattle.tl_world.proofs.Leftover.{IsPopped, beats_left}
-use Rattle.tl_world.proofs.Still.{is_other, owns_ask, serves_another}
+use Rattle.tl_world.proofs.Still.{owns_ask, serves_another}
 use Rattle.tl_world.proofs.Sums.{total-le}
 use Rattle.tl_world.proofs.Tokens.{same_number}
+use Rattle.tl_world.proofs.Facts.{is_other}
 
 -- who has something open is a client, with a source of its own
 pub record AreClients {X : Type 0} (config : Config) (s : State X) : Type 0 where

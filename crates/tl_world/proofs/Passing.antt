@@ -5,7 +5,6 @@ use Rattle.std.proofs.lemmas.Bool.{cases_eq, ne_eqb}
 use Rattle.std.proofs.lemmas.List.{append_assoc, reverse-append}
 use Rattle.tl_beat.specs.declared.beat.Beat.{Beat}
 use Rattle.tl_beat.specs.declared.opcode.Channel.{Channel}
-use Rattle.tl_beat.specs.declared.opcode.Channel.TheVariants as channel
 use Rattle.tl_burst.specs.declared.message.Message.{Message}
 use Rattle.tl_burst.specs.declared.message.Message.TheVariants as message
 use Rattle.tl_burst.specs.Burst.{beat_of, beats_of, begun, burst_of}
@@ -18,6 +17,7 @@ use Rattle.tl_world.proofs.Beats.{reverse-beats_from}
 use Rattle.tl_world.proofs.Landed.{IsOn}
 use Rattle.tl_world.proofs.ManagersAfter.{on_message}
 use Rattle.tl_world.proofs.Tokens.{same_number}
+use Rattle.tl_world.proofs.Channels.{same_channel-is}
 
 -- ---- lists
 
@@ -59,33 +59,6 @@ carried-beat : {w : ℕ} (x : Beat w) (ch at : Channel) (t : History w) → IsOn
 unfolding carried_on
 carried-beat x ch at t is = ap (λ b. if b then x ∷ carried_on at t else carried_on at t) (is at)
 
-pub same-channel : (a b : Channel) → same_channel a b ≡ true → a ≡ b
-same-channel channel.A channel.A e = refl
-same-channel channel.B channel.B e = refl
-same-channel channel.C channel.C e = refl
-same-channel channel.D channel.D e = refl
-same-channel channel.E channel.E e = refl
-same-channel channel.A channel.B e = absurd cc
-same-channel channel.A channel.C e = absurd cc
-same-channel channel.A channel.D e = absurd cc
-same-channel channel.A channel.E e = absurd cc
-same-channel channel.B channel.A e = absurd cc
-same-channel channel.B channel.C e = absurd cc
-same-channel channel.B channel.D e = absurd cc
-same-channel channel.B channel.E e = absurd cc
-same-channel channel.C channel.A e = absurd cc
-same-channel channel.C channel.B e = absurd cc
-same-channel channel.C channel.D e = absurd cc
-same-channel channel.C channel.E e = absurd cc
-same-channel channel.D channel.A e = absurd cc
-same-channel channel.D channel.B e = absurd cc
-same-channel channel.D channel.C e = absurd cc
-same-channel channel.D channel.E e = absurd cc
-same-channel channel.E channel.A e = absurd cc
-same-channel channel.E channel.B e = absurd cc
-same-channel channel.E channel.C e = absurd cc
-same-channel channel.E channel.D e = absurd cc
-
 apart : (at ch : Channel) (b : Bool) → is_to_client at ≡ b → is_to_client ch ≡ not b → same_channel at ch ≡ false
 apart at ch b e f = go (same_channel at ch) refl
   where
@@ -105,7 +78,7 @@ apart at ch b e f = go (same_channel at ch) refl
 
     go : (x : Bool) → same_channel at ch ≡ x → x ≡ false
     go false g = refl
-    go true g = absurd (differ (is_to_client at) (is_to_client ch) (ap is_to_client (same-channel at ch g)) e f)
+    go true g = absurd (differ (is_to_client at) (is_to_client ch) (ap is_to_client (same_channel-is at ch g)) e f)
 
 sends : {w : ℕ} (m : Message w) (b : Bool) → is_from_client (beat_of m 0) ≡ not b → is_to_client (channel_of_message m) ≡ b
 sends (message.A m) true e = absurd cc
@@ -144,7 +117,7 @@ popped_at c ch queue q d at = if (d == c) && same_channel at ch then queue else 
 said_here : {w : ℕ} (l : ℕ) (m : Message w) (p : ℕ → History w) (q : ℕ → Channel → List (Beat w)) (d : ℕ) (at : Channel) (taken : List (Beat w)) → IsInOrder (carried_on at (p d)) (q d at) taken
     → IsInOrder (carried_on at (said_at l m p d)) (queued_at l m q d at) taken
 said_here {w} l m p q d at taken is = elim (cases_eq d l) [
-  | inl same ↦ rw (same, same_number l, carried-begun m (beats_of m) at (p l)) (push_order (same_channel at (channel_of_message m)) m (carried_on at (p l)) (q l at) (q l (channel_of_message m)) taken (λ e. ap (q l) (sym (same-channel at (channel_of_message m) e))) (rw same at is))
+  | inl same ↦ rw (same, same_number l, carried-begun m (beats_of m) at (p l)) (push_order (same_channel at (channel_of_message m)) m (carried_on at (p l)) (q l at) (q l (channel_of_message m)) taken (λ e. ap (q l) (sym (same_channel-is at (channel_of_message m) e))) (rw same at is))
   | inr other ↦ rw (ne_eqb d l other, ne_eqb l d (λ e. other (sym e))) is
 ]
 
@@ -195,7 +168,7 @@ heard_here {w} c ch x queue p q f d at sent on first is = (order, same)
   where
     order : IsInOrder sent (popped_at c ch queue q d at) (carried_on at (heard_at c x p d))
     order = elim (cases_eq d c) [
-      | inl here ↦ rw (here, heard_history c ch x p c at on, same_number c) (pop_order (same_channel at ch) x queue sent (q c at) (carried_on at (p c)) (λ e. ap (q c) (same-channel at ch e) ∙ first) (rw here at is.0))
+      | inl here ↦ rw (here, heard_history c ch x p c at on, same_number c) (pop_order (same_channel at ch) x queue sent (q c at) (carried_on at (p c)) (λ e. ap (q c) (same_channel-is at ch e) ∙ first) (rw here at is.0))
       | inr other ↦ rw (heard_history c ch x p d at on, ne_eqb d c other, ne_eqb c d (λ e. other (sym e))) is.0
     ]
 

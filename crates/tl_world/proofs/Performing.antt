@@ -15,8 +15,7 @@ use Rattle.tl_burst.specs.Messages.{unfinished}
 use Rattle.tl_params.specs.declared.config.Config.{Config}
 use Rattle.tl_params.specs.declared.key.Key.TheVariants.{ProbeOf}
 use Rattle.tl_params.specs.declared.param.Cap.{Cap}
-use Rattle.tl_params.specs.declared.param.Cap.TheVariants as cap
-use Rattle.tl_params.specs.Param.{cap_code, cap_right}
+use Rattle.tl_params.specs.Param.{cap_right}
 use Rattle.tl_rules.specs.declared.answer.Answer.{Answer}
 use Rattle.tl_rules.specs.declared.answer.Answer.TheVariants as answer
 use Rattle.tl_rules.specs.Conformance.{Trace, on_link}
@@ -25,7 +24,7 @@ use Rattle.tl_rules.specs.History.{pending, held, block_at, is_acquire, is_grant
 use Rattle.tl_rules.proofs.Sent.{held-sent_d}
 use Rattle.tl_beat.specs.Width.{IsWidth}
 use Rattle.tl_world.specs.Phase.{Pair, is_quiet}
-use Rattle.tl_manager.specs.Handing.{Deed, with_handed, performed, access_answer, grant, grant_opcode, is_granted_data, cap_granted}
+use Rattle.tl_manager.specs.Handing.{Deed, with_handed, performed, access_answer, grant, is_granted_data, cap_granted}
 use Rattle.tl_manager.specs.Holders as holders
 use Rattle.tl_manager.specs.Holders.{recorded}
 use Rattle.tl_manager.specs.Service.{Service, services, serving, least_free, trackers_of}
@@ -35,6 +34,7 @@ use Rattle.tl_manager.proofs.Handed.{after_sent, own_link, other_link, whole-tak
 use Rattle.tl_manager.proofs.Links.{sent-keeps}
 use Rattle.tl_manager.proofs.Performed.{performed-serving}
 use Rattle.tl_manager.proofs.Replies.{reply-quiet, request-reply}
+use Rattle.tl_manager.proofs.Recording.{cap-gives}
 use Rattle.tl_world.specs.PhaseSteps.{after_grant_sent}
 use Rattle.tl_world.specs.Token.{set}
 use Rattle.tl_world.specs.Protocol.{Free, Waits, GrantSent, Block, State, performed_block, granted_at_once}
@@ -44,6 +44,7 @@ use Rattle.tl_world.proofs.Traces.{traced-at}
 use Rattle.tl_world.proofs.Arrivals.{link_of, with_beat, IsComing, service_for, ready-last}
 use Rattle.tl_world.proofs.Requests.{recorded-beat, missing-beat, request-beat, request-own, IsUnwaited, serving-last, serving-others}
 use Rattle.tl_world.proofs.Tokens.{same_number, set-same, set-other, set-part}
+use Rattle.tl_world.proofs.Codes.{grants-so}
 
 -- the trace after the last beat of a request, which is performed, and its answer
 abbrev pub with_answer : {w : ℕ} → Config → ℕ → ℕ → MessageA w → Memory → Trace w → Trace w
@@ -55,10 +56,6 @@ answer_of_d : {w : ℕ} (r : MessageA w) (kind : Answer) → (m : MessageD w) ×
 answer_of_d r answer.Ack = (_, refl, refl)
 answer_of_d r answer.Hint = (_, refl, refl)
 answer_of_d r (answer.Data payload) = (_, refl, refl)
-
-grants_so : (b : Bool) → is_grant (grant_opcode b) ≡ true
-grants_so true = refl
-grants_so false = refl
 
 one-handed : {w : ℕ} (c : ℕ) (m : Message w) (t : Trace w) → with_handed ((link_of c, m) ∷ []) t ≡ after_sent (link_of c) m t
 unfolding with_handed
@@ -142,16 +139,11 @@ pub record IsGranting {w : ℕ} {X : Type 0} (config : Config) (c k n : ℕ) (j 
   pub given : cap_granted config.profile m.opcode m.param (holders.is_unheld config n (with_beat c m k e.trace)) ≡ j
   pub unwaited : IsUnwaited c m.source s
 
-capped-cap : (j : Cap) → capped (cap_code j) ≡ cap_right j
-capped-cap cap.ToT = refl
-capped-cap cap.ToB = refl
-capped-cap cap.ToN = refl
-
 -- a Grant, with the cap that it names
 grant_of_d : {w : ℕ} (config : Config) (n : ℕ) (j : Cap) (s : Service w) (t : Trace w) (memory : Memory) → block_at s.request.address ≡ n → cap_granted config.profile s.request.opcode s.request.param (holders.is_unheld config n t) ≡ j
     → (m : MessageD w) × (grant config s t memory ≡ D m) × (is_grant m.opcode ≡ true) × (m.source ≡ s.request.source) × (capped m.param ≡ cap_right j)
 grant_of_d config n j s t memory block given =
-    (_, refl, grants_so (is_granted_data s.request.opcode s.request.param (recorded s.link.0 (block_at s.request.address) t)), refl, rw (block, given) (capped-cap j))
+    (_, refl, grants-so (is_granted_data s.request.opcode s.request.param (recorded s.link.0 (block_at s.request.address) t)), refl, rw (block, given) (cap-gives j))
 
 pub traced-granted : {w : ℕ} {X : Type 0} (config : Config) (request : ℕ → MessageA w) (c k n : ℕ) (b : Bool) (j : Cap) (m : MessageA w) (s u : State X) (memory : Memory) (e : End w)
     → ((i : ℕ) → u.block i ≡ set n (granted_at_once c (least_free (trackers_of (services e.trace))) b j (s.block n)) s.block i)

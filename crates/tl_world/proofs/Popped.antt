@@ -31,6 +31,7 @@ use Rattle.tl_world.proofs.Rendered.{same_kind_again}
 use Rattle.tl_world.proofs.Standing.{client_below}
 use Rattle.tl_world.proofs.Strangers.{no_use, no_let}
 use Rattle.tl_world.proofs.Tokens.{same_number}
+use Rattle.tl_world.proofs.Steps.{same_channel-refl}
 
 -- what the receiver of each channel has of the message that comes first there
 abbrev pub unfinished_at : {w : ℕ} → System w → ℕ → Channel → List (Beat w)
@@ -61,13 +62,6 @@ not_popped None (Pushes k n) render fits = absurd fits
 not_popped (Some m) Stays render fits = absurd fits
 not_popped (Some m) (Pops k n) render fits = absurd fits
 
-pub same_again : (ch : Channel) → same_channel ch ch ≡ true
-same_again channel.A = refl
-same_again channel.B = refl
-same_again channel.C = refl
-same_again channel.D = refl
-same_again channel.E = refl
-
 pub elsewhere : (c d : ℕ) (ch at : Channel) → (d ≡ c → at ≡ ch → ⊥) → ((d == c) && same_channel at ch) ≡ false
 elsewhere c d ch at ne = go (d == c) (same_channel at ch) refl refl
   where
@@ -90,7 +84,7 @@ popped-received {w} c ch pushes moves render s s' sys sys' received fits moved =
 }
   where
     here : ((c == c) && same_channel ch ch) ≡ true
-    here = rw (same_number c, same_again ch) refl
+    here = rw (same_number c, same_channel-refl ch) refl
 
     head : IsHead (tokens_on ch (s.link c)) (tokens_on ch (s'.link c))
     head = popped_first (pushes c ch) (moves c ch) (render c) (tokens_on ch (s.link c)) (tokens_on ch (s'.link c)) (fits_by ((c == c) && same_channel ch ch) true (pushes c ch) (moves c ch) (render c) here (fits c ch)) (moved c ch)

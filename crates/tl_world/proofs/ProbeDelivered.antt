@@ -2,7 +2,7 @@
 -- protocol.
 use Rattle.std.proofs.Common.{◌≡◌, subst, ℕ, zero, suc, ◌<◌, Bool, true, false, not, ◌&&◌, cond, List, [], ◌∷◌, Option, Some, None, refl, sym, ◌∙◌, ap, arith}
 use Rattle.std.specs.Prelude.{◌==◌, map, nat_le}
-use Rattle.std.proofs.lemmas.Bool.{eqb-true}
+use Rattle.std.proofs.lemmas.Bool.{eqb-true, and_right}
 use Rattle.tl_beat.specs.Width.{IsWidth}
 use Rattle.tl_beat.specs.declared.beat.Beat.{Beat}
 use Rattle.tl_beat.specs.declared.beat.Beat.TheVariants as beat
@@ -39,7 +39,7 @@ use Rattle.tl_world.specs.Follow.{Shadow, token_taken, kind_taken}
 use Rattle.tl_world.specs.Invariant.{IsInvariant}
 use Rattle.tl_world.specs.Known.{comes_granting}
 use Rattle.tl_world.specs.Log.{Log}
-use Rattle.tl_world.specs.Phase.{Probing, Quiet, Sent, Answered, is_quiet, is_kept}
+use Rattle.tl_world.specs.Phase.{is_quiet, is_kept}
 use Rattle.tl_world.specs.Protocol.{State, token, shown, is_sent, is_on, view}
 use Rattle.tl_world.specs.Render.{Mail, cap_sent, rendered, probe_beat, message_of, message_of_kind}
 use Rattle.tl_world.specs.System.{System, terms_at}
@@ -50,13 +50,15 @@ use Rattle.tl_world.proofs.ClientAsked.{IsEndOf}
 use Rattle.tl_world.proofs.ClientDelivered.{shadow_of}
 use Rattle.tl_world.proofs.ClientEnd.{IsWellKept, IsEnd, end-matched, asks-acquire}
 use Rattle.tl_world.proofs.ClientProbed.{end-probe_taken}
-use Rattle.tl_world.proofs.ClientTakes.{access_kind, AreTermsOf, terms-are, sound-beat}
+use Rattle.tl_world.proofs.ClientTakes.{AreTermsOf, terms-are, sound-beat}
 use Rattle.tl_world.proofs.Due.{answer-due, grant-due, grant_message, grant-rendered, ack_message, own_view}
 use Rattle.tl_world.proofs.Facts.{granting_alone}
 use Rattle.tl_world.proofs.FirstToken.{IsFirst, first-token, own_kind}
 use Rattle.tl_world.proofs.KnownProbed.{probe-taken}
 use Rattle.tl_world.proofs.Phases.{and_left}
 use Rattle.tl_world.proofs.Tokens.{holds-first}
+use Rattle.tl_world.proofs.BothParts.{not-sent}
+use Rattle.tl_world.proofs.Codes.{access_kind}
 
 -- ---- no Grant of a block that is probed has begun to come
 
@@ -76,23 +78,14 @@ comes_else n asked m k rest e is = ap (comes_granting n asked) e ∙ ap (λ y. c
 not_granted : (caching : ℕ → Bool) (c n i : ℕ) (rest : List Token) (s : State (List ℕ)) → IsInvariant caching s → (s.link c).d ≡ token Grant i ∷ rest → is_sent ((s.block n).pair c).probing ≡ true → (i == n) ≡ false
 not_granted caching c n i rest s inv first sent = go (i == n) refl
   where
-    not_quiet : (x : Probing) → is_sent x ≡ true → is_quiet x ≡ false
-    not_quiet (Sent k) e = refl
-    not_quiet Quiet e = absurd cc
-    not_quiet (Answered r) e = absurd cc
-
     go : (z : Bool) → (i == n) ≡ z → z ≡ false
     go false e = refl
     go true e =
         let due = grant-due caching c i rest s inv first in
         let alone = granting_alone due.data_too due.k ((s.block i).pair c) (view (s.block i).service c) ((inv.blocks i).phases c) (own_view c due.data_too due.k (s.block i).service due.service) in
         let quiet : is_quiet ((s.block i).pair c).probing ≡ true = and_left _ _ alone in
-        let loud : is_quiet ((s.block i).pair c).probing ≡ false = ap (λ j. is_quiet ((s.block j).pair c).probing) (eqb-true i n e) ∙ not_quiet ((s.block n).pair c).probing sent in
+        let loud : is_quiet ((s.block i).pair c).probing ≡ false = ap (λ j. is_quiet ((s.block j).pair c).probing) (eqb-true i n e) ∙ not-sent ((s.block n).pair c).probing sent in
         absurd (let no : true ≡ false = sym quiet ∙ loud in cc)
-
-never : (a b : Bool) → b ≡ false → (a && b) ≡ false
-never true b e = e
-never false b e = refl
 
 plain : {w : ℕ} (n : ℕ) (asked : ℕ → Option (BeatA w)) (o : OpD) (source : ℕ) → is_grant o ≡ false → (is_grant o && asks_for n (asked source)) ≡ false
 plain n asked o source e = rw e refl
@@ -111,7 +104,7 @@ else_grant {w} config log mail request s sys c n i rest h first sent =
     let due = grant-due (is_caching config) c i rest s h.invariant first in
     let asks = asks-acquire c ((s.block i).source c) i ((s.block i).source c) due.whole due.g mail s due.used due.wants refl in
     let elsewhere : asks_for n (asked_by mail s c ((s.block i).source c)) ≡ false = ap (asks_for n) asks ∙ ap (λ (j : ℕ). j == n) (same_block i) ∙ not_granted (is_caching config) c n i rest s h.invariant first sent in
-    (grant_message due.data_too due.k ((s.block i).source c) (s.block i).tracker (s.block i).truth, grant-rendered c i s due, never (is_grant (grant_opcode due.data_too)) (asks_for n (asked_by mail s c ((s.block i).source c))) elsewhere)
+    (grant_message due.data_too due.k ((s.block i).source c) (s.block i).tracker (s.block i).truth, grant-rendered c i s due, and_right (is_grant (grant_opcode due.data_too)) (asks_for n (asked_by mail s c ((s.block i).source c))) elsewhere)
 
 else_ack : {w : ℕ} (mail : Mail w) (s : State (List ℕ)) (c n i : ℕ) → IsElse n (asked_by mail s c) (rendered ReleaseAck c i (s.block i))
 unfolding IsElse rendered
@@ -164,7 +157,7 @@ stalls {w} terms x e lawful held = judged_none (broken_before terms channel.B x 
     stalled : (b : Bool) → b ≡ true → cond b (silent verdict.Stalled e) (judged_later (broken_later terms x e) x e) ≡ silent verdict.Stalled e
     stalled b f = rw f refl
 
-first_beat : (k n : ℕ) → k < n → n ≡ 1 → k ≡ 0
+pub first_beat : (k n : ℕ) → k < n → n ≡ 1 → k ≡ 0
 first_beat k n lt one = omega (arith, lt, one)
 
 probe_rendered : {w : ℕ} (c n : ℕ) (s : State (List ℕ)) → rendered {w = w} Probe c n (s.block n) ≡ probe_of_block n (cap_sent ((s.block n).pair c).probing)

@@ -1,5 +1,5 @@
 -- A Probe that is delivered to a client: the channels and the one memory afterwards.
-use Rattle.std.proofs.Common.{◌≡◌, ℕ, ◌*◌, Bool, true, false, List, [], ◌∷◌, Option, Some, None, refl, sym, ◌∙◌, ap, subst, arith}
+use Rattle.std.proofs.Common.{◌≡◌, ℕ, ◌*◌, Bool, true, false, List, [], ◌∷◌, Option, Some, None, refl, sym, ◌∙◌, ap, subst}
 use Rattle.std.specs.Prelude.{if◌then◌else◌, map, unwrap_or, Ok}
 use Rattle.tl_beat.specs.Width.{IsWidth}
 use Rattle.tl_beat.specs.declared.beat.Beat.{Beat}
@@ -16,7 +16,7 @@ use Rattle.tl_params.specs.declared.param.Cap.TheVariants as cap
 use Rattle.tl_params.specs.declared.param.Report.{Report}
 use Rattle.tl_params.specs.declared.perm.Perm.{Perm}
 use Rattle.tl_params.specs.declared.perm.Perm.TheVariants as perm
-use Rattle.tl_params.specs.Param.{cap_code, cap_of, report_at, report_left}
+use Rattle.tl_params.specs.Param.{report_at, report_left}
 use Rattle.tl_rules.specs.History.{block_at}
 use Rattle.tl_rules.specs.Conformance.{same_perm}
 use Rattle.tl_client.specs.declared.verdict.Verdict.{Verdict}
@@ -26,6 +26,7 @@ use Rattle.tl_client.specs.End.{zeros, copy_at, held_at}
 use Rattle.tl_client.specs.Offer as offer
 use Rattle.tl_client.specs.Offer.{report_for}
 use Rattle.tl_client.specs.Send.{probe_ack}
+use Rattle.tl_client.proofs.HeldAfter.{same_block}
 use Rattle.tl_world.specs.declared.event.Event.TheVariants.{Deliver}
 use Rattle.tl_world.specs.declared.event.Outcome.TheVariants as outcome
 use Rattle.tl_world.specs.Beside.{IsBeside}
@@ -34,14 +35,14 @@ use Rattle.tl_world.specs.Follow.{Shadow, followed, token_taken, kind_taken}
 use Rattle.tl_world.specs.Log.{Log, after}
 use Rattle.tl_world.specs.Machine.{Machine, moved}
 use Rattle.tl_world.specs.Matched.{AreCarried}
-use Rattle.tl_world.specs.Phase.{Pair, Probing, Quiet, Sent, Answered, Letting, Kept, Releasing, Acked, is_kept}
+use Rattle.tl_world.specs.Phase.{Pair, Sent, is_kept}
 use Rattle.tl_world.specs.PhaseSteps.{after_probe}
-use Rattle.tl_world.specs.Protocol.{Block, token, is_on, is_sent, shown, probed_block, probe_taken}
+use Rattle.tl_world.specs.Protocol.{Block, token, is_on, shown, probed_block, probe_taken}
 use Rattle.tl_world.specs.Remembered.{remembered, performing, accesses_answered}
 use Rattle.tl_world.specs.Render.{cap_sent, probe_beat, rendered, message_of, message_of_kind}
 use Rattle.tl_world.specs.Step.{Step, stepped, handing, handed_by}
 use Rattle.tl_world.specs.Step as step
-use Rattle.tl_world.specs.System.{System, terms_at, channel_of_message, with_client, with_channel}
+use Rattle.tl_world.specs.System.{System, terms_at, with_client, with_channel}
 use Rattle.tl_world.specs.Token.{Kind, Request, Acquire, Probe, ProbeAck, Release, Answer, Grant, ReleaseAck, GrantAck, Token}
 use Rattle.tl_world.specs.Whole.{IsMatched, is_caching}
 use Rattle.tl_world.proofs.BesideKinds.{beside_block, same_acquiring}
@@ -57,19 +58,11 @@ use Rattle.tl_world.proofs.Moved.{IsTakenByClient, client-moves, client-heard}
 use Rattle.tl_world.proofs.ProbeDelivered.{IsProbed, probe-delivered}
 use Rattle.tl_world.proofs.RequestsTaken.{next_tracker, invariant-taken}
 use Rattle.tl_world.proofs.Tokens.{set-same, holds-first}
+use Rattle.tl_world.proofs.BothParts.{kept-is, sent-is}
+use Rattle.tl_world.proofs.KnownProbed.{report_is}
+use Rattle.tl_world.proofs.ManagersAfter.{ack_channel}
 
 -- ---- the answer to a Probe
-
-same_block : (n : ℕ) → block_at (64 * n) ≡ n
-same_block n = omega arith
-
-cap_again : (k : Cap) → cap_of (cap_code k) ≡ Some k
-cap_again cap.ToT = refl
-cap_again cap.ToB = refl
-cap_again cap.ToN = refl
-
-report_is : (w n : ℕ) (k : Cap) (p : Perm) → report_for (probe_beat {w = w} n k) p ≡ report_at k p
-report_is w n k p = rw (cap_again k) refl
 
 -- a report begins at what is held
 left_is : (k : Cap) (p : Perm) → report_left (report_at k p) ≡ p
@@ -87,11 +80,6 @@ ack_same : {w : ℕ} (p : Perm) (r : Report) (n : ℕ) (x y : List ℕ) → (sam
 ack_same perm.None r n x y e = refl
 ack_same perm.Branch r n x y e = refl
 ack_same perm.Trunk r n x y e = rw (e refl) refl
-
-ack_channel : (w : ℕ) (p : Perm) (r : Report) (n : ℕ) (x : List ℕ) → channel_of_message {w = w} (probe_ack opb.ProbeBlock p r n x) ≡ channel.C
-ack_channel w perm.None r n x = refl
-ack_channel w perm.Branch r n x = refl
-ack_channel w perm.Trunk r n x = refl
 
 ack_quiet : (w c : ℕ) (p : Perm) (r : Report) (n : ℕ) (x : List ℕ) → accesses_answered {w = w} (handed_by c (Some (probe_ack opb.ProbeBlock p r n x))) ≡ []
 unfolding accesses_answered
@@ -117,16 +105,6 @@ on_b y channel.B = refl
 on_b y channel.C = refl
 on_b y channel.D = refl
 on_b y channel.E = refl
-
-kept_is : (x : Letting) → is_kept x ≡ true → x ≡ Kept
-kept_is Kept e = refl
-kept_is (Releasing r) e = absurd cc
-kept_is Acked e = absurd cc
-
-sent_is : (x : Probing) → is_sent x ≡ true → x ≡ Sent (cap_sent x)
-sent_is (Sent k) e = refl
-sent_is Quiet e = absurd cc
-sent_is (Answered r) e = absurd cc
 
 taken_stalls : verdict.Taken ≡ verdict.Stalled → ⊥
 taken_stalls f = absurd cc
@@ -198,7 +176,7 @@ delivered-b {w} config log link h terms x queue width is known beats moving = ki
             ∙ ap (λ (m : Option (Message w)). handing (outcome.Moved x) (handed_by c m) (with_client c (offer.taken x e).after (with_channel c channel.B queue sys))) message_is
 
         sent : b_pair.probing ≡ Sent k
-        sent = sent_is b_pair.probing (holds-first Probe (h.state.link c).b first.rest (token Probe n) (λ i. shown Probe c (h.state.block i)) tokens refl (is.invariant.transfers c Probe refl))
+        sent = sent-is b_pair.probing (holds-first Probe (h.state.link c).b first.rest (token Probe n) (λ i. shown Probe c (h.state.block i)) tokens refl (is.invariant.transfers c Probe refl))
 
         taken : IsTaken c channel.B x queue (pushes_at c (pushes_of (Some ack))) sys now.after
         taken =
@@ -213,7 +191,7 @@ delivered-b {w} config log link h terms x queue width is known beats moving = ki
 
         by_letting : (b : Bool) → is_kept b_pair.letting ≡ b → IsDelivered config log link channel.B h
         by_letting true kept =
-            let inv = invariant-taken config log h sys c Probe n first.rest is tokens (kept_is b_pair.letting kept) in
+            let inv = invariant-taken config log h sys c Probe n first.rest is tokens (kept-is b_pair.letting kept) in
             delivered_as config log link channel.B h (kind_taken config (next_tracker sys) c Probe n first.rest h) follows
             (subst (λ (z : Step w). AreCarried h.mail (probe_taken c n k first.rest h.state) z.after) (sym step_is)
             (probe_taken-carried (is_caching config) c n k first.rest ack h.mail h.state sys now.after x queue width is.invariant inv tokens sent (ack_channel w b_pair.held (report_at k b_pair.held) n (h.state.block n).truth)

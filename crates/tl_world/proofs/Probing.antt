@@ -2,6 +2,7 @@
 use Rattle.std.proofs.Common.{◌≡◌, ℕ, suc, ◌≤◌, ◌==◌, Bool, true, false, not, ◌&&◌, List, [], ◌∷◌, Option, Some, length, refl, sym, ◌∙◌, ap, inl, inr, arith}
 use Rattle.std.specs.Prelude.{if◌then◌else◌}
 use Rattle.std.proofs.lemmas.Bool.{cases_lt, ne_eqb}
+use Rattle.std.proofs.Math.Bool.{and-false}
 use Rattle.tl_beat.specs.declared.beat.Beat.TheVariants as beat
 use Rattle.tl_beat.specs.declared.opcode.Channel.TheVariants as channel
 use Rattle.tl_burst.specs.declared.message.Message.TheVariants.{A}
@@ -11,12 +12,12 @@ use Rattle.tl_burst.specs.Messages.{History, unfinished}
 use Rattle.tl_params.specs.declared.config.Config.{Config}
 use Rattle.tl_params.specs.declared.key.Key.TheVariants.{ProbeOf}
 use Rattle.tl_params.specs.declared.param.Cap.{Cap}
-use Rattle.tl_params.specs.declared.param.Cap.TheVariants as cap
 use Rattle.tl_params.specs.declared.perm.Perm.TheVariants as perm
 use Rattle.tl_rules.specs.Agent.{sent}
 use Rattle.tl_rules.specs.Conformance.{Trace, on_link}
 use Rattle.tl_rules.specs.History.{pending, held, block_at, request_of}
 use Rattle.tl_rules.proofs.Sent.{held_unsaid}
+use Rattle.tl_client.proofs.HeldAfter.{swapped}
 use Rattle.tl_manager.specs.Handing.{with_handed, probes, probe_beat, probe_of_block}
 use Rattle.tl_manager.specs.Holders as holders
 use Rattle.tl_manager.specs.Holders.{recorded, cap_probed, is_spared, probed}
@@ -32,12 +33,13 @@ use Rattle.tl_world.specs.Token.{set}
 use Rattle.tl_world.specs.Protocol.{Free, Waits, Block, State, served_pair, served_block}
 use Rattle.tl_world.specs.Managed.{client_in, service_with}
 use Rattle.tl_world.specs.Sources.{IsFor}
-use Rattle.tl_world.proofs.Accounts.{IsTraced, eqb-swap}
+use Rattle.tl_world.proofs.Accounts.{IsTraced}
 use Rattle.tl_world.proofs.Traces.{traced-at}
 use Rattle.tl_world.proofs.Arrivals.{link_of, with_beat, IsComing, service_for}
 use Rattle.tl_world.proofs.ManagedServed.{same_above}
 use Rattle.tl_world.proofs.Requests.{recorded-beat, missing-beat, request-beat, request-own, IsUnwaited, serving-last, serving-others}
 use Rattle.tl_world.proofs.Tokens.{set-same, set-other}
+use Rattle.tl_world.proofs.Perms.{nothing-above}
 
 -- the trace after the last beat of a request, and the Probes
 abbrev pub with_probes : {w : ℕ} → Config → ℕ → ℕ → MessageA w → ℕ → Cap → Trace w → Trace w
@@ -52,11 +54,6 @@ pub record IsProbing {w : ℕ} {X : Type 0} (config : Config) (c k n : ℕ) (own
   pub quiet : (d : ℕ) → is_quiet ((s.block n).pair d).probing ≡ true
   pub beyond : (d : ℕ) → length config.clients.items ≤ d → ((s.block n).pair d).recorded ≡ perm.None
   pub unwaited : IsUnwaited c source s
-
-nothing_above : (j : Cap) → is_above j perm.None ≡ false
-nothing_above cap.ToT = refl
-nothing_above cap.ToB = refl
-nothing_above cap.ToN = refl
 
 request_of-probe : {w : ℕ} (src n : ℕ) (j : Cap) (h : History w) → request_of src (beat.B (probe_beat n j) ∷ h) ≡ request_of src h
 unfolding request_of
@@ -128,7 +125,7 @@ traced-probing {w} {X} config request c k n own source j m s u e blocks is known
     test d = holders.is_above j (recorded d (block_at m.address) t) && not (is_spared (service_for c m e.trace) d)
 
     test_is : (d : ℕ) → test d ≡ (is_above j ((s.block n).pair d).recorded && not (own && (d == c)))
-    test_is d = rw (is.for.2, recorded-beat c k m e.trace d n, known.recorded_is d n, is.for.0, same_above j ((s.block n).pair d).recorded, eqb-swap c d) refl
+    test_is d = rw (is.for.2, recorded-beat c k m e.trace d n, known.recorded_is d n, is.for.0, same_above j ((s.block n).pair d).recorded, swapped c d) refl
 
     missing_before : (d : ℕ) → pending (ProbeOf n) (on_link d t) ≡ false
     missing_before d = missing-beat c k m e.trace d n ∙ known.probes d n ∙ ap not (is.quiet d)
@@ -141,11 +138,7 @@ traced-probing {w} {X} config request c k n own source j m s u e blocks is known
     probed_or d false = missing_before d
 
     quiet_now : (d : ℕ) (b : Bool) → (is_above j ((s.block n).pair d).recorded && not b) ≡ not (is_quiet (if b then (s.block n).pair d else after_served j ((s.block n).pair d)).probing)
-    quiet_now d true = never (is_above j ((s.block n).pair d).recorded) ∙ sym (ap not (is.quiet d))
-      where
-        never : (b : Bool) → (b && false) ≡ false
-        never true = refl
-        never false = refl
+    quiet_now d true = and-false (is_above j ((s.block n).pair d).recorded) ∙ sym (ap not (is.quiet d))
     quiet_now d false = sent_or (is_above j ((s.block n).pair d).recorded)
       where
         sent_or : (b : Bool) → (b && true) ≡ not (is_quiet (if b then Sent j else ((s.block n).pair d).probing))
@@ -158,5 +151,5 @@ traced-probing {w} {X} config request c k n own source j m s u e blocks is known
           ap (pending (ProbeOf n)) (probes-within d n j 0 (length config.clients.items) test t (omega arith) (omega (arith, lt))) ∙ probed_or d (test d) ∙ test_is d ∙ quiet_now d (own && (d == c))
       | inr le ↦
           ap (pending (ProbeOf n)) (probes-beyond d n j 0 (length config.clients.items) test t (omega (arith, le))) ∙ missing_before d
-          ∙ sym (rw (is.beyond d le, nothing_above j) refl) ∙ quiet_now d (own && (d == c))
+          ∙ sym (rw (is.beyond d le, nothing-above j) refl) ∙ quiet_now d (own && (d == c))
     ]

@@ -31,6 +31,7 @@ use Rattle.tl_world.specs.Protocol.{Service, Block, State, Use, Closed, Asked, I
 use Rattle.tl_world.specs.Sources.{AreServed, is_served, is_granted}
 use Rattle.tl_world.specs.Token.{set}
 use Rattle.tl_world.proofs.Tokens.{same_number, set-same, set-other}
+use Rattle.tl_world.proofs.Unsaid.{request_of-c, probe_of-c}
 
 -- ---- the manager's end
 
@@ -58,14 +59,6 @@ quiet-then t u v a b = record {
 }
 
 -- ---- a beat of channel C
-
-request_of-c : {w : ℕ} (q : ℕ) (x : BeatC w) (t : History w) → request_of q (beat.C x ∷ t) ≡ request_of q t
-unfolding request_of
-request_of-c q x t = refl
-
-probe_of-c : {w : ℕ} (n : ℕ) (x : BeatC w) (t : History w) → probe_of n (beat.C x ∷ t) ≡ probe_of n t
-unfolding probe_of
-probe_of-c n x t = refl
 
 burst-c : {w : ℕ} (x : BeatC w) (t : History w) → unfinished channel.A (beat.C x ∷ t) ≡ unfinished channel.A t
 unfolding unfinished
@@ -143,7 +136,7 @@ none_or false b p = refl
 pub missing-release : {w : ℕ} (c : ℕ) (x : BeatC w) (t : Trace w) → is_probe_ack x.opcode ≡ false → (d i : ℕ) → pending (key.ProbeOf i) (on_link d ((record { 0 = c }, beat.C x) ∷ t)) ≡ pending (key.ProbeOf i) (on_link d t)
 missing-release {w} c x t kind d i = missing-c c x t d i ∙ rw kind (none_or (c == d) (ends (beat.C x) (on_link d t)) (pending (key.ProbeOf i) (on_link d t)))
 
-part_none : (a b : Bool) → (if a && false then false else b) ≡ b
+pub part_none : (a b : Bool) → (if a && false then false else b) ≡ b
 part_none true b = refl
 part_none false b = refl
 

@@ -2,7 +2,7 @@
 -- and of an access and its answer one more than a block has.
 use Rattle.std.proofs.Common.{◌≡◌, ℕ, ◌+◌, ◌/◌, ◌≤◌, Bool, true, false, List, [], ◌∷◌, refl, sym, ◌∙◌, arith, inl, inr}
 use Rattle.std.specs.Prelude.{not, ◌==◌, ◌||◌, if◌then◌else◌, Option, Some, None}
-use Rattle.std.proofs.lemmas.Bool.{eqb-true}
+use Rattle.std.proofs.lemmas.Bool.{eqb-true, not-false}
 use Rattle.tl_beat.specs.Width.{IsWidth}
 use Rattle.tl_beat.specs.declared.beat.Beat.{Beat}
 use Rattle.tl_beat.specs.declared.opcode.Channel.{Channel}
@@ -127,10 +127,6 @@ both-few w size l a.Intent width e few = let four = wide-block w width in omega 
 both-few w size l a.AcquireBlock width e few = let four = wide-block w width in omega (arith, four)
 both-few w size l a.AcquirePerm width e few = let four = wide-block w width in omega (arith, four)
 
-not_is : (b : Bool) → not b ≡ false → b ≡ true
-not_is true e = refl
-not_is false e = absurd cc
-
 access_at : {w : ℕ} (o : Option Level) (m : MessageA w) → IsWidth w → illegal_message_at o (message.A m) ≡ None → beats_of (message.A m) + answer_beats (message.A m) ≤ 64 / w + 1
 access_at None m width e = absurd cc
 access_at {w} (Some l) m width e =
@@ -138,7 +134,7 @@ access_at {w} (Some l) m width e =
     let one = next_rule (not (a_of_level l m.opcode)) L1 _ control in
     let two = next_rule (not (a_has_param m.opcode m.param)) L2 _ one.1 in
     let three = next_rule (not (a_has_size w l m.opcode m.size)) L3 _ two.1 in
-    both-few w m.size l m.opcode width (not_is _ three.0) (data-few m width)
+    both-few w m.size l m.opcode width (not-false _ three.0) (data-few m width)
 
 pub access-few : {w : ℕ} (config : Config) (c source : ℕ) (m : Message w) → IsWidth w → IsRequest config c source m → beats_of m + answer_beats m ≤ 64 / w + 1
 access-few config c source (message.A m) width h = access_at (level_of config c) m width h.1

@@ -1,5 +1,5 @@
 -- What the messages of channel C say that a client has in flight, and what the manager takes of them.
-use Rattle.std.proofs.Common.{◌≡◌, ℕ, ◌*◌, Bool, true, false, not, List, length, refl, inl, inr, arith, pow_pos}
+use Rattle.std.proofs.Common.{◌≡◌, ℕ, ◌*◌, Bool, true, false, not, List, length, refl, arith, pow_pos}
 use Rattle.std.proofs.Common.{lit<}
 use Rattle.std.proofs.lemmas.List.{drop_all}
 use Rattle.tl_beat.specs.Width.{IsWidth}
@@ -20,6 +20,8 @@ use Rattle.tl_rules.specs.History.{block_at, is_probe_ack, is_release, reported}
 use Rattle.tl_rules.specs.Conformance.{same_perm}
 use Rattle.tl_client.specs.End.{zeros}
 use Rattle.tl_client.specs.Send.{about, probe_ack, release}
+use Rattle.tl_client.proofs.HeldAfter.{same_block}
+use Rattle.tl_manager.proofs.Filled.{whole_block}
 
 -- a message of channel C about a block, with its bytes where it gives Trunk up
 pub record IsAbout {w : ℕ} (is_report : Bool) (n param : ℕ) (carries : Bool) (truth : List ℕ) (m : MessageC w) : Type 0 where
@@ -31,14 +33,6 @@ pub record IsAbout {w : ℕ} (is_report : Bool) (n param : ℕ) (carries : Bool)
   pub payload_is : carries ≡ true → m.payload ≡ truth
   pub long : length m.payload ≡ 64
   pub blank : IsBlankAfter (beats_of (message.C m)) (message.C m)
-
-same_block : (block : ℕ) → block_at (64 * block) ≡ block
-same_block block = omega arith
-
-whole_block : (w : ℕ) → IsWidth w → w * data_beats w 6 ≡ 64
-whole_block w (inl e) = rw e refl
-whole_block w (inr (inl e)) = rw e refl
-whole_block w (inr (inr e)) = rw e refl
 
 about_data : {w : ℕ} (b : Bool) (opcode : OpC) (param source n : ℕ) (truth : List ℕ) → IsWidth w → is_probe_ack opcode ≡ b → is_release opcode ≡ not b → c_carries_data opcode ≡ true → length truth ≡ 64
     → IsAbout {w = w} b n param true truth (about opcode param source n truth)

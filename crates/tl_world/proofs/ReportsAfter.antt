@@ -30,22 +30,22 @@ use Rattle.tl_world.specs.Sources.{IsFor}
 use Rattle.tl_world.specs.System.{System}
 use Rattle.tl_world.specs.Token.{ProbeAck, Release, ReleaseAck, Grant, Token}
 use Rattle.tl_world.specs.Whole.{IsMatched, IsRequest, IsServedWith, is_caching}
-use Rattle.tl_world.proofs.Aside.{set_at-same}
 use Rattle.tl_world.proofs.BesideKinds.{IsWaiting, accesses_by, beside-report, beside_block, last_accesses, same_acquiring}
 use Rattle.tl_world.proofs.BesideRequests.{IsOnce, accesses-answer}
 use Rattle.tl_world.proofs.CarriedReports.{carried-followed_c}
 use Rattle.tl_world.proofs.Choices.{plain-past}
 use Rattle.tl_world.proofs.FirstToken.{first-token}
-use Rattle.tl_world.proofs.FollowKept.{answered-is, settled_all}
+use Rattle.tl_world.proofs.FollowKept.{settled_all}
 use Rattle.tl_world.proofs.HeardAll.{IsDelivered, remembered_after}
 use Rattle.tl_world.proofs.ManagerAfter.{others_probed}
 use Rattle.tl_world.proofs.ManagerDelivered.{channel_c-delivered, pushed, pushed_last, releases-delivered, reports-delivered}
 use Rattle.tl_world.proofs.ManagerFollowed.{client-of, followed-taken, step-taken}
 use Rattle.tl_world.proofs.ManagerTakes.{by-first_c}
 use Rattle.tl_world.proofs.RequestsTaken.{next_tracker}
-use Rattle.tl_world.proofs.Sized.{used-serving}
 use Rattle.tl_world.proofs.SizedAfter.{served-request}
-use Rattle.tl_world.proofs.Tokens.{holds-first}
+use Rattle.tl_world.proofs.Tokens.{holds-first, set_at-same}
+use Rattle.tl_world.proofs.BothParts.{answered-is}
+use Rattle.tl_world.proofs.Owing.{serving-use}
 
 -- ---- which accesses are answered by what is handed out
 
@@ -98,7 +98,7 @@ waiting-one config log h sys n m (GrantSent q d k) width is beside e for with = 
 waiting-one config log h sys n m (GrantTaken q) width is beside e for with = tt
 waiting-one config log h sys n m (Waits q true source k) width is beside e for with = tt
 waiting-one {w} config log h sys n m (Waits q false source k) width is beside e for with =
-    let used = used-serving (is_caching config) h.state n q source k is.invariant e in (
+    let used = serving-use (is_caching config) h.state n q source k is.invariant e in (
       record {
         width = width;
         request = with;

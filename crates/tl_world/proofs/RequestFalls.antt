@@ -19,10 +19,11 @@ use Rattle.tl_world.proofs.Frames.{IsBlockNoMore, acquire-stays, let-stays, pair
 use Rattle.tl_world.proofs.Leftover.{IsPopped, beats_left}
 use Rattle.tl_world.proofs.Owing.{AreClients, request-falls}
 use Rattle.tl_world.proofs.ReportFalls.{is_for_access, nobody-serving}
-use Rattle.tl_world.proofs.Still.{is_other, serves_another}
+use Rattle.tl_world.proofs.Still.{serves_another}
 use Rattle.tl_world.proofs.Sums.{total-le}
 use Rattle.tl_world.proofs.Tokens.{same_number, set-part}
 use Rattle.tl_world.proofs.Weights.{IsLeft, probes-few, probes-fewer}
+use Rattle.tl_world.proofs.Facts.{is_other}
 
 -- a client whose own Acquire is in service isn't probed for it
 owner_quiet : (caching : ℕ → Bool) (s : State (List ℕ)) (n r : ℕ) → IsInvariant caching s → view (s.block n).service r ≡ Own → is_quiet ((s.block n).pair r).probing ≡ true

@@ -17,6 +17,7 @@ use Rattle.tl_rules.specs.Conformance.{on_link, broken_in_order}
 use Rattle.tl_rules.specs.History.{ends, block_at}
 use Rattle.tl_rules.proofs.Sent.{is_last, not_last}
 use Rattle.tl_client.specs.End.{Terms}
+use Rattle.tl_client.proofs.HeldAfter.{same_block}
 use Rattle.tl_manager.specs.Service.{services, is_in_service}
 use Rattle.tl_manager.specs.Slave as manager
 use Rattle.tl_manager.specs.Slave.{End, Passes, before_stall, must_wait, judged, offered, deed}
@@ -50,7 +51,8 @@ use Rattle.tl_world.proofs.ManagersEnd.{at_manager-matched}
 use Rattle.tl_world.proofs.Requests.{IsUnwaited}
 use Rattle.tl_world.proofs.Steps.{manager-with_messages, stepped-empty, stepped-to-manager}
 use Rattle.tl_world.proofs.Tokens.{same_number}
-use Rattle.tl_world.proofs.RequestsTaken.{next_tracker, IsAfterwards, unwaited-asked, ready-request, at_manager-request_taken, acquire_wanted, acquire_block, ready-acquire, at_manager-acquire_taken}
+use Rattle.tl_world.proofs.RequestsTaken.{next_tracker, unwaited-asked, ready-request, at_manager-request_taken, acquire_wanted, ready-acquire, at_manager-acquire_taken}
+use Rattle.tl_world.proofs.ManagerAfter.{IsManagerOf}
 
 -- ---- the request that is first
 
@@ -66,7 +68,7 @@ pub record IsOnLink {w : ℕ} (config : Config) (h : Shadow w) (sys : System w) 
   pub unwaited : (k : ℕ) → k + 1 < beats_of (message.A m) → IsUnwaited c m.source h.state
   pub ready : (k : ℕ) → IsComing config c k m sys.manager → beats_of (message.A m) ≡ suc k → must_wait config (link_of c) (beat.A (a_beat_of m k)) sys.manager.trace ≡ false → IsReady (next_tracker sys) c kind i h
   pub after : (k : ℕ) → IsComing config c k m sys.manager → beats_of (message.A m) ≡ suc k → must_wait config (link_of c) (beat.A (a_beat_of m k)) sys.manager.trace ≡ false
-      → IsAfterwards config (kind_taken config (next_tracker sys) c kind i rest h) (end_after config c k m sys.manager)
+      → IsManagerOf config (kind_taken config (next_tracker sys) c kind i rest h) (end_after config c k m sys.manager)
   pub carried : (k : ℕ) (queue : List (Beat w)) → IsComing config c k m sys.manager → sys.channels c channel.A ≡ beat.A (a_beat_of m k) ∷ queue → beats_of (message.A m) ≡ suc k
       → must_wait config (link_of c) (beat.A (a_beat_of m k)) sys.manager.trace ≡ false
       → AreCarried (kind_taken config (next_tracker sys) c kind i rest h).mail (kind_taken config (next_tracker sys) c kind i rest h).state (system_after config c k m queue sys)
@@ -122,7 +124,7 @@ on_link-acquire {w} config log h sys c n rest width is first asked = record {
         let one = acquisition_beats w asked.whole asked.grow ((h.state.block n).source c) n in
         let ended : ends (beat.A (a_beat_of m k)) (on_link c sys.manager.trace) ≡ true = ends-burst c k m sys.manager burst ∙ is_last k (beats_of (message.A m)) (omega (arith, lt, one)) in
         let free_at = unserved-free h.request h.state sys.manager.trace (block_at m.address) is.managed (or_parts (is_in_service (block_at m.address) (services sys.manager.trace)) (nat_le config.trackers (length (services sys.manager.trace))) (rw ended at moves)).0 in
-        ap (λ i. (h.state.block i).service) (sym (acquire_block n)) ∙ free_at
+        ap (λ i. (h.state.block i).service) (sym (same_block n)) ∙ free_at
 
 -- ---- what is first on the channel
 
@@ -277,15 +279,15 @@ delivery-a {w} config log h sys c terms P width is client empty stalled moved = 
 
 -- and what the manager knows is what the protocol says then
 pub at_manager-delivered_a : {w : ℕ} (config : Config) (log : Log w) (h : Shadow w) (sys : System w) (c : ℕ) (terms : Terms) → IsWidth w → IsMatched config log h.mail h.request h.state sys → terms_at config c ≡ Some terms
-    → IsAfterwards config (followed config (Deliver (link_of c) channel.A) sys h) (stepped config (Deliver (link_of c) channel.A) sys).after.manager
+    → IsManagerOf config (followed config (Deliver (link_of c) channel.A) sys h) (stepped config (Deliver (link_of c) channel.A) sys).after.manager
 at_manager-delivered_a {w} config log h sys c terms width is client =
     let known = at_manager-matched config log h.mail h.request h.state sys is in
-    delivery-a config log h sys c terms (λ (step : Step w). IsAfterwards config (delivered config c channel.A step.outcome sys h) step.after.manager) width is client (λ e. known) (λ x queue e waits. known) (λ x queue beats arrives moves.
+    delivery-a config log h sys c terms (λ (step : Step w). IsManagerOf config (delivered config c channel.A step.outcome sys h) step.after.manager) width is client (λ e. known) (λ x queue e waits. known) (λ x queue beats arrives moves.
     let comes = coming-arrival config log h sys c x queue width is beats arrives moves in
     let k : ℕ = arrives.next.k in
     let after : End w = end_after config c k arrives.request sys.manager in
-    subst (IsAfterwards config (delivered config c channel.A (outcome.Moved x) sys h)) (sym (manager-with_messages (deed config (link_of c) x sys.manager).handed (with_manager after (with_channel c channel.A queue sys))))
-    (moved-a config h sys c x queue (λ (i : Shadow w). IsAfterwards config i after) beats arrives (λ last. arrives.is_it.after k comes last (rw arrives.next.beat_is at moves))
+    subst (IsManagerOf config (delivered config c channel.A (outcome.Moved x) sys h)) (sym (manager-with_messages (deed config (link_of c) x sys.manager).handed (with_manager after (with_channel c channel.A queue sys))))
+    (moved-a config h sys c x queue (λ (i : Shadow w). IsManagerOf config i after) beats arrives (λ last. arrives.is_it.after k comes last (rw arrives.next.beat_is at moves))
     (λ more. at_manager-more (is_caching config) config h.mail h.request h.state c k arrives.request sys.manager is.invariant comes more (arrives.is_it.unwaited k more) known)))
 
 -- and the channels carry the messages of the tokens

@@ -1,7 +1,8 @@
 -- What the manager hands out at the last beat of a request: the messages of the tokens that the protocol pushes.
 use Rattle.std.proofs.Common.{◌≡◌, ℕ, suc, ◌*◌, Bool, true, false, not, ◌&&◌, List, [], ◌∷◌, refl, sym, ◌∙◌, ap, ap₂, inl, inr}
 use Rattle.std.specs.Prelude.{if◌then◌else◌, length}
-use Rattle.std.proofs.lemmas.Bool.{cases_eq}
+use Rattle.std.proofs.lemmas.Bool.{cases_eq, false_from_ne_true}
+use Rattle.std.proofs.Math.Bool.{and-false}
 use Rattle.tl_beat.specs.declared.beat.Beat.TheVariants as beat
 use Rattle.tl_burst.specs.declared.message.Message.{Message}
 use Rattle.tl_burst.specs.declared.message.Message.TheVariants as message
@@ -9,13 +10,8 @@ use Rattle.tl_burst.specs.declared.message.MessageA.{MessageA}
 use Rattle.tl_burst.specs.Burst.{a_beat_of, beats_of}
 use Rattle.tl_params.specs.declared.config.Config.{Config}
 use Rattle.tl_params.specs.declared.param.Cap.{Cap}
-use Rattle.tl_params.specs.declared.param.Grow.{Grow}
-use Rattle.tl_params.specs.declared.param.Grow.TheVariants as grow
-use Rattle.tl_params.specs.declared.perm.Perm.{Perm}
 use Rattle.tl_params.specs.declared.perm.Perm.TheVariants as perm
-use Rattle.tl_params.specs.declared.profile.Profile.{Profile}
-use Rattle.tl_params.specs.declared.profile.Profile.TheVariants as profile
-use Rattle.tl_params.specs.Param.{cap_right, grow_code}
+use Rattle.tl_params.specs.Param.{cap_right}
 use Rattle.tl_rules.specs.Effect.{Memory, bytes_from, effect, answer_of}
 use Rattle.tl_rules.specs.Effect as memory
 use Rattle.tl_rules.specs.History.{block_at}
@@ -24,10 +20,11 @@ use Rattle.tl_manager.specs.Handing.{Handed, Deed, probes, probe_of_block, perfo
 use Rattle.tl_manager.specs.Holders as holders
 use Rattle.tl_manager.specs.Holders.{recorded, probed, cap_probed}
 use Rattle.tl_rules.specs.Conformance.{Trace, same_perm}
+use Rattle.tl_client.proofs.HeldAfter.{same_block}
 use Rattle.tl_manager.specs.Service as manager
 use Rattle.tl_manager.specs.Slave.{End, level_of, deed}
 use Rattle.tl_manager.proofs.Events.{performed-access, performed-acquire}
-use Rattle.tl_world.specs.Follow.{acquire_opcode, answers, gift, is_unheld, probes_some}
+use Rattle.tl_world.specs.Follow.{answers, gift, is_unheld, probes_some}
 use Rattle.tl_world.specs.Invariant.{IsWell, is_out}
 use Rattle.tl_world.specs.Log.{Log}
 use Rattle.tl_world.specs.Phase.{Pair}
@@ -38,11 +35,12 @@ use Rattle.tl_world.specs.System.{System}
 use Rattle.tl_world.specs.Token.{Grant}
 use Rattle.tl_world.specs.Whole.{IsMatched}
 use Rattle.tl_world.proofs.Arrivals.{link_of, with_beat, IsComing, service_for}
-use Rattle.tl_world.proofs.Fronts.{IsAsked, IsWanted, acquires-so}
+use Rattle.tl_world.proofs.Fronts.{IsAsked, IsWanted}
 use Rattle.tl_world.proofs.Memories.{performed-reply}
 use Rattle.tl_world.proofs.Requests.{recorded-beat}
-use Rattle.tl_world.proofs.RequestsTaken.{next_tracker, deed-performed, acquire_wanted, acquire_block, unheld-same}
+use Rattle.tl_world.proofs.RequestsTaken.{next_tracker, deed-performed, acquire_wanted, unheld-same}
 use Rattle.tl_world.proofs.Tokens.{same_number, set-same}
+use Rattle.tl_world.proofs.Codes.{acquires-so, gives-some, data-same}
 
 -- ---- an access that is answered
 
@@ -66,16 +64,8 @@ pub memory-granted : (caching : ℕ → Bool) (q : ℕ) (d : Bool) (k : Cap) (ne
     → new.memory ≡ new.truth
 memory-granted caching q d k new well granted given some = well.memory nobody
   where
-    never : (x : Bool) → (x && false) ≡ false
-    never true = refl
-    never false = refl
-
-    falls : (x : Bool) → (x ≡ true → ⊥) → x ≡ false
-    falls true f = absurd (f refl)
-    falls false f = refl
-
     not_trunk : (i : ℕ) → (i ≡ q → ⊥) → same_perm (new.pair i).recorded perm.Trunk ≡ false
-    not_trunk i other = falls (same_perm (new.pair i).recorded perm.Trunk) (λ top.
+    not_trunk i other = false_from_ne_true (same_perm (new.pair i).recorded perm.Trunk) (λ top.
         let alone : same_perm (new.pair q).recorded perm.None ≡ true = well.one_owner i q top (λ f. other (sym f)) in
         let none : same_perm (cap_right k) perm.None ≡ true = rw given at alone in
         let differ : false ≡ true = sym some ∙ none in
@@ -86,36 +76,9 @@ memory-granted caching q d k new well granted given some = well.memory nobody
 
     nobody : (i : ℕ) → is_out (new.pair i) (view new.service i) ≡ false
     nobody i = elim (cases_eq i q) [
-      | inl same ↦ rw same (ap (λ x. same_perm (new.pair q).recorded perm.Trunk && not x) own_view ∙ never (same_perm (new.pair q).recorded perm.Trunk))
+      | inl same ↦ rw same (ap (λ x. same_perm (new.pair q).recorded perm.Trunk && not x) own_view ∙ and-false (same_perm (new.pair q).recorded perm.Trunk))
       | inr other ↦ ap (λ x. x && not (is_granting (view new.service i))) (not_trunk i other)
     ]
-
--- a Grant gives something
-pub gives-some : (p : Profile) (whole : Bool) (g : Grow) (unheld : Bool) → same_perm (cap_right (gift p whole g unheld)) perm.None ≡ false
-gives-some profile.One true grow.NtoB unheld = refl
-gives-some profile.One true grow.NtoT unheld = refl
-gives-some profile.One true grow.BtoT unheld = refl
-gives-some profile.One false grow.NtoB unheld = refl
-gives-some profile.One false grow.NtoT unheld = refl
-gives-some profile.One false grow.BtoT unheld = refl
-gives-some profile.Two true grow.NtoB unheld = refl
-gives-some profile.Two true grow.NtoT unheld = refl
-gives-some profile.Two true grow.BtoT unheld = refl
-gives-some profile.Two false grow.NtoB true = refl
-gives-some profile.Two false grow.NtoB false = refl
-gives-some profile.Two false grow.NtoT unheld = refl
-gives-some profile.Two false grow.BtoT unheld = refl
-
--- it carries the block where the protocol says so
-data-same : (whole : Bool) (g : Grow) (p : Perm) → handing.is_granted_data (acquire_opcode whole) (grow_code g) p ≡ is_granted_data whole g p
-data-same true grow.NtoB p = refl
-data-same true grow.NtoT p = refl
-data-same true grow.BtoT p = refl
-data-same false grow.NtoB p = refl
-data-same false grow.NtoT p = refl
-data-same false grow.BtoT perm.None = refl
-data-same false grow.BtoT perm.Branch = refl
-data-same false grow.BtoT perm.Trunk = refl
 
 payload-same : (d : Bool) (f : Memory) (n : ℕ) (truth : List ℕ) → bytes_from f (64 * n) 64 ≡ truth → grant_payload d f n ≡ (if d then truth else handing.no_payload)
 payload-same true f n truth e = e
@@ -134,10 +97,10 @@ pub handed-granted : {w : ℕ} (config : Config) (log : Log w) (mail : Mail w) (
     ≡ (link_of c, rendered Grant c n (granted_at_once c (next_tracker sys) (is_granted_data asked.whole asked.grow ((s.block n).pair c).recorded) (gift config.profile asked.whole asked.grow (is_unheld (length config.clients.items) (s.block n).pair)) (s.block n))) ∷ []
 unfolding rendered
 handed-granted {w} config log mail request s sys caching c n k is asked comes last none well =
-    ap (λ (d : Deed w). d.handed) (deed-performed config log mail request s sys c k n true m is comes last (acquires-so asked.whole) (acquire_block n) none ∙ performed-acquire config (service_for c m e.trace) u e.memory (acquires-so asked.whole))
+    ap (λ (d : Deed w). d.handed) (deed-performed config log mail request s sys c k n true m is comes last (acquires-so asked.whole) (same_block n) none ∙ performed-acquire config (service_for c m e.trace) u e.memory (acquires-so asked.whole))
     ∙ ap (λ (i : Message w). (link_of c, i) ∷ [])
     (ap₂ (λ (j : Cap) (d : Bool). grant_with (service_for c m e.trace) j d e.memory) given carried
-    ∙ grant-is (service_for c m e.trace) c n (b.source c) (next_tracker sys) data_too gift_is e.memory b.truth refl refl (acquire_block n) (is.memory n ∙ memory-granted caching c data_too gift_is new well refl recorded_now (gives-some config.profile asked.whole asked.grow unheld)))
+    ∙ grant-is (service_for c m e.trace) c n (b.source c) (next_tracker sys) data_too gift_is e.memory b.truth refl refl (same_block n) (is.memory n ∙ memory-granted caching c data_too gift_is new well refl recorded_now (gives-some config.profile asked.whole asked.grow unheld)))
   where
     b : Block (List ℕ)
     b = s.block n
@@ -167,9 +130,9 @@ handed-granted {w} config log mail request s sys caching c n k is asked comes la
     recorded_now = ap (λ (p : Pair). p.recorded) (set-same c (after_grant_sent gift_is (b.pair c)) b.pair)
 
     given : cap_granted config.profile m.opcode m.param (holders.is_unheld config (block_at m.address) u) ≡ gift_is
-    given = ap (λ i. cap_granted config.profile m.opcode m.param (holders.is_unheld config i u)) (acquire_block n) ∙ ap (cap_granted config.profile m.opcode m.param) (unheld-same config log mail request s sys c k n m is)
+    given = ap (λ i. cap_granted config.profile m.opcode m.param (holders.is_unheld config i u)) (same_block n) ∙ ap (cap_granted config.profile m.opcode m.param) (unheld-same config log mail request s sys c k n m is)
 
     carried : handing.is_granted_data m.opcode m.param (recorded c (block_at m.address) u) ≡ data_too
     carried =
-        ap (λ i. handing.is_granted_data m.opcode m.param (recorded c i u)) (acquire_block n) ∙ ap (handing.is_granted_data m.opcode m.param) (recorded-beat c k m e.trace c n ∙ is.managed.recorded_is c n)
+        ap (λ i. handing.is_granted_data m.opcode m.param (recorded c i u)) (same_block n) ∙ ap (handing.is_granted_data m.opcode m.param) (recorded-beat c k m e.trace c n ∙ is.managed.recorded_is c n)
         ∙ data-same asked.whole asked.grow (b.pair c).recorded

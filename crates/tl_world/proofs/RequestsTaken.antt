@@ -1,7 +1,8 @@
 -- The last beat of a request that is taken: what the protocol does then is what the manager does.
-use Rattle.std.proofs.Common.{◌≡◌, subst, ℕ, suc, ◌*◌, ◌≤◌, ◌==◌, Bool, true, false, not, ◌&&◌, List, ◌∷◌, Option, Some, None, length, refl, sym, ◌∙◌, ap, arith}
+use Rattle.std.proofs.Common.{◌≡◌, subst, ℕ, suc, ◌≤◌, ◌==◌, Bool, true, false, not, ◌&&◌, List, ◌∷◌, Option, Some, None, length, refl, sym, ◌∙◌, ap, arith}
 use Rattle.std.specs.Prelude.{if◌then◌else◌, nat_le}
 use Rattle.std.proofs.lemmas.Bool.{or_parts}
+use Rattle.std.proofs.Math.Bool.{and_comm}
 use Rattle.tl_beat.specs.declared.beat.Beat.TheVariants as beat
 use Rattle.tl_burst.specs.declared.message.Message.{Message}
 use Rattle.tl_burst.specs.declared.message.Message.TheVariants as message
@@ -17,6 +18,7 @@ use Rattle.tl_rules.specs.Conformance.{on_link, same_perm}
 use Rattle.tl_rules.specs.History.{ends, block_at, is_acquire}
 use Rattle.tl_rules.proofs.Sent.{is_last}
 use Rattle.tl_client.specs.Send.{acquisition}
+use Rattle.tl_client.proofs.HeldAfter.{same_block, swapped}
 use Rattle.tl_manager.specs.Handing.{performed, cap_granted}
 use Rattle.tl_manager.specs.Holders as holders
 use Rattle.tl_manager.specs.Holders.{recorded, is_nobody, probed, cap_probed, is_spared}
@@ -34,18 +36,19 @@ use Rattle.tl_world.specs.Sources.{IsFor}
 use Rattle.tl_world.specs.System.{System}
 use Rattle.tl_world.specs.Token.{Kind, Request, Acquire, Token, set}
 use Rattle.tl_world.specs.Whole.{IsMatched, IsServedWith, is_caching}
-use Rattle.tl_world.proofs.Accounts.{eqb-swap}
 use Rattle.tl_world.proofs.Admitted.{unserved-free, free-untracked}
 use Rattle.tl_world.proofs.Arrivals.{link_of, with_beat, IsComing, ends-coming, service_for, served-last}
 use Rattle.tl_world.proofs.AtRequests.{end_after, at_manager-probing, at_manager-answered, at_manager-granted}
 use Rattle.tl_world.proofs.Choices.{nobody-same, no-clients, plain-past, waits-used}
 use Rattle.tl_world.proofs.Facts.{quiet_at_rest}
 use Rattle.tl_world.proofs.FollowKept.{IsReady, IsServing, kind_taken-kept}
-use Rattle.tl_world.proofs.Fronts.{IsAsked, IsWanted, acquires-so}
+use Rattle.tl_world.proofs.Fronts.{IsAsked, IsWanted}
 use Rattle.tl_world.proofs.ManagedServed.{same_above}
 use Rattle.tl_world.proofs.ManagersEnd.{IsAtManager, at_manager-matched}
 use Rattle.tl_world.proofs.Performing.{IsAnswering}
 use Rattle.tl_world.proofs.Requests.{recorded-beat, IsUnwaited}
+use Rattle.tl_world.proofs.Codes.{acquires-so}
+use Rattle.tl_world.proofs.ManagerAfter.{IsManagerOf}
 
 -- ---- what a request that needn't wait finds
 
@@ -82,19 +85,13 @@ invariant-taken config log h sys c k i rest is first ready =
 
 -- ---- who is probed
 
-and_swap : (x y : Bool) → (x && y) ≡ (y && x)
-and_swap true true = refl
-and_swap true false = refl
-and_swap false true = refl
-and_swap false false = refl
-
 -- somebody is probed, as the manager's record says, where the protocol says so
 pub probed-some : {w : ℕ} (config : Config) (log : Log w) (mail : Mail w) (request : ℕ → MessageA w) (s : State (List ℕ)) (sys : System w) (c k n : ℕ) (own : Bool) (j : Cap) (m : MessageA w)
     → IsMatched config log mail request s sys → is_acquire m.opcode ≡ own → block_at m.address ≡ n
     → is_nobody (probed config (service_for c m sys.manager.trace) j (with_beat c m k sys.manager.trace)) ≡ not (some_below (length config.clients.items) (λ d. is_probed c own j ((s.block n).pair d).recorded d))
 probed-some {w} config log mail request s sys c k n own j m is kind block =
     nobody-same config (λ d. holders.is_above j (recorded d (block_at m.address) (with_beat c m k sys.manager.trace)) && not (is_spared (service_for c m sys.manager.trace) d)) (λ d. is_probed c own j ((s.block n).pair d).recorded d)
-    (λ d. rw (block, recorded-beat c k m sys.manager.trace d n, is.managed.recorded_is d n, kind, same_above j ((s.block n).pair d).recorded, eqb-swap c d) (and_swap (is_above j ((s.block n).pair d).recorded) (not (own && (d == c)))))
+    (λ d. rw (block, recorded-beat c k m sys.manager.trace d n, is.managed.recorded_is d n, kind, same_above j ((s.block n).pair d).recorded, swapped c d) (and_comm (is_above j ((s.block n).pair d).recorded) (not (own && (d == c)))))
 
 copies_so : (p : Perm) → holders.has_copy p ≡ not (same_perm p perm.None)
 copies_so perm.None = refl
@@ -156,10 +153,6 @@ unwaited-asked {w} config log mail request s sys c source is used i src own j e 
     go true f = let no : Asked ≡ Acquires i = sym here ∙ f in cc
     go false f = let no : Asked ≡ InService i = sym here ∙ f in cc
 
--- the shadow's part of the manager
-abbrev pub IsAfterwards : {w : ℕ} → Config → Shadow w → End w → Type 0
-IsAfterwards config h e = IsAtManager config h.mail h.request h.state e
-
 with-same : {w : ℕ} (mail after : Mail w) (service : Service) (m : MessageA w) → after.request ≡ mail.request → IsServedWith mail service m → IsServedWith after service m
 with-same mail after Free m same ok = tt
 with-same mail after (Waits r true source k) m same ok = tt
@@ -188,9 +181,9 @@ ready-request config log h sys c source k is asked comes last moves =
 pub at_manager-request_taken : {w : ℕ} (config : Config) (log : Log w) (h : Shadow w) (sys : System w) (c source k : ℕ) (rest : List Token) → IsMatched config log h.mail h.request h.state sys
     → (h.state.link c).a ≡ token Request source ∷ rest → (asked : IsAsked config c source h.mail h.state)
     → IsComing config c k asked.request sys.manager → beats_of (message.A asked.request) ≡ suc k → must_wait config (link_of c) (beat.A (a_beat_of asked.request k)) sys.manager.trace ≡ false
-    → IsAfterwards config (kind_taken config (next_tracker sys) c Request source rest h) (end_after config c k asked.request sys.manager)
+    → IsManagerOf config (kind_taken config (next_tracker sys) c Request source rest h) (end_after config c k asked.request sys.manager)
 at_manager-request_taken {w} config log h sys c source k rest is first asked comes last moves =
-    subst (λ (i : Message w). IsAfterwards config (request_taken clients c source i tracker rest h) after) (sym asked.is_it)
+    subst (λ (i : Message w). IsManagerOf config (request_taken clients c source i tracker rest h) after) (sym asked.is_it)
     (go (probes_some clients c false (cap_probed m.opcode m.param) b.pair) (cap_probed m.opcode m.param) refl refl
     (subst (λ (i : Message w). IsInvariant (is_caching config) (request_taken clients c source i tracker rest h).state) asked.is_it inv))
   where
@@ -229,9 +222,9 @@ at_manager-request_taken {w} config log h sys c source k rest is first asked com
 
     answered : (p : Bool) (o : Option Cap) → IsInvariant (is_caching config) (access_taken c source m tracker p o rest h).state → access_taken c source m tracker p o rest h ≡ access_taken c source m tracker false None rest h
         → deed config (link_of c) (beat.A (a_beat_of m k)) e ≡ performed config (service_for c m e.trace) (with_beat c m k e.trace) e.memory
-        → IsAfterwards config (access_taken c source m tracker p o rest h) after
+        → IsManagerOf config (access_taken c source m tracker p o rest h) after
     answered p o kept same done =
-        subst (λ (i : Shadow w). IsAfterwards config i after) (sym same)
+        subst (λ (i : Shadow w). IsManagerOf config i after) (sym same)
         (at_manager-answered (is_caching config) config (access_taken c source m tracker false None rest h).mail h.request c k n m h.state (access_taken c source m tracker false None rest h).state e
         (subst (λ (i : Shadow w). IsInvariant (is_caching config) i.state) same kept) (λ i. refl) answering asked.lawful done
         (at_manager-answers config h.mail (access_taken c source m tracker false None rest h).mail h.request h.state e refl (at_manager-matched config log h.mail h.request h.state sys is)))
@@ -243,7 +236,7 @@ at_manager-request_taken {w} config log h sys c source k rest is first asked com
     some_cap x y i j f g l = let same : Some i ≡ Some j = sym f ∙ g ∙ l in cc
 
     go : (p : Bool) (o : Option Cap) → probes_some clients c false (cap_probed m.opcode m.param) b.pair ≡ p → cap_probed m.opcode m.param ≡ o
-        → IsInvariant (is_caching config) (access_taken c source m tracker p o rest h).state → IsAfterwards config (access_taken c source m tracker p o rest h) after
+        → IsInvariant (is_caching config) (access_taken c source m tracker p o rest h).state → IsManagerOf config (access_taken c source m tracker p o rest h) after
     go true None f g kept = absurd (let no : false ≡ true = rw g at f in cc)
     go false None f g kept = answered false None kept refl (done f)
     go false (Some j) f g kept = answered false (Some j) kept refl (done f)
@@ -290,22 +283,19 @@ caps_asked w false grow.BtoT source n = refl
 abbrev pub acquire_wanted : {w : ℕ} (c n : ℕ) (s : State (List ℕ)) → IsWanted w c n s → MessageA w
 acquire_wanted c n s is = acquisition (acquire_opcode is.whole) is.grow ((s.block n).source c) n
 
-pub acquire_block : (n : ℕ) → block_at (64 * n) ≡ n
-acquire_block n = omega arith
-
 pub ready-acquire : {w : ℕ} (config : Config) (log : Log w) (h : Shadow w) (sys : System w) (c n k : ℕ) → IsMatched config log h.mail h.request h.state sys → (asked : IsWanted w c n h.state)
     → IsComing config c k (acquire_wanted c n h.state asked) sys.manager → beats_of (message.A (acquire_wanted c n h.state asked)) ≡ suc k → must_wait config (link_of c) (beat.A (a_beat_of (acquire_wanted c n h.state asked) k)) sys.manager.trace ≡ false
     → IsReady (next_tracker sys) c Acquire n h
 ready-acquire config log h sys c n k is asked comes last moves =
-    (ap (λ i. (h.state.block i).service) (sym (acquire_block n)) ∙ free-last config log h.mail h.request h.state sys c k (acquire_wanted c n h.state asked) is comes last moves, untracked-next config log h.mail h.request h.state sys is)
+    (ap (λ i. (h.state.block i).service) (sym (same_block n)) ∙ free-last config log h.mail h.request h.state sys c k (acquire_wanted c n h.state asked) is comes last moves, untracked-next config log h.mail h.request h.state sys is)
 
 -- after an Acquire that was taken
 pub at_manager-acquire_taken : {w : ℕ} (config : Config) (log : Log w) (h : Shadow w) (sys : System w) (c n k : ℕ) (rest : List Token) → IsMatched config log h.mail h.request h.state sys
     → (h.state.link c).a ≡ token Acquire n ∷ rest → (asked : IsWanted w c n h.state)
     → IsComing config c k (acquire_wanted c n h.state asked) sys.manager → beats_of (message.A (acquire_wanted c n h.state asked)) ≡ suc k → must_wait config (link_of c) (beat.A (a_beat_of (acquire_wanted c n h.state asked) k)) sys.manager.trace ≡ false
-    → IsAfterwards config (kind_taken config (next_tracker sys) c Acquire n rest h) (end_after config c k (acquire_wanted c n h.state asked) sys.manager)
+    → IsManagerOf config (kind_taken config (next_tracker sys) c Acquire n rest h) (end_after config c k (acquire_wanted c n h.state asked) sys.manager)
 at_manager-acquire_taken {w} config log h sys c n k rest is first asked comes last moves =
-    subst (λ (i : Acquiring). IsAfterwards config (acquire_taken clients config.profile c n i tracker rest h) after) (sym asked.wants)
+    subst (λ (i : Acquiring). IsManagerOf config (acquire_taken clients config.profile c n i tracker rest h) after) (sym asked.wants)
     (go (some_below clients (λ d. is_probed c true j (b.pair d).recorded d)) refl
     (subst (λ (i : Acquiring). IsInvariant (is_caching config) (acquire_taken clients config.profile c n i tracker rest h).state) asked.wants inv))
   where
@@ -346,7 +336,7 @@ at_manager-acquire_taken {w} config log h sys c n k rest is first asked comes la
     unwaited = unwaited-acquires config log h.mail h.request h.state sys c m.source n is asked.used ready.0
 
     nobody : is_nobody (probed config (service_for c m e.trace) j (with_beat c m k e.trace)) ≡ not (some_below clients (λ d. is_probed c true j (b.pair d).recorded d))
-    nobody = probed-some config log h.mail h.request h.state sys c k n true j m is acquires (acquire_block n)
+    nobody = probed-some config log h.mail h.request h.state sys c k n true j m is acquires (same_block n)
 
     given : Cap
     given = gift config.profile asked.whole asked.grow (is_unheld clients b.pair)
@@ -361,7 +351,7 @@ at_manager-acquire_taken {w} config log h sys c n k rest is first asked comes la
         (record {
           comes = comes;
           last = last;
-          for = (acquires, refl, acquire_block n, caps);
+          for = (acquires, refl, same_block n, caps);
           free = ready.0;
           quiet = quiet-free config log h.mail h.request h.state sys n is ready.0;
           beyond = beyond-none config log h.mail h.request h.state sys n is;
@@ -374,9 +364,9 @@ at_manager-acquire_taken {w} config log h sys c n k rest is first asked comes la
           comes = comes;
           last = last;
           acquires = acquires;
-          block = acquire_block n;
+          block = same_block n;
           given = ap (cap_granted config.profile m.opcode m.param) (unheld-same config log h.mail h.request h.state sys c k n m is);
           unwaited = unwaited;
         })
-        (deed-performed config log h.mail h.request h.state sys c k n true m is comes last acquires (acquire_block n) (rw caps f))
+        (deed-performed config log h.mail h.request h.state sys c k n true m is comes last acquires (same_block n) (rw caps f))
         (at_manager-matched config log h.mail h.request h.state sys is)

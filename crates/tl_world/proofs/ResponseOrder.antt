@@ -1,6 +1,7 @@
 -- A response that the values of a history allow breaks no rule of order after it: at a client's end and in what is
 -- delivered alike.
 use Rattle.std.proofs.Common.{◌≡◌, ℕ, Bool, true, false, not, ◌&&◌, [], Option, Some, None, refl, ap}
+use Rattle.std.proofs.lemmas.Option.{same_Some}
 use Rattle.std.specs.Prelude.{◌==◌, option_map}
 use Rattle.tl_beat.specs.declared.beat.Beat.TheVariants as beat
 use Rattle.tl_beat.specs.declared.beat.BeatA.{BeatA}
@@ -67,10 +68,7 @@ grant-legal {w} p n x r t is block fits carried unprobed once = begun p x t is.w
 
 release_size : {w : ℕ} (n : ℕ) (o : Option (BeatC w)) → option_map (λ (y : BeatC w). y.size) o ≡ Some n → size_of_release o ≡ n
 release_size n None e = absurd cc
-release_size n (Some y) e = some_is y.size n e
-  where
-    some_is : (i j : ℕ) → Some i ≡ Some j → i ≡ j
-    some_is i j f = cc
+release_size n (Some y) e = same_Some y.size n e
 
 pub ack-legal : {w : ℕ} (p : Profile) (x : BeatD w) (t : History w) → unfinished channel.D t ≡ [] → comes_in_release x.source (unfinished channel.C t) ≡ false → x.opcode ≡ opd.ReleaseAck → pending (ReleaseSource x.source) t ≡ true
     → option_map (λ (y : BeatC w). y.size) (release_of x.source t) ≡ Some x.size

@@ -21,7 +21,7 @@ use Rattle.tl_world.proofs.Beats.{length-beats_from}
 use Rattle.tl_world.proofs.Capacities.{AreBounded, few_on_a, few_on_b, few_on_c, few_on_e, few_acks_on_d, few_responses_on_d, kind_there}
 use Rattle.tl_world.proofs.Distinct.{passing, all-pass, IsThere, first-there, later-there}
 
-positive : (w : ℕ) → IsWidth w → 0 < w
+pub positive : (w : ℕ) → IsWidth w → 0 < w
 positive w (inl e) = omega (arith, e)
 positive w (inr (inl e)) = omega (arith, e)
 positive w (inr (inr e)) = omega (arith, e)

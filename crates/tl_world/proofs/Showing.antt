@@ -1,5 +1,6 @@
 -- What a token stands for that is there before and after an event: the same message.
 use Rattle.std.proofs.Common.{◌≡◌, ℕ, Bool, true, false, not, ◌&&◌, ◌||◌, List, refl, sym, ◌∙◌, ap, ◌⊎◌, inl, inr}
+use Rattle.std.proofs.lemmas.Bool.{not-true, or_parts}
 use Rattle.std.specs.Prelude.{◌==◌, if◌then◌else◌}
 use Rattle.tl_beat.specs.declared.opcode.Channel.{Channel}
 use Rattle.tl_beat.specs.declared.opcode.OpB.TheVariants as opb
@@ -18,7 +19,7 @@ use Rattle.tl_world.specs.Invariant.{IsInvariant, IsWell, is_asked, is_replied}
 use Rattle.tl_world.specs.Move.{Move, AreMoved}
 use Rattle.tl_world.specs.Render.{Mail, report_told, prune_told, grant_of, rendered}
 use Rattle.tl_world.proofs.Channels.{IsShowing}
-use Rattle.tl_world.proofs.Phases.{and_left, and_right, each_phase, of_phase}
+use Rattle.tl_world.proofs.Phases.{and_left, and_right, each_phase, of_phase, implies, implies_is}
 use Rattle.tl_world.proofs.Tokens.{same_number, set-same, set-other}
 
 -- ---- one message
@@ -106,14 +107,6 @@ showing-block {w} caching n b' moves mail mail' s s' inv inv' moved blocks alike
 abbrev pub is_told : Pair → Bool
 is_told p = same_perm (report_left (report_told p.probing)) perm.Trunk || same_perm (prune_left (prune_told p.letting)) perm.Trunk
 
-abbrev implies : Bool → Bool → Bool
-implies true b = b
-implies false b = true
-
-implies_is : (a b : Bool) → implies a b ≡ true → a ≡ true → b ≡ true
-implies_is true b h e = h
-implies_is false b h e = absurd cc
-
 -- nothing that carries bytes is on its way from or to one who holds Trunk, or of whom nothing is recorded
 untold_test : Pair → View → Bool
 untold_test p v = implies (same_perm p.held perm.Trunk || same_perm p.recorded perm.None) (not (is_told p) && not (is_granting v))
@@ -138,14 +131,6 @@ pub granted-untold : (p : Pair) (v : View) → ok p v ≡ true → is_granting v
 unfolding granted_test
 granted-untold p v h e = implies_is (is_granting v) (not (is_told p)) (of_phase granted_test granted_all p v h) e
 
-not_is : (b : Bool) → not b ≡ true → b ≡ false
-not_is false e = refl
-not_is true e = absurd cc
-
-or_false : (a b : Bool) → (a || b) ≡ false → (a ≡ false) × (b ≡ false)
-or_false false b e = (refl, e)
-or_false true b e = absurd cc
-
 -- no message of the block carries its bytes, where nobody told, and no Grant is on its way
 ungiven : (v : Service) → ((d : ℕ) → is_granting (view v d) ≡ false) → is_given v ≡ false
 ungiven Free none = refl
@@ -154,8 +139,8 @@ ungiven (GrantSent q d k) none = absurd (let e : is_granting (if q == q then Gra
 ungiven (GrantTaken q) none = refl
 
 pub uncarried : (k : Kind) (d : ℕ) (b : Block (List ℕ)) → is_told (b.pair d) ≡ false → is_given b.service ≡ false → carries k d b ≡ false
-uncarried ProbeAck d b told given = (or_false (same_perm (report_left (report_told (b.pair d).probing)) perm.Trunk) (same_perm (prune_left (prune_told (b.pair d).letting)) perm.Trunk) told).0
-uncarried Release d b told given = (or_false (same_perm (report_left (report_told (b.pair d).probing)) perm.Trunk) (same_perm (prune_left (prune_told (b.pair d).letting)) perm.Trunk) told).1
+uncarried ProbeAck d b told given = (or_parts (same_perm (report_left (report_told (b.pair d).probing)) perm.Trunk) (same_perm (prune_left (prune_told (b.pair d).letting)) perm.Trunk) told).0
+uncarried Release d b told given = (or_parts (same_perm (report_left (report_told (b.pair d).probing)) perm.Trunk) (same_perm (prune_left (prune_told (b.pair d).letting)) perm.Trunk) told).1
 uncarried Grant d b told given = given
 uncarried Request d b told given = refl
 uncarried Acquire d b told given = refl
@@ -166,8 +151,8 @@ uncarried GrantAck d b told given = refl
 
 pub none-carried : (caching : ℕ → Bool) (b : Block (List ℕ)) → IsWell caching b → ((d : ℕ) → (same_perm (b.pair d).held perm.Trunk || same_perm (b.pair d).recorded perm.None) ≡ true) → (k : Kind) (d : ℕ) → carries k d b ≡ false
 none-carried caching b well low k d =
-    uncarried k d b (not_is (is_told (b.pair d)) (and_left (not (is_told (b.pair d))) (not (is_granting (view b.service d))) (is d)))
-    (ungiven b.service (λ i. not_is (is_granting (view b.service i)) (and_right (not (is_told (b.pair i))) (not (is_granting (view b.service i))) (is i))))
+    uncarried k d b (not-true (is_told (b.pair d)) (and_left (not (is_told (b.pair d))) (not (is_granting (view b.service d))) (is d)))
+    (ungiven b.service (λ i. not-true (is_granting (view b.service i)) (and_right (not (is_told (b.pair i))) (not (is_granting (view b.service i))) (is i))))
   where
     is : (i : ℕ) → (not (is_told (b.pair i)) && not (is_granting (view b.service i))) ≡ true
     is i = untold (b.pair i) (view b.service i) (well.phases i) (low i)

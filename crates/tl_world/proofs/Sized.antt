@@ -22,8 +22,9 @@ use Rattle.tl_world.specs.Phase.{Acquiring, Calm, Wants}
 use Rattle.tl_world.specs.Protocol.{Service, Free, Waits, GrantSent, GrantTaken, State, Use, Closed, Asked, InService, Replied, Acquires}
 use Rattle.tl_world.specs.System.{terms_at}
 use Rattle.tl_world.specs.Token.{Kind, Request, Acquire, Probe, ProbeAck, Release, Answer, Grant, ReleaseAck, GrantAck, Token, set_at}
-use Rattle.tl_world.proofs.Moves.{serves_of-is}
 use Rattle.tl_world.proofs.Tokens.{same_number, set-each}
+use Rattle.tl_world.proofs.BothParts.{serves_of-is}
+use Rattle.tl_world.proofs.Owing.{serving-use}
 
 -- ---- one place of two numbers
 
@@ -92,17 +93,13 @@ strange_taken config c n (Waits q own source k) rest h before = before
 strange_taken config c n (GrantSent q d k) rest h before = strange_closed config c ((h.state.block n).source c) h.state.uses before
 strange_taken config c n (GrantTaken q) rest h before = before
 
--- an access that has a block in service has its source
-pub used-serving : (caching : ℕ → Bool) (s : State (List ℕ)) (n q source : ℕ) (k : Cap) → IsInvariant caching s → (s.block n).service ≡ Waits q false source k → s.uses q source ≡ InService n
-used-serving caching s n q source k inv e = serves_of-is n (s.uses q source) (inv.named.serves q source n ∙ rw (e, same_number q, same_number source) refl)
-
 pub strangers-kind_taken : {w : ℕ} (caching : ℕ → Bool) (config : Config) (tracker c : ℕ) (k : Kind) (i : ℕ) (rest : List Token) (h : Shadow w) (terms : Terms) → IsInvariant caching h.state → terms_at config c ≡ Some terms
     → AreStrange config h.state.uses → AreStrange config (kind_taken config tracker c k i rest h).state.uses
 strangers-kind_taken caching config tracker c Request i rest h terms inv known before = strange_request config _ c i (h.mail.request c i) tracker rest h terms known before
 strangers-kind_taken caching config tracker c Acquire i rest h terms inv known before = strange_acquire config _ config.profile c i ((h.state.block i).pair c).acquiring tracker rest h before
 strangers-kind_taken caching config tracker c Probe i rest h terms inv known before = before
 strangers-kind_taken {w} caching config tracker c ProbeAck i rest h terms inv known before = either _ _ _ before
-    (strange_last config _ config.profile c i _ (h.state.block i).service rest h (λ q source j e f. absurd (let g : InService i ≡ Closed = sym (used-serving caching h.state i q source j inv e) ∙ f in cc)) before)
+    (strange_last config _ config.profile c i _ (h.state.block i).service rest h (λ q source j e f. absurd (let g : InService i ≡ Closed = sym (serving-use caching h.state i q source j inv e) ∙ f in cc)) before)
   where
     either : (b : Bool) (s t : Shadow w) → AreStrange config s.state.uses → AreStrange config t.state.uses → AreStrange config (if b then s else t).state.uses
     either true s t f g = f

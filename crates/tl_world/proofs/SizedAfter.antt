@@ -1,5 +1,5 @@
 -- The bytes of each block are 64, and each access that is under way has its source, after every event.
-use Rattle.std.proofs.Common.{◌≡◌, ℕ, zero, suc, ◌+◌, ◌*◌, Bool, true, false, ◌&&◌, List, ◌∷◌, Option, Some, None, refl, sym, ◌∙◌, ap, ◌⊎◌, inl, inr}
+use Rattle.std.proofs.Common.{◌≡◌, ℕ, ◌*◌, Bool, true, false, ◌&&◌, List, ◌∷◌, Option, Some, None, refl, sym, ◌∙◌, ap, ◌⊎◌, inl, inr}
 use Rattle.std.specs.Prelude.{◌==◌, if◌then◌else◌, length}
 use Rattle.std.proofs.lemmas.Bool.{cases_eq, ne_eqb}
 use Rattle.tl_burst.specs.declared.message.Message.{Message}
@@ -9,10 +9,8 @@ use Rattle.tl_params.specs.declared.config.Config.{Config}
 use Rattle.tl_params.specs.declared.param.Cap.{Cap}
 use Rattle.tl_params.specs.declared.param.Grow.{Grow}
 use Rattle.tl_params.specs.declared.param.Report.{Report}
-use Rattle.tl_params.specs.declared.perm.Perm.{Perm}
 use Rattle.tl_params.specs.declared.profile.Profile.{Profile}
 use Rattle.tl_params.specs.declared.perm.Perm.TheVariants as perm
-use Rattle.tl_rules.specs.Effect.{Memory, bytes_from}
 use Rattle.tl_rules.specs.History.{block_at}
 use Rattle.tl_rules.specs.Conformance.{same_perm}
 use Rattle.tl_client.specs.declared.operation.Op.{Op}
@@ -22,6 +20,7 @@ use Rattle.tl_client.specs.declared.reply.Reply.TheVariants as reply
 use Rattle.tl_client.specs.Ask.{stored, is_word}
 use Rattle.tl_client.specs.Send.{access}
 use Rattle.tl_client.proofs.Stores.{word_room, length-stored}
+use Rattle.tl_manager.proofs.Filled.{length-bytes}
 use Rattle.tl_world.specs.Follow.{Shadow, asked, performs, access_taken, request_taken, acquire_taken, granted_after, last_taken, is_whole, taken_by_client, kind_taken}
 use Rattle.tl_world.specs.Headline.{IsTypedOp}
 use Rattle.tl_world.specs.Invariant.{is_asked, IsInvariant}
@@ -30,8 +29,11 @@ use Rattle.tl_world.specs.PhaseSteps.{after_acquire, after_release, after_served
 use Rattle.tl_world.specs.Protocol.{Service, Free, Waits, GrantSent, GrantTaken, Block, State, Use, Closed, Asked, InService, Replied, Acquires, token, on, acquiring_block, stored_block, performed_block, served_block, ended_block, granted_block, granted_pair, taken_block, granted_truth, freed_block}
 use Rattle.tl_world.specs.Token.{Kind, Request, Acquire, Probe, ProbeAck, Release, Answer, Grant, ReleaseAck, GrantAck, Token, set, set_at}
 use Rattle.tl_world.specs.Whole.{AreSized, IsRequest, IsSourced, is_storing}
-use Rattle.tl_world.proofs.Sized.{each-set_at, used-serving}
+use Rattle.tl_world.proofs.Sized.{each-set_at}
 use Rattle.tl_world.proofs.Tokens.{same_number, set-same, set-other, set-each, set-part, holds-first}
+use Rattle.tl_world.proofs.BothParts.{is_asked-is}
+use Rattle.tl_world.proofs.Perms.{trunk-some}
+use Rattle.tl_world.proofs.Owing.{serving-use}
 
 -- ---- accesses and their sources
 
@@ -94,22 +96,15 @@ sourced_taken config c n (Waits q own source k) rest h before = before
 sourced_taken config c n (GrantSent q d k) rest h before = sourced_set config h.mail.request c ((h.state.block n).source c) Closed h.state.uses tt before
 sourced_taken config c n (GrantTaken q) rest h before = before
 
-is_asked_is : (u : Use) → is_asked u ≡ true → u ≡ Asked
-is_asked_is Asked e = refl
-is_asked_is Closed e = absurd cc
-is_asked_is (InService n) e = absurd cc
-is_asked_is Replied e = absurd cc
-is_asked_is (Acquires n) e = absurd cc
-
 pub first-asked : {w : ℕ} (caching : ℕ → Bool) (c i : ℕ) (rest : List Token) (h : Shadow w) → IsInvariant caching h.state → on Request (h.state.link c) ≡ token Request i ∷ rest → h.state.uses c i ≡ Asked
-first-asked caching c i rest h inv first = is_asked_is (h.state.uses c i) (holds-first Request (h.state.link c).a rest (token Request i) (λ j. is_asked (h.state.uses c j)) first refl (inv.requests c))
+first-asked caching c i rest h inv first = is_asked-is (h.state.uses c i) (holds-first Request (h.state.link c).a rest (token Request i) (λ j. is_asked (h.state.uses c j)) first refl (inv.requests c))
 
 pub sourced-kind_taken : {w : ℕ} (caching : ℕ → Bool) (config : Config) (tracker c : ℕ) (k : Kind) (i : ℕ) (rest : List Token) (h : Shadow w) → IsInvariant caching h.state → on k (h.state.link c) ≡ token k i ∷ rest
     → AreSourced config h.mail.request h.state.uses → AreSourced config (kind_taken config tracker c k i rest h).mail.request (kind_taken config tracker c k i rest h).state.uses
 sourced-kind_taken caching config tracker c Request i rest h inv first before = sourced_request config _ c i (h.mail.request c i) tracker rest h (first-asked caching c i rest h inv first) before
 sourced-kind_taken caching config tracker c Acquire i rest h inv first before = sourced_acquire config _ config.profile c i ((h.state.block i).pair c).acquiring tracker rest h before
 sourced-kind_taken caching config tracker c Probe i rest h inv first before = before
-sourced-kind_taken {w} caching config tracker c ProbeAck i rest h inv first before = either _ _ _ before (sourced_last config _ config.profile c i _ (h.state.block i).service rest h (λ q source k e. used-serving caching h.state i q source k inv e) before)
+sourced-kind_taken {w} caching config tracker c ProbeAck i rest h inv first before = either _ _ _ before (sourced_last config _ config.profile c i _ (h.state.block i).service rest h (λ q source k e. serving-use caching h.state i q source k inv e) before)
   where
     either : (b : Bool) (s t : Shadow w) → AreSourced config s.mail.request s.state.uses → AreSourced config t.mail.request t.state.uses → AreSourced config (if b then s else t).mail.request (if b then s else t).state.uses
     either true s t f g = f
@@ -169,11 +164,6 @@ sourced-asked config c (op.Access (message.D m)) r h ask before = before
 sourced-asked config c (op.Access (message.E m)) r h ask before = before
 
 -- ---- bytes
-
-pub length-bytes_from : (f : Memory) (x n : ℕ) → length (bytes_from f x n) ≡ n
-unfolding bytes_from
-length-bytes_from f x zero = refl
-length-bytes_from f x (suc n) = ap suc (length-bytes_from f (x + 1) n)
 
 abbrev pub AllSized : State (List ℕ) → Type 0
 AllSized s = (n : ℕ) → AreSized (s.block n)
@@ -235,7 +225,7 @@ sized_access {w} c source m tracker p o rest h before = go p o
     b = h.state.block n
 
     answered : (i : ℕ) → AreSized (set n (performed_block (performs m) b) h.state.block i)
-    answered i = sized_block n (performed_block (performs m) b) h.state.block (sized_same b (performed_block (performs m) b) (length-bytes_from _ (64 * n) 64) (λ j. refl) (λ j e. e) (before n)) before i
+    answered i = sized_block n (performed_block (performs m) b) h.state.block (sized_same b (performed_block (performs m) b) (length-bytes _ (64 * n) 64) (λ j. refl) (λ j e. e) (before n)) before i
 
     go : (p : Bool) (o : Option Cap) → AllSized (access_taken c source m tracker p o rest h).state
     go true (Some k) i = sized_block n (served_block c false source tracker k b) h.state.block (sized_served c false source tracker k b (before n)) before i
@@ -271,7 +261,7 @@ sized_last clients p c n r Free rest h before = before
 sized_last clients p c n r (Waits q true source k) rest h before = sized_granted clients p c q n r ((h.state.block n).pair q).acquiring rest h before
 sized_last clients p c n r (Waits q false source k) rest h before = λ i.
     sized_block n (ended_block c r (performs (h.request n)) (h.state.block n)) h.state.block
-    (sized_same (h.state.block n) (ended_block c r (performs (h.request n)) (h.state.block n)) (length-bytes_from _ (64 * block_at (h.request n).address) 64) (λ j. refl) (λ j e. still_acquires c (after_report r ((h.state.block n).pair c)) (h.state.block n).pair refl j e) (before n)) before i
+    (sized_same (h.state.block n) (ended_block c r (performs (h.request n)) (h.state.block n)) (length-bytes _ (64 * block_at (h.request n).address) 64) (λ j. refl) (λ j e. still_acquires c (after_report r ((h.state.block n).pair c)) (h.state.block n).pair refl j e) (before n)) before i
 sized_last clients p c n r (GrantSent q d k) rest h before = before
 sized_last clients p c n r (GrantTaken q) rest h before = before
 
@@ -305,11 +295,6 @@ abbrev pub IsSizedAsk : {w : ℕ} → ℕ → Op w → Reply → Shadow w → Ty
 IsSizedAsk c (op.Store address size value) reply.Stored h = (is_word address size ≡ true) × (same_perm ((h.state.block (block_at address)).pair c).held perm.Trunk ≡ true)
 IsSizedAsk c o r h = Unit {0}
 
-trunk_some : (p : Perm) → same_perm p perm.Trunk ≡ true → same_perm p perm.None ≡ false
-trunk_some perm.Trunk e = refl
-trunk_some perm.None e = absurd cc
-trunk_some perm.Branch e = absurd cc
-
 sized_acquiring : (c source : ℕ) (whole : Bool) (g : Grow) (bytes : List ℕ) (b : Block (List ℕ)) → (whole ≡ true → length bytes ≡ 64) → AreSized b → AreSized (acquiring_block c source whole g bytes b)
 sized_acquiring c source whole g bytes b long h = record { truth = h.truth; waiting = λ d e. go d (cases_eq d c) e }
   where
@@ -327,7 +312,7 @@ sized-asked caching c (op.Load address size) r h inv typed ask before = before
 sized-asked caching c (op.Store address size value) reply.Stored h inv typed ask before = λ i.
     let n : ℕ = block_at address in
     let b : Block (List ℕ) = h.state.block n in
-    let long : length (b.copy c) ≡ 64 = ap length ((inv.blocks n).copies c (trunk_some (b.pair c).held ask.1)) ∙ (before n).truth in
+    let long : length (b.copy c) ≡ 64 = ap length ((inv.blocks n).copies c (trunk-some (b.pair c).held ask.1)) ∙ (before n).truth in
     sized_block n (stored_block c (stored address size value (b.copy c)) b) h.state.block
     (sized_same b (stored_block c (stored address size value (b.copy c)) b) (length-stored address size value (b.copy c) long (word_room address size ask.0)) (λ d. refl) (λ d e. e) (before n)) before i
 sized-asked caching c (op.Store address size value) (reply.Value v) h inv typed ask before = before

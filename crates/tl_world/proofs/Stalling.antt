@@ -3,6 +3,7 @@
 use Rattle.std.proofs.Common.{◌≡◌, ℕ, Bool, true, false, List, [], ◌∷◌, refl, sym, ◌∙◌, ap}
 use Rattle.std.specs.Prelude.{not, ◌&&◌, if◌then◌else◌, Option, Some, None, is_none, is_some, option_map, Result, Ok, Err}
 use Rattle.std.proofs.Math.Bool.{and-false}
+use Rattle.std.proofs.lemmas.Bool.{not-true, not-false}
 use Rattle.tl_beat.specs.declared.beat.Beat.{Beat}
 use Rattle.tl_beat.specs.declared.beat.Beat.TheVariants as beat
 use Rattle.tl_beat.specs.declared.beat.BeatB.{BeatB}
@@ -48,6 +49,7 @@ use Rattle.tl_world.specs.Whole.{IsMatched}
 use Rattle.tl_world.proofs.Capacities.{source_of_release}
 use Rattle.tl_world.proofs.Runs.{IsTaken, IsTakenUp, IsTakenIn, stall-delivered}
 use Rattle.tl_world.proofs.Tokens.{same_number}
+use Rattle.tl_world.proofs.Phases.{and_left}
 
 -- ---- a request at the manager
 
@@ -91,21 +93,13 @@ stalled-as-it-waits terms ch x e taken = rw (up-unbroken terms ch x e taken) ref
 is_some_of : (n : ℕ) (o : Option ℕ) → o ≡ Some n → is_of n o ≡ true
 is_some_of n o e = rw e (same_number n)
 
-second : (a b : Bool) → (a && b) ≡ true → a ≡ true
-second true b e = refl
-second false b e = absurd cc
-
-not_true : (b : Bool) → not b ≡ true → b ≡ false
-not_true true e = absurd cc
-not_true false e = refl
-
 module _ {w : ℕ} (config : Config) (log : Log w) (mail : Mail w) (request : ℕ → MessageA w) (s : State (List ℕ)) (matched : IsMatched config log mail request s (after config log))
     (coherent : IsCoherent (after config log) log (remembered config log)) (c n : ℕ) where
   pub releasing-started : pending (ReleaseOf n) ((after config log).clients c).past ≡ true → IsReleasing c n log
   releasing-started p = let found = of_let (rw let_by at (matched.beside.releases c source)) in (source, found.0, found.1)
     where
       not_kept : is_kept ((s.block n).pair c).letting ≡ false
-      not_kept = not_true (is_kept ((s.block n).pair c).letting) (sym ((matched.known c).releases n) ∙ p)
+      not_kept = not-true (is_kept ((s.block n).pair c).letting) (sym ((matched.known c).releases n) ∙ p)
 
       source : ℕ
       source = (s.block n).release_source c
@@ -134,7 +128,7 @@ module _ {w : ℕ} (config : Config) (log : Log w) (mail : Mail w) (request : �
           let asked : option_map (λ x. x.asked) ((remembered config log).opened c Releases source) ≡ Some (Release m p) = rw opened refl in
           let same : m ≡ n = same_release m p _ _ asked asked_is refl in
           let named : releases_with c source (s.block n) ≡ true = sym (matched.invariant.named.releases c source n) ∙ is_some_of n (s.lets c source) (e ∙ ap (λ (i : ℕ). Some i) same) in
-          (matched.known c).releases n ∙ second (not (is_kept ((s.block n).pair c).letting)) _ named
+          (matched.known c).releases n ∙ and_left (not (is_kept ((s.block n).pair c).letting)) _ named
 
 -- ---- deliveries
 
@@ -231,12 +225,8 @@ module _ {w : ℕ} (config : Config) (log : Log w) (mail : Mail w) (request : �
       waits : is_movable config c channel.B (after config log) ≡ not (pending (ReleaseOf (block_at y.address)) ((after config log).clients c).past)
       waits = movable-is channel.B (beat.B y) rest e ∙ ap not (stalled-as-it-waits terms channel.B (beat.B y) ((after config log).clients c) (first.taken.0 refl) ∙ rw (first.probes y refl) refl)
 
-      not_false : (b : Bool) → not b ≡ false → b ≡ true
-      not_false true h = refl
-      not_false false h = absurd cc
-
       there : is_movable config c channel.B (after config log) ≡ false → IsReleasing c (block_at y.address) log
-      there h = releasing-started config log mail request s matched coherent c (block_at y.address) (not_false _ (sym waits ∙ h))
+      there h = releasing-started config log mail request s matched coherent c (block_at y.address) (not-false _ (sym waits ∙ h))
 
       back : IsReleasing c (block_at y.address) log → is_movable config c channel.B (after config log) ≡ false
       back h = waits ∙ ap not (started-releasing config log mail request s matched coherent c (block_at y.address) h)

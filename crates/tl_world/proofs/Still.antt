@@ -1,18 +1,21 @@
 -- Where nothing is on a channel, nothing is open; and where nothing is open and no GrantAck is on its way, nothing is on
 -- a channel.
 use Rattle.std.proofs.Common.{◌≡◌, ℕ, ◌<◌, Bool, true, false, List, [], ◌∷◌, refl, sym, ◌∙◌, arith}
-use Rattle.std.specs.Prelude.{not, ◌==◌, ◌||◌, if◌then◌else◌, Option, Some, None}
+use Rattle.std.specs.Prelude.{not, ◌==◌, ◌||◌, Option, Some, None}
 use Rattle.tl_beat.specs.declared.opcode.Channel.{Channel}
 use Rattle.tl_beat.specs.declared.opcode.Channel.TheVariants as channel
-use Rattle.tl_world.specs.Phase.{Pair, View, Own, Other, Granting, Acknowledging, GrantedOther, Probing, Quiet, Sent, Answered, Letting, Kept, Releasing, Acked, is_quiet, is_kept, ok}
+use Rattle.tl_world.specs.Phase.{Pair, View, Own, Other, Letting, Kept, Releasing, Acked, is_quiet, is_kept, ok}
 use Rattle.tl_world.specs.Token.{Kind, Request, Acquire, Probe, ProbeAck, Release, Answer, Grant, ReleaseAck, GrantAck, Token, one_if, count}
-use Rattle.tl_world.specs.Protocol.{Service, Free, Waits, GrantSent, GrantTaken, State, Use, Closed, Asked, InService, Replied, Acquires, view, on, tokens_on, is_on, is_transfer, is_wanting, is_sent, is_answered, shown}
+use Rattle.tl_world.specs.Protocol.{Service, Free, Waits, GrantSent, GrantTaken, State, Use, Closed, Asked, InService, Replied, Acquires, view, on, tokens_on, is_on, is_transfer, is_wanting, shown}
 use Rattle.tl_world.specs.Invariant.{IsInvariant, acquires_of, serves_of, is_of, is_asked, is_replied, acquires_with, serves_with, releases_with}
+use Rattle.tl_world.specs.Managed.{is_own}
 use Rattle.tl_world.proofs.Capacities.{implied, shown_there, kind_there, acquire_named, grant_named, release_named, release_ack_named, source_of_acquire}
 use Rattle.tl_world.proofs.Distinct.{IsThere, first-there}
 use Rattle.tl_world.proofs.Phases.{each_phase, of_phase, and_left}
 use Rattle.tl_world.proofs.Quiet.{IsSilent, free-when_silent}
 use Rattle.tl_world.proofs.Tokens.{same_number}
+use Rattle.tl_world.proofs.BothParts.{not-sent, not-answered, taken-unseen, granted-unseen}
+use Rattle.tl_world.proofs.Facts.{is_other}
 
 -- ---- nothing is on a channel
 
@@ -29,20 +32,11 @@ none_there : (n : ℕ) (b : Bool) → 0 ≡ one_if b → b ≡ true → ⊥
 none_there n true e f = absurd (omega (arith, e))
 none_there n false e f = absurd cc
 
--- a Probe is of a service for another request, and one's own service for an Acquire that is open
-abbrev pub is_other : View → Bool
-is_other (Other k) = true
-is_other _ = false
-
-abbrev pub is_owned : View → Bool
-is_owned Own = true
-is_owned _ = false
-
 probed_by_other : Pair → View → Bool
 probed_by_other p v = is_quiet p.probing || is_other v
 
 asks_for_own : Pair → View → Bool
-asks_for_own p v = not (is_owned v) || is_wanting p.acquiring
+asks_for_own p v = not (is_own v) || is_wanting p.acquiring
 
 or_second : (a b : Bool) → (a || b) ≡ true → a ≡ false → b ≡ true
 or_second true b e f = absurd cc
@@ -52,14 +46,9 @@ pub serves_another : (p : Pair) (v : View) → ok p v ≡ true → is_quiet p.pr
 unfolding each_phase probed_by_other
 serves_another p v h = or_second (is_quiet p.probing) (is_other v) (of_phase probed_by_other refl p v h)
 
-pub owns_ask : (p : Pair) (v : View) → ok p v ≡ true → is_owned v ≡ true → is_wanting p.acquiring ≡ true
+pub owns_ask : (p : Pair) (v : View) → ok p v ≡ true → is_own v ≡ true → is_wanting p.acquiring ≡ true
 unfolding each_phase asks_for_own
-owns_ask p v h = implied (is_owned v) (is_wanting p.acquiring) (of_phase asks_for_own refl p v h)
-
-pub not-sent : (x : Probing) → is_sent x ≡ true → is_quiet x ≡ false
-not-sent (Sent k) e = refl
-not-sent Quiet e = absurd cc
-not-sent (Answered r) e = absurd cc
+owns_ask p v h = implied (is_own v) (is_wanting p.acquiring) (of_phase asks_for_own refl p v h)
 
 module _ {X : Type 0} (caching : ℕ → Bool) (s : State X) (inv : IsInvariant caching s) where
   -- a kind that is on no channel is shown nowhere
@@ -109,16 +98,8 @@ module _ {X : Type 0} (caching : ℕ → Bool) (s : State X) (inv : IsInvariant 
     where
       go : (service : Service) → (s.block n).service ≡ service → is_other (view service c) ≡ true → ⊥
       go Free e is = absurd cc
-      go (GrantSent q d k) e is = never (c == q) is
-        where
-          never : (b : Bool) → is_other (if b then Granting d k else GrantedOther) ≡ true → ⊥
-          never true f = absurd cc
-          never false f = absurd cc
-      go (GrantTaken q) e is = never (c == q) is
-        where
-          never : (b : Bool) → is_other (if b then Acknowledging else GrantedOther) ≡ true → ⊥
-          never true f = absurd cc
-          never false f = absurd cc
+      go (GrantSent q d k) e is = granted-unseen (c == q) d k is
+      go (GrantTaken q) e is = taken-unseen (c == q) is
       go (Waits r true source k) e is =
           let own : view (s.block n).service r ≡ Own = rw (e, same_number r) refl in
           let wants = owns_ask ((s.block n).pair r) (view (s.block n).service r) ((inv.blocks n).phases r) (rw own refl) in
@@ -142,11 +123,6 @@ module _ {X : Type 0} (caching : ℕ → Bool) (s : State X) (inv : IsInvariant 
   not_replied : (c n : ℕ) → is_replied (s.uses c n) ≡ true → IsClosed s → ⊥
   not_replied c n e closed = absurd (let no : is_replied (s.uses c n) ≡ false = rw (closed.uses c n) refl in cc)
 
-  not_answered : (x : Probing) → is_answered x ≡ true → is_quiet x ≡ false
-  not_answered (Answered r) e = refl
-  not_answered Quiet e = absurd cc
-  not_answered (Sent k) e = absurd cc
-
   -- no kind but a GrantAck is shown
   nothing_shown : (c : ℕ) (ch : Channel) (k : Kind) (n : ℕ) → IsClosed s → is_on ch k ≡ true → is_on channel.E k ≡ false → 0 < count k n (tokens_on ch (s.link c)) → ⊥
   nothing_shown c ch Request n closed on_it other there = not_asked c n (shown_there caching s c ch Request n inv on_it there) closed
@@ -156,7 +132,7 @@ module _ {X : Type 0} (caching : ℕ → Bool) (s : State X) (inv : IsInvariant 
   nothing_shown c ch Release n closed on_it other there = no_let c _ n (release_named caching s c n inv (shown_there caching s c ch Release n inv on_it there)) closed
   nothing_shown c ch ReleaseAck n closed on_it other there = no_let c _ n (release_ack_named caching s c n inv (shown_there caching s c ch ReleaseAck n inv on_it there)) closed
   nothing_shown c ch Probe n closed on_it other there = probed-for c n (not-sent _ (shown_there caching s c ch Probe n inv on_it there)) closed
-  nothing_shown c ch ProbeAck n closed on_it other there = probed-for c n (not_answered _ (shown_there caching s c ch ProbeAck n inv on_it there)) closed
+  nothing_shown c ch ProbeAck n closed on_it other there = probed-for c n (not-answered _ (shown_there caching s c ch ProbeAck n inv on_it there)) closed
   nothing_shown c ch GrantAck n closed on_it other there = absurd cc
 
   empty_list : (xs : List Token) → ((x : Token) → IsThere x xs → ⊥) → xs ≡ []

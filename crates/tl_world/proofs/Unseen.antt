@@ -1,6 +1,5 @@
 -- Events that the manager doesn't see: clients that are asked, and beats that clients take. What it knows stays so.
 use Rattle.std.proofs.Common.{◌≡◌, ℕ, Bool, true, false, ◌==◌, List, ◌∷◌, refl, sym, ◌∙◌, ap, ap₂, inl, inr}
-use Rattle.std.specs.Prelude.{if◌then◌else◌}
 use Rattle.std.proofs.lemmas.Bool.{cases_eq, eqb-true}
 use Rattle.tl_burst.specs.declared.message.Message.{Message}
 use Rattle.tl_burst.specs.declared.message.Message.TheVariants as message
@@ -19,9 +18,9 @@ use Rattle.tl_client.specs.Send.{access}
 use Rattle.tl_manager.specs.Slave.{End}
 use Rattle.tl_world.specs.Follow.{Shadow, asked, is_whole, taken_by_client, kind_taken}
 use Rattle.tl_world.specs.Invariant.{IsInvariant}
-use Rattle.tl_world.specs.Phase.{Pair, Granting, GrantedOther, Probing, Quiet, Sent, Answered, is_quiet}
+use Rattle.tl_world.specs.Phase.{Pair, Sent, is_quiet}
 use Rattle.tl_world.specs.PhaseSteps.{after_acquire, after_release, after_probe, after_grant, after_release_ack}
-use Rattle.tl_world.specs.Protocol.{Service, Free, Waits, GrantSent, GrantTaken, Block, State, Closed, InService, on, token, shown, view, is_granting, is_sent, acquiring_block, releasing_block, stored_block, probed_block, taken_block, let_go_block, access_asked, acquire_asked, release_asked, block_stored, probe_taken, answer_taken, grant_taken, release_ack_taken}
+use Rattle.tl_world.specs.Protocol.{Service, Free, Waits, GrantSent, GrantTaken, Block, State, Closed, InService, on, token, shown, view, is_granting, acquiring_block, releasing_block, stored_block, probed_block, taken_block, let_go_block, access_asked, acquire_asked, release_asked, block_stored, probe_taken, answer_taken, grant_taken, release_ack_taken}
 use Rattle.tl_world.specs.Render.{Mail, cap_sent}
 use Rattle.tl_world.specs.Token.{Kind, Request, Acquire, Probe, ProbeAck, Release, Answer, Grant, ReleaseAck, GrantAck, Token, set, set_at}
 use Rattle.tl_world.specs.Whole.{IsServedWith}
@@ -29,8 +28,9 @@ use Rattle.tl_world.proofs.Traces.{IsSameToManager, SameService}
 use Rattle.tl_world.proofs.Choices.{waits-used}
 use Rattle.tl_world.proofs.FollowKept.{IsAskable, asked-kept}
 use Rattle.tl_world.proofs.ManagersEnd.{IsAtManager, at_manager-same}
-use Rattle.tl_world.proofs.RequestsTaken.{IsAfterwards}
 use Rattle.tl_world.proofs.Tokens.{set-same, set-other, set-part, holds-first}
+use Rattle.tl_world.proofs.BothParts.{granting-own, sent-is}
+use Rattle.tl_world.proofs.ManagerAfter.{IsManagerOf}
 
 -- ---- one block changes, and not to the manager
 
@@ -134,7 +134,7 @@ asked_with caching c source n i mail s m inv closed (GrantSent q d k) e ok = tt
 asked_with caching c source n i mail s m inv closed (GrantTaken q) e ok = tt
 
 at_manager-access : {w : ℕ} (caching : ℕ → Bool) (config : Config) (c source : ℕ) (m : MessageA w) (h : Shadow w) (e : End w) → IsInvariant caching h.state → h.state.uses c source ≡ Closed → IsInvariant caching (access_asked c source h.state)
-    → IsAfterwards config h e → IsAfterwards config (asked c (op.Access (message.A m)) (reply.Started source) h) e
+    → IsManagerOf config h e → IsManagerOf config (asked c (op.Access (message.A m)) (reply.Started source) h) e
 at_manager-access {w} caching config c source m h e inv closed after is =
     let now : IsAtManager config h.mail h.request (access_asked c source h.state) e = at_manager-untouched caching config h.mail h.request h.state (access_asked c source h.state) e after (λ i. refl) is in
     record {
@@ -147,10 +147,10 @@ at_manager-access {w} caching config c source m h e inv closed after is =
     }
 
 -- what is kept of the manager's end stays as a client is asked
-pub at_manager-asked : {w : ℕ} (caching : ℕ → Bool) (config : Config) (c : ℕ) (o : Op w) (r : Reply) (h : Shadow w) (e : End w) → IsInvariant caching h.state → IsAskable caching c o r h → IsAfterwards config h e → IsAfterwards config (asked c o r h) e
+pub at_manager-asked : {w : ℕ} (caching : ℕ → Bool) (config : Config) (c : ℕ) (o : Op w) (r : Reply) (h : Shadow w) (e : End w) → IsInvariant caching h.state → IsAskable caching c o r h → IsManagerOf config h e → IsManagerOf config (asked c o r h) e
 at_manager-asked {w} caching config c o r h e inv may is = go o r may (asked-kept caching c o r h inv may)
   where
-    go : (o : Op w) (r : Reply) → IsAskable caching c o r h → IsInvariant caching (asked c o r h).state → IsAfterwards config (asked c o r h) e
+    go : (o : Op w) (r : Reply) → IsAskable caching c o r h → IsInvariant caching (asked c o r h).state → IsManagerOf config (asked c o r h) e
     go (op.Load address size) r may after = is
     go (op.Store address size value) reply.Stored may after =
         let bytes = stored address size value ((h.state.block (block_at address)).copy c) in
@@ -193,15 +193,6 @@ at_manager-asked {w} caching config c o r h e inv may is = go o r may (asked-kep
 
 -- ---- a client takes a message
 
-sent_so : (x : Probing) → is_sent x ≡ true → x ≡ Sent (cap_sent x)
-sent_so Quiet e = absurd cc
-sent_so (Sent k) e = refl
-sent_so (Answered r) e = absurd cc
-
-granting_so : (b d : Bool) (k : Cap) → is_granting (if b then Granting d k else GrantedOther) ≡ true → b ≡ true
-granting_so true d k e = refl
-granting_so false d k e = absurd cc
-
 -- the kinds that clients take
 abbrev pub is_to_clients : Kind → Bool
 is_to_clients Probe = true
@@ -212,7 +203,7 @@ is_to_clients _ = false
 
 -- what is kept of the manager's end stays as a client takes a message
 pub at_manager-client_taken : {w : ℕ} (caching : ℕ → Bool) (config : Config) (tracker c : ℕ) (kind : Kind) (n : ℕ) (rest : List Token) (h : Shadow w) (e : End w) → is_to_clients kind ≡ true → IsInvariant caching h.state
-    → on kind (h.state.link c) ≡ token kind n ∷ rest → IsInvariant caching (kind_taken config tracker c kind n rest h).state → IsAfterwards config h e → IsAfterwards config (kind_taken config tracker c kind n rest h) e
+    → on kind (h.state.link c) ≡ token kind n ∷ rest → IsInvariant caching (kind_taken config tracker c kind n rest h).state → IsManagerOf config h e → IsManagerOf config (kind_taken config tracker c kind n rest h) e
 at_manager-client_taken caching config tracker c Request n rest h e kind inv first after is = absurd cc
 at_manager-client_taken caching config tracker c Acquire n rest h e kind inv first after is = absurd cc
 at_manager-client_taken caching config tracker c ProbeAck n rest h e kind inv first after is = absurd cc
@@ -220,7 +211,7 @@ at_manager-client_taken caching config tracker c Release n rest h e kind inv fir
 at_manager-client_taken caching config tracker c GrantAck n rest h e kind inv first after is = absurd cc
 at_manager-client_taken caching config tracker c Probe n rest h e kind inv first after is =
     let k = cap_sent ((h.state.block n).pair c).probing in
-    let sent = sent_so ((h.state.block n).pair c).probing (holds-first Probe (h.state.link c).b rest (token Probe n) (λ i. shown Probe c (h.state.block i)) first refl (inv.transfers c Probe refl)) in
+    let sent = sent-is ((h.state.block n).pair c).probing (holds-first Probe (h.state.link c).b rest (token Probe n) (λ i. shown Probe c (h.state.block i)) first refl (inv.transfers c Probe refl)) in
     at_manager-unseen caching config h.mail h.request n (probed_block c k (h.state.block n)) h.state (probe_taken c n k rest h.state) e after (λ i. refl) (same-probed c k k (h.state.block n) sent) is
 at_manager-client_taken caching config tracker c Answer n rest h e kind inv first after is =
     at_manager-untouched caching config h.mail h.request h.state (answer_taken c n rest h.state) e after (λ i. refl) is
@@ -228,12 +219,12 @@ at_manager-client_taken caching config tracker c ReleaseAck n rest h e kind inv 
     at_manager-unseen caching config h.mail h.request n (let_go_block c (h.state.block n)) h.state (release_ack_taken c n rest h.state) e after (λ i. refl) (same-let_go c (h.state.block n)) is
 at_manager-client_taken {w} caching config tracker c Grant n rest h e kind inv first after is = go (h.state.block n).service refl after
   where
-    go : (service : Service) → (h.state.block n).service ≡ service → IsInvariant caching (taken_by_client c n service rest h).state → IsAfterwards config (taken_by_client c n service rest h) e
+    go : (service : Service) → (h.state.block n).service ≡ service → IsInvariant caching (taken_by_client c n service rest h).state → IsManagerOf config (taken_by_client c n service rest h) e
     go Free f kept = is
     go (Waits r own source k) f kept = is
     go (GrantTaken q) f kept = is
     go (GrantSent q d k) f kept =
         let seen : is_granting (view (GrantSent q d k) c) ≡ true = rw f at (holds-first Grant (h.state.link c).d rest (token Grant n) (λ i. shown Grant c (h.state.block i)) first refl (inv.transfers c Grant refl)) in
-        let same : c ≡ q = eqb-true c q (granting_so (c == q) d k seen) in
+        let same : c ≡ q = eqb-true c q (granting-own (c == q) d k seen) in
         let whole = is_whole ((h.state.block n).pair c).acquiring in
         at_manager-unseen caching config h.mail h.request n (taken_block c whole d k (h.state.block n)) h.state (grant_taken c n whole d k rest h.state) e kept (λ i. refl) (same-taken c whole d k k (h.state.block n) (f ∙ rw same refl)) is

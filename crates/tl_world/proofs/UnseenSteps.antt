@@ -1,6 +1,7 @@
 -- Steps of the whole that the manager doesn't see: an event of a client that there isn't, a client that is asked, and a
 -- delivery to a client.
 use Rattle.std.proofs.Common.{◌≡◌, subst, ℕ, Bool, true, false, ◌&&◌, List, [], ◌∷◌, Option, Some, None, refl, sym, ◌∙◌, ap}
+use Rattle.std.proofs.lemmas.Bool.{true_from_ne_false}
 use Rattle.std.specs.Prelude.{if◌then◌else◌, Result, Ok, Err}
 use Rattle.tl_beat.specs.declared.beat.Beat.{Beat}
 use Rattle.tl_beat.specs.declared.beat.Link.{Link}
@@ -34,18 +35,19 @@ use Rattle.tl_world.specs.Whole.{IsMatched, is_caching}
 use Rattle.tl_world.proofs.Admitted.{first_counts}
 use Rattle.tl_world.proofs.FollowKept.{IsAskable}
 use Rattle.tl_world.proofs.ManagersEnd.{at_manager-matched}
-use Rattle.tl_world.proofs.RequestsTaken.{IsAfterwards, next_tracker}
+use Rattle.tl_world.proofs.RequestsTaken.{next_tracker}
 use Rattle.tl_world.proofs.Steps.{manager-with_messages, stepped-asked, stepped-to-client, stepped-empty}
 use Rattle.tl_world.proofs.Unseen.{at_manager-asked, is_to_clients, at_manager-client_taken}
+use Rattle.tl_world.proofs.ManagerAfter.{IsManagerOf}
 
 -- ---- there is no client of this number
 
 pub at_manager-nobody : {w : ℕ} (config : Config) (log : Log w) (h : Shadow w) (sys : System w) (event : Event w) → IsMatched config log h.mail h.request h.state sys → terms_at config (client_of event) ≡ None
-    → IsAfterwards config (followed config event sys h) (stepped config event sys).after.manager
+    → IsManagerOf config (followed config event sys h) (stepped config event sys).after.manager
 unfolding stepped
 at_manager-nobody {w} config log h sys event is none = rw none (go event)
   where
-    go : (event : Event w) → IsAfterwards config (followed_by config event outcome.NoSuchClient sys h) sys.manager
+    go : (event : Event w) → IsManagerOf config (followed_by config event outcome.NoSuchClient sys h) sys.manager
     go (Ask c o) = at_manager-matched config log h.mail h.request h.state sys is
     go (Deliver link ch) = at_manager-matched config log h.mail h.request h.state sys is
 
@@ -53,11 +55,11 @@ at_manager-nobody {w} config log h sys event is none = rw none (go event)
 
 pub at_manager-ask : {w : ℕ} (config : Config) (log : Log w) (h : Shadow w) (sys : System w) (c : ℕ) (o : Op w) (terms : client.Terms) → IsMatched config log h.mail h.request h.state sys → terms_at config c ≡ Some terms
     → IsAskable (is_caching config) c o (client_ask.asked terms o (sys.clients c)).reply h
-    → IsAfterwards config (followed config (Ask c o) sys h) (stepped config (Ask c o) sys).after.manager
+    → IsManagerOf config (followed config (Ask c o) sys h) (stepped config (Ask c o) sys).after.manager
 at_manager-ask {w} config log h sys c o terms is there may =
     let a = client_ask.asked terms o (sys.clients c) in
-    subst (λ (s : Step w). IsAfterwards config (followed_by config (Ask c o) s.outcome sys h) s.after.manager) (sym (stepped-asked config c o sys terms there))
-    (subst (IsAfterwards config (follow.asked c o a.reply h)) (sym (manager-with_messages (handed_by c a.message) (with_client c a.after sys)))
+    subst (λ (s : Step w). IsManagerOf config (followed_by config (Ask c o) s.outcome sys h) s.after.manager) (sym (stepped-asked config c o sys terms there))
+    (subst (IsManagerOf config (follow.asked c o a.reply h)) (sym (manager-with_messages (handed_by c a.message) (with_client c a.after sys)))
     (at_manager-asked (is_caching config) config c o a.reply h sys.manager is.invariant may (at_manager-matched config log h.mail h.request h.state sys is)))
 
 -- ---- a delivery to a client
@@ -114,25 +116,21 @@ on-channel channel.D ReleaseAck l e = refl
 on-channel channel.E GrantAck l e = refl
 on-channel ch k l e = absurd cc
 
-on_true : (b : Bool) → (b ≡ false → ⊥) → b ≡ true
-on_true true off = refl
-on_true false off = absurd (off refl)
-
 -- where the invariant is kept, so is what is kept of the manager's end
 pub at_manager-to_client : {w : ℕ} (config : Config) (log : Log w) (h : Shadow w) (sys : System w) (link : Link) (ch : Channel) (terms : client.Terms) → IsMatched config log h.mail h.request h.state sys → terms_at config link.0 ≡ Some terms → is_to_client ch ≡ true
     → IsInvariant (is_caching config) (followed config (Deliver link ch) sys h).state
-    → IsAfterwards config (followed config (Deliver link ch) sys h) (stepped config (Deliver link ch) sys).after.manager
+    → IsManagerOf config (followed config (Deliver link ch) sys h) (stepped config (Deliver link ch) sys).after.manager
 at_manager-to_client {w} config log h sys link ch terms is there up kept =
-    subst (IsAfterwards config (followed config (Deliver link ch) sys h)) (sym (manager-to-client config link ch sys terms there up))
+    subst (IsManagerOf config (followed config (Deliver link ch) sys h)) (sym (manager-to-client config link ch sys terms there up))
     (go (is_moving (stepped config (Deliver link ch) sys).outcome && is_last (sys.channels c ch) (unfinished ch (receiver ch c sys))) kept)
   where
     c : ℕ
     c = link.0
 
-    known : IsAfterwards config h sys.manager
+    known : IsManagerOf config h sys.manager
     known = at_manager-matched config log h.mail h.request h.state sys is
 
-    taken : (xs : List Token) → tokens_on ch (h.state.link c) ≡ xs → IsInvariant (is_caching config) (token_taken config (next_tracker sys) c xs h).state → IsAfterwards config (token_taken config (next_tracker sys) c xs h) sys.manager
+    taken : (xs : List Token) → tokens_on ch (h.state.link c) ≡ xs → IsInvariant (is_caching config) (token_taken config (next_tracker sys) c xs h).state → IsManagerOf config (token_taken config (next_tracker sys) c xs h) sys.manager
     taken [] e inv = known
     taken (y ∷ ys) e inv =
         at_manager-client_taken (is_caching config) config (next_tracker sys) c y.kind y.number ys h sys.manager (to_clients ch y.kind up here) is.invariant first inv known
@@ -141,9 +139,9 @@ at_manager-to_client {w} config log h sys link ch terms is there up kept =
         here off = first_counts y ys (rw e at (is.invariant.own_kinds c ch y.kind y.number off))
 
         first : on y.kind (h.state.link c) ≡ token y.kind y.number ∷ ys
-        first = on-channel ch y.kind (h.state.link c) (on_true (is_on ch y.kind) here) ∙ e
+        first = on-channel ch y.kind (h.state.link c) (true_from_ne_false (is_on ch y.kind) here) ∙ e
 
     go : (b : Bool) → IsInvariant (is_caching config) (if b then token_taken config (next_tracker sys) c (tokens_on ch (h.state.link c)) h else h).state
-        → IsAfterwards config (if b then token_taken config (next_tracker sys) c (tokens_on ch (h.state.link c)) h else h) sys.manager
+        → IsManagerOf config (if b then token_taken config (next_tracker sys) c (tokens_on ch (h.state.link c)) h else h) sys.manager
     go true inv = taken (tokens_on ch (h.state.link c)) refl inv
     go false inv = known

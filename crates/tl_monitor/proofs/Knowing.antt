@@ -2,7 +2,7 @@
 use Rattle.std.proofs.Common.{◌≡◌, ℕ, zero, suc, Bool, false, List, [], ◌∷◌, ◌++◌, length, ◌<◌, ◌≤◌, ◌≢◌, refl, sym, ap, ◌∙◌, arith, inl, inr, ◌+◌, take, drop, reverse}
 use Rattle.std.specs.Prelude.{slice_index_or, slice_get, slice_set, Option, Some, None, Err}
 use Rattle.std.proofs.lemmas.Bool.{cases_eq, eq-eqb, ne_eqb}
-use Rattle.std.proofs.lemmas.List.{get_or-set_same, get_or-set_other, length_push, get_or_push, get_or_append_left, drop_more, take_more, drop_all, reverse-append, length-reverse, length-take-le}
+use Rattle.std.proofs.lemmas.List.{get_or-set_same, get_or-set_other, drop_more, take_more, drop_all, reverse-append, length-reverse, length-take-le}
 use Rattle.tl_beat.specs.declared.beat.Beat.{Beat}
 use Rattle.tl_beat.specs.declared.beat.Link.{Link}
 use Rattle.tl_params.specs.declared.level.Level.{Level}
@@ -10,7 +10,6 @@ use Rattle.tl_params.specs.declared.profile.Profile.{Profile}
 use Rattle.tl_params.specs.declared.rule.Rule.{Rule}
 use Rattle.tl_rules.specs.Conformance.{Trace, on_link, broken_after, broken_on_link, fault_from}
 use Rattle.tl_monitor.specs.declared.kept.Kept.{Kept}
-use Rattle.tl_monitor.specs.Kept.{IsEmpty}
 use Rattle.tl_monitor.specs.Keeps.{Keeps}
 use Rattle.tl_monitor.proofs.Keepings.{keeps-none}
 use Rattle.tl_monitor.specs.declared.monitor.Monitor.{Monitor}

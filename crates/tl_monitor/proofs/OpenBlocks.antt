@@ -56,10 +56,13 @@ all-none entries empty = sym (sum-none (2 ^ 32) (λ k. open_of (block_in entries
 pub all-le : (entries : List (ℕ × Block)) → all_open entries ≤ 2 ^ 32 * 5
 all-le entries = sum-le (2 ^ 32) 5 (λ k. open_of (block_in entries k)) (λ k. open-le (block_in entries k))
 
+pub changed-own : (old new : List (ℕ × Block)) (block : ℕ) (value : Block) → ((k : ℕ) → block_in new k ≡ (if k == block then value else block_in old k)) → block_in new block ≡ value
+changed-own old new block value changed = changed block ∙ rw (eq-eqb block block refl) refl
+
 changes : (old new : List (ℕ × Block)) (block : ℕ) (value : Block) → block < 2 ^ 32 → ((k : ℕ) → block_in new k ≡ (if k == block then value else block_in old k))
     → all_open new + open_of (block_in old block) ≡ all_open old + open_of value
 changes old new block value lt changed =
-    let own : block_in new block ≡ value = changed block ∙ rw (eq-eqb block block refl) refl in
+    let own = changed-own old new block value changed in
     let e = sum-changed (2 ^ 32) block (λ k. open_of (block_in old k)) (λ k. open_of (block_in new k)) lt (λ k other. ap open_of (sym (changed k ∙ rw (ne_eqb k block other) refl))) in
     e ∙ rw own refl
 

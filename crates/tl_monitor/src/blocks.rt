@@ -67,11 +67,16 @@ fn store(map: &mut BTreeMap<u32, Block>, block: u32, value: Block) -> Result<Blo
 }
 
 /// What is open or held of blocks. A block of which nothing is isn't kept. A contract sees the blocks
-/// that are, in rising order, each with its number.
+/// that are, in rising order, each with its number. The block of a beat is looked up once, however often
+/// the rules ask for it.
 #[derive(Drop)]
 pub struct Blocks {
     map: BTreeMap<u32, Block>,
     len: usize,
+    /// The block that was looked up or changed last.
+    last: u32,
+    /// What is open and held of it.
+    seen: Block,
 }
 
 impl Model for Blocks {
@@ -80,7 +85,8 @@ impl Model for Blocks {
     ghost view = { λ b. b.map.entries };
 
     ghost invariant = { λ b. (b.len ≡ sum_below (2 ^ 32) (λ k. open_of (block_in b.map.entries k)))
-        × AreOpen b.map.entries };
+        × AreOpen b.map.entries
+        × (b.seen ≡ block_in b.map.entries b.last) };
 }
 
 impl Blocks {
@@ -91,6 +97,8 @@ impl Blocks {
         Blocks {
             map: BTreeMap::new(alloc),
             len: 0,
+            last: 0,
+            seen: EMPTY,
         }
     }
 
@@ -98,7 +106,19 @@ impl Blocks {
     pub fn get(&self, block: u32) -> Block
         ensures { result ≡ block_in self.now block }
     {
-        or_empty(self.map.get(&block).copied())
+        if block == self.last {
+            self.seen
+        } else {
+            or_empty(self.map.get(&block).copied())
+        }
+    }
+
+    /// Has `get` of this block search no more.
+    pub fn look(&mut self, block: u32)
+        ensures { self.new ≡ self.old }
+    {
+        self.seen = self.get(block);
+        self.last = block;
     }
 
     /// Says anew what is open and held of a block. Without memory nothing changes; that can only be
@@ -110,6 +130,8 @@ impl Blocks {
     {
         let old = store(&mut self.map, block, value)?;
         self.len = self.len - open_of(&old) + open_of(&value);
+        self.last = block;
+        self.seen = value;
         Ok(())
     }
 

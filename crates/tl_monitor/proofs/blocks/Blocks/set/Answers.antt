@@ -1,6 +1,6 @@
-use Rattle.std.proofs.Common.{arith, ap, ◌∙◌}
+use Rattle.std.proofs.Common.{arith, ap, sym, ◌∙◌}
 use Rattle.tl_monitor.specs.Blocks.{open_of}
-use Rattle.tl_monitor.proofs.OpenBlocks.{all-before, all-changed, all-le}
+use Rattle.tl_monitor.proofs.OpenBlocks.{all-before, all-changed, all-le, changed-own}
 use Rattle.tl_monitor.proofs.blocks.Blocks.set.Goals as goal
 
 pub overflow_sub-self : goal.overflow_sub-self
@@ -19,4 +19,5 @@ invariant_of-self-2 c = (
   all-changed c.self.inside.map.entries c.store.new.map.entries c.args.block c.args.value c.self.inside.len c.open_of.result c.open_of-2.result (omega arith)
       c.in_ok-old.ensures.changed c.self.invariant.0 (c.open_of.ensures.counted ∙ ap open_of c.in_ok-old.ensures.old) c.open_of-2.ensures.counted,
   c.in_ok-old.ensures.kept c.self.invariant.1,
+  sym (changed-own c.self.inside.map.entries c.store.new.map.entries c.args.block c.args.value c.in_ok-old.ensures.changed),
 )

@@ -27,10 +27,10 @@ unfolding on_link
 on_link-other n link x t apart = rw (ne_eqb link.0 n apart) refl
 
 -- what is kept of one link was put anew
-knows-at : {w : ℕ} (m m' : Monitor w) (levels : List Level) (p : Profile) (t s : Trace w) (closed : Bool) (i : ℕ) (kept : Kept)
-    → Knows m levels p t closed → m'.levels ≡ m.levels → m'.profile ≡ m.profile → m'.closed ≡ false → m'.links.items ≡ slice_set m.links.items i kept → i < length m.links.items
-    → Keeps kept (on_link i s) → ((n : ℕ) → n ≢ i → on_link n s ≡ on_link n t) → Knows m' levels p s false
-knows-at m m' levels p t s closed i kept k levels_same profile_same open_still links lt own other = record {
+pub knows-at : {w : ℕ} (m m' : Monitor w) (levels : List Level) (p : Profile) (t s : Trace w) (closed shut : Bool) (i : ℕ) (kept : Kept)
+    → Knows m levels p t closed → m'.levels ≡ m.levels → m'.profile ≡ m.profile → m'.closed ≡ shut → m'.links.items ≡ slice_set m.links.items i kept → i < length m.links.items
+    → Keeps kept (on_link i s) → ((n : ℕ) → n ≢ i → on_link n s ≡ on_link n t) → Knows m' levels p s shut
+knows-at m m' levels p t s closed shut i kept k levels_same profile_same open_still links lt own other = record {
   levels_are = ap (λ v. v.items) levels_same ∙ k.levels_are;
   profile_is = profile_same ∙ k.profile_is;
   closed_is = open_still;
@@ -45,7 +45,7 @@ pub knows-more : {w : ℕ} (m m' : Monitor w) (levels : List Level) (p : Profile
     → Knows m levels p t closed → m'.levels ≡ m.levels → m'.profile ≡ m.profile → m'.closed ≡ false → m'.links.items ≡ slice_set m.links.items i kept → i ≡ link.0 → i < length m.links.items
     → Keeps kept (x ∷ on_link i t) → Knows m' levels p ((link, x) ∷ t) false
 knows-more m m' levels p t closed i link x kept k levels_same profile_same open_still links i_is lt own =
-    knows-at m m' levels p t ((link, x) ∷ t) closed i kept k levels_same profile_same open_still links lt
+    knows-at m m' levels p t ((link, x) ∷ t) closed false i kept k levels_same profile_same open_still links lt
     (rw (on_link-own i link x t (sym i_is)) own)
     (λ n apart. on_link-other n link x t (λ e. apart (sym e ∙ sym i_is)))
 
@@ -78,6 +78,15 @@ knows-new m levels p levels_are profile_is open_still all = record {
   profile_is = profile_is;
   closed_is = open_still;
   links_are = λ n d lt. rw (on_link-none n) (keeps-none (slice_index_or m.links.items n d) (all.all_empty n d lt));
+}
+
+pub empty-more : (links more : List Kept) (n : ℕ) (kept : Kept) → AllEmpty n links → IsEmpty kept → more ≡ links ++ kept ∷ [] → AllEmpty (n + 1) more
+empty-more links more n kept all empty e = record {
+  so_many = rw e (length_push links kept ∙ ap (λ m. m + 1) all.so_many);
+  all_empty = λ i d lt. elim (cases_eq i n) [
+    | inl here ↦ rw (e, get_or_push links kept d i (all.so_many ∙ sym here)) empty
+    | inr apart ↦ let below : i < n = omega (arith, apart) in rw (e, get_or_append_left links (kept ∷ []) d i (omega (arith, below, all.so_many))) (all.all_empty i d below)
+  ];
 }
 
 -- the first fault of a trace of which a beginning was judged

@@ -87,12 +87,14 @@ impl<const W: usize> Monitor<W> {
             self.closed = true;
             return Err(MonitorFault::Broken(Rule::L1));
         }
-        match broken_after(self.levels[n], self.profile, beat, &self.links[n]) {
+        let kept = &mut self.links[n];
+        kept.look(beat);
+        match broken_after(self.levels[n], self.profile, beat, kept) {
             Some(rule) => {
                 self.closed = true;
                 Err(MonitorFault::Broken(rule))
             }
-            None => match self.links[n].take(beat) {
+            None => match kept.take(beat) {
                 Ok(()) => Ok(()),
                 Err(_) => Err(MonitorFault::Memory),
             },

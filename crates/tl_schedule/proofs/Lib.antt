@@ -1,0 +1,3 @@
+pub mod Options
+pub mod NumberLemmas
+pub mod HeaderLemmas

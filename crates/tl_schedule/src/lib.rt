@@ -1,0 +1,5 @@
+//! The lines of schedules: the header and the events that are read, and the outcomes that are
+//! written.
+#![tactic(auto)]
+
+pub mod header;

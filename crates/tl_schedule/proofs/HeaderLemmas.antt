@@ -17,7 +17,8 @@ use Rattle.tl_schedule.specs.declared.header.Version.TheVariants.{First, Second,
 use Rattle.tl_schedule.specs.declared.header.Width.{Width}
 use Rattle.tl_schedule.specs.declared.header.Width.TheVariants.{Four, Eight, Sixteen}
 use Rattle.tl_schedule.specs.Schedule.{IsSchedule, SpellsSchedule, width_text, profile_text, version_text, level_text, clients_text, schedule_word, schedule_line}
-use Rattle.tl_schedule.specs.HeaderReading.{◌>>=◌, Named, is_end, width_at, profile_at, of_second, of_third, with_profile, version_at, level_at, space_at, digit_at, number_at, client_of, client_at, onto_clients, clients_at, some_clients, named_at, after_word, header_at, named_by, GivesSchedule}
+use Rattle.tl_schedule.specs.HeaderReading.{Named, is_end, width_at, profile_at, of_second, of_third, with_profile, version_at, level_at, space_at, digit_at, number_at, client_of, client_at, onto_clients, clients_at, some_clients, named_at, after_word, header_at, named_by, GivesSchedule}
+use Rattle.tl_schedule.specs.Then.{◌>>=◌}
 use Rattle.tl_schedule.proofs.Options.{bind_some, some_pair}
 use Rattle.tl_schedule.proofs.NumberLemmas.{number_taken, number_again}
 

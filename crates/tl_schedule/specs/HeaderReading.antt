@@ -14,11 +14,7 @@ use Rattle.tl_schedule.specs.declared.header.Version.TheVariants.{First, Second,
 use Rattle.tl_schedule.specs.declared.header.Width.{Width}
 use Rattle.tl_schedule.specs.declared.header.Width.TheVariants.{Four, Eight, Sixteen}
 use Rattle.tl_schedule.specs.Schedule.{profile_of, schedule_word}
-
-infixl 10 ◌>>=◌
-abbrev pub ◌>>=◌ : {A B : Type 0} → Option A → (A → Option B) → Option B
-None >>= f = None
-(Some x) >>= f = f x
+use Rattle.tl_schedule.specs.Then.{◌>>=◌}
 
 -- what was returned is what reading gives
 abbrev pub Gives : {X : Type 0} → Option (X × Bor (List ℕ)) → Option (X × List ℕ) → Type 0

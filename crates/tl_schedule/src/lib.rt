@@ -2,4 +2,6 @@
 //! written.
 #![tactic(auto)]
 
+mod field;
 pub mod header;
+pub mod line;

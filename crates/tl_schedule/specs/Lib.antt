@@ -3,4 +3,5 @@ pub mod Schedule
 pub mod HeaderReading
 pub mod EventLine
 pub mod FieldReading
+pub mod NameReading
 pub mod EventReading

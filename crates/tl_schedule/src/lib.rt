@@ -2,6 +2,8 @@
 //! written.
 #![tactic(auto)]
 
+mod access;
 mod field;
 pub mod header;
 pub mod line;
+mod name;

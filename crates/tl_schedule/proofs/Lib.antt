@@ -8,3 +8,4 @@ pub mod EventMeant
 pub mod EventTaken
 pub mod EventAgain
 pub mod EventLaws
+pub mod OutcomeLemmas

@@ -1,4 +1,5 @@
 pub mod Then
+pub mod OutcomeLine
 pub mod Schedule
 pub mod HeaderReading
 pub mod EventLine

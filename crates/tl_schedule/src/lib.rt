@@ -7,3 +7,4 @@ mod field;
 pub mod header;
 pub mod line;
 mod name;
+pub mod outcome;

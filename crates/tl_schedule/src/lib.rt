@@ -8,3 +8,5 @@ pub mod header;
 pub mod line;
 mod name;
 pub mod outcome;
+#[cfg(test)]
+mod tests;

@@ -1,0 +1,12 @@
+//! The lines of schedules: the header and the events that are read, and the outcomes that are
+//! written.
+#![tactic(auto)]
+
+mod access;
+mod field;
+pub mod header;
+pub mod line;
+mod name;
+pub mod outcome;
+#[cfg(test)]
+mod tests;

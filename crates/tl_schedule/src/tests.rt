@@ -1,0 +1,5 @@
+//! Lines of schedules of every kind.
+
+mod events;
+mod headers;
+mod outcomes;

@@ -11,7 +11,7 @@ use Rattle.tl_beat.specs.declared.opcode.Channel.TheVariants as channel
 use Rattle.tl_burst.specs.Messages.{History, on, grown}
 use Rattle.tl_params.specs.declared.param.Cap.{Cap}
 use Rattle.tl_rules.specs.Conformance.{comes_in_grant}
-use Rattle.tl_rules.specs.History.{begins, ends, block_at, request_of, release_of, probe_of, grant_sink, is_sink}
+use Rattle.tl_rules.specs.History.{begins, ends, block_at, release_of, probe_of, grant_sink, is_sink}
 use Rattle.tl_world.specs.Flowed.{IsFlowed, is_requested, is_let_by, is_sunk}
 use Rattle.tl_world.specs.Invariant.{AreNamed, is_of, is_busy}
 use Rattle.tl_world.specs.Known.{comes_granting}

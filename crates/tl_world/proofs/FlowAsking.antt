@@ -3,13 +3,11 @@ use Rattle.std.proofs.Common.{◌≡◌, subst, ℕ, Bool, true, false, Option, 
 use Rattle.std.specs.Prelude.{◌==◌}
 use Rattle.std.proofs.lemmas.Bool.{cases_eq, ne_eqb}
 use Rattle.tl_beat.specs.Width.{IsWidth}
-use Rattle.tl_beat.specs.declared.beat.Beat.{Beat}
 use Rattle.tl_beat.specs.declared.beat.BeatA.{BeatA}
-use Rattle.tl_beat.specs.declared.opcode.Channel.{Channel}
 use Rattle.tl_beat.specs.declared.opcode.Channel.TheVariants as channel
 use Rattle.tl_burst.specs.declared.message.Message.TheVariants as message
 use Rattle.tl_burst.specs.declared.message.MessageA.{MessageA}
-use Rattle.tl_burst.specs.Messages.{History, unfinished}
+use Rattle.tl_burst.specs.Messages.{History}
 use Rattle.tl_params.specs.declared.config.Config.{Config}
 use Rattle.tl_params.specs.declared.param.Grow.{Grow}
 use Rattle.tl_params.specs.declared.param.Prune.{Prune}
@@ -23,7 +21,6 @@ use Rattle.tl_client.specs.Send.{access}
 use Rattle.tl_world.specs.Flowed.{IsFlowed}
 use Rattle.tl_world.specs.Follow.{Shadow, asked}
 use Rattle.tl_world.specs.Log.{Log}
-use Rattle.tl_world.specs.Matched.{receiver}
 use Rattle.tl_world.specs.Phase.{View, Idle, Own, Other, Granting, Acknowledging, GrantedOther, Calm, Pair}
 use Rattle.tl_world.specs.PhaseSteps.{after_release}
 use Rattle.tl_world.specs.Protocol.{Block, Use, Closed, Asked, Acquires, view, is_granting, is_unserved, is_wanting, access_asked, acquire_asked, release_asked, releasing_block, block_stored}

@@ -1,8 +1,5 @@
 -- What the manager hands out at a beat of channel C or E: the messages of the tokens that the protocol pushes.
-use Rattle.std.proofs.Common.{◌≡◌, ℕ, Bool, true, false, not, ◌&&◌, List, refl, sym, ◌∙◌, ap, inl, inr}
-use Rattle.std.specs.Prelude.{◌==◌, if◌then◌else◌}
-use Rattle.std.proofs.lemmas.Bool.{cases_eq, false_from_ne_true}
-use Rattle.std.proofs.Math.Bool.{and-false}
+use Rattle.std.proofs.Common.{◌≡◌, ℕ, Bool, false, List, refl, ap}
 use Rattle.tl_params.specs.declared.config.Config.{Config}
 use Rattle.tl_params.specs.declared.param.Cap.{Cap}
 use Rattle.tl_params.specs.declared.param.Grow.{Grow}
@@ -11,15 +8,15 @@ use Rattle.tl_params.specs.declared.perm.Perm.TheVariants as perm
 use Rattle.tl_params.specs.Param.{cap_right}
 use Rattle.tl_rules.specs.Conformance.{same_perm}
 use Rattle.tl_world.specs.Follow.{Shadow}
-use Rattle.tl_world.specs.Invariant.{IsWell, is_out}
-use Rattle.tl_world.specs.Phase.{Pair, Granting, GrantedOther}
+use Rattle.tl_world.specs.Invariant.{IsWell}
+use Rattle.tl_world.specs.Phase.{Pair}
 use Rattle.tl_world.specs.PhaseSteps.{after_report, after_grant_sent, is_granted_data}
 use Rattle.tl_world.specs.Protocol as protocol
 use Rattle.tl_world.specs.Protocol.{GrantSent, Block, State, granted_block, granted_pair, is_granting, let_block, report_grants, view}
 use Rattle.tl_world.specs.Render.{rendered}
 use Rattle.tl_world.specs.Token.{Grant, set}
 use Rattle.tl_world.proofs.ManagerSettles.{gift_after, grant_after}
-use Rattle.tl_world.proofs.Tokens.{same_number, set-same}
+use Rattle.tl_world.proofs.Tokens.{set-same}
 use Rattle.tl_world.proofs.Codes.{gives-some}
 use Rattle.tl_world.proofs.RequestsHanded.{memory-granted}
 

@@ -35,7 +35,7 @@ use Rattle.tl_manager.proofs.Judged.{judged-passes, manager-takes}
 use Rattle.tl_manager.proofs.Links.{whole-e}
 use Rattle.tl_world.specs.Invariant.{IsInvariant, AreNamed}
 use Rattle.tl_world.specs.Managed.{IsManaged, is_own}
-use Rattle.tl_world.specs.Phase.{View, Own, Other, Granting, Acknowledging, GrantedOther, Probing, Quiet, Sent, Answered, Releasing, is_kept, is_quiet, same_report}
+use Rattle.tl_world.specs.Phase.{View, Own, Other, Granting, Acknowledging, GrantedOther, Answered, Releasing, is_kept, is_quiet, same_report}
 use Rattle.tl_world.specs.Protocol.{Service, Free, Waits, GrantSent, GrantTaken, Block, State, view, is_answered, is_granting, is_acknowledging, is_on, token}
 use Rattle.tl_world.specs.Render.{Mail, message_of, rendered, message_of_kind}
 use Rattle.tl_world.specs.Sources.{AreServed, cap_waited, is_granted}

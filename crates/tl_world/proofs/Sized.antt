@@ -23,7 +23,6 @@ use Rattle.tl_world.specs.Protocol.{Service, Free, Waits, GrantSent, GrantTaken,
 use Rattle.tl_world.specs.System.{terms_at}
 use Rattle.tl_world.specs.Token.{Kind, Request, Acquire, Probe, ProbeAck, Release, Answer, Grant, ReleaseAck, GrantAck, Token, set_at}
 use Rattle.tl_world.proofs.Tokens.{same_number, set-each}
-use Rattle.tl_world.proofs.BothParts.{serves_of-is}
 use Rattle.tl_world.proofs.Owing.{serving-use}
 
 -- ---- one place of two numbers

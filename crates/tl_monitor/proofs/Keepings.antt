@@ -301,17 +301,3 @@ keeps-none {w} k none = record {
 
     no_beat : {z : Beat w} {zs : List (Beat w)} → [] ≡ z ∷ zs → ⊥
     no_beat e = cc
-
--- ---- the same in tables that say the same
-
-pub keeps-same : {w : ℕ} (old new : Kept) (t : History w) → new.bursts ≡ old.bursts → new.requests ≡ old.requests → new.releases ≡ old.releases → new.sinks ≡ old.sinks
-    → ((b : ℕ) → block_in new.blocks b ≡ block_in old.blocks b) → Keeps old t → Keeps new t
-keeps-same old new t bursts requests releases sinks blocks keeps = record {
-  bursts_are = λ ch. rw bursts (keeps.bursts_are ch);
-  requests_are = λ s. rw requests (keeps.requests_are s);
-  releases_are = λ s. rw releases (keeps.releases_are s);
-  sinks_are = λ s. rw sinks (keeps.sinks_are s);
-  blocks_are = λ b. blocks b ∙ keeps.blocks_are b;
-  granted = λ b s e. rw sinks (keeps.granted b s e);
-  answering = keeps.answering;
-}

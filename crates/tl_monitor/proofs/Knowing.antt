@@ -2,7 +2,7 @@
 use Rattle.std.proofs.Common.{◌≡◌, ℕ, zero, suc, Bool, false, List, [], ◌∷◌, ◌++◌, length, ◌<◌, ◌≤◌, ◌≢◌, refl, sym, ap, ◌∙◌, arith, inl, inr, ◌+◌, take, drop, reverse}
 use Rattle.std.specs.Prelude.{slice_index_or, slice_get, slice_set, Option, Some, None, Err}
 use Rattle.std.proofs.lemmas.Bool.{cases_eq, eq-eqb, ne_eqb}
-use Rattle.std.proofs.lemmas.List.{get_or-set_same, get_or-set_other, length_push, get_or_push, get_or_append_left, drop_more, take_more, drop_all, reverse-append, length-reverse, length-take-le}
+use Rattle.std.proofs.lemmas.List.{get_or-set_same, get_or-set_other, drop_more, take_more, drop_all, reverse-append, length-reverse, length-take-le}
 use Rattle.tl_beat.specs.declared.beat.Beat.{Beat}
 use Rattle.tl_beat.specs.declared.beat.Link.{Link}
 use Rattle.tl_params.specs.declared.level.Level.{Level}
@@ -10,7 +10,6 @@ use Rattle.tl_params.specs.declared.profile.Profile.{Profile}
 use Rattle.tl_params.specs.declared.rule.Rule.{Rule}
 use Rattle.tl_rules.specs.Conformance.{Trace, on_link, broken_after, broken_on_link, fault_from}
 use Rattle.tl_monitor.specs.declared.kept.Kept.{Kept}
-use Rattle.tl_monitor.specs.Kept.{IsEmpty}
 use Rattle.tl_monitor.specs.Keeps.{Keeps}
 use Rattle.tl_monitor.proofs.Keepings.{keeps-none}
 use Rattle.tl_monitor.specs.declared.monitor.Monitor.{Monitor}
@@ -27,10 +26,10 @@ unfolding on_link
 on_link-other n link x t apart = rw (ne_eqb link.0 n apart) refl
 
 -- what is kept of one link was put anew
-pub knows-at : {w : ℕ} (m m' : Monitor w) (levels : List Level) (p : Profile) (t s : Trace w) (closed shut : Bool) (i : ℕ) (kept : Kept)
-    → Knows m levels p t closed → m'.levels ≡ m.levels → m'.profile ≡ m.profile → m'.closed ≡ shut → m'.links.items ≡ slice_set m.links.items i kept → i < length m.links.items
-    → Keeps kept (on_link i s) → ((n : ℕ) → n ≢ i → on_link n s ≡ on_link n t) → Knows m' levels p s shut
-knows-at m m' levels p t s closed shut i kept k levels_same profile_same open_still links lt own other = record {
+knows-at : {w : ℕ} (m m' : Monitor w) (levels : List Level) (p : Profile) (t s : Trace w) (closed : Bool) (i : ℕ) (kept : Kept)
+    → Knows m levels p t closed → m'.levels ≡ m.levels → m'.profile ≡ m.profile → m'.closed ≡ false → m'.links.items ≡ slice_set m.links.items i kept → i < length m.links.items
+    → Keeps kept (on_link i s) → ((n : ℕ) → n ≢ i → on_link n s ≡ on_link n t) → Knows m' levels p s false
+knows-at m m' levels p t s closed i kept k levels_same profile_same open_still links lt own other = record {
   levels_are = ap (λ v. v.items) levels_same ∙ k.levels_are;
   profile_is = profile_same ∙ k.profile_is;
   closed_is = open_still;
@@ -45,7 +44,7 @@ pub knows-more : {w : ℕ} (m m' : Monitor w) (levels : List Level) (p : Profile
     → Knows m levels p t closed → m'.levels ≡ m.levels → m'.profile ≡ m.profile → m'.closed ≡ false → m'.links.items ≡ slice_set m.links.items i kept → i ≡ link.0 → i < length m.links.items
     → Keeps kept (x ∷ on_link i t) → Knows m' levels p ((link, x) ∷ t) false
 knows-more m m' levels p t closed i link x kept k levels_same profile_same open_still links i_is lt own =
-    knows-at m m' levels p t ((link, x) ∷ t) closed false i kept k levels_same profile_same open_still links lt
+    knows-at m m' levels p t ((link, x) ∷ t) closed i kept k levels_same profile_same open_still links lt
     (rw (on_link-own i link x t (sym i_is)) own)
     (λ n apart. on_link-other n link x t (λ e. apart (sym e ∙ sym i_is)))
 
@@ -78,15 +77,6 @@ knows-new m levels p levels_are profile_is open_still all = record {
   profile_is = profile_is;
   closed_is = open_still;
   links_are = λ n d lt. rw (on_link-none n) (keeps-none (slice_index_or m.links.items n d) (all.all_empty n d lt));
-}
-
-pub empty-more : (links more : List Kept) (n : ℕ) (kept : Kept) → AllEmpty n links → IsEmpty kept → more ≡ links ++ kept ∷ [] → AllEmpty (n + 1) more
-empty-more links more n kept all empty e = record {
-  so_many = rw e (length_push links kept ∙ ap (λ m. m + 1) all.so_many);
-  all_empty = λ i d lt. elim (cases_eq i n) [
-    | inl here ↦ rw (e, get_or_push links kept d i (all.so_many ∙ sym here)) empty
-    | inr apart ↦ let below : i < n = omega (arith, apart) in rw (e, get_or_append_left links (kept ∷ []) d i (omega (arith, below, all.so_many))) (all.all_empty i d below)
-  ];
 }
 
 -- the first fault of a trace of which a beginning was judged

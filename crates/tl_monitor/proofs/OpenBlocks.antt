@@ -1,7 +1,7 @@
 -- Blocks of which nothing is open or held, and how much is, over all blocks.
-use Rattle.std.proofs.Common.{◌≡◌, ℕ, ◌<◌, ◌≤◌, ◌≢◌, inl, inr, ◌+◌, ◌-◌, ◌^◌, ◌*◌, Bool, true, false, refl, sym, ap, ◌∙◌, arith}
+use Rattle.std.proofs.Common.{◌≡◌, ℕ, ◌<◌, ◌≤◌, ◌+◌, ◌-◌, ◌^◌, ◌*◌, Bool, true, false, refl, sym, ap, ◌∙◌, arith}
 use Rattle.std.specs.Prelude.{if◌then◌else◌, ◌==◌, List, Option, Some, None, is_some}
-use Rattle.std.proofs.lemmas.Bool.{cases_eq, eq-eqb, ne_eqb}
+use Rattle.std.proofs.lemmas.Bool.{eq-eqb, ne_eqb}
 use mir.Val.{bool_byte}
 use Rattle.tl_params.specs.declared.perm.Perm.{Perm}
 use Rattle.tl_params.specs.declared.perm.Perm.TheVariants as perm
@@ -9,7 +9,7 @@ use Rattle.tl_rules.specs.declared.past.Probe.{Probe}
 use Rattle.tl_rules.specs.declared.table.Block.{Block}
 use Rattle.tl_rules.specs.Tables.{empty_block}
 use Rattle.tl_monitor.specs.Count.{sum_below, one_if}
-use Rattle.tl_monitor.specs.Blocks.{Table, found_in, block_in, is_held, open_of}
+use Rattle.tl_monitor.specs.Blocks.{block_in, is_held, open_of}
 use Rattle.tl_monitor.proofs.Counts.{sum-changed, sum-none, sum-le, byte-one, one-le}
 
 pub open-empty : open_of empty_block ≡ 0
@@ -47,62 +47,34 @@ open-none b e = none b.held b.acquire b.release b.probe b.grant e
 
 -- ---- over all blocks
 
-abbrev pub all_open : Table → ℕ
+abbrev pub all_open : List (ℕ × Block) → ℕ
 all_open entries = sum_below (2 ^ 32) (λ k. open_of (block_in entries k))
 
-pub all-none : (entries : Table) → ((k : ℕ) → block_in entries k ≡ empty_block) → 0 ≡ all_open entries
+pub all-none : (entries : List (ℕ × Block)) → ((k : ℕ) → block_in entries k ≡ empty_block) → 0 ≡ all_open entries
 all-none entries empty = sym (sum-none (2 ^ 32) (λ k. open_of (block_in entries k)) (λ k lt. ap open_of (empty k) ∙ open-empty))
 
-pub all-le : (entries : Table) → all_open entries ≤ 2 ^ 32 * 5
+pub all-le : (entries : List (ℕ × Block)) → all_open entries ≤ 2 ^ 32 * 5
 all-le entries = sum-le (2 ^ 32) 5 (λ k. open_of (block_in entries k)) (λ k. open-le (block_in entries k))
 
-pub changed-own : (old new : Table) (block : ℕ) (value : Block) → ((k : ℕ) → block_in new k ≡ (if k == block then value else block_in old k)) → block_in new block ≡ value
+pub changed-own : (old new : List (ℕ × Block)) (block : ℕ) (value : Block) → ((k : ℕ) → block_in new k ≡ (if k == block then value else block_in old k)) → block_in new block ≡ value
 changed-own old new block value changed = changed block ∙ rw (eq-eqb block block refl) refl
 
-changes : (old new : Table) (block : ℕ) (value : Block) → block < 2 ^ 32 → ((k : ℕ) → block_in new k ≡ (if k == block then value else block_in old k))
+changes : (old new : List (ℕ × Block)) (block : ℕ) (value : Block) → block < 2 ^ 32 → ((k : ℕ) → block_in new k ≡ (if k == block then value else block_in old k))
     → all_open new + open_of (block_in old block) ≡ all_open old + open_of value
 changes old new block value lt changed =
     let own = changed-own old new block value changed in
     let e = sum-changed (2 ^ 32) block (λ k. open_of (block_in old k)) (λ k. open_of (block_in new k)) lt (λ k other. ap open_of (sym (changed k ∙ rw (ne_eqb k block other) refl))) in
     e ∙ rw own refl
 
-pub all-before : (old : Table) (block : ℕ) → block < 2 ^ 32 → open_of (block_in old block) ≤ all_open old
+pub all-before : (old : List (ℕ × Block)) (block : ℕ) → block < 2 ^ 32 → open_of (block_in old block) ≤ all_open old
 all-before old block lt =
     let e = sum-changed (2 ^ 32) block (λ k. open_of (block_in old k)) (λ k. if k == block then 0 else open_of (block_in old k)) lt (λ k other. rw (ne_eqb k block other) refl) in
     let z : (if block == block then 0 else open_of (block_in old block)) ≡ 0 = rw (eq-eqb block block refl) refl in
     omega (arith, e, z)
 
-pub all-changed : (old new : Table) (block : ℕ) (value : Block) (len before after : ℕ) → block < 2 ^ 32 → ((k : ℕ) → block_in new k ≡ (if k == block then value else block_in old k))
+pub all-changed : (old new : List (ℕ × Block)) (block : ℕ) (value : Block) (len before after : ℕ) → block < 2 ^ 32 → ((k : ℕ) → block_in new k ≡ (if k == block then value else block_in old k))
     → len ≡ all_open old → before ≡ open_of (block_in old block) → after ≡ open_of value → len - before + after ≡ all_open new
 all-changed old new block value len before after lt changed l b a =
     let e = changes old new block value lt changed in
     let one = all-before old block lt in
     omega (arith, e, one)
-
--- ---- the block that was looked up last
-
-pub empty-last : (entries : List (ℕ × Block)) (last : ℕ) → ((k : ℕ) → found_in entries k ≡ empty_block) → (k : ℕ) → block_in (entries, last, empty_block) k ≡ empty_block
-empty-last entries last empty k = elim (cases_eq k last) [
-  | inl here ↦ rw (eq-eqb k last here) refl
-  | inr apart ↦ rw (ne_eqb k last apart) (empty k)
-]
-
--- of the block that was looked up last, and of another
-pub last-is : (entries : List (ℕ × Block)) (last block : ℕ) (seen : Block) → block ≡ last → seen ≡ block_in (entries, last, seen) block
-last-is entries last block seen e = rw (eq-eqb block last e) refl
-
-pub other-is : (entries : List (ℕ × Block)) (last block : ℕ) (seen : Block) → block ≢ last → found_in entries block ≡ block_in (entries, last, seen) block
-other-is entries last block seen other = rw (ne_eqb block last other) refl
-
-pub last-changed : (entries : List (ℕ × Block)) (last block : ℕ) (seen value : Block) → block ≡ last → (k : ℕ) → block_in (entries, last, value) k ≡ (if k == block then value else block_in (entries, last, seen) k)
-last-changed entries last block seen value e k = elim (cases_eq k last) [
-  | inl here ↦ rw (eq-eqb k last here, eq-eqb k block (here ∙ sym e)) refl
-  | inr apart ↦ rw (ne_eqb k last apart, ne_eqb k block (λ (f : k ≡ block). apart (f ∙ e))) refl
-]
-
-pub other-changed : (old new : List (ℕ × Block)) (last block : ℕ) (seen value : Block) → block ≢ last → ((k : ℕ) → found_in new k ≡ (if k == block then value else found_in old k))
-    → (k : ℕ) → block_in (new, last, seen) k ≡ (if k == block then value else block_in (old, last, seen) k)
-other-changed old new last block seen value other changed k = elim (cases_eq k last) [
-  | inl here ↦ rw (eq-eqb k last here, ne_eqb k block (λ (f : k ≡ block). other (sym f ∙ here))) refl
-  | inr apart ↦ rw (ne_eqb k last apart) (changed k)
-]

@@ -1,5 +1,5 @@
 -- What a table of blocks says of each.
-use Rattle.std.specs.Prelude.{ℕ, ◌+◌, ◌==◌, ◌<◌, ◌≡◌, if◌then◌else◌, Bool, true, false, List, Option, Some, None, is_some}
+use Rattle.std.specs.Prelude.{ℕ, ◌+◌, ◌<◌, ◌≡◌, Bool, true, false, List, Option, Some, None, is_some}
 use Rattle.std.specs.BTreeMap.{is_at}
 use Rattle.std.specs.Map.{lookup}
 use Rattle.std.specs.Ordering.{nat_cmp}
@@ -17,15 +17,8 @@ abbrev pub block_or_empty : Option Block → Block
 block_or_empty None = empty_block
 block_or_empty (Some b) = b
 
-abbrev pub found_in : List (ℕ × Block) → ℕ → Block
-found_in entries k = block_or_empty (stored entries k)
-
--- the blocks that are stored; and one block, by its number, of which the table says this instead
-abbrev pub Table : Type 0
-Table = List (ℕ × Block) × ℕ × Block
-
-abbrev pub block_in : Table → ℕ → Block
-block_in t k = if k == t.1 then t.2 else found_in t.0 k
+abbrev pub block_in : List (ℕ × Block) → ℕ → Block
+block_in entries k = block_or_empty (stored entries k)
 
 abbrev pub is_held : Perm → Bool
 is_held perm.None = false

@@ -4,7 +4,7 @@ ghost use Rattle.std.specs.Prelude.{ℕ, List, None, IfOk, OnOk, OnErr, if◌the
 ghost use Rattle.tl_rules.specs.declared.table.Block.{Block};
 ghost use Rattle.tl_rules.specs.Tables.{empty_block};
 ghost use Rattle.tl_monitor.specs.Count.{sum_below};
-ghost use Rattle.tl_monitor.specs.Blocks.{stored, block_or_empty, found_in, block_in, Table, is_held, open_of, AreOpen};
+ghost use Rattle.tl_monitor.specs.Blocks.{stored, block_or_empty, block_in, is_held, open_of, AreOpen};
 
 use std::alloc::{AllocError, Global};
 use std::collections::BTreeMap;
@@ -51,8 +51,8 @@ fn or_empty(found: Option<Block>) -> Block
 
 /// Says anew what is open and held of a block, as `Blocks::set` does, and answers what was.
 fn store(map: &mut BTreeMap<u32, Block>, block: u32, value: Block) -> Result<Block, AllocError>
-    ensures old { IfOk result (λ old. old ≡ found_in map.old.entries block) }
-    ensures changed { OnOk result ((k : ℕ) → found_in map.new.entries k ≡ (if k == block then value else found_in map.old.entries k)) }
+    ensures old { IfOk result (λ old. old ≡ block_in map.old.entries block) }
+    ensures changed { OnOk result ((k : ℕ) → block_in map.new.entries k ≡ (if k == block then value else block_in map.old.entries k)) }
     ensures kept { AreOpen map.old.entries → AreOpen map.new.entries }
     ensures unchanged { OnErr result (map.new.entries ≡ map.old.entries) }
     ensures new { OnErr result ((stored map.old.entries block ≡ None) × (0 < open_of value)) }
@@ -66,26 +66,27 @@ fn store(map: &mut BTreeMap<u32, Block>, block: u32, value: Block) -> Result<Blo
     }
 }
 
-/// What is open or held of blocks. A block of which nothing is isn't kept, but for the one that was
-/// looked up last: that one is stored when another is looked up, so what a run of beats of one block
-/// changes is written once.
+/// What is open or held of blocks. A block of which nothing is isn't kept. A contract sees the blocks
+/// that are, in rising order, each with its number. The block of a beat is looked up once, however often
+/// the rules ask for it.
 #[derive(Drop)]
 pub struct Blocks {
     map: BTreeMap<u32, Block>,
     len: usize,
-    /// The block that was looked up last.
+    /// The block that was looked up or changed last.
     last: u32,
-    /// What is open and held of it, whatever is stored.
+    /// What is open and held of it.
     seen: Block,
 }
 
 impl Model for Blocks {
-    ghost Value = { Table };
+    ghost Value = { List (ℕ × Block) };
 
-    ghost view = { λ b. (b.map.entries, b.last, b.seen) };
+    ghost view = { λ b. b.map.entries };
 
-    ghost invariant = { λ b. (b.len ≡ sum_below (2 ^ 32) (λ k. open_of (block_in (b.map.entries, b.last, b.seen) k)))
-        × AreOpen b.map.entries };
+    ghost invariant = { λ b. (b.len ≡ sum_below (2 ^ 32) (λ k. open_of (block_in b.map.entries k)))
+        × AreOpen b.map.entries
+        × (b.seen ≡ block_in b.map.entries b.last) };
 }
 
 impl Blocks {
@@ -112,19 +113,12 @@ impl Blocks {
         }
     }
 
-    /// Looks a block up, so that `get` and `set` of it search no more. Without memory to store the one
-    /// before it, that one stays.
+    /// Has `get` of this block search no more.
     pub fn look(&mut self, block: u32)
-        ensures { (k : ℕ) → block_in self.new k ≡ block_in self.old k }
+        ensures { self.new ≡ self.old }
     {
-        if block == self.last {
-            return;
-        }
-        let seen = self.get(block);
-        if let Ok(_) = store(&mut self.map, self.last, self.seen) {
-            self.last = block;
-            self.seen = seen;
-        }
+        self.seen = self.get(block);
+        self.last = block;
     }
 
     /// Says anew what is open and held of a block. Without memory nothing changes; that can only be
@@ -134,13 +128,10 @@ impl Blocks {
         ensures unchanged { OnErr result (self.new ≡ self.old) }
         ensures new { OnErr result ((block_in self.old block ≡ empty_block) × (0 < open_of value)) }
     {
-        if block == self.last {
-            self.len = self.len - open_of(&self.seen) + open_of(&value);
-            self.seen = value;
-            return Ok(());
-        }
         let old = store(&mut self.map, block, value)?;
         self.len = self.len - open_of(&old) + open_of(&value);
+        self.last = block;
+        self.seen = value;
         Ok(())
     }
 

@@ -258,11 +258,7 @@ impl Kept {
 
     /// Looks up the block of a beat that begins a message, once for all that is asked of it.
     pub fn look<const W: usize>(&mut self, beat: &Beat<W>)
-        ensures bursts { self.new.bursts ≡ self.old.bursts }
-        ensures requests { self.new.requests ≡ self.old.requests }
-        ensures releases { self.new.releases ≡ self.old.releases }
-        ensures sinks { self.new.sinks ≡ self.old.sinks }
-        ensures blocks { (b : ℕ) → block_in self.new.blocks b ≡ block_in self.old.blocks b }
+        ensures { self.new ≡ self.old }
     {
         let first = self.bursts.begins(beat);
         if let Some(block) = self.touched(first, false, beat) {

@@ -9,6 +9,7 @@ ghost use Rattle.tl_world.specs.Step.{stepped};
 ghost use Rattle.tl_world.specs.World.{IsReached, IsNewWorld, IsReplayed, AreReady, IsEmpty, held_by, copy_by, deepest_by};
 ghost use Rattle.tl_world.specs.Movable;
 ghost use Rattle.tl_world.specs.Movable.{drained};
+ghost use Rattle.tl_world.specs.Draining.{IsDrained};
 
 use crate::clients::{copy_at, held_at};
 use crate::contents::Contents;
@@ -138,17 +139,13 @@ impl<const W: usize, A: Agent<W>, D: Directory> World<W, A, D> {
         self.contents.parts.next_delivery()
     }
 
-    /// Delivers what is next until nothing is: the number of deliveries, as many at most as what is
-    /// outstanding can need.
+    /// Delivers what is next until nothing is, and nothing is outstanding: the number of deliveries, which
+    /// is at most the load before.
     pub fn drain(&mut self) -> u64
         ensures reached { (config : Config) (log : Log W) → IsReached A.knows A.terms D.perm_of config self.old log →
             IsReached A.knows A.terms D.perm_of config self.new (drained config result log) }
-        ensures number { (config : Config) (log : Log W) → IsReached A.knows A.terms D.perm_of config self.old log →
-            length (drained config result log) ≡ result + length log }
-        ensures few { (config : Config) (log : Log W) → IsReached A.knows A.terms D.perm_of config self.old log →
-            result ≤ Load.load log }
-        ensures stands { (config : Config) (log : Log W) → IsReached A.knows A.terms D.perm_of config self.old log →
-            result < Load.load log → Movable.next_delivery config (after config (drained config result log)) ≡ None }
+        ensures drained { (config : Config) (log : Log W) → IsReached A.knows A.terms D.perm_of config self.old log →
+            IsDrained config log result }
     {
         let _ = &self.contents;
         let load = self.load();

@@ -1,7 +1,7 @@
 use Rattle.std.proofs.Common.{rules, ◌≡◌, Some, sym, arith}
 use Rattle.tl_world.specs.Log.{after}
 use Rattle.tl_world.specs.Movable.{next_delivery, drained}
-use Rattle.tl_world.proofs.Drained.{drained-more}
+use Rattle.tl_world.proofs.Drained.{drained-more, drained-so, drained-all}
 use Rattle.tl_world.proofs.world.World.drain.Goals as goal
 
 pub loop-count-init : goal.loop-count-init
@@ -21,20 +21,17 @@ loop-count-preserved g c = record {
       rw (drained-more config c.loop-count.count log c.in-Some.link c.in-Some.channel c.step.result next (c.step.ensures.outcome config _ so_far)) (omega (arith, before));
 }
 
-pub returns-in-None-clause-few : goal.returns-in-None-clause-few
-returns-in-None-clause-few g c = λ config log r. let load = c.load-load.ensures config log r in omega (arith, load)
-
-pub returns-in-None-clause-stands : goal.returns-in-None-clause-stands
-returns-in-None-clause-stands g c = λ config log r few. sym (c.in-None.ensures config _ (c.loop-count.invariant.reached config log r))
+pub returns-in-None-clause-drained : goal.returns-in-None-clause-drained
+returns-in-None-clause-drained g c = λ config log r.
+    let so_far = c.loop-count.invariant.reached config log r in
+    let load = c.load-load.ensures config log r in
+    drained-so config c.loop-count.count log so_far.given (c.loop-count.invariant.number config log r) (omega (arith, load)) (sym (c.in-None.ensures config _ so_far))
 
 pub returns-clause-reached : goal.returns-clause-reached
 returns-clause-reached g c = λ config log r. let all : c.loop-count.count ≡ c.load-load.result = omega arith in rw all at (c.loop-count.invariant.reached config log r)
 
-pub returns-clause-number : goal.returns-clause-number
-returns-clause-number g c = λ config log r. let all : c.loop-count.count ≡ c.load-load.result = omega arith in rw all at (c.loop-count.invariant.number config log r)
-
-pub returns-clause-few : goal.returns-clause-few
-returns-clause-few g c = λ config log r. let load = c.load-load.ensures config log r in omega (arith, load)
-
-pub returns-clause-stands : goal.returns-clause-stands
-returns-clause-stands g c = λ config log r few. absurd (let load = c.load-load.ensures config log r in omega (arith, load, few))
+pub returns-clause-drained : goal.returns-clause-drained
+returns-clause-drained g c = λ config log r.
+    let all : c.loop-count.count ≡ c.load-load.result = omega arith in
+    let so_far = rw all at (c.loop-count.invariant.reached config log r) in
+    drained-all config c.load-load.result log r.given so_far.given (rw all at (c.loop-count.invariant.number config log r)) (c.load-load.ensures config log r)

@@ -192,3 +192,6 @@ impl<const W: usize, A: Agent<W>, D: Directory> World<W, A, D> {
         self.contents.outstanding.load::<W>()
     }
 }
+
+#[cfg(test)]
+mod tests;

@@ -6,7 +6,7 @@ mod access;
 mod field;
 pub mod header;
 pub mod line;
-mod name;
+pub mod name;
 pub mod outcome;
 #[cfg(test)]
 mod tests;

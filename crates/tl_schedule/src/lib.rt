@@ -10,3 +10,4 @@ pub mod name;
 pub mod outcome;
 #[cfg(test)]
 mod tests;
+pub mod trace;

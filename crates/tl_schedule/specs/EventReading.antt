@@ -22,9 +22,6 @@ use Rattle.tl_schedule.specs.Then.{◌>>=◌}
 
 -- ---- what an access asks for
 
-abbrev pub part_of : ℕ → List ℕ → Asked
-part_of mask bytes = Part mask bytes
-
 abbrev pub get_at : List (List ℕ) → Option Asked
 get_at fields = at_end fields Get
 

@@ -6,3 +6,4 @@ pub mod EventLine
 pub mod FieldReading
 pub mod NameReading
 pub mod EventReading
+pub mod Played

@@ -6,7 +6,8 @@ mod access;
 mod field;
 pub mod header;
 pub mod line;
-mod name;
+pub mod name;
 pub mod outcome;
 #[cfg(test)]
 mod tests;
+pub mod trace;

@@ -10,19 +10,19 @@ use tl_beat::opcode::Channel;
 use tl_params::param::{Arithmetic, Grow, Intent, Logical, Prune};
 
 /// The names of what an Acquire asks for, by number.
-pub(crate) const GROW: [&str; 3] = ["NtoB", "NtoT", "BtoT"];
+pub const GROW: [&str; 3] = ["NtoB", "NtoT", "BtoT"];
 
 /// The names of what a Release gives up, by number.
-pub(crate) const PRUNE: [&str; 3] = ["TtoB", "TtoN", "BtoN"];
+pub const PRUNE: [&str; 3] = ["TtoB", "TtoN", "BtoN"];
 
 /// The names of the operations of ArithmeticData, by number.
-pub(crate) const ARITHMETIC: [&str; 5] = ["MIN", "MAX", "MINU", "MAXU", "ADD"];
+pub const ARITHMETIC: [&str; 5] = ["MIN", "MAX", "MINU", "MAXU", "ADD"];
 
 /// The names of the operations of LogicalData, by number.
-pub(crate) const LOGICAL: [&str; 4] = ["XOR", "OR", "AND", "SWAP"];
+pub const LOGICAL: [&str; 4] = ["XOR", "OR", "AND", "SWAP"];
 
 /// The names of intents, by number.
-pub(crate) const INTENT: [&str; 2] = ["PrefetchRead", "PrefetchWrite"];
+pub const INTENT: [&str; 2] = ["PrefetchRead", "PrefetchWrite"];
 
 /// What a line asks for.
 #[derive(Clone, Copy)]

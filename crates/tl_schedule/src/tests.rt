@@ -3,3 +3,4 @@
 mod events;
 mod headers;
 mod outcomes;
+mod schedules;

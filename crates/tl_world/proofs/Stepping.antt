@@ -1,6 +1,7 @@
 -- What the parts of a world hold after an event.
 use Rattle.std.proofs.Common.{◌≡◌, ◌<◌, ◌≤◌, ℕ, true, false, List, [], ◌∷◌, Option, Some, None, refl, ap, sym, subst, ◌∙◌, inl, inr, length, drop, arith}
 use Rattle.std.proofs.lemmas.Bool.{cases_eq, ne_eqb, eq-eqb}
+use Rattle.std.proofs.lemmas.Option.{slice_get_past}
 use Rattle.std.specs.Prelude.{◌≢◌, Result, Ok, Err, slice_get, slice_index_or}
 use Rattle.tl_beat.specs.declared.beat.Beat.{Beat}
 use Rattle.tl_beat.specs.declared.beat.Link.{Link}
@@ -30,9 +31,10 @@ use Rattle.tl_world.specs.declared.event.Outcome.TheVariants as outcome
 use Rattle.tl_world.specs.declared.parts.Parts.{Parts}
 use Rattle.tl_world.specs.declared.ring.Ring.{Ring}
 use Rattle.tl_world.specs.declared.rings.Rings.{Rings}
+use Rattle.tl_world.proofs.Matching.{stepped-nobody}
 use Rattle.tl_world.proofs.Queues.{moved-still, moved-then, messages-grow}
 use Rattle.tl_world.proofs.Steps.{clients-with_messages, manager-with_messages, stepped-asked, stepped-empty, stepped-to-client, stepped-to-manager}
-use Rattle.tl_world.proofs.Unmoved.{stayed-client, stayed-manager, judged-refused, judged-stayed, judged-taken, took-refused, took-stalled, took-sent, stepped-nobody}
+use Rattle.tl_world.proofs.Unmoved.{stayed-client, stayed-manager, judged-refused, judged-stayed, judged-taken, took-refused, took-stalled, took-sent}
 
 -- one of several
 pub member : {X : Type 0} (xs : List X) (i : ℕ) → i < length xs → X
@@ -350,7 +352,7 @@ module _ {w : ℕ} {A M : Type 0} (knows : A → End w → Type 0) (terms : A �
   pub steps-nobody : (parts : Parts w A M) (s : System w) (event : Event w) → Holds knows terms perm_of config parts s → length parts.clients.items ≤ client_of event
       → IsStepped knows terms perm_of config parts parts event outcome.NoSuchClient s
   steps-nobody parts s event h past =
-      stepped-by parts parts event s (only outcome.NoSuchClient s) outcome.NoSuchClient (stepped-nobody config event s (omega (arith, past, h.one_client_each))) refl h
+      stepped-by parts parts event s (only outcome.NoSuchClient s) outcome.NoSuchClient (stepped-nobody config event s (rw (slice_get_past config.clients.items (client_of event) (omega (arith, past, h.one_client_each))) refl)) refl h
       (moved-still (clients_of config) parts.rings.all.items s h.channels).deepen
 
   pub steps-empty : (parts : Parts w A M) (s : System w) (link : Link) (ch : Channel) → Holds knows terms perm_of config parts s → link.0 < length parts.clients.items

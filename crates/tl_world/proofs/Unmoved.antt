@@ -1,7 +1,6 @@
 -- What comes of an event, by what the end that takes the beat answers.
-use Rattle.std.proofs.Common.{◌≡◌, ◌≤◌, ℕ, Bool, true, false, cond, List, Option, Some, None, refl, ap, sym, ◌∙◌}
-use Rattle.std.proofs.lemmas.Option.{slice_get_past}
-use Rattle.std.specs.Prelude.{Result, Ok, Err, slice_get}
+use Rattle.std.proofs.Common.{◌≡◌, ℕ, Bool, true, false, cond, List, Option, Some, None, refl, ap, sym, ◌∙◌}
+use Rattle.std.specs.Prelude.{Result, Ok, Err}
 use Rattle.tl_beat.specs.declared.beat.Beat.{Beat}
 use Rattle.tl_beat.specs.declared.beat.Link.{Link}
 use Rattle.tl_beat.specs.declared.opcode.Channel.{Channel}
@@ -16,10 +15,9 @@ use Rattle.tl_client.specs.Offer.{offered, is_stalled, silent, waits, broken_bef
 use Rattle.tl_client.proofs.Stalls.{taken_now}
 use Rattle.tl_manager.specs.Handing.{Handed}
 use Rattle.tl_manager.specs.Slave as manager
-use Rattle.tl_world.specs.Holds.{clients_of, is_stay}
-use Rattle.tl_world.specs.Step.{stepped, only, handing, handed_by, judged, outcome_of, manager_took, client_of}
+use Rattle.tl_world.specs.Holds.{is_stay}
+use Rattle.tl_world.specs.Step.{only, handing, handed_by, judged, outcome_of, manager_took}
 use Rattle.tl_world.specs.System.{System, with_client, with_manager, with_channel}
-use Rattle.tl_world.specs.declared.event.Event.{Event}
 use Rattle.tl_world.specs.declared.event.Outcome.TheVariants as outcome
 
 -- ---- a client
@@ -97,11 +95,3 @@ module _ {w : ℕ} where
   pub took-sent : (p : manager.Answer w × manager.End w) (handed : Handed w) (link : ℕ) (ch : Channel) (x : Beat w) (rest : List (Beat w)) (s : System w) → p.0 ≡ manager.Sent handed
       → manager_took link ch x rest p s ≡ handing (outcome.Moved x) handed (with_manager p.1 (with_channel link ch rest s))
   took-sent p handed link ch x rest s is = ap (λ (a : manager.Answer w). manager_took link ch x rest (a, p.1) s) is
-
-  -- ---- nobody
-
-  pub stepped-nobody : (config : Config) (event : Event w) (s : System w) → clients_of config ≤ client_of event → stepped config event s ≡ only outcome.NoSuchClient s
-  unfolding stepped
-  stepped-nobody config event s past =
-      let none : slice_get config.clients.items (client_of event) ≡ None = slice_get_past config.clients.items (client_of event) past in
-      rw none refl

@@ -106,11 +106,6 @@ free-among n Free t is e = is
 free-among n (Probing link request missing) t is e = absurd cc
 free-among n (Granted link block) t is e = absurd cc
 
-pub served-among : {w : ℕ} (n block : ℕ) (tracker : Tracker w) (t : Trace w) → IsTracked n tracker t → is_of block tracker ≡ true → is_in_service block (services t) ≡ true
-served-among n block Free t is e = absurd cc
-served-among n block (Probing link request missing) t is e = rw (rw (eqb-true (block_at request.address) block e) at is.serves) refl
-served-among n block (Granted link k) t is e = rw (rw (eqb-true k block e) at is.serves) refl
-
 pub unserved-among : {w : ℕ} (block : ℕ) (at : ℕ → Tracker w) (t : Trace w) → AreApart (trackers_of (services t)) → ((n : ℕ) → IsTracked n (at n) t) → ((n : ℕ) → is_of block (at n) ≡ false) → is_in_service block (services t) ≡ false
 unserved-among block at t apart tracked none = ap is_some (unserved-block block at t apart tracked none)
 

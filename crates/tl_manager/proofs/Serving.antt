@@ -80,8 +80,3 @@ one_tracker {w} n m (s ∷ ss) a b apart e f same = go (block_at s.request.addre
     go true false rest g h = absurd (taken b m h (ap (λ (x : Service w). x.tracker) (some_is s a g) ∙ same))
     go false true rest g h = absurd (taken a n g (ap (λ (x : Service w). x.tracker) (some_is s b h) ∙ sym same))
     go false false rest g h = rest g h
-
--- the service of each block after a GrantAck
-pub serving-ack : {w : ℕ} (n : ℕ) (link : Link) (x : BeatE) (t : Trace w) → ends (beat.E x) (on_link link.0 t) ≡ true → AreApart (blocks_of (services t)) → serving n (services ((link, beat.E x) ∷ t)) ≡ if_passes (λ s. not (is_ended_by (link, beat.E x) s)) (serving n (services t))
-unfolding services
-serving-ack {w} n link x t last apart = rw last (serving-filter n (λ (s : Service w). not (is_ended_by (link, beat.E x) s)) (services t) apart)

@@ -29,7 +29,7 @@ use Rattle.tl_manager.proofs.Filled.{length-bytes}
 use Rattle.tl_world.specs.Beside.{IsAccess, IsReach, Answers, IsBeside}
 use Rattle.tl_world.specs.Follow.{some_below, bytes_at, performs, answers}
 use Rattle.tl_world.specs.Invariant.{IsWell}
-use Rattle.tl_world.specs.Machine.{Machine, Open, Requests, with_memory, performed}
+use Rattle.tl_world.specs.Machine.{Machine, Open, Requests, with_memory}
 use Rattle.tl_world.specs.Phase.{Pair, View, Probing, Quiet, Sent, Answered, ok, same_cap, is_quiet}
 use Rattle.tl_world.specs.PhaseSteps.{is_above}
 use Rattle.tl_world.specs.Protocol.{Waits, Block, State, Use, Closed, Asked, InService, Replied, Acquires, view, is_sent, is_probed, written}
@@ -37,7 +37,7 @@ use Rattle.tl_world.specs.Remembered.{performing}
 use Rattle.tl_world.specs.Render.{Mail, report_told}
 use Rattle.tl_world.specs.Token.{set_at}
 use Rattle.tl_world.specs.Whole.{IsRequest}
-use Rattle.tl_world.proofs.Beside.{IsSameAcquire, done_at, set_at-there, open-here, open-there, open-releases, performed-open, performing-one, beside-used}
+use Rattle.tl_world.proofs.Beside.{IsSameAcquire, done_at, set_at-there, open-here, open-there, open-releases, performing-one, beside-used}
 use Rattle.tl_world.proofs.Facts.{is_other}
 use Rattle.tl_world.proofs.FollowKept.{some-none}
 use Rattle.tl_world.proofs.OneMemory.{blocks-performed, reply-performed, effect-sourced}
@@ -199,10 +199,6 @@ beside-performed {w} config c source a bytes mail s s' m is same_reply others ch
     same_acquires d (InService k) = tt
     same_acquires d Replied = tt
     same_acquires d (Acquires k) = acquires d k
-
--- it can be performed
-pub performed-some : {w : ℕ} (config : Config) (c source : ℕ) (a : MessageA w) (mail : Mail w) (s : State (List ℕ)) (m : Machine w) → IsPerformed config c source a mail s m → (next : Machine w) × (performed c source m ≡ Some next) × (performing ((c, source) ∷ []) m ≡ next)
-performed-some {w} config c source a mail s m is = (done_at c source (message.A is.opened.0) m, performed-open c source (message.A is.opened.0) m is.opened.2, performing-one c source (message.A is.opened.0) m is.opened.2)
 
 -- what an Intent is answered doesn't depend on the bytes
 pub intent-reply : {w : ℕ} (x : MessageA w) (f g : Memory) → cap_probed x.opcode x.param ≡ None → (effect (message.A x) f).1 ≡ (effect (message.A x) g).1

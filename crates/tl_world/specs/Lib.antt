@@ -26,7 +26,6 @@ pub mod Phase
 pub mod PhaseSteps
 pub mod Potential
 pub mod Protocol
-pub mod Reached
 pub mod Remembered
 pub mod Render
 pub mod Sources

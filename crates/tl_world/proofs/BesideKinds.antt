@@ -24,7 +24,7 @@ use Rattle.tl_world.specs.PhaseSteps.{after_served, after_grant_sent, after_repo
 use Rattle.tl_world.specs.Protocol.{Service, Free, Waits, GrantSent, GrantTaken, Block, State, Use, Closed, InService, Replied, Acquires, is_wanting, is_probed, written, performed_block, served_block, granted_at_once, reported_block, ended_block, granted_block, granted_pair, taken_block, granted_truth, let_go_block, access_answered, access_served, report_taken, report_answers, answer_taken, grant_taken, release_ack_taken}
 use Rattle.tl_world.specs.Remembered.{performing}
 use Rattle.tl_world.specs.Render.{Mail}
-use Rattle.tl_world.specs.Token.{Kind, Request, ProbeAck, Answer, Grant, ReleaseAck, Token, set, set_at}
+use Rattle.tl_world.specs.Token.{Kind, Request, ProbeAck, Token, set, set_at}
 use Rattle.tl_world.proofs.Beside.{open-here, open-there, open-releases, open-requests, beside-still, beside-used, beside-let, same_acquire}
 use Rattle.tl_world.proofs.BesideAsked.{acquires-else}
 use Rattle.tl_world.proofs.BesideTaken.{IsPerformed, beside-performed, memory-unprobed, memory-reported, intent-reply}
@@ -56,13 +56,6 @@ accesses_by config c ProbeAck n h =
     then []
     else last_accesses (h.state.block n).service
 accesses_by config c _ i h = []
-
--- the machine after the operation that this message ends
-abbrev pub ended_by : {w : ℕ} → ℕ → Kind → ℕ → Shadow w → Machine w → Machine w
-ended_by c Answer i h m = after_end c Requests i (m.opened c Requests i) m
-ended_by c Grant n h m = after_end c Requests ((h.state.block n).source c) (m.opened c Requests ((h.state.block n).source c)) m
-ended_by c ReleaseAck n h m = after_end c Releases ((h.state.block n).release_source c) (m.opened c Releases ((h.state.block n).release_source c)) m
-ended_by c _ i h m = m
 
 -- ---- one block changes, and no source
 

@@ -109,10 +109,6 @@ pub record IsGood {w : ℕ} (config : Config) (c : ℕ) (x : Beat w) : Type 0 wh
 abbrev pub AreGood : {w : ℕ} → Config → ℕ → Message w → Type 0
 AreGood config c m = (i : ℕ) → i < beats_of m → IsGood config c (beat_of m i)
 
-abbrev pub AreGoodIfAny : {w : ℕ} → Config → ℕ → Option (Message w) → Type 0
-AreGoodIfAny config c None = Unit {0}
-AreGoodIfAny config c (Some m) = AreGood config c m
-
 lanes_are : {w : ℕ} (x : Beat w) → rules.IsTyped x → AreLanes x
 lanes_are (beat.A x) typed = typed
 lanes_are (beat.B x) typed = typed.1

@@ -104,9 +104,11 @@ pub mod Granted
 pub mod GrantedAll
 pub mod Granting
 mod Grown
+pub mod Happened
 pub mod Heard
 pub mod HeardAfter
 pub mod HeardAll
+pub mod Hired
 pub mod Holding
 pub mod InvariantAtClients
 pub mod InvariantKept
@@ -118,6 +120,7 @@ mod Lessening
 pub mod Local
 mod Lone
 pub mod Machined
+pub mod Made
 pub mod ManagedAcks
 pub mod ManagedEndings
 pub mod ManagedGrants
@@ -135,6 +138,7 @@ pub mod ManagersAfter
 pub mod ManagersEnd
 pub mod Matching
 pub mod Memories
+pub mod Movables
 pub mod Moved
 pub mod Movement
 pub mod Moves
@@ -164,6 +168,7 @@ pub mod Probed
 pub mod ProbesAfter
 pub mod Probing
 pub mod Progress
+pub mod Queues
 pub mod Quiet
 pub mod Quieted
 mod Remainders
@@ -182,6 +187,8 @@ pub mod ResponseOrder
 mod Room
 pub mod Rows
 pub mod Runs
+pub mod Seen
+pub mod Sending
 pub mod Served
 mod Settling
 pub mod Showing
@@ -192,6 +199,7 @@ pub mod SoundAfter
 pub mod Soundness
 mod Stalling
 mod Standing
+pub mod Stepping
 pub mod Steps
 mod Still
 mod Strangers
@@ -200,6 +208,7 @@ pub mod Taken
 pub mod TakenAll
 pub mod Tokens
 pub mod Traces
+pub mod Unmoved
 pub mod Unseen
 pub mod UnseenSteps
 pub mod Waiting

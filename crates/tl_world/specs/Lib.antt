@@ -1,5 +1,8 @@
+pub mod Agents
 pub mod Beside
 pub mod Carried
+pub mod Called
+pub mod Carrying
 pub mod Coherent
 pub mod Delivery
 pub mod Draining
@@ -8,6 +11,7 @@ pub mod Flow
 pub mod Flowed
 pub mod Follow
 pub mod Headline
+pub mod Holds
 pub mod Invariant
 pub mod Known
 pub mod Load
@@ -30,3 +34,4 @@ pub mod System
 pub mod Theorem
 pub mod Token
 pub mod Whole
+pub mod World

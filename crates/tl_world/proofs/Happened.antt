@@ -1,0 +1,92 @@
+-- What a world is after what has happened to it.
+use Rattle.std.proofs.Common.{◌≡◌, ◌<◌, ℕ, List, [], ◌∷◌, ◌++◌, ◌+◌, ◌*◌, refl, ap, ap₂, ◌∙◌, length, take, arith}
+use Rattle.std.proofs.lemmas.List.{take_more, take_more_set, length-take}
+use Rattle.std.specs.Prelude.{max, slice_index_or, slice_set}
+use Rattle.tl_beat.specs.Width.{IsWidth}
+use Rattle.tl_beat.specs.declared.beat.Beat.{Beat}
+use Rattle.tl_params.specs.declared.config.Config.{Config}
+use Rattle.tl_params.specs.declared.perm.Perm.{Perm}
+use Rattle.tl_client.specs.End.{Terms, End}
+use Rattle.tl_manager.specs.Knows.{Knows}
+use Rattle.tl_manager.specs.Slave as manager
+use Rattle.tl_world.specs.declared.event.Event.{Event}
+use Rattle.tl_world.specs.declared.event.Outcome.{Outcome}
+use Rattle.tl_world.specs.declared.parts.Parts.{Parts}
+use Rattle.tl_world.specs.Carrying.{AreFresh}
+use Rattle.tl_world.specs.Headline.{IsTyped, AreTyped, IsGiven}
+use Rattle.tl_world.specs.Holds.{clients_of, Holds, HasRoom, IsStepped}
+use Rattle.tl_world.specs.Log.{Log, IsLog, after, logged}
+use Rattle.tl_world.specs.Step.{stepped}
+use Rattle.tl_world.specs.System.{System}
+use Rattle.tl_world.specs.World.{deepest, IsReached, AreReady}
+use Rattle.tl_world.proofs.Given.{channels}
+use Rattle.tl_world.proofs.Made.{made-room, made-empty, made-flat}
+
+-- ---- one event
+
+-- a log that is longer by an event and what comes of it
+pub given-more : {w : ℕ} (config : Config) (log : Log w) (event : Event w) (o : Outcome w) → IsGiven config log → IsTyped event → o ≡ (stepped config event (after config log)).outcome → IsGiven config ((event, o) ∷ log)
+unfolding AreTyped IsLog
+given-more config log event o given typed is = record { width = given.width; fits = given.fits; typed = (typed, given.typed); is_log = (is, given.is_log) }
+
+-- no channel overflows
+pub room-next : {w : ℕ} (config : Config) (log : Log w) (event : Event w) → IsGiven config log → IsTyped event → HasRoom config (stepped config event (after config log)).after
+unfolding after
+room-next config log event given typed k ch =
+    let o = (stepped config event (after config log)).outcome in
+    channels config ((event, o) ∷ log) (given-more config log event o given typed refl) k ch
+
+pub reached-step : {w : ℕ} {A M : Type 0} (knows : A → End w → Type 0) (terms : A → Terms) (perm_of : M → ℕ → ℕ → Perm) (config : Config) (old new : Parts w A M) (log : Log w) (event : Event w) (o : Outcome w)
+    → IsReached knows terms perm_of config old log → IsTyped event
+    → ((s : System w) → Holds knows terms perm_of config old s → HasRoom config (stepped config event s).after → IsStepped knows terms perm_of config old new event o s)
+    → IsReached knows terms perm_of config new ((event, o) ∷ log) × (o ≡ (stepped config event (after config log)).outcome)
+unfolding after deepest
+reached-step {w} knows terms perm_of config old new log event o r typed happens =
+    let is = happens (after config log) r.holds (room-next config log event r.given typed) in (
+      record {
+        given = given-more config log event o r.given typed is.outcome_is;
+        holds = is.holds;
+        depths = λ k ch d lt.
+            is.deepen k ch d lt ∙ ap₂ (λ m n. max m n) (r.depths k ch d lt) (ap (λ (xs : List (Beat w)). length xs) (is.holds.channels.beats k ch d lt));
+      },
+      is.outcome_is,
+    )
+
+-- ---- several events
+
+-- one more event, and what comes of it
+pub logged-more : {w : ℕ} (events : List (Event w)) (outcomes : List (Outcome w)) (e : Event w) (o : Outcome w) (log : Log w) → length events ≡ length outcomes
+    → logged (events ++ e ∷ []) (outcomes ++ o ∷ []) log ≡ (e, o) ∷ logged events outcomes log
+unfolding logged
+logged-more [] [] e o log same = refl
+logged-more [] (p ∷ outcomes) e o log same = absurd (omega (arith, same))
+logged-more (f ∷ events) [] e o log same = absurd (omega (arith, same))
+logged-more (f ∷ events) (p ∷ outcomes) e o log same = logged-more events outcomes e o ((f, p) ∷ log) (omega (arith, same))
+
+-- ---- a new world
+
+pub reached-new : {w : ℕ} {A M : Type 0} (knows : A → End w → Type 0) (terms : A → Terms) (perm_of : M → ℕ → ℕ → Perm) (config : Config) (parts : Parts w A M) → IsWidth w → AreReady knows terms config parts.clients.items
+    → Knows perm_of parts.manager config manager.fresh → AreFresh config (5 * clients_of config) parts.rings.all.items → IsReached knows terms perm_of config parts []
+unfolding after AreTyped IsLog deepest
+reached-new knows terms perm_of config parts width ready known are = record {
+  given = record { width = width; fits = known.fits; typed = tt; is_log = tt };
+  holds = record {
+    one_client_each = ready.one_each;
+    clients = ready.fresh;
+    terms_are = ready.terms_are;
+    manager = known;
+    channels = made-empty config parts.rings.all.items are;
+    room = made-room config parts.rings.all.items are;
+  };
+  depths = made-flat config parts.rings.all.items are;
+}
+
+-- one more of several events, and what comes of it
+pub logged-next : {w : ℕ} (events : List (Event w)) (outcomes : List (Outcome w)) (i : ℕ) (e d : Event w) (o : Outcome w) (log : Log w) → i < length events → length events ≡ length outcomes → e ≡ slice_index_or events i d
+    → logged (take (i + 1) events) (take (i + 1) (slice_set outcomes i o)) log ≡ (e, o) ∷ logged (take i events) (take i outcomes) log
+logged-next {w} events outcomes i e d o log inside same is =
+    let below : i < length outcomes = omega (arith, inside, same) in
+    let first : take (i + 1) events ≡ take i events ++ e ∷ [] = rw is (take_more events i d inside) in
+    let second : take (i + 1) (slice_set outcomes i o) ≡ take i outcomes ++ o ∷ [] = take_more_set outcomes i o below in
+    let many : length (take i events) ≡ length (take i outcomes) = omega (arith, length-take i events, length-take i outcomes, inside, below) in
+    ap₂ (λ (xs : List (Event w)) (ys : List (Outcome w)). logged xs ys log) first second ∙ logged-more (take i events) (take i outcomes) e o log many

@@ -1,0 +1,184 @@
+-- The channels of all links as one list of queues.
+use Rattle.std.proofs.Common.{◌≡◌, ℕ, Bool, true, false, List, [], ◌∷◌, ◌++◌, ◌+◌, ◌≤◌, ◌<◌, length, take, drop, refl, sym, subst, ap, ◌∙◌, ◌⊎◌, inl, inr, arith}
+use Rattle.std.specs.Prelude.{◌≢◌, ◌==◌, ◌&&◌, max, slice_index_or}
+use Rattle.std.proofs.Math.Nat.{max-eq_left}
+use Rattle.std.proofs.lemmas.Bool.{cases_eq, ne_eqb, eq-eqb}
+use Rattle.std.proofs.lemmas.List.{length-append, take_more, take-append-drop}
+use Rattle.tl_beat.specs.declared.beat.Beat.{Beat}
+use Rattle.tl_beat.specs.declared.beat.Link.{Link}
+use Rattle.tl_beat.specs.declared.opcode.Channel.{Channel}
+use Rattle.tl_beat.specs.declared.opcode.Channel.TheVariants as channel
+use Rattle.tl_burst.specs.declared.message.Message.{Message}
+use Rattle.tl_burst.specs.Burst.{beats_of}
+use Rattle.tl_rules.specs.Legality.{beats_from}
+use Rattle.tl_manager.specs.Handing.{Handed}
+use Rattle.tl_world.specs.Carrying.{number, place, channel_at, Carries, Fit, AreKept, AreMoved}
+use Rattle.tl_world.specs.declared.ring.Ring.{Ring}
+use Rattle.tl_world.specs.System.{System, same_channel, channel_of_message, with_channel, with_message, with_messages}
+use Rattle.tl_world.proofs.Beats.{length-beats_from}
+use Rattle.tl_world.proofs.Channels.{same_channel-is}
+
+-- ---- places
+
+pub back : (ch : Channel) → channel_at (number ch) ≡ ch
+back channel.A = refl
+back channel.B = refl
+back channel.C = refl
+back channel.D = refl
+back channel.E = refl
+
+pub number-below : (ch : Channel) → number ch < 5
+number-below channel.A = omega arith
+number-below channel.B = omega arith
+number-below channel.C = omega arith
+number-below channel.D = omega arith
+number-below channel.E = omega arith
+
+same_self : (ch : Channel) → same_channel ch ch ≡ true
+same_self channel.A = refl
+same_self channel.B = refl
+same_self channel.C = refl
+same_self channel.D = refl
+same_self channel.E = refl
+
+same_link : (j k : ℕ) (c ch : Channel) → place j c ≡ place k ch → j ≡ k
+same_link j k c ch e = omega (arith, e, number-below c, number-below ch)
+
+same_place : (j k : ℕ) (c ch : Channel) → place j c ≡ place k ch → c ≡ ch
+same_place j k c ch e =
+    let same : number c ≡ number ch = omega (arith, e, number-below c, number-below ch) in
+    sym (back c) ∙ ap channel_at same ∙ back ch
+
+-- two channels are one, or stand at different places
+pub places : (j k : ℕ) (c ch : Channel) → ((j ≡ k) × (c ≡ ch)) ⊎ ((place j c ≢ place k ch) × (((j == k) && same_channel c ch) ≡ false))
+places j k c ch = go (cases_eq j k) (same_channel c ch) refl
+  where
+    go : (j ≡ k) ⊎ (j ≢ k) → (b : Bool) → same_channel c ch ≡ b → ((j ≡ k) × (c ≡ ch)) ⊎ ((place j c ≢ place k ch) × (((j == k) && same_channel c ch) ≡ false))
+    go (inr other) b e = inr ((λ f. other (same_link j k c ch f)), rw (ne_eqb j k other) refl)
+    go (inl same) true e = inl (same, same_channel-is c ch e)
+    go (inl same) false e = inr ((λ f. absurd (let is : c ≡ ch = same_place j k c ch f in let yes : same_channel c ch ≡ true = rw is (same_self ch) in cc)), rw (e, eq-eqb j k same) refl)
+
+-- ---- the beats of one channel change
+
+module _ {w : ℕ} where
+  deepest_kept : (ring : Ring w) → ring.deepest ≡ max ring.deepest (length ring.beats.items)
+  deepest_kept ring = sym (max-eq_left ring.covered)
+
+  -- of one channel
+  pub moved-one : (n : ℕ) (old new : List (Ring w)) (s : System w) (k : ℕ) (ch : Channel) (beats : List (Beat w)) → Carries n old s → length new ≡ length old
+      → ((d : Ring w) → k < n → (slice_index_or new (place k ch) d).beats.items ≡ beats)
+      → ((d : Ring w) → (slice_index_or new (place k ch) d).deepest ≡ max (slice_index_or old (place k ch) d).deepest (length (slice_index_or new (place k ch) d).beats.items))
+      → ((i : ℕ) (d : Ring w) → i ≢ place k ch → slice_index_or new i d ≡ slice_index_or old i d)
+      → AreMoved n old new (with_channel k ch beats s)
+  moved-one n old new s k ch beats carried same_number here deeper others = record {
+    carries = record {
+      five_each = same_number ∙ carried.five_each;
+      beats = λ j c d lt.
+          elim (places j k c ch) [
+            | inl same ↦ rw (same.0, same.1, eq-eqb k k refl, same_self ch) (here d (let is = same.0 in omega (arith, is, lt)))
+            | inr other ↦ rw (other.1, others (place j c) d other.0) (carried.beats j c d lt)
+          ];
+    };
+    deepen = λ j c d lt.
+        elim (places j k c ch) [
+          | inl same ↦ rw (same.0, same.1) (deeper d)
+          | inr other ↦ rw (others (place j c) d other.0) (deepest_kept (slice_index_or old (place j c) d))
+        ];
+  }
+
+  -- of none of those that there are
+  pub moved-aside : (n : ℕ) (rings : List (Ring w)) (s : System w) (k : ℕ) (ch : Channel) (beats : List (Beat w)) → Carries n rings s → n ≤ k → AreMoved n rings rings (with_channel k ch beats s)
+  moved-aside n rings s k ch beats carried past = record {
+    carries = record {
+      five_each = carried.five_each;
+      beats = λ j c d lt. let other : (j ≡ k) → ⊥ = λ same. absurd (omega (arith, same, lt, past)) in rw (ne_eqb j k other) (carried.beats j c d lt);
+    };
+    deepen = λ j c d lt. deepest_kept (slice_index_or rings (place j c) d);
+  }
+
+  -- one move after another, at which no channel loses a beat
+  pub moved-then : (n : ℕ) (old now new : List (Ring w)) (s s' : System w) → AreMoved n old now s → AreMoved n now new s' → ((k : ℕ) (ch : Channel) → length (s.channels k ch) ≤ length (s'.channels k ch))
+      → AreMoved n old new s'
+  moved-then n old now new s s' first second more = record {
+    carries = second.carries;
+    deepen = λ k ch d lt.
+        let a = first.deepen k ch d lt in
+        let b = second.deepen k ch d lt in
+        let here = ap (λ (xs : List (Beat w)). length xs) (first.carries.beats k ch d lt) in
+        let there = ap (λ (xs : List (Beat w)). length xs) (second.carries.beats k ch d lt) in
+        let grown = more k ch in
+        omega (arith, a, b, here, there, grown);
+  }
+
+  -- ---- messages
+
+  pub messages-append : (xs ys : Handed w) (s : System w) → with_messages (xs ++ ys) s ≡ with_messages ys (with_messages xs s)
+  unfolding with_messages
+  messages-append [] ys s = refl
+  messages-append (x ∷ xs) ys s = messages-append xs ys (with_message x.0.0 x.1 s)
+
+  -- a channel only gets longer
+  message-grows : (l : ℕ) (m : Message w) (s : System w) (k : ℕ) (ch : Channel) → length (s.channels k ch) ≤ length ((with_message l m s).channels k ch)
+  message-grows l m s k ch =
+      elim (places k l ch (channel_of_message m)) [
+        | inl same ↦ rw (same.0, same.1, eq-eqb l l refl, same_self (channel_of_message m), length-append (s.channels l (channel_of_message m)) (beats_from m 0 (beats_of m))) (omega arith)
+        | inr other ↦ rw other.1 (omega arith)
+      ]
+
+  pub messages-grow : (handed : Handed w) (s : System w) (k : ℕ) (ch : Channel) → length (s.channels k ch) ≤ length ((with_messages handed s).channels k ch)
+  unfolding with_messages
+  messages-grow [] s k ch = omega arith
+  messages-grow (x ∷ handed) s k ch = omega (arith, message-grows x.0.0 x.1 s k ch, messages-grow handed (with_message x.0.0 x.1 s) k ch)
+
+  -- a message that fits behind its channel
+  pub moved-sent : (n : ℕ) (old new : List (Ring w)) (s : System w) (l : ℕ) (m : Message w) → Carries n old s → Fit n old (with_message l m s) → length new ≡ length old
+      → ((d : Ring w) → length (slice_index_or old (place l (channel_of_message m)) d).beats.items + beats_of m ≤ (slice_index_or old (place l (channel_of_message m)) d).beats.capacity
+      → (slice_index_or new (place l (channel_of_message m)) d).beats.items ≡ (slice_index_or old (place l (channel_of_message m)) d).beats.items ++ beats_from m 0 (beats_of m))
+      → ((d : Ring w) → (slice_index_or new (place l (channel_of_message m)) d).deepest ≡ max (slice_index_or old (place l (channel_of_message m)) d).deepest (length (slice_index_or new (place l (channel_of_message m)) d).beats.items))
+      → ((i : ℕ) (d : Ring w) → i ≢ place l (channel_of_message m) → slice_index_or new i d ≡ slice_index_or old i d)
+      → AreMoved n old new (with_message l m s)
+  moved-sent n old new s l m carried fits same_number sent deeper others =
+      moved-one n old new s l ch (s.channels l ch ++ beats_from m 0 (beats_of m)) carried same_number here deeper others
+    where
+      ch : Channel
+      ch = channel_of_message m
+
+      here : (d : Ring w) → l < n → (slice_index_or new (place l ch) d).beats.items ≡ s.channels l ch ++ beats_from m 0 (beats_of m)
+      here d lt =
+          let held = carried.beats l ch d lt in
+          let many = ap (λ (xs : List (Beat w)). length xs) held in
+          let whole : length (s.channels l ch ++ beats_from m 0 (beats_of m)) ≤ (slice_index_or old (place l ch) d).beats.capacity = rw (eq-eqb l l refl, same_self ch) at (fits l ch d lt) in
+          let room : length (slice_index_or old (place l ch) d).beats.items + beats_of m ≤ (slice_index_or old (place l ch) d).beats.capacity =
+          omega (arith, many, whole, length-append (s.channels l ch) (beats_from m 0 (beats_of m)), length-beats_from m 0 (beats_of m)) in
+          sent d room ∙ ap (λ (xs : List (Beat w)). xs ++ beats_from m 0 (beats_of m)) held
+
+  -- nothing that is handed out
+  pub moved-still : (n : ℕ) (rings : List (Ring w)) (s : System w) → Carries n rings s → AreMoved n rings rings s
+  moved-still n rings s carried = record { carries = carried; deepen = λ k ch d lt. deepest_kept (slice_index_or rings (place k ch) d) }
+
+  -- one more message of several
+  pub moved-more : (n : ℕ) (old now new : List (Ring w)) (s : System w) (handed : Handed w) (i : ℕ) (x d : Link × Message w) → i < length handed → x ≡ slice_index_or handed i d → AreKept old now
+      → (Fit n old (with_messages handed s) → AreMoved n old now (with_messages (take i handed) s))
+      → (Carries n now (with_messages (take i handed) s) → Fit n now (with_message x.0.0 x.1 (with_messages (take i handed) s)) → AreMoved n now new (with_message x.0.0 x.1 (with_messages (take i handed) s)))
+      → Fit n old (with_messages handed s) → AreMoved n old new (with_messages (take (i + 1) handed) s)
+  unfolding with_messages
+  moved-more n old now new s handed i x d inside is kept so_far next fits =
+      let first = so_far fits in
+      let next_is : take (i + 1) handed ≡ take i handed ++ x ∷ [] = rw is (take_more handed i d inside) in
+      let one : with_messages (take (i + 1) handed) s ≡ with_message x.0.0 x.1 (with_messages (take i handed) s) =
+      ap (λ (h : Handed w). with_messages h s) next_is ∙ messages-append (take i handed) (x ∷ []) s in
+      let last = next first.carries (room one) in
+      rw one (moved-then n old now new (with_messages (take i handed) s) _ first last (λ k ch. message-grows x.0.0 x.1 (with_messages (take i handed) s) k ch))
+    where
+      part : (k : ℕ) (ch : Channel) → length ((with_messages (take (i + 1) handed) s).channels k ch) ≤ length ((with_messages handed s).channels k ch)
+      part k ch =
+          subst (λ (h : Handed w). length ((with_messages (take (i + 1) handed) s).channels k ch) ≤ length ((with_messages h s).channels k ch)) (take-append-drop (i + 1) handed)
+          (rw (messages-append (take (i + 1) handed) (drop (i + 1) handed) s) (messages-grow (drop (i + 1) handed) (with_messages (take (i + 1) handed) s) k ch))
+
+      room : with_messages (take (i + 1) handed) s ≡ with_message x.0.0 x.1 (with_messages (take i handed) s) → Fit n now (with_message x.0.0 x.1 (with_messages (take i handed) s))
+      room one k ch d lt =
+          let a = part k ch in
+          let b = fits k ch d lt in
+          let c = kept.same_capacity (place k ch) d in
+          let e = ap (λ (z : System w). length (z.channels k ch)) one in
+          omega (arith, a, b, c, e)

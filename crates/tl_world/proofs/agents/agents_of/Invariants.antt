@@ -1,0 +1,5 @@
+use Rattle.tl_world.specs.Agents.{AreMade}
+use Rattle.tl_world.proofs.agents.agents_of.Given as goal
+
+abbrev pub invariant-loop-client : goal.invariant-loop-client
+invariant-loop-client g l = AreMade l.config l.client-index l.agents.items

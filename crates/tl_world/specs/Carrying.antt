@@ -1,0 +1,59 @@
+-- What the channels of a world hold, and for how many beats they are made.
+use Rattle.std.specs.Prelude.{ℕ, List, [], ◌≡◌, ◌==◌, ◌<◌, ◌≤◌, ◌+◌, ◌*◌, ◌/◌, ◌%◌, if◌then◌else◌, length, max, slice_index_or}
+use Rattle.circular_buffer.specs.Buffer.{buffer}
+use Rattle.tl_beat.specs.declared.opcode.Channel.{Channel}
+use Rattle.tl_beat.specs.declared.opcode.Channel.TheVariants as channel
+use Rattle.tl_params.specs.declared.config.Config.{Config}
+use Rattle.tl_world.specs.declared.ring.Ring.{Ring}
+use Rattle.tl_world.specs.Delivery.{capacity, sources_of}
+use Rattle.tl_world.specs.System.{System, terms_at}
+
+abbrev pub number : Channel → ℕ
+number channel.A = 0
+number channel.B = 1
+number channel.C = 2
+number channel.D = 3
+number channel.E = 4
+
+-- the place of a channel of a link among the channels of all links
+abbrev pub place : ℕ → Channel → ℕ
+place link ch = 5 * link + number ch
+
+-- the channels of the first n links hold the beats of those of the whole
+pub record Carries {w : ℕ} (n : ℕ) (rings : List (Ring w)) (s : System w) : Type 0 where
+  pub five_each : length rings ≡ 5 * n
+  pub beats : (k : ℕ) (ch : Channel) (d : Ring w) → k < n → (slice_index_or rings (place k ch) d).beats.items ≡ s.channels k ch
+
+-- those of the whole hold no more beats than they are made for
+abbrev pub Fit : {w : ℕ} → ℕ → List (Ring w) → System w → Type 0
+Fit {w} n rings s = (k : ℕ) (ch : Channel) (d : Ring w) → k < n → length (s.channels k ch) ≤ (slice_index_or rings (place k ch) d).beats.capacity
+
+-- they are made for as many beats as before
+pub record AreKept {w : ℕ} (old new : List (Ring w)) : Type 0 where
+  pub same_number : length new ≡ length old
+  pub same_capacity : (i : ℕ) (d : Ring w) → (slice_index_or new i d).beats.capacity ≡ (slice_index_or old i d).beats.capacity
+
+-- the greatest number of beats that ever stood in each is that of before, or that of now
+abbrev pub Deepen : {w : ℕ} → ℕ → List (Ring w) → List (Ring w) → Type 0
+Deepen {w} n old new = (k : ℕ) (ch : Channel) (d : Ring w) → k < n →
+    (slice_index_or new (place k ch) d).deepest ≡ max (slice_index_or old (place k ch) d).deepest (length (slice_index_or new (place k ch) d).beats.items)
+
+-- They held what one whole holds, and hold what another does that fits them.
+pub record AreMoved {w : ℕ} (n : ℕ) (old new : List (Ring w)) (s : System w) : Type 0 where
+  pub carries : Carries n new s
+  pub deepen : Deepen n old new
+
+-- ---- how they are made
+
+abbrev pub channel_at : ℕ → Channel
+channel_at n = if n == 0 then channel.A else if n == 1 then channel.B else if n == 2 then channel.C else if n == 3 then channel.D else channel.E
+
+-- for how many beats the channel at this place is made
+abbrev pub capacity_at : ℕ → Config → ℕ → ℕ
+capacity_at w config i = capacity (64 / w) (sources_of (terms_at config (i / 5))) config.trackers (channel_at (i % 5))
+
+-- so many channels are made, and hold nothing
+pub record AreFresh {w : ℕ} (config : Config) (count : ℕ) (rings : List (Ring w)) : Type 0 where
+  pub so_many : length rings ≡ count
+  pub beats : (i : ℕ) (d : Ring w) → i < count → (slice_index_or rings i d).beats ≡ buffer [] (capacity_at w config i)
+  pub deepest : (i : ℕ) (d : Ring w) → i < count → (slice_index_or rings i d).deepest ≡ 0

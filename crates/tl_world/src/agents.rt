@@ -1,0 +1,32 @@
+//! The clients of a configuration.
+
+ghost use Rattle.std.specs.Prelude.{IfOk, IfErr};
+ghost use Rattle.tl_beat.specs.Width.{IsWidth};
+ghost use Rattle.tl_client.specs.KnowsAny.{KnowsAny, any_terms};
+ghost use Rattle.tl_world.specs.World.{AreReady, IsFault};
+
+use std::alloc::{AllocError, Global};
+use tl_client::any::AnyClient;
+use tl_rules::config::{Config, NewFault};
+
+/// The clients of a configuration, which have sent and taken nothing: the first limit that it breaks,
+/// in the order N1 to N4, or want of memory.
+pub fn agents_of<const W: usize>(
+    alloc: Global,
+    config: &Config,
+) -> Result<Vec<AnyClient<W>>, NewFault>
+    requires { IsWidth W }
+    ensures ok { IfOk result (λ agents. AreReady {w = W} KnowsAny any_terms config.now agents.items) }
+    ensures err { IfErr result (λ fault. IsFault config.now fault) }
+{
+    config.check()?;
+    let mut agents = Vec::new(alloc);
+    for client in config.clients.as_slice() {
+        let agent = AnyClient::new(alloc, *client, config.blocks, config.profile)?;
+        match agents.push(agent) {
+            Ok(()) => {}
+            Err(refused) => return Err(AllocError::from(refused).into()),
+        }
+    }
+    Ok(agents)
+}

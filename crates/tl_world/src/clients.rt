@@ -1,0 +1,85 @@
+//! Calls on one of several clients.
+
+ghost use Rattle.std.specs.Prelude.{◌≡◌, ◌<◌, ◌≤◌, length, slice_index_or, None};
+ghost use Rattle.tl_client.specs.End;
+ghost use Rattle.tl_client.specs.End.{End};
+ghost use Rattle.tl_client.specs.Offer;
+ghost use Rattle.tl_params.specs.declared.perm.Perm.TheVariants as perm;
+ghost use Rattle.tl_world.specs.Called.{IsAsked, IsOffered};
+
+use tl_beat::beat::Beat;
+use tl_beat::opcode::Channel;
+use tl_burst::message::Message;
+use tl_client::agent::Agent;
+use tl_client::operation::Op;
+use tl_client::reply::Reply;
+use tl_client::verdict::Verdict;
+use tl_rules::perm::Perm;
+use tl_rules::rule::Rule;
+
+/// Asks one client, and leaves the others.
+pub fn ask_at<const W: usize, A: Agent<W>>(
+    clients: &mut Vec<A>,
+    i: usize,
+    operation: Op<W>,
+) -> (Reply, Option<Message<W>>)
+    requires { i < length clients.old.items }
+    ensures { IsAsked A.knows A.terms clients.old.items clients.new.items i operation.entry result }
+{
+    clients[i].ask(operation)
+}
+
+/// Offers a beat to one client, and leaves the others.
+pub fn offer_at<const W: usize, A: Agent<W>>(
+    clients: &mut Vec<A>,
+    i: usize,
+    channel: Channel,
+    beat: &Beat<W>,
+) -> Result<(Verdict, Option<Message<W>>), Rule>
+    requires { i < length clients.old.items }
+    ensures { IsOffered A.knows A.terms clients.old.items clients.new.items i channel beat.now result }
+{
+    clients[i].offer(channel, beat)
+}
+
+/// What one client holds of a block: None where there is no such client.
+pub fn held_at<const W: usize, A: Agent<W>>(clients: &Vec<A>, i: usize, block: u16) -> Perm
+    ensures there { (e : End W) (d : A) → i < length clients.now.items → A.knows (slice_index_or clients.now.items i d) e →
+        result ≡ End.held_at e block }
+    ensures nowhere { length clients.now.items ≤ i → result ≡ perm.None }
+{
+    match clients.get(i) {
+        None => Perm::None,
+        Some(client) => client.held(block),
+    }
+}
+
+/// The bytes of one client's copy of a block: None where there is no such client.
+pub fn copy_at<const W: usize, A: Agent<W>>(
+    clients: &Vec<A>,
+    i: usize,
+    block: u16,
+) -> Option<[u8; 64]>
+    ensures there { (e : End W) (d : A) → i < length clients.now.items → A.knows (slice_index_or clients.now.items i d) e →
+        result ≡ e.copies block }
+    ensures nowhere { length clients.now.items ≤ i → result ≡ None }
+{
+    match clients.get(i) {
+        None => None,
+        Some(client) => client.copy(block),
+    }
+}
+
+/// Whether one client stalls a beat.
+pub fn stalls_at<const W: usize, A: Agent<W>>(
+    clients: &Vec<A>,
+    i: usize,
+    channel: Channel,
+    beat: &Beat<W>,
+) -> bool
+    requires { i < length clients.now.items }
+    ensures { (e : End W) (d : A) → A.knows (slice_index_or clients.now.items i d) e →
+        result ≡ Offer.stalls (A.terms (slice_index_or clients.now.items i d)) channel beat.now e }
+{
+    clients[i].stalls(channel, beat)
+}

@@ -1,0 +1,154 @@
+//! What a manager and its clients do at an event.
+
+ghost use Rattle.std.specs.Prelude.{◌≡◌, ◌∷◌, ◌<◌, List, length, true, false};
+ghost use Rattle.tl_beat.specs.Width.{IsWidth};
+ghost use Rattle.tl_beat.specs.declared.beat.Beat.{Beat};
+ghost use Rattle.tl_params.specs.declared.config.Config.{Config};
+ghost use Rattle.tl_world.specs.Holds.{Holds, HasRoom, IsStepped, clients_of, is_stay};
+ghost use Rattle.tl_world.specs.Step;
+ghost use Rattle.tl_world.specs.Step.{stepped};
+ghost use Rattle.tl_world.specs.System.{System};
+ghost use Rattle.tl_world.specs.declared.event.Event.TheVariants.{Ask, Deliver};
+
+use crate::clients::{ask_at, offer_at};
+use crate::event::{Event, Outcome};
+use crate::parts::Parts;
+use tl_beat::beat::{Beat, Link};
+use tl_beat::opcode::Channel;
+use tl_client::agent::Agent;
+use tl_client::operation::Op;
+use tl_client::verdict::Verdict;
+use tl_manager::directory::Directory;
+use tl_manager::manager::Taken;
+
+/// Whether a client takes the beats of a channel.
+pub fn is_to_client(channel: Channel) -> bool
+    ensures { result ≡ Step.is_to_client channel }
+{
+    match channel {
+        Channel::B | Channel::D => true,
+        Channel::A | Channel::C | Channel::E => false,
+    }
+}
+
+/// Whether a beat that is answered so stays on its channel.
+fn stays(verdict: Verdict) -> bool
+    ensures { result ≡ is_stay verdict }
+{
+    matches!(verdict, Verdict::Stalled)
+}
+
+/// What comes of a beat that a client answers so.
+fn outcome_of<const W: usize>(beat: Beat<W>, verdict: Verdict) -> Outcome<W>
+    ensures { result ≡ Step.outcome_of beat.entry verdict }
+{
+    match verdict {
+        Verdict::Stalled => Outcome::Stalled,
+        Verdict::Taken => Outcome::Moved { beat },
+        Verdict::Done(source, finish) => Outcome::Done {
+            beat,
+            source,
+            finish,
+        },
+    }
+}
+
+impl<const W: usize, A: Agent<W>, D: Directory> Parts<W, A, D> {
+    /// A client of this number is asked.
+    fn ask(&mut self, client: u8, operation: Op<W>) -> Outcome<W>
+        requires width { IsWidth W }
+        requires inside { client < length self.old.clients.items }
+        ensures { (config : Config) (s : System W) → Holds A.knows A.terms D.perm_of config self.old s →
+            HasRoom config (stepped config (Ask client operation.entry) s).after →
+            IsStepped A.knows A.terms D.perm_of config self.old self.new (Ask client operation.entry) result s }
+    {
+        let (reply, message) = ask_at(&mut self.clients, usize::from(client), operation);
+        self.rings.send_if_any(Link(client), &message);
+        Outcome::Replied { reply }
+    }
+
+    /// The first beat of a channel is brought to a client.
+    fn to_client(&mut self, link: Link, channel: Channel, beat: Beat<W>) -> Outcome<W>
+        requires width { IsWidth W }
+        requires inside { link.0 < length self.old.clients.items }
+        ensures { (config : Config) (s : System W) (rest : List (Beat W)) → Holds A.knows A.terms D.perm_of config self.old s →
+            s.channels link.0 channel ≡ beat.entry ∷ rest → Step.is_to_client channel ≡ true →
+            HasRoom config (stepped config (Deliver link channel) s).after →
+            IsStepped A.knows A.terms D.perm_of config self.old self.new (Deliver link channel) result s }
+    {
+        match offer_at(&mut self.clients, usize::from(link.0), channel, &beat) {
+            Err(_) => Outcome::Stalled,
+            Ok((verdict, message)) => {
+                if stays(verdict) {
+                    return Outcome::Stalled;
+                }
+                self.rings.drop_first(link, channel);
+                self.rings.send_if_any(link, &message);
+                outcome_of(beat, verdict)
+            }
+        }
+    }
+
+    /// The first beat of a channel is brought to the manager.
+    fn to_manager(&mut self, link: Link, channel: Channel, beat: Beat<W>) -> Outcome<W>
+        requires width { IsWidth W }
+        requires inside { link.0 < length self.old.clients.items }
+        ensures { (config : Config) (s : System W) (rest : List (Beat W)) → Holds A.knows A.terms D.perm_of config self.old s →
+            s.channels link.0 channel ≡ beat.entry ∷ rest → Step.is_to_client channel ≡ false →
+            HasRoom config (stepped config (Deliver link channel) s).after →
+            IsStepped A.knows A.terms D.perm_of config self.old self.new (Deliver link channel) result s }
+    {
+        match self.manager.offer(link, channel, &beat) {
+            Err(_) => Outcome::Stalled,
+            Ok(Taken::Stalled) => Outcome::Stalled,
+            Ok(Taken::Sent(handed)) => {
+                self.rings.drop_first(link, channel);
+                self.rings.send_all(&handed);
+                Outcome::Moved { beat }
+            }
+        }
+    }
+
+    /// The first beat of a channel of a client's link is brought to the end that takes it.
+    fn deliver(&mut self, link: Link, channel: Channel) -> Outcome<W>
+        requires width { IsWidth W }
+        requires inside { link.0 < length self.old.clients.items }
+        ensures { (config : Config) (s : System W) → Holds A.knows A.terms D.perm_of config self.old s →
+            HasRoom config (stepped config (Deliver link channel) s).after →
+            IsStepped A.knows A.terms D.perm_of config self.old self.new (Deliver link channel) result s }
+    {
+        match self.rings.first(link, channel) {
+            None => Outcome::Empty,
+            Some(beat) => {
+                if is_to_client(channel) {
+                    self.to_client(link, channel, beat)
+                } else {
+                    self.to_manager(link, channel, beat)
+                }
+            }
+        }
+    }
+
+    /// Something happens.
+    pub fn happen(&mut self, event: Event<W>) -> Outcome<W>
+        requires width { IsWidth W }
+        ensures { (config : Config) (s : System W) → Holds A.knows A.terms D.perm_of config self.old s →
+            HasRoom config (stepped config event.entry s).after →
+            IsStepped A.knows A.terms D.perm_of config self.old self.new event.entry result s }
+    {
+        match event {
+            Event::Ask { client, operation } => {
+                if usize::from(client) >= self.clients.len() {
+                    return Outcome::NoSuchClient;
+                }
+                self.ask(client, operation)
+            }
+            Event::Deliver { link, channel } => {
+                if usize::from(link.0) >= self.clients.len() {
+                    return Outcome::NoSuchClient;
+                }
+                self.deliver(link, channel)
+            }
+        }
+    }
+}

@@ -1,0 +1,27 @@
+//! What the types of events say.
+
+ghost use Rattle.std.specs.Prelude.{◌≡◌, length};
+ghost use Rattle.tl_world.specs.Headline.{IsTyped};
+
+use crate::event::Event;
+use tl_burst::message::Message;
+use tl_client::operation::Op;
+
+/// A block has 64 bytes.
+fn long(block: &[u8; 64])
+    ensures { length block.now ≡ 64 }
+{}
+
+/// The blocks of bytes that an event carries have 64 bytes each.
+pub fn typed<const W: usize>(event: &Event<W>)
+    ensures { IsTyped event.now }
+{
+    match event {
+        Event::Ask { operation, .. } => match operation {
+            Op::AcquireWhole { bytes, .. } => long(bytes),
+            Op::Access(Message::A(message)) => long(&message.payload),
+            _ => {}
+        },
+        Event::Deliver { .. } => {}
+    }
+}

@@ -1,0 +1,153 @@
+//! A world of a manager and its clients.
+
+ghost use Rattle.std.specs.Prelude.{ℕ, [], ◌∷◌, ◌≡◌, ◌≤◌, ◌<◌, length, slice_set};
+ghost use Rattle.tl_beat.specs.Width.{IsWidth};
+ghost use Rattle.tl_params.specs.declared.config.Config.{Config};
+ghost use Rattle.tl_world.specs.Log.{Log, after, logged};
+ghost use Rattle.tl_world.specs.Step.{stepped};
+ghost use Rattle.tl_world.specs.World.{IsReached, IsNewWorld, IsReplayed, AreReady, IsEmpty, held_by, copy_by, deepest_by};
+ghost use Rattle.tl_world.specs.Movable;
+
+use crate::clients::{copy_at, held_at};
+use crate::event::{Event, Outcome};
+use crate::make::make_rings;
+use crate::parts::Parts;
+use crate::typed::typed;
+use std::alloc::Global;
+use std::marker::Model;
+use tl_beat::beat::Link;
+use tl_beat::opcode::Channel;
+use tl_client::agent::Agent;
+use tl_manager::directory::Directory;
+use tl_manager::manager::Manager;
+use tl_rules::config::{Config, NewFault};
+use tl_rules::perm::Perm;
+
+/// Writes what came of an event.
+fn put<const W: usize>(outcomes: &mut [Outcome<W>], i: usize, outcome: Outcome<W>)
+    requires { i < length outcomes.old }
+    ensures { outcomes.new ≡ slice_set outcomes.old i outcome.entry }
+{
+    outcomes[i] = outcome;
+}
+
+/// A manager and its clients, joined by the channels of their links. A contract speaks of every
+/// configuration and log by which the world is reached: of all that can have happened to it.
+#[derive(Drop)]
+pub struct World<const W: usize, A: Agent<W>, D: Directory> {
+    parts: Parts<W, A, D>,
+}
+
+impl<const W: usize, A: Agent<W>, D: Directory> Model for World<W, A, D> {
+    ghost use Rattle.tl_beat.specs.Width.{IsWidth};
+    ghost use Rattle.tl_world.specs.declared.parts.Parts.{Parts};
+
+    ghost Value = { Parts W A D };
+
+    ghost view = { λ w. w.parts };
+
+    ghost invariant = { λ w. IsWidth W };
+}
+
+impl<const W: usize, A: Agent<W>, D: Directory> World<W, A, D> {
+    /// A world to which nothing has happened, of fresh clients and a fresh directory, as the
+    /// configuration says: the first limit that it breaks, in the order N1 to N4, or want of memory.
+    pub fn new(
+        alloc: Global,
+        config: Config,
+        clients: Vec<A>,
+        directory: D,
+    ) -> Result<Self, NewFault>
+        requires width { IsWidth W }
+        requires clients { AreReady A.knows A.terms config clients.items }
+        requires directory { IsEmpty D.perm_of D.blocks D.clients config directory }
+        ensures { IsNewWorld A.knows A.terms D.perm_of config result }
+    {
+        let manager = Manager::new(alloc, &config, directory)?;
+        let rings = make_rings(alloc, &config)?;
+        Ok(World {
+            parts: Parts {
+                clients,
+                manager,
+                rings,
+            },
+        })
+    }
+
+    /// Something happens: what comes of it.
+    pub fn step(&mut self, event: Event<W>) -> Outcome<W>
+        ensures reached { (config : Config) (log : Log W) → IsReached A.knows A.terms D.perm_of config self.old log →
+            IsReached A.knows A.terms D.perm_of config self.new ((event.entry, result) ∷ log) }
+        ensures outcome { (config : Config) (log : Log W) → IsReached A.knows A.terms D.perm_of config self.old log →
+            result ≡ (stepped config event.entry (after config log)).outcome }
+    {
+        typed(&event);
+        self.parts.happen(event)
+    }
+
+    /// The events happen one after another: what comes of each.
+    pub fn run(&mut self, events: &[Event<W>], outcomes: &mut [Outcome<W>])
+        requires { length events.now ≡ length outcomes.old }
+        ensures reached { (config : Config) (log : Log W) → IsReached A.knows A.terms D.perm_of config self.old log →
+            IsReached A.knows A.terms D.perm_of config self.new (logged events.now outcomes.new log) }
+        ensures number { length outcomes.new ≡ length outcomes.old }
+    {
+        for (i, event) in events.iter().enumerate() {
+            put(outcomes, i, self.step(*event));
+        }
+    }
+
+    /// A new world in which these events happened, with what came of each: a world that is refused
+    /// leaves the outcomes as they were.
+    pub fn replay(
+        alloc: Global,
+        config: Config,
+        clients: Vec<A>,
+        directory: D,
+        events: &[Event<W>],
+        outcomes: &mut [Outcome<W>],
+    ) -> Result<Self, NewFault>
+        requires width { IsWidth W }
+        requires clients { AreReady A.knows A.terms config clients.items }
+        requires directory { IsEmpty D.perm_of D.blocks D.clients config directory }
+        requires number { length events.now ≡ length outcomes.old }
+        ensures { IsReplayed A.knows A.terms D.perm_of config events.now outcomes.old outcomes.new result }
+    {
+        let mut world = World::new(alloc, config, clients, directory)?;
+        world.run(events, outcomes);
+        Ok(world)
+    }
+
+    /// The next delivery: the first on a client's link that finds a beat which isn't stalled, in the
+    /// order E, D, C, B, A of the channels, and of the links within one.
+    pub fn next_delivery(&self) -> Option<(Link, Channel)>
+        ensures { (config : Config) (log : Log W) → IsReached A.knows A.terms D.perm_of config self.now log →
+            result ≡ Movable.next_delivery config (after config log) }
+    {
+        self.parts.next_delivery()
+    }
+
+    /// What a client holds of a block: None where there is no such client.
+    pub fn held(&self, client: u8, block: u16) -> Perm
+        ensures { (config : Config) (log : Log W) → IsReached A.knows A.terms D.perm_of config self.now log →
+            result ≡ held_by config client block (after config log) }
+    {
+        held_at(&self.parts.clients, usize::from(client), block)
+    }
+
+    /// The bytes of a client's copy of a block: None where it has none, or there is no such client.
+    pub fn copy(&self, client: u8, block: u16) -> Option<[u8; 64]>
+        ensures { (config : Config) (log : Log W) → IsReached A.knows A.terms D.perm_of config self.now log →
+            result ≡ copy_by config client block (after config log) }
+    {
+        copy_at(&self.parts.clients, usize::from(client), block)
+    }
+
+    /// The greatest number of beats that ever stood in a channel: 0 for a link without a client.
+    pub fn deepest(&self, link: Link, channel: Channel) -> u16
+        ensures { (config : Config) (log : Log W) → IsReached A.knows A.terms D.perm_of config self.now log →
+            result ≡ deepest_by config log link.0 channel }
+    {
+        self.parts.rings.deepest(link, channel)
+    }
+}

@@ -1,0 +1,4 @@
+pub mod Options
+pub mod NumberLemmas
+pub mod HeaderLemmas
+pub mod FieldLemmas

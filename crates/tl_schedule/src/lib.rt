@@ -1,0 +1,7 @@
+//! The lines of schedules: the header and the events that are read, and the outcomes that are
+//! written.
+#![tactic(auto)]
+
+mod field;
+pub mod header;
+pub mod line;

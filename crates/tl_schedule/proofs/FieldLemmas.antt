@@ -1,7 +1,7 @@
 -- Fields cut from a line, and the numbers and bytes that they spell.
-use Rattle.std.proofs.Common.{◌≡◌, ℕ, zero, suc, ◌+◌, ◌*◌, ◌-◌, ◌^◌, ◌<◌, ◌≤◌, Bool, true, false, cond, List, [], ◌∷◌, ◌++◌, length, take, drop, replicate, set, refl, sym, ap, ap₂, ◌∙◌, arith, add-one, lit<, inl, inr}
+use Rattle.std.proofs.Common.{◌≡◌, ℕ, zero, suc, ◌+◌, ◌*◌, ◌-◌, ◌^◌, ◌<◌, ◌≤◌, Bool, true, false, cond, List, [], ◌∷◌, ◌++◌, length, take, drop, replicate, set, refl, sym, ap, ◌∙◌, arith, add-one, lit<, inl, inr}
 use Rattle.std.proofs.Math.Nat.{pow-suc, pow-le-pow_right}
-use Rattle.std.specs.Prelude.{not, Option, Some, None, option_map, position, ◌==◌}
+use Rattle.std.specs.Prelude.{not, Some, None, option_map, position, ◌==◌}
 use Rattle.std.specs.List.{position_or_len}
 use Rattle.std.proofs.lemmas.Bool.{cases_lt, lt-ltb}
 use Rattle.std.proofs.lemmas.Bool.Decides.{nat_tests}
@@ -29,9 +29,9 @@ first_piece (c ∷ cs) = go (c == 32) (position_or_len is_space cs) (first_piece
 
 pub one_piece : (xs : List ℕ) → position is_space xs ≡ None → pieces xs ≡ xs ∷ []
 one_piece xs e = elim (cases_lt (position_or_len is_space xs) (length xs)) [
-    | inl lt ↦ absurd (let none = rw (lt-ltb (position_or_len is_space xs) (length xs) lt) at e in cc)
-    | inr past ↦ first_piece xs ∙ rw (take_all (position_or_len is_space xs) xs past, drop_all (position_or_len is_space xs) xs past) refl
-  ]
+  | inl lt ↦ absurd (let none = rw (lt-ltb (position_or_len is_space xs) (length xs) lt) at e in cc)
+  | inr past ↦ first_piece xs ∙ rw (take_all (position_or_len is_space xs) xs past, drop_all (position_or_len is_space xs) xs past) refl
+]
 
 pub piece_before : (xs front back : List ℕ) (i : ℕ) → position is_space xs ≡ Some i → front ≡ take i xs → back ≡ drop i xs → pieces xs ≡ front ∷ fields_behind back
 piece_before xs front back i e f b =

@@ -2,3 +2,10 @@ pub mod Options
 pub mod NumberLemmas
 pub mod HeaderLemmas
 pub mod FieldLemmas
+pub mod FieldLaws
+pub mod AccessLemmas
+pub mod EventMeant
+pub mod EventTaken
+pub mod EventAgain
+pub mod EventLaws
+pub mod OutcomeLemmas

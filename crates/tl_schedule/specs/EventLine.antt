@@ -1,5 +1,5 @@
 -- The line of an event in a schedule.
-use Rattle.std.specs.Prelude.{◌≡◌, ◌≤◌, ◌<◌, ℕ, ◌+◌, ◌-◌, ◌*◌, ◌/◌, ◌%◌, ◌^◌, List, [], ◌∷◌, ◌++◌, length, take, replicate, codes, All, nat_lt, not, ◌||◌, if◌then◌else◌, slice_index_or}
+use Rattle.std.specs.Prelude.{◌≡◌, ◌≤◌, ◌<◌, ℕ, ◌-◌, ◌*◌, ◌/◌, ◌%◌, ◌^◌, List, [], ◌∷◌, ◌++◌, length, take, replicate, codes, All, nat_lt, not, ◌||◌, if◌then◌else◌, slice_index_or}
 use Rattle.std.specs.Io.BufRead.{ends_with_byte}
 use Rattle.tl_beat.specs.declared.opcode.Channel.{Channel}
 use Rattle.tl_beat.specs.declared.opcode.OpA.{OpA}
@@ -123,13 +123,17 @@ Fits w (Deliver link channel) = HasRoom 2 link
 abbrev pub filled : List ℕ → List ℕ
 filled bytes = bytes ++ replicate (64 - length bytes) 0
 
--- The payload of an access's bytes: where they are fewer than a beat's they lie in the lanes from the
--- address on, and what would pass the last lane is dropped.
-abbrev pub payload_of : ℕ → ℕ → ℕ → List ℕ → List ℕ
-payload_of w size address bytes =
+-- 64 bytes in their lanes: where an access has fewer than a beat they lie in the lanes from its
+-- address on, and what would pass the last lane is dropped
+abbrev pub placed : ℕ → ℕ → ℕ → List ℕ → List ℕ
+placed w size address bytes =
     if nat_lt (2 ^ size) w
-    then replicate (address % w) 0 ++ (take (w - address % w) (filled bytes) ++ replicate (64 - w) 0)
-    else filled bytes
+    then replicate (address % w) 0 ++ (take (w - address % w) bytes ++ replicate (64 - w) 0)
+    else bytes
+
+-- the payload of an access with these bytes
+abbrev pub payload_of : ℕ → ℕ → ℕ → List ℕ → List ℕ
+payload_of w size address bytes = placed w size address (filled bytes)
 
 -- a mask of the lanes that carry a byte of an access, in so many beats
 abbrev pub lanes_of : ℕ → ℕ → ℕ → ℕ → ℕ

@@ -1,9 +1,8 @@
 -- The fields of a line, read one after another as the code goes; only private clauses cite this.
 use denote.Ref.{Bor}
-use Rattle.std.specs.Prelude.{◌≡◌, ℕ, zero, suc, ◌+◌, ◌*◌, Bool, true, false, ◌&&◌, List, [], ◌∷◌, Option, Some, None, nat_le, if◌then◌else◌}
+use Rattle.std.specs.Prelude.{◌≡◌, ℕ, zero, suc, ◌+◌, ◌*◌, Bool, true, false, List, [], ◌∷◌, Option, Some, None, nat_le, if◌then◌else◌}
 use Rattle.tl_beat.specs.Digits.{is_digit, digit_value}
 use Rattle.tl_beat.specs.Line.{pieces}
-use Rattle.tl_schedule.specs.EventLine.{filled}
 use Rattle.tl_schedule.specs.Then.{◌>>=◌}
 
 -- ---- digits
@@ -68,8 +67,7 @@ is_none_left (field ∷ fields) = false
 
 -- nothing is left
 abbrev pub at_end : {A : Type 0} → List (List ℕ) → A → Option A
-at_end [] a = Some a
-at_end (field ∷ fields) a = None
+at_end fields a = if is_none_left fields then Some a else None
 
 -- what the last field says
 abbrev pub last : {A : Type 0} → (List ℕ → Option A) → List (List ℕ) → Option A

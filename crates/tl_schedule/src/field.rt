@@ -90,7 +90,7 @@ fn first_space(bytes: &[u8]) -> Option<usize>
 }
 
 /// The first field, and what follows it from the next space on.
-fn cut(bytes: &[u8]) -> (&[u8], &[u8])
+pub fn cut(bytes: &[u8]) -> (&[u8], &[u8])
     ensures { pieces bytes.now ≡ result.0.now ∷ fields_behind result.1.now }
 {
     match first_space(bytes) {

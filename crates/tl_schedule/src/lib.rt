@@ -2,6 +2,9 @@
 //! written.
 #![tactic(auto)]
 
+mod access;
 mod field;
 pub mod header;
 pub mod line;
+mod name;
+pub mod outcome;

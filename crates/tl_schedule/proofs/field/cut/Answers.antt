@@ -1,4 +1,4 @@
-use Rattle.std.proofs.Common.{rules, sym}
+use Rattle.std.proofs.Common.{rules}
 use Rattle.tl_schedule.proofs.FieldLemmas.{one_piece, piece_before}
 use Rattle.tl_schedule.proofs.field.cut.Goals as goal
 

@@ -1,5 +1,5 @@
-use Rattle.std.proofs.Common.{rules, arith, ◌∙◌, sym, ◌≡◌, ◌-◌, ◌+◌, None}
-use Rattle.std.proofs.lemmas.List.{length-replicate, length-set}
+use Rattle.std.proofs.Common.{rules, arith, ◌∙◌, sym, ◌≡◌, None}
+use Rattle.std.proofs.lemmas.List.{length-set}
 use Rattle.tl_schedule.proofs.FieldLemmas.{data-init, data-step, data-fails, data-done, data-left}
 use Rattle.tl_schedule.proofs.field.data.Goals as goal
 
@@ -13,9 +13,9 @@ returns-in_err-byte c =
 
 pub loop-i-preserved : goal.loop-i-preserved
 loop-i-preserved c = record {
-    read = data-step c.args.count c.loop-i.i c.in_ok-byte.byte c.loop-i.bytes c.args.field.now c.loop-i.rest.now c.in_ok-byte.after.now (omega arith) c.loop-i.invariant.read (search rules);
-    len = length-set _ _ _ ∙ c.loop-i.invariant.len;
-  }
+  read = data-step c.args.count c.loop-i.i c.in_ok-byte.byte c.loop-i.bytes c.args.field.now c.loop-i.rest.now c.in_ok-byte.after.now (omega arith) c.loop-i.invariant.read (search rules);
+  len = length-set _ _ _ ∙ c.loop-i.invariant.len;
+}
 
 pub returns-then-not-is_empty : goal.returns-then-not-is_empty
 returns-then-not-is_empty c = sym (data-left c.args.count c.loop-i.i c.loop-i.bytes c.args.field.now c.loop-i.rest.now (omega arith) c.loop-i.invariant.read c.if-not-is_empty.ensures)

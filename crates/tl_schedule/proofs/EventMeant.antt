@@ -1,0 +1,49 @@
+-- The event that is meant by what a line says.
+use Rattle.std.proofs.Common.{◌≡◌, ℕ, ◌≤◌, Bool, true, false, List, refl, ap}
+use Rattle.std.proofs.Math.Bridge.{le_prop}
+use Rattle.std.proofs.lemmas.Bool.{leb-true, le-leb}
+use Rattle.std.specs.Prelude.{nat_le, Option, Some, None, option_map}
+use Rattle.tl_burst.specs.declared.message.Message.TheVariants as message
+use Rattle.tl_burst.specs.declared.message.MessageA.{MessageA}
+use Rattle.tl_client.specs.declared.operation.Op.TheVariants as op
+use Rattle.tl_world.specs.declared.event.Event.TheVariants as event
+use Rattle.tl_schedule.specs.declared.access.Request.{Request}
+use Rattle.tl_schedule.specs.declared.name.Word.{Word}
+use Rattle.tl_schedule.specs.EventLine.{Asked, Said, Load, Store, Acquire, Whole, Release, Access, Deliver, Fits, event_of}
+use Rattle.tl_schedule.specs.EventReading.{access_at, asked_at, meant, meant_by, request_of, size_if, small_size}
+use Rattle.tl_schedule.specs.FieldReading.{front, number_in, size_in}
+
+abbrev some_proof : {n : ℕ} → n ≤ 6 → Option (n ≤ 6)
+some_proof h = Some h
+
+-- there is one proof at most that a size is small
+small_size-is : (n : ℕ) (h : n ≤ 6) → small_size n ≡ Some h
+small_size-is n h = go (nat_le n 6) refl (le-leb n 6 h)
+  where
+    go : (b : Bool) (e : nat_le n 6 ≡ b) → b ≡ true → size_if n b e ≡ Some h
+    go true e is = ap some_proof (le_prop (leb-true n 6 e) h)
+    go false e is = absurd cc
+
+pub meant-event : {w : ℕ} (said : Said) (fits : Fits w said) → meant {w = w} said ≡ Some (event_of said fits)
+meant-event (Load client size address) fits = refl
+meant-event (Store client size address value) fits = refl
+meant-event (Acquire client block grow) fits = refl
+meant-event (Whole client block bytes) fits = refl
+meant-event (Release client block prune) fits = refl
+meant-event (Access client size address asked) fits = rw (small_size-is size fits.1) refl
+meant-event (Deliver link channel) fits = refl
+
+abbrev made : {w : ℕ} (size address : ℕ) → Request → size ≤ 6 → MessageA w
+made size address r small = record { opcode = r.opcode; param = r.param; size = size; source = 0; address = address; payload = r.payload; mask = r.mask; corrupt = 0; small = small }
+
+-- the access that was read is the one that is meant
+pub access_meant : {w : ℕ} (k : Word) (client size address : ℕ) (fields others rest : List (List ℕ)) (r : Request) (small : size ≤ 6) → front (size_in 6) fields ≡ Some (size, others) → front (number_in 0 8) others ≡ Some (address, rest)
+    → Some r ≡ option_map (request_of w size address) (asked_at w k size rest)
+    → Some (event.Ask client (op.Access (message.A (made {w = w} size address r small)))) ≡ meant_by (access_at w k client fields)
+access_meant {w} k client size address fields others rest r small e f h = go (asked_at w k size rest) refl h
+  where
+    go : (o : Option Asked) → asked_at w k size rest ≡ o → Some r ≡ option_map (request_of w size address) o → Some (event.Ask client (op.Access (message.A (made {w = w} size address r small)))) ≡ meant_by (access_at w k client fields)
+    go None is g = absurd cc
+    go (Some x) is g =
+        let same : r ≡ request_of w size address x = cc in
+        rw (e, f, is, same, small_size-is size small) refl

@@ -22,7 +22,7 @@ pub record AreCounted {w : ℕ} {X : Type 0} (config : Config) (log : Log w) (s 
   pub requests_are : number starts_request log ≡ number (λ e o. ends_request o) log + open_requests config s
   pub releases_are : number starts_release log ≡ number (λ e o. ends_release o) log + open_releases config s
 
-number-next : {w : ℕ} (test : Event w → Outcome w → Bool) (event : Event w) (o : Outcome w) (log : Log w) → number test ((event, o) ∷ log) ≡ number test log + one_if (test event o)
+pub number-next : {w : ℕ} (test : Event w → Outcome w → Bool) (event : Event w) (o : Outcome w) (log : Log w) → number test ((event, o) ∷ log) ≡ number test log + one_if (test event o)
 number-next {w} test event o log = go (test event o)
   where
     go : (b : Bool) → length (if b then (event, o) ∷ filter (λ x. test x.0 x.1) log else filter (λ x. test x.0 x.1) log) ≡ number test log + one_if b

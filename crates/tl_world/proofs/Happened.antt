@@ -11,15 +11,18 @@ use Rattle.tl_manager.specs.Knows.{Knows}
 use Rattle.tl_manager.specs.Slave as manager
 use Rattle.tl_world.specs.declared.event.Event.{Event}
 use Rattle.tl_world.specs.declared.event.Outcome.{Outcome}
-use Rattle.tl_world.specs.declared.parts.Parts.{Parts}
+use Rattle.tl_world.specs.declared.contents.Contents.{Contents}
 use Rattle.tl_world.specs.Carrying.{AreFresh}
 use Rattle.tl_world.specs.Headline.{IsTyped, AreTyped, IsGiven}
 use Rattle.tl_world.specs.Holds.{clients_of, Holds, HasRoom, IsStepped}
+use Rattle.tl_world.specs.Load.{starts_request, starts_release, ends_request, ends_release, requests, releases}
 use Rattle.tl_world.specs.Log.{Log, IsLog, after, logged}
+use Rattle.tl_world.specs.Opened.{counted}
 use Rattle.tl_world.specs.Step.{stepped}
 use Rattle.tl_world.specs.System.{System}
 use Rattle.tl_world.specs.World.{deepest, IsReached, AreReady}
 use Rattle.tl_world.proofs.Given.{channels}
+use Rattle.tl_world.proofs.Loads.{requests-next, releases-next}
 use Rattle.tl_world.proofs.Made.{made-room, made-empty, made-flat}
 
 -- ---- one event
@@ -36,16 +39,19 @@ room-next config log event given typed k ch =
     let o = (stepped config event (after config log)).outcome in
     channels config ((event, o) ∷ log) (given-more config log event o given typed refl) k ch
 
-pub reached-step : {w : ℕ} {A M : Type 0} (knows : A → End w → Type 0) (terms : A → Terms) (perm_of : M → ℕ → ℕ → Perm) (config : Config) (old new : Parts w A M) (log : Log w) (event : Event w) (o : Outcome w)
+pub reached-step : {w : ℕ} {A M : Type 0} (knows : A → End w → Type 0) (terms : A → Terms) (perm_of : M → ℕ → ℕ → Perm) (config : Config) (old new : Contents w A M) (log : Log w) (event : Event w) (o : Outcome w)
     → IsReached knows terms perm_of config old log → IsTyped event
-    → ((s : System w) → Holds knows terms perm_of config old s → HasRoom config (stepped config event s).after → IsStepped knows terms perm_of config old new event o s)
+    → ((s : System w) → Holds knows terms perm_of config old.parts s → HasRoom config (stepped config event s).after → IsStepped knows terms perm_of config old.parts new.parts event o s)
+    → new.outstanding.requests ≡ counted (starts_request event o) (ends_request o) old.outstanding.requests → new.outstanding.releases ≡ counted (starts_release event o) (ends_release o) old.outstanding.releases
     → IsReached knows terms perm_of config new ((event, o) ∷ log) × (o ≡ (stepped config event (after config log)).outcome)
 unfolding after deepest
-reached-step {w} knows terms perm_of config old new log event o r typed happens =
+reached-step {w} knows terms perm_of config old new log event o r typed happens same_requests same_releases =
     let is = happens (after config log) r.holds (room-next config log event r.given typed) in (
       record {
         given = given-more config log event o r.given typed is.outcome_is;
         holds = is.holds;
+        requests_are = same_requests ∙ ap (λ n. counted (starts_request event o) (ends_request o) n) r.requests_are ∙ requests-next config log r.given event o;
+        releases_are = same_releases ∙ ap (λ n. counted (starts_release event o) (ends_release o) n) r.releases_are ∙ releases-next config log r.given event o;
         depths = λ k ch d lt.
             is.deepen k ch d lt ∙ ap₂ (λ m n. max m n) (r.depths k ch d lt) (ap (λ (xs : List (Beat w)). length xs) (is.holds.channels.beats k ch d lt));
       },
@@ -65,20 +71,23 @@ logged-more (f ∷ events) (p ∷ outcomes) e o log same = logged-more events ou
 
 -- ---- a new world
 
-pub reached-new : {w : ℕ} {A M : Type 0} (knows : A → End w → Type 0) (terms : A → Terms) (perm_of : M → ℕ → ℕ → Perm) (config : Config) (parts : Parts w A M) → IsWidth w → AreReady knows terms config parts.clients.items
-    → Knows perm_of parts.manager config manager.fresh → AreFresh config (5 * clients_of config) parts.rings.all.items → IsReached knows terms perm_of config parts []
-unfolding after AreTyped IsLog deepest
-reached-new knows terms perm_of config parts width ready known are = record {
+pub reached-new : {w : ℕ} {A M : Type 0} (knows : A → End w → Type 0) (terms : A → Terms) (perm_of : M → ℕ → ℕ → Perm) (config : Config) (contents : Contents w A M) → IsWidth w → AreReady knows terms config contents.parts.clients.items
+    → Knows perm_of contents.parts.manager config manager.fresh → AreFresh config (5 * clients_of config) contents.parts.rings.all.items
+    → contents.outstanding.requests ≡ 0 → contents.outstanding.releases ≡ 0 → IsReached knows terms perm_of config contents []
+unfolding after AreTyped IsLog deepest requests releases
+reached-new knows terms perm_of config contents width ready known are no_request no_release = record {
   given = record { width = width; fits = known.fits; typed = tt; is_log = tt };
   holds = record {
     one_client_each = ready.one_each;
     clients = ready.fresh;
     terms_are = ready.terms_are;
     manager = known;
-    channels = made-empty config parts.rings.all.items are;
-    room = made-room config parts.rings.all.items are;
+    channels = made-empty config contents.parts.rings.all.items are;
+    room = made-room config contents.parts.rings.all.items are;
   };
-  depths = made-flat config parts.rings.all.items are;
+  requests_are = no_request;
+  releases_are = no_release;
+  depths = made-flat config contents.parts.rings.all.items are;
 }
 
 -- one more of several events, and what comes of it

@@ -24,7 +24,7 @@ pub no-fault : (o : Option NewFault) (done : Unit {0}) → config_verdict o ≡ 
 no-fault None done e = refl
 no-fault (Some f) done e = absurd cc
 
-all-fit : (clients : List ClientConfig) (i : ℕ) (d : ClientConfig) → all_sources_fit clients ≡ true → i < length clients → sources_fit (slice_index_or clients i d) ≡ true
+pub all-fit : (clients : List ClientConfig) (i : ℕ) (d : ClientConfig) → all_sources_fit clients ≡ true → i < length clients → sources_fit (slice_index_or clients i d) ≡ true
 all-fit [] i d fit lt = absurd (omega (arith, lt))
 all-fit (x ∷ clients) zero d fit lt = both-first (sources_fit x) (all_sources_fit clients) fit
   where
@@ -37,18 +37,18 @@ all-fit (x ∷ clients) (suc i) d fit lt = all-fit clients i d (both-second (sou
     both-second true b e = e
     both-second false b e = absurd cc
 
-parts-fit : (a b c e : Bool) → fault_unless a fault.N1 (fault_unless b fault.N2 (fault_unless c fault.N3 (fault_unless e fault.N4 None))) ≡ None → (b ≡ true) × (e ≡ true)
-parts-fit true true true true f = (refl, refl)
-parts-fit true true true false f = absurd cc
-parts-fit true true false e f = absurd cc
-parts-fit true false c e f = absurd cc
-parts-fit false b c e f = absurd cc
+pub limits-fit : (a b c e : Bool) → fault_unless a fault.N1 (fault_unless b fault.N2 (fault_unless c fault.N3 (fault_unless e fault.N4 None))) ≡ None → (a ≡ true) × (b ≡ true) × (c ≡ true) × (e ≡ true)
+limits-fit true true true true f = (refl, refl, refl, refl)
+limits-fit true true true false f = absurd cc
+limits-fit true true false e f = absurd cc
+limits-fit true false c e f = absurd cc
+limits-fit false b c e f = absurd cc
 
 -- each client's part is within its limits
 pub client-fits : (config : Config) (i : ℕ) (d : ClientConfig) → config_fault config ≡ None → i < clients_of config → client_fault (slice_index_or config.clients.items i d) config.blocks ≡ None
 client-fits config i d fits lt =
-    let parts = parts-fit (is_from_to 1 16 (length config.clients.items)) (blocks_fit config.blocks) (trackers_fit config.trackers) (all_sources_fit config.clients.items) fits in
-    rw (parts.0, all-fit config.clients.items i d parts.1 lt) refl
+    let parts = limits-fit (is_from_to 1 16 (length config.clients.items)) (blocks_fit config.blocks) (trackers_fit config.trackers) (all_sources_fit config.clients.items) fits in
+    rw (parts.1, all-fit config.clients.items i d parts.3 lt) refl
 
 -- ---- one more client
 

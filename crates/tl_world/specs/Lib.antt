@@ -21,6 +21,7 @@ pub mod Managed
 pub mod Matched
 pub mod Movable
 pub mod Move
+pub mod Opened
 pub mod Phase
 pub mod PhaseSteps
 pub mod Potential

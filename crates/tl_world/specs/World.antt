@@ -11,11 +11,12 @@ use Rattle.tl_client.specs.End.{Terms, End, held_at}
 use Rattle.tl_client.specs.End as client
 use Rattle.tl_world.specs.declared.event.Event.{Event}
 use Rattle.tl_world.specs.declared.event.Outcome.{Outcome}
-use Rattle.tl_world.specs.declared.parts.Parts.{Parts}
+use Rattle.tl_world.specs.declared.contents.Contents.{Contents}
 use Rattle.tl_world.specs.declared.ring.Ring.{Ring}
 use Rattle.tl_world.specs.Carrying.{place}
 use Rattle.tl_world.specs.Headline.{IsGiven}
 use Rattle.tl_world.specs.Holds.{clients_of, Holds}
+use Rattle.tl_world.specs.Load.{requests, releases}
 use Rattle.tl_world.specs.Log.{Log, after, logged}
 use Rattle.tl_world.specs.System.{System, terms_at}
 
@@ -24,24 +25,26 @@ unfoldable pub deepest : {w : ℕ} → Config → Log w → ℕ → Channel → 
 deepest config [] link ch = 0
 deepest config (x ∷ log) link ch = max (deepest config log link ch) (length ((after config (x ∷ log)).channels link ch))
 
--- The log is one of a configuration within its limits, and the parts hold what the whole is after it.
-pub record IsReached {w : ℕ} {A M : Type 0} (knows : A → End w → Type 0) (terms : A → Terms) (perm_of : M → ℕ → ℕ → Perm) (config : Config) (parts : Parts w A M) (log : Log w) : Type 0 where
+-- The log is one of a configuration within its limits, and the contents are what the whole is after it.
+pub record IsReached {w : ℕ} {A M : Type 0} (knows : A → End w → Type 0) (terms : A → Terms) (perm_of : M → ℕ → ℕ → Perm) (config : Config) (contents : Contents w A M) (log : Log w) : Type 0 where
   pub given : IsGiven config log
-  pub holds : Holds knows terms perm_of config parts (after config log)
-  pub depths : (k : ℕ) (ch : Channel) (d : Ring w) → k < clients_of config → (slice_index_or parts.rings.all.items (place k ch) d).deepest ≡ deepest config log k ch
+  pub holds : Holds knows terms perm_of config contents.parts (after config log)
+  pub requests_are : contents.outstanding.requests ≡ requests log
+  pub releases_are : contents.outstanding.releases ≡ releases log
+  pub depths : (k : ℕ) (ch : Channel) (d : Ring w) → k < clients_of config → (slice_index_or contents.parts.rings.all.items (place k ch) d).deepest ≡ deepest config log k ch
 
 -- the first limit that is broken, or want of memory
 abbrev pub IsFault : Config → NewFault → Type 0
 IsFault config fault = (config_fault config ≡ Some fault) ⊎ ((config_fault config ≡ None) × (fault ≡ Memory))
 
 -- A new world is reached by nothing. There is none for the first limit that is broken, or for want of memory.
-abbrev pub IsNewWorld : {w : ℕ} {A M : Type 0} → (A → End w → Type 0) → (A → Terms) → (M → ℕ → ℕ → Perm) → Config → Result (Parts w A M) NewFault → Type 0
-IsNewWorld knows terms perm_of config (Ok parts) = IsReached knows terms perm_of config parts []
+abbrev pub IsNewWorld : {w : ℕ} {A M : Type 0} → (A → End w → Type 0) → (A → Terms) → (M → ℕ → ℕ → Perm) → Config → Result (Contents w A M) NewFault → Type 0
+IsNewWorld knows terms perm_of config (Ok contents) = IsReached knows terms perm_of config contents []
 IsNewWorld knows terms perm_of config (Err fault) = IsFault config fault
 
 -- Where there is a world the events have happened, with these outcomes. Otherwise the outcomes are as they were.
-abbrev pub IsReplayed : {w : ℕ} {A M : Type 0} → (A → End w → Type 0) → (A → Terms) → (M → ℕ → ℕ → Perm) → Config → List (Event w) → List (Outcome w) → List (Outcome w) → Result (Parts w A M) NewFault → Type 0
-IsReplayed knows terms perm_of config events old new (Ok parts) = IsReached knows terms perm_of config parts (logged events new [])
+abbrev pub IsReplayed : {w : ℕ} {A M : Type 0} → (A → End w → Type 0) → (A → Terms) → (M → ℕ → ℕ → Perm) → Config → List (Event w) → List (Outcome w) → List (Outcome w) → Result (Contents w A M) NewFault → Type 0
+IsReplayed knows terms perm_of config events old new (Ok contents) = IsReached knows terms perm_of config contents (logged events new [])
 IsReplayed knows terms perm_of config events old new (Err fault) = IsNewWorld knows terms perm_of config (Err fault) × (new ≡ old)
 
 -- the clients are as the configuration says, and nothing has happened to them

@@ -1,16 +1,20 @@
 //! A world of a manager and its clients.
 
-ghost use Rattle.std.specs.Prelude.{ℕ, [], ◌∷◌, ◌≡◌, ◌≤◌, ◌<◌, length, slice_set};
+ghost use Rattle.std.specs.Prelude.{ℕ, [], ◌∷◌, ◌≡◌, ◌≤◌, ◌<◌, ◌+◌, length, slice_set, None};
 ghost use Rattle.tl_beat.specs.Width.{IsWidth};
 ghost use Rattle.tl_params.specs.declared.config.Config.{Config};
+ghost use Rattle.tl_world.specs.Load;
 ghost use Rattle.tl_world.specs.Log.{Log, after, logged};
 ghost use Rattle.tl_world.specs.Step.{stepped};
 ghost use Rattle.tl_world.specs.World.{IsReached, IsNewWorld, IsReplayed, AreReady, IsEmpty, held_by, copy_by, deepest_by};
 ghost use Rattle.tl_world.specs.Movable;
+ghost use Rattle.tl_world.specs.Movable.{drained};
 
 use crate::clients::{copy_at, held_at};
+use crate::contents::Contents;
 use crate::event::{Event, Outcome};
 use crate::make::make_rings;
+use crate::open::Open;
 use crate::parts::Parts;
 use crate::typed::typed;
 use std::alloc::Global;
@@ -35,16 +39,16 @@ fn put<const W: usize>(outcomes: &mut [Outcome<W>], i: usize, outcome: Outcome<W
 /// configuration and log by which the world is reached: of all that can have happened to it.
 #[derive(Drop)]
 pub struct World<const W: usize, A: Agent<W>, D: Directory> {
-    parts: Parts<W, A, D>,
+    contents: Contents<W, A, D>,
 }
 
 impl<const W: usize, A: Agent<W>, D: Directory> Model for World<W, A, D> {
     ghost use Rattle.tl_beat.specs.Width.{IsWidth};
-    ghost use Rattle.tl_world.specs.declared.parts.Parts.{Parts};
+    ghost use Rattle.tl_world.specs.declared.contents.Contents.{Contents};
 
-    ghost Value = { Parts W A D };
+    ghost Value = { Contents W A D };
 
-    ghost view = { λ w. w.parts };
+    ghost view = { λ w. w.contents };
 
     ghost invariant = { λ w. IsWidth W };
 }
@@ -65,12 +69,17 @@ impl<const W: usize, A: Agent<W>, D: Directory> World<W, A, D> {
     {
         let manager = Manager::new(alloc, &config, directory)?;
         let rings = make_rings(alloc, &config)?;
+        let parts = Parts {
+            clients,
+            manager,
+            rings,
+        };
+        let outstanding = Open {
+            requests: 0,
+            releases: 0,
+        };
         Ok(World {
-            parts: Parts {
-                clients,
-                manager,
-                rings,
-            },
+            contents: Contents { parts, outstanding },
         })
     }
 
@@ -82,7 +91,9 @@ impl<const W: usize, A: Agent<W>, D: Directory> World<W, A, D> {
             result ≡ (stepped config event.entry (after config log)).outcome }
     {
         typed(&event);
-        self.parts.happen(event)
+        let outcome = self.contents.parts.happen(event);
+        self.contents.outstanding.count(&event, &outcome);
+        outcome
     }
 
     /// The events happen one after another: what comes of each.
@@ -124,7 +135,32 @@ impl<const W: usize, A: Agent<W>, D: Directory> World<W, A, D> {
         ensures { (config : Config) (log : Log W) → IsReached A.knows A.terms D.perm_of config self.now log →
             result ≡ Movable.next_delivery config (after config log) }
     {
-        self.parts.next_delivery()
+        self.contents.parts.next_delivery()
+    }
+
+    /// Delivers what is next until nothing is: the number of deliveries, as many at most as what is
+    /// outstanding can need.
+    pub fn drain(&mut self) -> u64
+        ensures reached { (config : Config) (log : Log W) → IsReached A.knows A.terms D.perm_of config self.old log →
+            IsReached A.knows A.terms D.perm_of config self.new (drained config result log) }
+        ensures number { (config : Config) (log : Log W) → IsReached A.knows A.terms D.perm_of config self.old log →
+            length (drained config result log) ≡ result + length log }
+        ensures few { (config : Config) (log : Log W) → IsReached A.knows A.terms D.perm_of config self.old log →
+            result ≤ Load.load log }
+        ensures stands { (config : Config) (log : Log W) → IsReached A.knows A.terms D.perm_of config self.old log →
+            result < Load.load log → Movable.next_delivery config (after config (drained config result log)) ≡ None }
+    {
+        let _ = &self.contents;
+        let load = self.load();
+        for count in 0..load {
+            match self.next_delivery() {
+                None => return count,
+                Some((link, channel)) => {
+                    self.step(Event::Deliver { link, channel });
+                }
+            }
+        }
+        load
     }
 
     /// What a client holds of a block: None where there is no such client.
@@ -132,7 +168,7 @@ impl<const W: usize, A: Agent<W>, D: Directory> World<W, A, D> {
         ensures { (config : Config) (log : Log W) → IsReached A.knows A.terms D.perm_of config self.now log →
             result ≡ held_by config client block (after config log) }
     {
-        held_at(&self.parts.clients, usize::from(client), block)
+        held_at(&self.contents.parts.clients, usize::from(client), block)
     }
 
     /// The bytes of a client's copy of a block: None where it has none, or there is no such client.
@@ -140,7 +176,7 @@ impl<const W: usize, A: Agent<W>, D: Directory> World<W, A, D> {
         ensures { (config : Config) (log : Log W) → IsReached A.knows A.terms D.perm_of config self.now log →
             result ≡ copy_by config client block (after config log) }
     {
-        copy_at(&self.parts.clients, usize::from(client), block)
+        copy_at(&self.contents.parts.clients, usize::from(client), block)
     }
 
     /// The greatest number of beats that ever stood in a channel: 0 for a link without a client.
@@ -148,6 +184,14 @@ impl<const W: usize, A: Agent<W>, D: Directory> World<W, A, D> {
         ensures { (config : Config) (log : Log W) → IsReached A.knows A.terms D.perm_of config self.now log →
             result ≡ deepest_by config log link.0 channel }
     {
-        self.parts.rings.deepest(link, channel)
+        self.contents.parts.rings.deepest(link, channel)
+    }
+
+    /// How many deliveries what is outstanding can still need.
+    pub fn load(&self) -> u64
+        ensures { (config : Config) (log : Log W) → IsReached A.knows A.terms D.perm_of config self.now log →
+            result ≡ Load.load log }
+    {
+        self.contents.outstanding.load::<W>()
     }
 }

@@ -18,12 +18,16 @@ pub mod AskedWell
 pub mod AtOnce
 pub mod AtRequests
 pub mod Beats
+mod Beginnings
 pub mod Beside
 pub mod BesideAsked
 pub mod BesideKinds
 pub mod BesideRequests
 pub mod BesideTaken
 pub mod Blocks
+mod Bounded
+mod Brought
+mod Capacities
 pub mod Carried
 pub mod CarriedEvents
 pub mod CarriedMoves
@@ -46,11 +50,14 @@ pub mod Coherence
 pub mod Continuing
 pub mod Conveyed
 pub mod Counted
-pub mod Drained
+mod Distinct
 pub mod Due
 pub mod Ended
 pub mod Ending
+mod Ends
+mod EventFalls
 pub mod Facts
+mod Falls
 pub mod FirstToken
 pub mod Firsts
 pub mod FlowAccess
@@ -87,6 +94,7 @@ pub mod Flows
 pub mod FollowCases
 pub mod FollowKept
 pub mod Following
+mod Frames
 pub mod Fresh
 pub mod Fronts
 pub mod Given
@@ -95,6 +103,7 @@ pub mod Goods
 pub mod Granted
 pub mod GrantedAll
 pub mod Granting
+mod Grown
 pub mod Happened
 pub mod Heard
 pub mod HeardAfter
@@ -106,8 +115,10 @@ pub mod InvariantKept
 pub mod KnownProbed
 pub mod Landed
 pub mod Lawful
-pub mod Loads
+mod Leftover
+mod Lessening
 pub mod Local
+mod Lone
 pub mod Machined
 pub mod Made
 pub mod ManagedAcks
@@ -131,18 +142,27 @@ pub mod Movables
 pub mod Moved
 pub mod Movement
 pub mod Moves
+mod Moving
 pub mod OneMemory
 pub mod OpenAsks
 pub mod OpenCounts
 pub mod OpenKinds
 pub mod Orders
 pub mod Outstanding
+mod Owed
+mod OwedAfter
+mod OwedKinds
+mod OwedReports
+mod OwedRequests
+mod Owing
+mod Owned
 pub mod Passes
 pub mod Passing
 pub mod Performing
 pub mod PhaseSteps
 pub mod Phases
 pub mod Play
+mod Popped
 pub mod ProbeDelivered
 pub mod Probed
 pub mod ProbesAfter
@@ -151,27 +171,38 @@ pub mod Progress
 pub mod Queues
 pub mod Quiet
 pub mod Quieted
+mod Remainders
 pub mod Rendered
+mod ReportFalls
 pub mod Reported
 pub mod Reporting
 pub mod ReportsAfter
+mod RequestFalls
 pub mod Requests
 pub mod RequestsDelivered
 pub mod RequestsHanded
 pub mod RequestsTaken
+mod ResponseFalls
 pub mod ResponseOrder
+mod Room
 pub mod Rows
 pub mod Runs
 pub mod Seen
 pub mod Sending
 pub mod Served
+mod Settling
 pub mod Showing
+mod Shown
 pub mod Sized
 pub mod SizedAfter
 pub mod SoundAfter
 pub mod Soundness
+mod Stalling
+mod Standing
 pub mod Stepping
 pub mod Steps
+mod Still
+mod Strangers
 pub mod Sums
 pub mod Taken
 pub mod TakenAll
@@ -181,4 +212,15 @@ pub mod Unmoved
 pub mod Unseen
 pub mod UnseenSteps
 pub mod Waiting
+mod Weights
 pub mod Whole
+pub mod Drained
+pub mod Loads
+pub mod Delivered
+pub mod FlowLog
+pub mod Flowing
+pub mod Handing
+pub mod ReleasesAfter
+pub mod RequestsStalls
+pub mod Services
+pub mod SourcesServed

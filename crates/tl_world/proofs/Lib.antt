@@ -216,11 +216,3 @@ mod Weights
 pub mod Whole
 pub mod Drained
 pub mod Loads
-pub mod Delivered
-pub mod FlowLog
-pub mod Flowing
-pub mod Handing
-pub mod ReleasesAfter
-pub mod RequestsStalls
-pub mod Services
-pub mod SourcesServed

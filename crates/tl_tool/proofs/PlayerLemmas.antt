@@ -1,12 +1,11 @@
 -- What a judge of schedules answers, and that each schedule has a text.
-use Rattle.std.proofs.Common.{◌≡◌, ◌<◌, ◌≤◌, ℕ, zero, suc, ◌+◌, Bool, true, false, List, [], ◌∷◌, ◌++◌, length, refl, sym, ◌∙◌, ap, subst, arith, append_assoc, length-append, inl, inr}
+use Rattle.std.proofs.Common.{◌≡◌, ℕ, zero, suc, ◌+◌, Bool, List, [], ◌∷◌, ◌++◌, length, refl, sym, ◌∙◌, ap, subst, arith, append_assoc, length-append, inl, inr}
 use Rattle.std.specs.declared.alloc.Global.{Global}
 use Rattle.std.specs.Prelude.{◌⊎◌, IfOk, Option, Some, None, Result, Ok, Err}
 use Rattle.std.proofs.lemmas.List.{append-nil}
 use Rattle.tl_beat.specs.declared.beat.Link.{Link}
 use Rattle.tl_beat.specs.declared.opcode.Channel.{Channel}
 use Rattle.tl_beat.specs.Width.{IsWidth}
-use Rattle.tl_params.specs.declared.config.ClientConfig.{ClientConfig}
 use Rattle.tl_params.specs.declared.config.Config.{Config}
 use Rattle.tl_params.specs.Config.{config_fault}
 use Rattle.tl_schedule.specs.declared.header.Schedule.{Schedule}
@@ -19,8 +18,6 @@ use Rattle.tl_schedule.specs.EventLine.{SpellsLine, event_fault}
 use Rattle.tl_schedule.specs.HeaderReading.{Named, header_at}
 use Rattle.tl_schedule.specs.Schedule.{SpellsSchedule, profile_of, width_of}
 use Rattle.tl_schedule.proofs.HeaderLemmas.{read_spelled, spelled_read}
-use Rattle.tl_words.specs.declared.command.Width.{Width}
-use Rattle.tl_words.specs.declared.command.Width.TheVariants as width
 use Rattle.tl_world.specs.Headline.{IsGiven, AreTyped}
 use Rattle.tl_world.specs.Log.{Log, IsLog, after}
 use Rattle.tl_world.specs.Movable.{drained, next_delivery, with_delivery}

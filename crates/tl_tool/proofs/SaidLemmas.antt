@@ -1,6 +1,6 @@
 -- What is said in a line has the sizes of its types, and each line says something or nothing.
-use Rattle.std.proofs.Common.{◌≡◌, ◌<◌, ◌≤◌, ℕ, ◌+◌, ◌-◌, ◌%◌, ◌^◌, Bool, true, false, cond, List, [], ◌∷◌, ◌++◌, length, take, refl, sym, subst, arith, inl, inr, length-append, lt-ltb, lit<}
-use Rattle.std.specs.Prelude.{◌⊎◌, ◌||◌, not, nat_lt, replicate, if◌then◌else◌, Option, Some, None, Result, Ok, Err}
+use Rattle.std.proofs.Common.{◌≡◌, ◌<◌, ◌≤◌, ℕ, ◌-◌, ◌%◌, ◌^◌, Bool, true, false, cond, List, ◌++◌, length, take, refl, sym, subst, arith, inl, inr, length-append, lt-ltb, lit<}
+use Rattle.std.specs.Prelude.{◌⊎◌, ◌||◌, not, nat_lt, replicate, if◌then◌else◌, Result, Ok, Err}
 use Rattle.std.specs.Io.BufRead.{ends_with_byte}
 use Rattle.std.proofs.Math.Nat.{pow-le-pow_right}
 use Rattle.std.proofs.lemmas.List.{length-take, length-replicate}
@@ -8,7 +8,7 @@ use Rattle.tl_beat.specs.Width.{IsWidth}
 use Rattle.tl_world.specs.declared.event.Event.{Event}
 use Rattle.tl_world.specs.Headline.{IsTyped}
 use Rattle.tl_schedule.specs.declared.line.EventFault.{EventFault}
-use Rattle.tl_schedule.specs.declared.line.EventFault.TheVariants.{F1, F8}
+use Rattle.tl_schedule.specs.declared.line.EventFault.TheVariants.{F1}
 use Rattle.tl_schedule.specs.declared.line.Line.{Line}
 use Rattle.tl_schedule.specs.EventLine.{Asked, Get, Put, Part, Arith, Logic, Hint, AskedFits, Fits, Said, Load, Store, Acquire, Whole, Release, Access, Deliver, SpellsEvent, SpellsLine, asked_payload, event_fault, event_of, payload_of}
 use Rattle.tl_schedule.specs.EventReading.{event_at, line_at, or_else}

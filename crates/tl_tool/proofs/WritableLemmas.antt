@@ -1,5 +1,5 @@
 -- A beat that was delivered has room in its line.
-use Rattle.std.proofs.Common.{◌≡◌, ℕ, ◌<◌, ◌≤◌, ◌^◌, Bool, true, false, not, ◌&&◌, refl, sym, ◌∙◌, ap, subst, arith, inl, inr, List, [], ◌∷◌, ◌++◌}
+use Rattle.std.proofs.Common.{◌≡◌, ℕ, ◌<◌, ◌≤◌, ◌^◌, Bool, true, false, ◌&&◌, refl, sym, ◌∙◌, ap, subst, arith, inl, inr, [], ◌∷◌, ◌++◌}
 use Rattle.std.specs.Prelude.{Option, Some, None, option_map, is_some, is_none, ◌==◌, slice_get, if◌then◌else◌}
 use Rattle.std.proofs.lemmas.Bool.{cases_lt, eqb-true, eqb-false, ne_eqb, not-false, both_ways, and_parts}
 use Rattle.tl_beat.specs.declared.beat.Link.{Link}
@@ -20,10 +20,10 @@ use Rattle.tl_params.specs.declared.config.Config.{Config}
 use Rattle.tl_params.specs.declared.level.Level.{Level}
 use Rattle.tl_params.specs.declared.profile.Profile.{Profile}
 use Rattle.tl_params.specs.declared.rule.Rule.{Rule}
-use Rattle.tl_params.specs.declared.rule.Rule.TheVariants.{L1, L2, L3, L4, L5, L6, L7}
+use Rattle.tl_params.specs.declared.rule.Rule.TheVariants.{L1, L2, L3, L4, L5, L7}
 use Rattle.tl_params.specs.Param.{cap_of}
 use Rattle.tl_rules.specs.Conformance.{broken_after, broken_given, is_legal}
-use Rattle.tl_rules.specs.Legality.{a_has_mask, a_has_param, a_has_size, breaks_l1, breaks_l2, breaks_l3, breaks_l4, breaks_l5, breaks_l6, breaks_l7, c_has_param, c_has_source, d_has_param, d_has_sink, illegal, is_aligned, is_full_mask, is_one_of}
+use Rattle.tl_rules.specs.Legality.{a_has_mask, a_has_param, a_has_size, breaks_l1, breaks_l2, breaks_l3, breaks_l4, breaks_l5, breaks_l7, c_has_param, c_has_source, d_has_param, d_has_sink, illegal, is_aligned, is_full_mask, is_one_of}
 use Rattle.tl_rules.proofs.Bursts.{next_rule}
 use Rattle.tl_rules.proofs.Sizes.{access-small, response-small}
 use Rattle.tl_rules.proofs.Takeable.{full_mask-narrow, part_mask-narrow}
@@ -39,8 +39,8 @@ use Rattle.tl_world.specs.Draining.{is_moving}
 use Rattle.tl_world.specs.Flow.{flow}
 use Rattle.tl_world.specs.Headline.{IsGiven}
 use Rattle.tl_world.specs.Log.{Log, IsLog, after}
-use Rattle.tl_world.specs.Step.{stepped, stepped_at, client_of}
-use Rattle.tl_world.specs.System.{System, terms_at}
+use Rattle.tl_world.specs.Step.{stepped, stepped_at}
+use Rattle.tl_world.specs.System.{terms_at}
 use Rattle.tl_world.proofs.Flows.{flows}
 use Rattle.tl_world.proofs.Outstanding.{first-moved}
 use Rattle.tl_tool.specs.Playing.{HasMask, HasMaskIn}

@@ -23,7 +23,7 @@ use Rattle.tl_tool.specs.declared.fault.Fault.TheVariants.{Event as NoEvent}
 use Rattle.tl_tool.specs.declared.player.Player.{Player}
 use Rattle.tl_tool.specs.declared.player.Player.TheVariants.{Waiting, Four, Eight, Sixteen}
 use Rattle.tl_tool.specs.declared.status.Status.{Status}
-use Rattle.tl_tool.specs.Played.{HeadsSchedule, Played, PlayedAfter, Plays, deliveries_text, event_text, header_text, outcome_after}
+use Rattle.tl_tool.specs.Played.{HeadsSchedule, Played, PlayedAfter, Plays, deliveries_text, event_text, outcome_after}
 
 -- the mask of a beat that was taken has 16 bits
 abbrev pub HasMask : {w : ℕ} → Beat w → Type 0

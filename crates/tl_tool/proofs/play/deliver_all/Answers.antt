@@ -1,4 +1,4 @@
-use Rattle.std.proofs.Common.{rules, ◌≡◌, ◌≤◌, sym, inl, inr, arith, ◌∙◌}
+use Rattle.std.proofs.Common.{rules, ◌≡◌, ◌≤◌, sym, inl, inr, arith}
 use Rattle.tl_world.specs.Load.{load}
 use Rattle.tl_tool.proofs.PlayedLemmas.{delivered-none, delivered-more, drains-all}
 use Rattle.tl_tool.proofs.play.deliver_all.Goals as goal

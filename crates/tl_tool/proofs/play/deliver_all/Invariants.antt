@@ -1,4 +1,3 @@
-use Rattle.std.proofs.Common.{List, ℕ}
 use Rattle.tl_params.specs.declared.config.Config.{Config}
 use Rattle.tl_world.specs.Log.{Log}
 use Rattle.tl_tool.specs.Playing.{Reaches}

@@ -1,4 +1,3 @@
-use Rattle.std.proofs.Common.{◌≡◌, sym, ◌∙◌, ap, true, false}
 use Rattle.tl_tool.proofs.WritableLemmas.{writable}
 use Rattle.tl_tool.proofs.PlayedLemmas.{happened}
 use Rattle.tl_tool.proofs.play.happen.Goals as goal

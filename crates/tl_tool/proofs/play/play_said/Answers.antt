@@ -1,4 +1,4 @@
-use Rattle.std.proofs.Common.{rules, ◌≡◌, ◌++◌, [], sym, true}
+use Rattle.std.proofs.Common.{sym}
 use Rattle.std.proofs.lemmas.List.{append-nil}
 use Rattle.tl_tool.proofs.PlayedLemmas.{drain-said, drain-told, event-said}
 use Rattle.tl_tool.proofs.play.play_said.Goals as goal

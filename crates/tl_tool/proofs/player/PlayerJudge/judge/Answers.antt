@@ -1,4 +1,3 @@
-use Rattle.std.proofs.Common.{refl, sym}
 use Rattle.tl_tool.specs.declared.player.Player.TheVariants.{Four, Eight, Sixteen}
 use Rattle.tl_tool.proofs.PlayerLemmas.{header-opened, header-refused, judged}
 use Rattle.tl_tool.proofs.player.PlayerJudge.judge.Goals as goal

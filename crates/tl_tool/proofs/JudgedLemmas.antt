@@ -153,7 +153,7 @@ header-short version levels few =
     let text = version_text version ++ levels_text levels in
     omega (arith, length-append text (10 ∷ []), length-append (version_text version) (levels_text levels), version-short version, levels-short levels)
 
-ends_in : (front : List ℕ) → ends_with_byte 10 (front ++ 10 ∷ []) ≡ true
+pub ends_in : (front : List ℕ) → ends_with_byte 10 (front ++ 10 ∷ []) ≡ true
 ends_in front =
     let some : 0 < length (front ++ 10 ∷ []) = omega (arith, length-append front (10 ∷ [])) in
     let last : length (front ++ 10 ∷ []) - 1 ≡ length front = omega (arith, length-append front (10 ∷ [])) in

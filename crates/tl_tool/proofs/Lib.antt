@@ -9,3 +9,8 @@ pub mod SpelledLemmas
 pub mod HeaderLemmas
 pub mod JudgedLemmas
 pub mod OnceLemmas
+pub mod OpeningLemmas
+pub mod PlayedLemmas
+pub mod PlayerLemmas
+pub mod SaidLemmas
+pub mod WritableLemmas

@@ -16,7 +16,7 @@ use Rattle.tl_rules.specs.Conformance.{Trace, broken_on_link}
 use Rattle.tl_words.specs.declared.command.Width.{Width}
 use Rattle.tl_words.specs.declared.command.Width.TheVariants as width
 use Rattle.tl_tool.specs.declared.fault.Fault.{Fault}
-use Rattle.tl_tool.specs.declared.fault.Fault.TheVariants.{Header, Line, Rule as Breaks}
+use Rattle.tl_tool.specs.declared.fault.Fault.TheVariants.{Header, Line, Rule as Breaks, Event}
 use Rattle.tl_tool.specs.declared.status.Status.{Status}
 use Rattle.tl_tool.specs.Decoded.{Decodes}
 use Rattle.tl_tool.specs.Fault.{fault_text}
@@ -69,11 +69,15 @@ module _ {w : ℕ} (width : IsWidth w) (levels : List Level) (p : Profile) where
       let rules : broken_on_link levels p (k, b) t ≡ broken_on_link levels p (l, c) t = ap (λ (x : Link × Beat w). broken_on_link levels p x t) same in
       cc
   fault_once t line Header g is so = absurd is
+  fault_once t line (Event x) g is so = absurd is
   fault_once t line (Line x) Header is so = absurd so
+  fault_once t line (Line x) (Event y) is so = absurd so
   fault_once t line (Breaks r) Header is so = absurd so
+  fault_once t line (Breaks r) (Event y) is so = absurd so
 
   good_or_bad : (t : Trace w) (line : List ℕ) (k : Link) (b : Beat w) (fault : Fault) → Spells line k b → broken_on_link levels p (k, b) t ≡ None → IsAtFault levels p t line fault → ⊥
   good_or_bad t line k b Header spells good is = is
+  good_or_bad t line k b (Event x) spells good is = is
   good_or_bad t line k b (Line x) spells good is = spells_or_fails line k b x width spells is
   good_or_bad t line k b (Breaks r) spells good (l, c, spells_so, breaks) =
       let same = same_beat line k l b c width spells spells_so in

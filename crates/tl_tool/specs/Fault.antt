@@ -2,10 +2,11 @@
 use Rattle.std.specs.Prelude.{ℕ, List, ◌++◌, codes}
 use Rattle.std.specs.Fmt.{decimal}
 use Rattle.tl_beat.specs.declared.fault.LineFault.TheVariants.{F1, F2, F3, F4, F5, F6}
+use Rattle.tl_schedule.specs.declared.line.EventFault.TheVariants as event
 use Rattle.tl_params.specs.declared.rule.Rule as rule_type
 use Rattle.tl_params.specs.declared.rule.Rule.TheVariants as rule
 use Rattle.tl_tool.specs.declared.fault.Fault.{Fault}
-use Rattle.tl_tool.specs.declared.fault.Fault.TheVariants.{Header, Line, Rule}
+use Rattle.tl_tool.specs.declared.fault.Fault.TheVariants.{Header, Line, Rule, Event}
 
 -- a rule's name
 abbrev pub rule_name : rule_type.Rule → List ℕ
@@ -42,6 +43,8 @@ fault_name (Line F4) = codes "F4"
 fault_name (Line F5) = codes "F5"
 fault_name (Line F6) = codes "F6"
 fault_name Header = codes "F7"
+fault_name (Event event.F1) = codes "F1"
+fault_name (Event event.F8) = codes "F8"
 fault_name (Rule rule) = rule_name rule
 
 -- `line N X`: line N, from 1 on, is at fault for X

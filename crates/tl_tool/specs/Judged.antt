@@ -9,7 +9,7 @@ use Rattle.tl_params.specs.declared.profile.Profile.{Profile}
 use Rattle.tl_rules.specs.Conformance.{Trace, broken_on_link}
 use Rattle.tl_words.specs.declared.command.Width.{Width}
 use Rattle.tl_tool.specs.declared.fault.Fault.{Fault}
-use Rattle.tl_tool.specs.declared.fault.Fault.TheVariants.{Header, Line, Rule as Breaks}
+use Rattle.tl_tool.specs.declared.fault.Fault.TheVariants.{Header, Line, Rule as Breaks, Event}
 use Rattle.tl_tool.specs.declared.status.Status.{Status}
 use Rattle.tl_tool.specs.declared.status.Status.TheVariants.{Clean, Broken}
 use Rattle.tl_tool.specs.Fault.{fault_text}
@@ -27,6 +27,7 @@ IsAtFault {w} levels p t line (Line fault) = line_fault w line ≡ Some fault
 IsAtFault {w} levels p t line (Breaks rule) =
     (link : Link) × (beat : Beat w) × Spells line link beat × (broken_on_link levels p (link, beat) t ≡ Some rule)
 IsAtFault {w} levels p t line Header = ⊥
+IsAtFault {w} levels p t line (Event fault) = ⊥
 
 -- These lines, behind a header and the beats of t, are judged so: `clean N` for all beats, where each
 -- line spells one that breaks no rule; otherwise `line N X` for the first line at fault, whatever

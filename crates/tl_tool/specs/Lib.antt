@@ -13,4 +13,6 @@ pub mod Trace
 pub mod TraceReading
 pub mod Judged
 pub mod Watching
+pub mod Played
+pub mod Playing
 pub mod Told

@@ -7,16 +7,19 @@ use itoa::Buffer;
 use std::alloc::AllocError;
 use tl_beat::fault::LineFault;
 use tl_rules::rule::Rule;
+use tl_schedule::line::EventFault;
 
 /// What a line is at fault for.
 #[derive(Clone, Copy, Debug, PartialEq, Eq)]
 pub enum Fault {
-    /// The header of a trace was expected.
+    /// The header of a trace or of a schedule was expected.
     Header,
     /// The line spells no beat.
     Line(LineFault),
     /// The beat breaks a rule.
     Rule(Rule),
+    /// The line says no event.
+    Event(EventFault),
 }
 
 fn rule_name(rule: Rule) -> &'static str
@@ -63,6 +66,8 @@ impl Fault {
             Fault::Line(LineFault::F5) => "F5",
             Fault::Line(LineFault::F6) => "F6",
             Fault::Header => "F7",
+            Fault::Event(EventFault::F1) => "F1",
+            Fault::Event(EventFault::F8) => "F8",
             Fault::Rule(rule) => rule_name(rule),
         }
     }

@@ -6,6 +6,7 @@ ghost use Rattle.tl_tool.specs.Told.{text_told};
 
 use crate::decoder::Decoder;
 use crate::engine::judge_input;
+use crate::player::Player;
 use crate::status::{Status, ToolFault};
 use crate::watcher::Watcher;
 use std::alloc::Global;
@@ -14,7 +15,7 @@ use tl_words::command::{Command, Width};
 
 /// Runs a command: reads the input to its end or to the first line at fault, and writes the command's
 /// text of it. `decode` takes memory that doesn't grow with the input; `monitor` keeps what is unfinished,
-/// pending and held on each link besides.
+/// pending and held on each link besides, and `run` the world that the schedule's header names.
 ///
 /// `Broken` says that a `line N X` was written, and that it stands whatever follows the input, unless
 /// line N is what stands behind the last LF at the end of the input: fewer than 256 bytes, or nothing.
@@ -37,6 +38,12 @@ pub fn run_tool<R: Read, W: Write>(
             Width::Sixteen => judge_input(alloc, Decoder::<16> {}, reader, writer),
         },
         Command::Monitor => judge_input(alloc, Watcher::Waiting(alloc), reader, writer),
+        Command::Run { trace: false } => {
+            judge_input(alloc, Player::<0>::Waiting(alloc), reader, writer)
+        }
+        Command::Run { trace: true } => {
+            judge_input(alloc, Player::<1>::Waiting(alloc), reader, writer)
+        }
     }
 }
 

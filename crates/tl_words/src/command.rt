@@ -15,4 +15,6 @@ pub enum Command {
     Decode { width: Width },
     /// Judges a recorded trace.
     Monitor,
+    /// Plays a schedule: writes what comes of each event, or the trace of it.
+    Run { trace: bool },
 }

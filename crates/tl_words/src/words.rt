@@ -1,16 +1,16 @@
-//! Reads the program's words: `tltool decode [--width 4|8|16] [FILE]`, `tltool monitor [FILE]`, and
-//! those that ask for help or the version.
+//! Reads the program's words: `tltool decode [--width 4|8|16] [FILE]`, `tltool monitor [FILE]`,
+//! `tltool run [--trace] [FILE]`, and those that ask for help or the version.
 
 ghost use Rattle.std.specs.Prelude.{◌≡◌, IfOk, IfErr, true, false, List, Some, map, option_map};
 ghost use Rattle.std.specs.String.{string_bytes};
 ghost use Rattle.clap.specs.Words.{Row, Text, app_of, is_simple_and_free, kind_of, subcommand_of};
 ghost use Rattle.clap.specs.declared.builder.command.Command.TheViews.{out-Command};
 ghost use Rattle.tl_words.specs.Refused.{IsRefusal, usage_status, words_fault};
-ghost use Rattle.tl_words.specs.Tool.{command_in, command_named, decode_of, file_in, monitor_of, tool_of, width_named};
+ghost use Rattle.tl_words.specs.Tool.{command_in, command_named, decode_of, file_in, flag_named, monitor_of, reading_of, run_of, tool_of, width_named};
 
 use crate::command::{Command, Width};
-use clap::Arg;
 use clap::error::ErrorKind;
+use clap::{Arg, ArgAction};
 use std::alloc::{AllocError, Global};
 
 /// Why the words give no command: they aren't of its form, or ask for help, or there is no memory.
@@ -61,6 +61,7 @@ const OUTCOMES: &str = "\
 At the first line at fault the text is `line N X`: N is its number, X what is wrong with it.
   F1 to F6      the line spells no beat
   F7            the first line is no header
+  F8            the line says no event
   L1 to L7      the beat is not a legal one by itself
   S1            the beat does not continue its burst
   H1 to H13     the beat breaks the order of messages
@@ -75,7 +76,8 @@ Exit status:
 Examples:
   printf '00 A 4 0 3 00 00000040 ff - 0\\n' | tltool decode
   tltool monitor recorded.trace
-  tail -n +2 recorded.trace | tltool decode";
+  tail -n +2 recorded.trace | tltool decode
+  tltool run --trace two_caches.schedule | tltool monitor";
 
 const VERSION: &str = "0.1.0";
 
@@ -106,18 +108,42 @@ fn monitor<'a>(alloc: Global) -> Result<clap::Command<'a>, AllocError>
         .arg(file)
 }
 
-fn tool<'a>(alloc: Global) -> Result<clap::Command<'a>, AllocError>
-    ensures { IfOk result (λ c. app_of c ≡ tool_of) }
+fn run<'a>(alloc: Global) -> Result<clap::Command<'a>, AllocError>
+    ensures app { IfOk result (λ c. app_of c ≡ run_of) }
+    ensures local { IfOk result (λ c. (out-Command c).has_globals ≡ false) }
+{
+    let trace = Arg::new(alloc, "trace")
+        .long("trace")
+        .action(ArgAction::SetTrue)
+        .help("Write the trace of the beats that move, with its header");
+    let file = Arg::new(alloc, "FILE").help(FILE_HELP);
+    clap::Command::new(alloc, "run")
+        .about("Plays a schedule: writes what comes of each event")
+        .after_help(OUTCOMES)
+        .arg(trace)?
+        .arg(file)
+}
+
+/// The program with its commands that read traces.
+fn reading<'a>(alloc: Global) -> Result<clap::Command<'a>, AllocError>
+    ensures { IfOk result (λ c. app_of c ≡ reading_of) }
 {
     let decode = decode(alloc)?;
     let monitor = monitor(alloc)?;
     clap::Command::new(alloc, "tltool")
-        .about("Reads and judges recorded TileLink traces")
+        .about("Reads and judges recorded TileLink traces, and plays schedules")
         .after_help(OUTCOMES)
         .version(VERSION)
         .subcommand_required(true)
         .subcommand(decode)?
         .subcommand(monitor)
+}
+
+fn tool<'a>(alloc: Global) -> Result<clap::Command<'a>, AllocError>
+    ensures { IfOk result (λ c. app_of c ≡ tool_of) }
+{
+    let run = run(alloc)?;
+    reading(alloc)?.subcommand(run)
 }
 
 /// The width that a word stands for, 8 bytes where there is no word.
@@ -133,9 +159,19 @@ fn width_named(word: Option<&str>) -> Option<Width>
     }
 }
 
-/// The command of this name, with the word of its width.
-fn command_named(name: &str, width: Option<&str>) -> Option<Command>
-    ensures { result ≡ command_named name.now (option_map (λ s. s.now) width.entry) }
+/// Whether a flag is given, by its word.
+fn flag_named(word: Option<&str>) -> bool
+    ensures { result ≡ flag_named (option_map (λ s. s.now) word.entry) }
+{
+    match word {
+        None => false,
+        Some(word) => word == "true",
+    }
+}
+
+/// The command of this name, with the words of its width and of its flag.
+fn command_named(name: &str, width: Option<&str>, trace: Option<&str>) -> Option<Command>
+    ensures { result ≡ command_named name.now (option_map (λ s. s.now) width.entry) (option_map (λ s. s.now) trace.entry) }
 {
     match name {
         "decode" => {
@@ -143,6 +179,9 @@ fn command_named(name: &str, width: Option<&str>) -> Option<Command>
             Some(Command::Decode { width })
         }
         "monitor" => Some(Command::Monitor),
+        "run" => Some(Command::Run {
+            trace: flag_named(trace),
+        }),
         _ => None,
     }
 }
@@ -184,7 +223,7 @@ pub fn invocation(alloc: Global, words: &[String]) -> Result<(Command, Option<St
         let error = tool.error(ErrorKind::MissingSubcommand, "a subcommand is required")?;
         return Err(WordsFault::Usage(error));
     };
-    let Some(command) = command_named(name, found.get_str("width")) else {
+    let Some(command) = command_named(name, found.get_str("width"), found.get_str("trace")) else {
         return Err(WordsFault::Usage(wrong_width(alloc, found.get_str("width"))?));
     };
     let file = copied(alloc, found.get_str("FILE"))?;

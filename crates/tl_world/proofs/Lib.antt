@@ -193,7 +193,7 @@ pub mod Runs
 pub mod Seen
 pub mod Sending
 pub mod Served
-mod Settling
+pub mod Settling
 pub mod Showing
 mod Shown
 pub mod Sized

@@ -18,7 +18,9 @@ fn gives_the_command_and_the_file(rt: HostRuntime) -> Result<(), Fail> {
     let sixteen = Command::Decode {
         width: Width::Sixteen,
     };
-    let rows: [(&[&str], Command, Option<&str>); 10] = [
+    let outcomes = Command::Run { trace: false };
+    let trace = Command::Run { trace: true };
+    let rows: [(&[&str], Command, Option<&str>); 14] = [
         (&["tltool", "decode"], eight, None),
         (&["tltool", "decode", "beats.txt"], eight, Some("beats.txt")),
         (&["tltool", "decode", "--width", "4"], four, None),
@@ -28,6 +30,10 @@ fn gives_the_command_and_the_file(rt: HostRuntime) -> Result<(), Fail> {
         (&["tltool", "decode", "--width", "8", "a"], eight, Some("a")),
         (&["tltool", "decode", "--width", "16"], sixteen, None),
         (&["tltool", "monitor"], Command::Monitor, None),
+        (&["tltool", "run"], outcomes, None),
+        (&["tltool", "run", "a"], outcomes, Some("a")),
+        (&["tltool", "run", "--trace"], trace, None),
+        (&["tltool", "run", "--trace", "a"], trace, Some("a")),
         (
             &["tltool", "monitor", "two_caches.trace"],
             Command::Monitor,
@@ -47,18 +53,22 @@ fn gives_the_command_and_the_file(rt: HostRuntime) -> Result<(), Fail> {
 
 #[test]
 fn refuses_other_words(rt: HostRuntime) -> Result<(), Fail> {
-    let rows: [(&[&str], i32); 11] = [
+    let rows: [(&[&str], i32); 15] = [
         (&["tltool"], 2),
         (&["tltool", "encode"], 2),
         (&["tltool", "decode", "--width", "5"], 2),
         (&["tltool", "decode", "a", "b"], 2),
         (&["tltool", "monitor", "--width", "4"], 2),
         (&["tltool", "monitor", "a", "b"], 2),
+        (&["tltool", "run", "--width", "4"], 2),
+        (&["tltool", "run", "--trace", "--trace"], 2),
+        (&["tltool", "run", "--trace=true"], 2),
         (&["tltool", "decode", "--version"], 2),
         (&["tltool", "--help"], 0),
         (&["tltool", "--version"], 0),
         (&["tltool", "decode", "--help"], 0),
         (&["tltool", "monitor", "--help"], 0),
+        (&["tltool", "run", "--help"], 0),
     ];
     for (words, status) in rows {
         let words = given(rt.alloc(), words)?;

@@ -1,6 +1,7 @@
 use Rattle.std.proofs.Common.{refl}
 use Rattle.tl_tool.proofs.DecodedLemmas.{decodes_more, judged_line}
 use Rattle.tl_tool.proofs.JudgedLemmas.{judged_total}
+use Rattle.tl_tool.proofs.PlayerLemmas.{played-total}
 use Rattle.tl_tool.proofs.tool.run_tool.Goals as goal
 
 pub judge_input-requires-clause-total : goal.judge_input-requires-clause-total
@@ -14,3 +15,9 @@ judge_input-requires-in-Sixteen-clause-total g c = λ judge. decodes_more 16 (ju
 
 pub judge_input-requires-in-Monitor-clause-total : goal.judge_input-requires-in-Monitor-clause-total
 judge_input-requires-in-Monitor-clause-total g c = judged_total
+
+pub judge_input-requires-in-Run-false-clause-total : goal.judge_input-requires-in-Run-false-clause-total
+judge_input-requires-in-Run-false-clause-total g c = played-total 0
+
+pub judge_input-requires-in-Run-true-clause-total : goal.judge_input-requires-in-Run-true-clause-total
+judge_input-requires-in-Run-true-clause-total g c = played-total 1

@@ -1,0 +1,103 @@
+-- What is said in a line has the sizes of its types, and each line says something or nothing.
+use Rattle.std.proofs.Common.{◌≡◌, ◌<◌, ◌≤◌, ℕ, ◌-◌, ◌%◌, ◌^◌, Bool, true, false, cond, List, ◌++◌, length, take, refl, sym, subst, arith, inl, inr, length-append, lt-ltb, lit<}
+use Rattle.std.specs.Prelude.{◌⊎◌, ◌||◌, not, nat_lt, replicate, if◌then◌else◌, Result, Ok, Err}
+use Rattle.std.specs.Io.BufRead.{ends_with_byte}
+use Rattle.std.proofs.Math.Nat.{pow-le-pow_right}
+use Rattle.std.proofs.lemmas.List.{length-take, length-replicate}
+use Rattle.tl_beat.specs.Width.{IsWidth}
+use Rattle.tl_world.specs.declared.event.Event.{Event}
+use Rattle.tl_world.specs.Headline.{IsTyped}
+use Rattle.tl_schedule.specs.declared.line.EventFault.{EventFault}
+use Rattle.tl_schedule.specs.declared.line.EventFault.TheVariants.{F1}
+use Rattle.tl_schedule.specs.declared.line.Line.{Line}
+use Rattle.tl_schedule.specs.EventLine.{Asked, Get, Put, Part, Arith, Logic, Hint, AskedFits, Fits, Said, Load, Store, Acquire, Whole, Release, Access, Deliver, SpellsEvent, SpellsLine, asked_payload, event_fault, event_of, payload_of}
+use Rattle.tl_schedule.specs.EventReading.{event_at, line_at, or_else}
+use Rattle.tl_schedule.proofs.EventLaws.{read_said, said_read}
+use Rattle.tl_tool.specs.Lines.{IsOpen}
+
+-- ---- sizes
+
+width-few : (w : ℕ) → IsWidth w → (0 < w) × (w ≤ 64)
+width-few w is = elim is [
+  | inl four ↦ (omega (arith, four), omega (arith, four))
+  | inr more ↦ elim more [ inl eight ↦ (omega (arith, eight), omega (arith, eight)) | inr sixteen ↦ (omega (arith, sixteen), omega (arith, sixteen)) ]
+]
+
+payload-long : (w size address : ℕ) (bytes : List ℕ) → IsWidth w → size ≤ 6 → length bytes ≡ 2 ^ size → length (payload_of w size address bytes) ≡ 64
+payload-long w size address bytes width small long = go (nat_lt (2 ^ size) w)
+  where
+    few : 2 ^ size ≤ 2 ^ 6
+    few = pow-le-pow_right {n = 2} (lit< tt) {i = size} {j = 6} small
+
+    filled : List ℕ
+    filled = bytes ++ replicate (64 - length bytes) 0
+
+    full : length filled ≡ 64
+    full = omega (arith, length-append bytes (replicate (64 - length bytes) 0), length-replicate {A = ℕ} (64 - length bytes) 0, long, few)
+
+    go : (b : Bool) → length (if b then replicate (address % w) 0 ++ (take (w - address % w) filled ++ replicate (64 - w) 0) else filled) ≡ 64
+    go true =
+        let within = width-few w width in
+        let below : address % w < w = omega (arith, within.0) in
+        let front = length-replicate {A = ℕ} (address % w) 0 in
+        let middle = length-take (w - address % w) filled in
+        let back = length-replicate {A = ℕ} (64 - w) 0 in
+        let both = length-append (take (w - address % w) filled) (replicate (64 - w) 0) in
+        let all = length-append (replicate (address % w) 0) (take (w - address % w) filled ++ replicate (64 - w) 0) in
+        omega (arith, within.1, below, front, middle, back, both, all, full)
+    go false = full
+
+asked-long : (w size address : ℕ) (asked : Asked) → IsWidth w → size ≤ 6 → AskedFits w size asked → length (asked_payload w size address asked) ≡ 64
+asked-long w size address Get width small fits = length-replicate {A = ℕ} 64 0
+asked-long w size address (Put bytes) width small (long, each) = payload-long w size address bytes width small long
+asked-long w size address (Part mask bytes) width small (room, are) = payload-long w size address bytes width small are.0
+asked-long w size address (Arith operation bytes) width small (long, each) = payload-long w size address bytes width small long
+asked-long w size address (Logic operation bytes) width small (long, each) = payload-long w size address bytes width small long
+asked-long w size address (Hint intent) width small fits = length-replicate {A = ℕ} 64 0
+
+typed-said : {w : ℕ} (said : Said) (fits : Fits w said) → IsWidth w → IsTyped {w = w} (event_of said fits)
+typed-said (Load client size address) fits width = tt
+typed-said (Store client size address value) fits width = tt
+typed-said (Acquire client block grow) fits width = tt
+typed-said (Whole client block bytes) (room, other, are) width = are.0
+typed-said (Release client block prune) fits width = tt
+typed-said {w} (Access client size address asked) (room, small, other, fits) width = asked-long w size address asked width small fits
+typed-said (Deliver link channel) fits width = tt
+
+pub typed-spelled : {w : ℕ} (line : List ℕ) (e : Event w) → IsWidth w → SpellsEvent line e → IsTyped e
+typed-spelled {w} line e width s = subst (λ (x : Event w). IsTyped x) s.means (typed-said s.said s.fits width)
+
+-- ---- lines
+
+-- a line that is read otherwise says nothing
+pub says-none : {w : ℕ} (line : List ℕ) (fault : EventFault) → IsWidth w → event_at {w = w} line ≡ Err fault → (said : Line w) → ¬ SpellsLine line said
+says-none {w} line fault width e said s = refused (sym e) (said_read (event_at line) line width refl said s)
+  where
+    refused : {r : Result (Line w) EventFault} → Err fault ≡ r → r ≡ Ok said → ⊥
+    refused p q = absurd cc
+
+pub says-or-not : {w : ℕ} (line : List ℕ) → IsWidth w → ((said : Line w) × SpellsLine line said) ⊎ ((said : Line w) → ¬ SpellsLine line said)
+says-or-not {w} line width = go (event_at line) refl
+  where
+    go : (r : Result (Line w) EventFault) → event_at line ≡ r → ((said : Line w) × SpellsLine line said) ⊎ ((said : Line w) → ¬ SpellsLine line said)
+    go (Ok said) e = inl (said, read_said (Ok said) line (sym e))
+    go (Err fault) e = inr (says-none line fault width e)
+
+-- a line with no LF at its end, or of more than 256 bytes
+is-open : (line : List ℕ) → IsOpen line → (nat_lt 256 (length line) || not (ends_with_byte 10 line)) ≡ true
+is-open line (inl ends) = go (nat_lt 256 (length line))
+  where
+    go : (b : Bool) → (b || not (ends_with_byte 10 line)) ≡ true
+    go true = refl
+    go false = rw ends refl
+is-open line (inr long) = rw (lt-ltb 256 (length line) long) refl
+
+pub open-fault : (line : List ℕ) → IsOpen line → event_fault line ≡ F1
+open-fault line is = rw (is-open line is) refl
+
+pub open-none : {w : ℕ} (line : List ℕ) → IsWidth w → IsOpen line → (said : Line w) → ¬ SpellsLine line said
+open-none {w} line width is = says-none line F1 width (read (nat_lt 256 (length line) || not (ends_with_byte 10 line)) (is-open line is))
+  where
+    read : (b : Bool) → b ≡ true → cond b (Err F1) (or_else (line_at {w = w} (take (length line - 1) line))) ≡ Err F1
+    read true e = refl
+    read false e = absurd cc

@@ -1,0 +1,82 @@
+//! Judges the lines of a schedule by playing them.
+
+ghost use Rattle.std.specs.Prelude.{◌≡◌, IfOk};
+ghost use Rattle.tl_tool.specs.Played.{Played};
+ghost use Rattle.tl_tool.specs.Playing.{KnowsSchedule, Opens, is_trace};
+
+use crate::fault::Fault;
+use crate::judge::Judge;
+use crate::opening::{put_header, world_of};
+use crate::play::play;
+use std::alloc::{AllocError, Global};
+use tl_client::any::AnyClient;
+use tl_manager::bits::BitDirectory;
+use tl_schedule::header::{Width, read_schedule};
+use tl_schedule::line::EventFault;
+use tl_world::world::World;
+
+/// Plays the lines of a schedule: the header, and then what happens to a world of the clients that it
+/// names. What comes of it is written, or the trace of it where `TRACES` is 1.
+#[derive(Drop)]
+pub enum Player<const TRACES: usize> {
+    /// The header hasn't been read.
+    Waiting(Global),
+    Four(World<4, AnyClient<4>, BitDirectory>),
+    Eight(World<8, AnyClient<8>, BitDirectory>),
+    Sixteen(World<16, AnyClient<16>, BitDirectory>),
+}
+
+/// A world of the clients that a header names. A line of another form names none.
+fn open<const TRACES: usize>(
+    alloc: Global,
+    line: &[u8],
+    out: &mut Vec<u8>,
+) -> Result<Option<Player<TRACES>>, AllocError>
+    ensures { IfOk result (Opens line.now out.old.items out.new.items) }
+{
+    let Some(schedule) = read_schedule(line) else {
+        return Ok(None);
+    };
+    put_header(TRACES == 1, schedule.version, &schedule.config, out)?;
+    let player = match schedule.version.width() {
+        Width::Four => Player::Four(world_of(alloc, schedule.config)?),
+        Width::Eight => Player::Eight(world_of(alloc, schedule.config)?),
+        Width::Sixteen => Player::Sixteen(world_of(alloc, schedule.config)?),
+    };
+    Ok(Some(player))
+}
+
+impl<const TRACES: usize> Judge for Player<TRACES> {
+    ghost knows = { KnowsSchedule };
+
+    ghost tells = { Played (is_trace TRACES) };
+
+    fn judge(&mut self, line: &[u8], out: &mut Vec<u8>) -> Result<Option<Fault>, AllocError> {
+        match self {
+            Player::Waiting(alloc) => match open(*alloc, line, out)? {
+                None => Ok(Some(Fault::Header)),
+                Some(player) => {
+                    *self = player;
+                    Ok(None)
+                }
+            },
+            Player::Four(world) => play(TRACES == 1, world, line, out),
+            Player::Eight(world) => play(TRACES == 1, world, line, out),
+            Player::Sixteen(world) => play(TRACES == 1, world, line, out),
+        }
+    }
+
+    fn open_fault(&self) -> Fault {
+        match self {
+            Player::Waiting(_) => Fault::Header,
+            _ => Fault::Event(EventFault::F1),
+        }
+    }
+
+    fn finish(&mut self, _count: u64, _out: &mut Vec<u8>) -> Result<Option<Fault>, AllocError> {
+        match self {
+            Player::Waiting(_) => Ok(Some(Fault::Header)),
+            _ => Ok(None),
+        }
+    }
+}

@@ -5,7 +5,7 @@
 PREFIX ?= /usr/local
 
 all:
-	cd crates/tltool && rt run -- decode ../../examples/beats.txt
+	cd crates/tltool && rt run -- decode ../tl_examples/data/beats.txt
 
 test:
 	rt ci

@@ -1,7 +1,7 @@
 -- Fields of digits at their places are read from left to right.
 use Rattle.std.proofs.Common.{◌≡◌, ℕ, suc, ◌+◌, ◌-◌, ◌*◌, ◌<◌, ◌≤◌, Bool, true, false, cond, List, [], ◌∷◌, length, take, drop, refl, sym, ◌∙◌, arith}
 use Rattle.std.proofs.lemmas.List.{take_rest}
-use Rattle.std.proofs.lemmas.Bool.{ltb-true}
+use Rattle.std.proofs.lemmas.Bool.{ltb-true, and_parts}
 use Rattle.std.specs.Prelude.{Ok, slice_index, ◌&&◌, nat_lt}
 use Rattle.std.specs.Int.{from_be_bytes}
 use mir.Syntax.{w32}
@@ -66,15 +66,11 @@ head_places bytes l1 l0 o p z s1 s0 long e2 e6 e8 e10 e13 v0 v1 v5 v7 v9 v11 v12
 abbrev four_digits : ℕ → ℕ → ℕ → ℕ → Bool
 four_digits a b c d = ((nat_lt a 16 && nat_lt b 16) && nat_lt c 16) && nat_lt d 16
 
-both : (p q : Bool) → (p && q) ≡ true → (p ≡ true) × (q ≡ true)
-both true q e = (refl, e)
-both false q e = absurd cc
-
 are_four : (a b c d : ℕ) → four_digits a b c d ≡ true → (a < 16) × (b < 16) × (c < 16) × (d < 16)
 are_four a b c d e =
-    let (abc, is_d) = both ((nat_lt a 16 && nat_lt b 16) && nat_lt c 16) (nat_lt d 16) e in
-    let (ab, is_c) = both (nat_lt a 16 && nat_lt b 16) (nat_lt c 16) abc in
-    let (is_a, is_b) = both (nat_lt a 16) (nat_lt b 16) ab in
+    let (abc, is_d) = and_parts ((nat_lt a 16 && nat_lt b 16) && nat_lt c 16) (nat_lt d 16) e in
+    let (ab, is_c) = and_parts (nat_lt a 16 && nat_lt b 16) (nat_lt c 16) abc in
+    let (is_a, is_b) = and_parts (nat_lt a 16) (nat_lt b 16) ab in
     (ltb-true a 16 is_a, ltb-true b 16 is_b, ltb-true c 16 is_c, ltb-true d 16 is_d)
 
 eight : (a b c d e f g h : ℕ) → from_be_bytes w32 ((16 * a + b) ∷ (16 * c + d) ∷ (16 * e + f) ∷ (16 * g + h) ∷ []) ≡ 16 * (16 * (16 * (16 * (16 * (16 * (16 * a + b) + c) + d) + e) + f) + g) + h
@@ -88,7 +84,7 @@ pub eight_places : (bytes : List ℕ) (n a b c d e f g h : ℕ) → 9 ≤ length
     → field_at 8 bytes ≡ Ok (n, take (length bytes - 9) (drop 9 bytes))
 eight_places (x0 ∷ x1 ∷ x2 ∷ x3 ∷ x4 ∷ x5 ∷ x6 ∷ x7 ∷ x8 ∷ rest) n a b c d e f g h long e8 v0 v1 v2 v3 v4 v5 v6 v7 small is =
     let bytes = x0 ∷ x1 ∷ x2 ∷ x3 ∷ x4 ∷ x5 ∷ x6 ∷ x7 ∷ x8 ∷ rest in
-    let halves = both (four_digits a b c d) (four_digits e f g h) small in
+    let halves = and_parts (four_digits a b c d) (four_digits e f g h) small in
     let (b0, b1, b2, b3) = are_four a b c d halves.0 in
     let (b4, b5, b6, b7) = are_four e f g h halves.1 in
     rw (

@@ -1,6 +1,6 @@
 -- What is spelled in digits is read again, and what is read was spelled so.
 use Rattle.std.proofs.Common.{◌≡◌, ℕ, zero, suc, ◌+◌, ◌*◌, ◌/◌, ◌%◌, ◌^◌, ◌<◌, Bool, true, false, cond, List, [], ◌∷◌, ◌++◌, length, refl, sym, ap, ap₂, ◌∙◌, arith, append_assoc, length-append}
-use Rattle.std.specs.Prelude.{◌&&◌, ◌||◌, ◌==◌, Option, Some, None, All, Result, Ok, Err}
+use Rattle.std.specs.Prelude.{◌&&◌, ◌||◌, ◌==◌, Option, Some, None, All, Result, Ok, Err, ⊤}
 use Rattle.std.proofs.lemmas.Bool.Decides.{nat_tests}
 use Rattle.std.proofs.lemmas.Bool.{eqb-true}
 use Rattle.std.proofs.lemmas.Nat.{pow-add}
@@ -150,7 +150,7 @@ lane-back x lt =
 
 -- each lane is a byte
 abbrev AreBytes : List ℕ → Type 0
-AreBytes [] = Unit {0}
+AreBytes [] = ⊤
 AreBytes (x ∷ xs) = (x < 256) × AreBytes xs
 
 bytes-of_all : (xs : List ℕ) → All (λ x. x < 2 ^ 8) xs → AreBytes xs

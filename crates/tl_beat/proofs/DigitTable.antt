@@ -1,7 +1,7 @@
 -- The tables of digits have the value of each byte, and the byte of each value.
-use Rattle.std.proofs.Common.{◌≡◌, ℕ, zero, suc, ◌<◌, Bool, true, false, refl, arith, inl, inr}
+use Rattle.std.proofs.Common.{◌≡◌, ℕ, zero, suc, ◌<◌, Bool, true, refl, arith, inl, inr}
 use Rattle.std.specs.Prelude.{◌==◌, ◌&&◌, ◌⊎◌, slice_index_or}
-use Rattle.std.proofs.lemmas.Bool.{eqb-true}
+use Rattle.std.proofs.lemmas.Bool.{eqb-true, and_parts}
 use Rattle.tl_beat.specs.declared.field.TheConstants.{VALUES}
 use Rattle.tl_beat.specs.declared.text.TheConstants.{DIGITS}
 use Rattle.tl_beat.specs.Digits.{digit_char}
@@ -12,17 +12,13 @@ abbrev right : ℕ → Bool
 right zero = true
 right (suc n) = (slice_index_or VALUES n 0 == value_or_16 n) && right n
 
-two : (a b : Bool) → (a && b) ≡ true → (a ≡ true) × (b ≡ true)
-two true b e = (refl, e)
-two false b e = absurd cc
-
 either : (n c : ℕ) → c < suc n → (c ≡ n) ⊎ (c < n)
 either n c lt = grind arith
 
 entry : (n c : ℕ) → right n ≡ true → c < n → slice_index_or VALUES c 0 ≡ value_or_16 c
 entry zero c e lt = absurd (omega arith)
 entry (suc n) c e lt =
-    let parts = two (slice_index_or VALUES n 0 == value_or_16 n) (right n) e in
+    let parts = and_parts (slice_index_or VALUES n 0 == value_or_16 n) (right n) e in
     go (either n c lt) (eqb-true _ _ parts.0) (entry n c parts.1)
   where
     go : (c ≡ n) ⊎ (c < n) → slice_index_or VALUES n 0 ≡ value_or_16 n → (c < n → slice_index_or VALUES c 0 ≡ value_or_16 c) → slice_index_or VALUES c 0 ≡ value_or_16 c
@@ -40,7 +36,7 @@ digits_right (suc n) = (slice_index_or DIGITS n 0 == digit_char n) && digits_rig
 digit_entry : (n d : ℕ) → digits_right n ≡ true → d < n → slice_index_or DIGITS d 0 ≡ digit_char d
 digit_entry zero d e lt = absurd (omega arith)
 digit_entry (suc n) d e lt =
-    let parts = two (slice_index_or DIGITS n 0 == digit_char n) (digits_right n) e in
+    let parts = and_parts (slice_index_or DIGITS n 0 == digit_char n) (digits_right n) e in
     go (either n d lt) (eqb-true _ _ parts.0) (digit_entry n d parts.1)
   where
     go : (d ≡ n) ⊎ (d < n) → slice_index_or DIGITS n 0 ≡ digit_char n → (d < n → slice_index_or DIGITS d 0 ≡ digit_char d) → slice_index_or DIGITS d 0 ≡ digit_char d

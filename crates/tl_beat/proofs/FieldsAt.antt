@@ -33,7 +33,8 @@ digits-spaced zero number (c ∷ cs) rest none = rw none.0 refl
 digits-spaced (suc n) number [] rest none = refl
 digits-spaced (suc n) number (c ∷ cs) rest none = go (is_digit c) (digits-spaced n (16 * number + digit_value c) cs rest none.1)
   where
-    go : (b : Bool) → (digits_at (16 * number + digit_value c) n (cs ++ 32 ∷ rest) >>= λ x. space_at x.1 >>= with_number x.0) ≡ found (is_digits n cs) (value_from (16 * number + digit_value c) cs) rest
+    go : (b : Bool)
+        → (digits_at (16 * number + digit_value c) n (cs ++ 32 ∷ rest) >>= λ x. space_at x.1 >>= with_number x.0) ≡ found (is_digits n cs) (value_from (16 * number + digit_value c) cs) rest
         → ((value_or_fault (cond b (Some (digit_value c)) None) (cs ++ 32 ∷ rest) >>= λ d. digits_at (16 * number + d.0) n d.1) >>= λ x. space_at x.1 >>= with_number x.0) ≡ found (b && is_digits n cs) (value_from (16 * number + digit_value c) cs) rest
     go true h = h
     go false h = refl
@@ -211,9 +212,11 @@ pub then_tail : {A : Type 0} (w : ℕ) (p q : List ℕ) (more : Option (List ℕ
     → ((d : Option (List ℕ)) (b : Bool) → more (d, b) ≡ next d b) → (tail_at w (p ++ 32 ∷ q) >>= more) ≡ (data_in w p >>= λ d. bit_in q >>= λ b. next d b)
 unfolding tail_at
 then_tail w p [] more next np nq same = rw (not_spaced p [] np nq (λ (e : 0 ≡ 1). omega arith)) (no_tail w p next)
-then_tail {A} w p (c ∷ []) more next np nq same = ap (λ (r : Result (Option (List ℕ) × Bool) LineFault). r >>= more) (tail_at-spaced w p c) ∙ go (is_data w p) (data_of p) (is_bit (c ∷ [])) (bit_of (c ∷ []))
+then_tail {A} w p (c ∷ []) more next np nq same =
+    ap (λ (r : Result (Option (List ℕ) × Bool) LineFault). r >>= more) (tail_at-spaced w p c) ∙ go (is_data w p) (data_of p) (is_bit (c ∷ [])) (bit_of (c ∷ []))
   where
-    go : (a : Bool) (d : Option (List ℕ)) (e f : Bool) → ((cond a (Ok d) (Err F3) >>= λ lanes. cond e (Ok f) (Err F3) >>= λ corrupt. ok_both lanes corrupt) >>= more) ≡ (cond a (Ok d) (Err F3) >>= λ d. cond e (Ok f) (Err F3) >>= λ b. next d b)
+    go : (a : Bool) (d : Option (List ℕ)) (e f : Bool)
+        → ((cond a (Ok d) (Err F3) >>= λ lanes. cond e (Ok f) (Err F3) >>= λ corrupt. ok_both lanes corrupt) >>= more) ≡ (cond a (Ok d) (Err F3) >>= λ d. cond e (Ok f) (Err F3) >>= λ b. next d b)
     go true d true f = same d f
     go true d false f = refl
     go false d e f = refl

@@ -1,6 +1,6 @@
 -- A line's pieces between spaces, and the line that pieces make.
 use Rattle.std.proofs.Common.{◌≡◌, ℕ, zero, suc, ◌+◌, ◌<◌, Bool, true, false, cond, List, [], ◌∷◌, ◌++◌, length, get_or, refl, sym, ap, ◌∙◌, arith, drop}
-use Rattle.std.specs.Prelude.{◌==◌}
+use Rattle.std.specs.Prelude.{◌==◌, ⊤}
 use Rattle.std.specs.List.{after_first, position_or_len}
 use Rattle.std.proofs.lemmas.List.Sums.{sum_by-cons}
 use Rattle.std.proofs.lemmas.Bool.{eqb-true}
@@ -9,12 +9,12 @@ use Rattle.tl_beat.specs.FromLeft.{spaces_in}
 
 -- no byte of the piece is a space
 abbrev pub NoSpace : List ℕ → Type 0
-NoSpace [] = Unit {0}
+NoSpace [] = ⊤
 NoSpace (c ∷ cs) = ((c == 32) ≡ false) × NoSpace cs
 
 -- none of the pieces has a space
 abbrev pub NoSpaces : List (List ℕ) → Type 0
-NoSpaces [] = Unit {0}
+NoSpaces [] = ⊤
 NoSpaces (p ∷ ps) = NoSpace p × NoSpaces ps
 
 -- a byte within a piece

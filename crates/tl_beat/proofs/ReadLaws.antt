@@ -2,8 +2,8 @@
 use Rattle.std.proofs.Common.{◌≡◌, ℕ, suc, ◌-◌, ◌/◌, ◌^◌, ◌<◌, ◌≤◌, Bool, true, false, not, cond, List, [], ◌∷◌, ◌++◌, length, get_or, take, drop, refl, sym, ap, ap₂, subst, ◌∙◌, arith}
 use Rattle.std.proofs.Math.Seq.{drop-cons}
 use Rattle.std.proofs.lemmas.List.{take-append-drop, drop_all}
-use Rattle.std.proofs.lemmas.Bool.{eqb-true, ltb-true, ltb-false}
-use Rattle.std.specs.Prelude.{Result, Ok, Err, Option, Some, None, is_some, ◌==◌, ◌&&◌, ◌||◌, nat_lt, IfOk}
+use Rattle.std.proofs.lemmas.Bool.{eqb-true, ltb-true, ltb-false, and_parts}
+use Rattle.std.specs.Prelude.{Result, Ok, Err, Option, Some, None, is_some, ◌==◌, ◌||◌, nat_lt, IfOk, ok_or}
 use Rattle.std.specs.Io.BufRead.{ends_with_byte}
 use Rattle.tl_beat.specs.declared.beat.Link.{Link}
 use Rattle.tl_beat.specs.declared.beat.BeatA.{BeatA}
@@ -19,7 +19,7 @@ use Rattle.tl_beat.specs.declared.fault.LineFault.TheVariants.{F1, F4, F5}
 use Rattle.tl_beat.specs.Opcode.{a_code, b_code, c_code, d_code, a_with, b_with, c_with, d_with, a_carries_data, b_carries_data, c_carries_data, d_carries_data}
 use Rattle.tl_beat.specs.Digits.{digits, lanes_text, bit_text}
 use Rattle.tl_beat.specs.Line.{fields_of, spaced, IsWritable, IsInRange, Spells, pieces, field, letter, channel_named, without_last}
-use Rattle.tl_beat.specs.Reading.{◌>>=◌, number_in, data_in, bit_in, or_fault, at_most, agreement, made_a, made_b, made_c, made_d, linked, reading_a, reading_b, reading_c, reading_d, reading_e, reading_on, reading_fields, reading}
+use Rattle.tl_beat.specs.Reading.{◌>>=◌, number_in, data_in, bit_in, at_most, agreement, made_a, made_b, made_c, made_d, linked, reading_a, reading_b, reading_c, reading_d, reading_e, reading_on, reading_fields, reading}
 use Rattle.tl_beat.specs.Width.{IsWidth}
 use Rattle.tl_beat.proofs.Pieces.{spaced-pieces}
 use Rattle.tl_beat.proofs.DigitLaws.{number_in-ok, bit_in-ok, data_in-ok}
@@ -47,9 +47,9 @@ record AreFields {w : ℕ} (fs : List (List ℕ)) (link : Link) (x : Beat w) : T
   writable : IsWritable x
   in_range : IsInRange x
 
-or_fault-ok : {A : Type 0} (o : Option A) (x : A) → or_fault o F4 ≡ Ok x → o ≡ Some x
-or_fault-ok None x e = absurd cc
-or_fault-ok (Some y) x e = let same : y ≡ x = cc in rw same refl
+ok_or-ok : {A : Type 0} (o : Option A) (x : A) → ok_or o F4 ≡ Ok x → o ≡ Some x
+ok_or-ok None x e = absurd cc
+ok_or-ok (Some y) x e = let same : y ≡ x = cc in rw same refl
 
 -- a param within bounds
 record IsAtMost (greatest given param : ℕ) : Type 0 where
@@ -78,7 +78,7 @@ record IsMadeA {w : ℕ} (y : BeatA w) (code given : ℕ) (size_given source_giv
 
 made_a-is : {w : ℕ} (y : BeatA w) (code given : ℕ) (size source address mask : ℕ) (lanes : Option (List ℕ)) (corrupt : Bool) → made_a {w = w} code given size source address mask lanes corrupt ≡ Ok y → IsMadeA y code given size source address mask lanes corrupt
 made_a-is {w} y code given size source address mask lanes corrupt e =
-    ok_step (or_fault (a_with code) F4) _ y _ e (λ o is_o e1.
+    ok_step (ok_or (a_with code) F4) _ y _ e (λ o is_o e1.
     ok_step (at_most 7 given) _ y _ e1 (λ p is_p e2.
     ok_step (agreement (is_some lanes) (a_carries_data o)) _ y _ e2 (λ h is_h e3.
     let made : BeatA w = record { opcode = o; param = p; size = size; source = source; address = address; mask = mask; lanes = lanes; corrupt = corrupt; carries = h } in
@@ -86,7 +86,7 @@ made_a-is {w} y code given size source address mask lanes corrupt e =
     let bound = at_most-is 7 given p is_p in
     let param_is : y.param ≡ p = ap (λ (z : BeatA w). z.param) same in
     record {
-      opcode = ap (λ (z : BeatA w). a_code z.opcode) same ∙ a_code-with code o (or_fault-ok (a_with code) o is_o);
+      opcode = ap (λ (z : BeatA w). a_code z.opcode) same ∙ a_code-with code o (ok_or-ok (a_with code) o is_o);
       param = record { same = param_is ∙ bound.same; small = rw param_is bound.small };
       size = ap (λ (z : BeatA w). z.size) same;
       source = ap (λ (z : BeatA w). z.source) same;
@@ -108,7 +108,7 @@ record IsMadeB {w : ℕ} (y : BeatB w) (code given : ℕ) (size_given source_giv
 
 made_b-is : {w : ℕ} (y : BeatB w) (code given : ℕ) (size source address mask : ℕ) (lanes : Option (List ℕ)) (corrupt : Bool) → made_b {w = w} code given size source address mask lanes corrupt ≡ Ok y → IsMadeB y code given size source address mask lanes corrupt
 made_b-is {w} y code given size source address mask lanes corrupt e =
-    ok_step (or_fault (b_with code) F4) _ y _ e (λ o is_o e1.
+    ok_step (ok_or (b_with code) F4) _ y _ e (λ o is_o e1.
     ok_step (at_most 7 given) _ y _ e1 (λ p is_p e2.
     ok_step (agreement (is_some lanes) (b_carries_data o)) _ y _ e2 (λ h is_h e3.
     let made : BeatB w = record { opcode = o; param = p; size = size; source = source; address = address; mask = mask; lanes = lanes; corrupt = corrupt; carries = h } in
@@ -116,7 +116,7 @@ made_b-is {w} y code given size source address mask lanes corrupt e =
     let bound = at_most-is 7 given p is_p in
     let param_is : y.param ≡ p = ap (λ (z : BeatB w). z.param) same in
     record {
-      opcode = ap (λ (z : BeatB w). b_code z.opcode) same ∙ b_code-with code o (or_fault-ok (b_with code) o is_o);
+      opcode = ap (λ (z : BeatB w). b_code z.opcode) same ∙ b_code-with code o (ok_or-ok (b_with code) o is_o);
       param = record { same = param_is ∙ bound.same; small = rw param_is bound.small };
       size = ap (λ (z : BeatB w). z.size) same;
       source = ap (λ (z : BeatB w). z.source) same;
@@ -137,7 +137,7 @@ record IsMadeC {w : ℕ} (y : BeatC w) (code given : ℕ) (size_given source_giv
 
 made_c-is : {w : ℕ} (y : BeatC w) (code given : ℕ) (size source address : ℕ) (lanes : Option (List ℕ)) (corrupt : Bool) → made_c {w = w} code given size source address lanes corrupt ≡ Ok y → IsMadeC y code given size source address lanes corrupt
 made_c-is {w} y code given size source address lanes corrupt e =
-    ok_step (or_fault (c_with code) F4) _ y _ e (λ o is_o e1.
+    ok_step (ok_or (c_with code) F4) _ y _ e (λ o is_o e1.
     ok_step (at_most 7 given) _ y _ e1 (λ p is_p e2.
     ok_step (agreement (is_some lanes) (c_carries_data o)) _ y _ e2 (λ h is_h e3.
     let made : BeatC w = record { opcode = o; param = p; size = size; source = source; address = address; lanes = lanes; corrupt = corrupt; carries = h } in
@@ -145,7 +145,7 @@ made_c-is {w} y code given size source address lanes corrupt e =
     let bound = at_most-is 7 given p is_p in
     let param_is : y.param ≡ p = ap (λ (z : BeatC w). z.param) same in
     record {
-      opcode = ap (λ (z : BeatC w). c_code z.opcode) same ∙ c_code-with code o (or_fault-ok (c_with code) o is_o);
+      opcode = ap (λ (z : BeatC w). c_code z.opcode) same ∙ c_code-with code o (ok_or-ok (c_with code) o is_o);
       param = record { same = param_is ∙ bound.same; small = rw param_is bound.small };
       size = ap (λ (z : BeatC w). z.size) same;
       source = ap (λ (z : BeatC w). z.source) same;
@@ -166,7 +166,7 @@ record IsMadeD {w : ℕ} (y : BeatD w) (code given : ℕ) (size_given source_giv
 
 made_d-is : {w : ℕ} (y : BeatD w) (code given : ℕ) (size source sink : ℕ) (denied : Bool) (lanes : Option (List ℕ)) (corrupt : Bool) → made_d {w = w} code given size source sink denied lanes corrupt ≡ Ok y → IsMadeD y code given size source sink denied lanes corrupt
 made_d-is {w} y code given size source sink denied lanes corrupt e =
-    ok_step (or_fault (d_with code) F4) _ y _ e (λ o is_o e1.
+    ok_step (ok_or (d_with code) F4) _ y _ e (λ o is_o e1.
     ok_step (at_most 3 given) _ y _ e1 (λ p is_p e2.
     ok_step (agreement (is_some lanes) (d_carries_data o)) _ y _ e2 (λ h is_h e3.
     let made : BeatD w = record { opcode = o; param = p; size = size; source = source; sink = sink; denied = denied; lanes = lanes; corrupt = corrupt; carries = h } in
@@ -174,7 +174,7 @@ made_d-is {w} y code given size source sink denied lanes corrupt e =
     let bound = at_most-is 3 given p is_p in
     let param_is : y.param ≡ p = ap (λ (z : BeatD w). z.param) same in
     record {
-      opcode = ap (λ (z : BeatD w). d_code z.opcode) same ∙ d_code-with code o (or_fault-ok (d_with code) o is_o);
+      opcode = ap (λ (z : BeatD w). d_code z.opcode) same ∙ d_code-with code o (ok_or-ok (d_with code) o is_o);
       param = record { same = param_is ∙ bound.same; small = rw param_is bound.small };
       size = ap (λ (z : BeatD w). z.size) same;
       source = ap (λ (z : BeatD w). z.source) same;
@@ -192,7 +192,8 @@ letter-named (x ∷ []) c e = go (x == 65) refl (x == 66) refl (x == 67) refl (x
     named {o} h f = let same : o ≡ c = cc in rw (h, same) refl
 
     go : (p : Bool) → (x == 65) ≡ p → (q : Bool) → (x == 66) ≡ q → (r : Bool) → (x == 67) ≡ r → (s : Bool) → (x == 68) ≡ s → (t : Bool) → (x == 69) ≡ t
-        → cond p (some_channel channel.A) (cond q (some_channel channel.B) (cond r (some_channel channel.C) (cond s (some_channel channel.D) (cond t (some_channel channel.E) None)))) ≡ some_channel c → x ∷ [] ≡ letter c
+        → cond p (some_channel channel.A) (cond q (some_channel channel.B) (cond r (some_channel channel.C) (cond s (some_channel channel.D) (cond t (some_channel channel.E) None)))) ≡ some_channel c
+        → x ∷ [] ≡ letter c
     go true h q _ r _ s _ t _ f = named {o = channel.A} (eqb-true x 65 h) f
     go false _ true h r _ s _ t _ f = named {o = channel.B} (eqb-true x 66 h) f
     go false _ false _ true h s _ t _ f = named {o = channel.C} (eqb-true x 67 h) f
@@ -239,7 +240,8 @@ reading_a-fields {w} (linked_to ∷ second ∷ opcode ∷ param ∷ size ∷ sou
     let q_corrupt : corrupt ≡ bit_text y.corrupt = s_corrupt ∙ ap bit_text (sym m.corrupt) in
     let same : linked {w = w} v1 (beat.A y) ≡ (link, x) = ok_is last in
     subst (λ (z : Link × Beat w). AreFields (linked_to ∷ second ∷ opcode ∷ param ∷ size ∷ source ∷ address ∷ mask ∷ lanes ∷ corrupt ∷ []) z.0 z.1) same (record {
-      are = cons_same q_link (cons_same q_letter (cons_same q_opcode (cons_same q_param (cons_same q_size (cons_same q_source (cons_same q_address (cons_same q_mask (cons_same q_lanes (cons_same q_corrupt (refl))))))))));
+      are =
+          cons_same q_link (cons_same q_letter (cons_same q_opcode (cons_same q_param (cons_same q_size (cons_same q_source (cons_same q_address (cons_same q_mask (cons_same q_lanes (cons_same q_corrupt (refl))))))))));
       link_in_range = omega (arith, s_linked_to.fits);
       writable = (omega (arith, m.param.small), omega (arith, m.size, s_size.fits), rw m.mask (mask-below w v7 width s_mask.fits));
       in_range = (omega (arith, m.source, s_source.fits), omega (arith, m.address, s_address.fits), rw m.lanes s_lanes.are_lanes);
@@ -281,7 +283,8 @@ reading_b-fields {w} (linked_to ∷ second ∷ opcode ∷ param ∷ size ∷ sou
     let q_corrupt : corrupt ≡ bit_text y.corrupt = s_corrupt ∙ ap bit_text (sym m.corrupt) in
     let same : linked {w = w} v1 (beat.B y) ≡ (link, x) = ok_is last in
     subst (λ (z : Link × Beat w). AreFields (linked_to ∷ second ∷ opcode ∷ param ∷ size ∷ source ∷ address ∷ mask ∷ lanes ∷ corrupt ∷ []) z.0 z.1) same (record {
-      are = cons_same q_link (cons_same q_letter (cons_same q_opcode (cons_same q_param (cons_same q_size (cons_same q_source (cons_same q_address (cons_same q_mask (cons_same q_lanes (cons_same q_corrupt (refl))))))))));
+      are =
+          cons_same q_link (cons_same q_letter (cons_same q_opcode (cons_same q_param (cons_same q_size (cons_same q_source (cons_same q_address (cons_same q_mask (cons_same q_lanes (cons_same q_corrupt (refl))))))))));
       link_in_range = omega (arith, s_linked_to.fits);
       writable = (omega (arith, m.param.small), omega (arith, m.size, s_size.fits), rw m.mask (mask-below w v7 width s_mask.fits));
       in_range = (omega (arith, m.source, s_source.fits), omega (arith, m.address, s_address.fits), rw m.lanes s_lanes.are_lanes);
@@ -320,7 +323,8 @@ reading_c-fields {w} (linked_to ∷ second ∷ opcode ∷ param ∷ size ∷ sou
     let q_corrupt : corrupt ≡ bit_text y.corrupt = s_corrupt ∙ ap bit_text (sym m.corrupt) in
     let same : linked {w = w} v1 (beat.C y) ≡ (link, x) = ok_is last in
     subst (λ (z : Link × Beat w). AreFields (linked_to ∷ second ∷ opcode ∷ param ∷ size ∷ source ∷ address ∷ lanes ∷ corrupt ∷ []) z.0 z.1) same (record {
-      are = cons_same q_link (cons_same q_letter (cons_same q_opcode (cons_same q_param (cons_same q_size (cons_same q_source (cons_same q_address (cons_same q_lanes (cons_same q_corrupt (refl)))))))));
+      are =
+          cons_same q_link (cons_same q_letter (cons_same q_opcode (cons_same q_param (cons_same q_size (cons_same q_source (cons_same q_address (cons_same q_lanes (cons_same q_corrupt (refl)))))))));
       link_in_range = omega (arith, s_linked_to.fits);
       writable = (omega (arith, m.param.small), omega (arith, m.size, s_size.fits));
       in_range = (omega (arith, m.source, s_source.fits), omega (arith, m.address, s_address.fits), rw m.lanes s_lanes.are_lanes);
@@ -362,7 +366,8 @@ reading_d-fields {w} (linked_to ∷ second ∷ opcode ∷ param ∷ size ∷ sou
     let q_corrupt : corrupt ≡ bit_text y.corrupt = s_corrupt ∙ ap bit_text (sym m.corrupt) in
     let same : linked {w = w} v1 (beat.D y) ≡ (link, x) = ok_is last in
     subst (λ (z : Link × Beat w). AreFields (linked_to ∷ second ∷ opcode ∷ param ∷ size ∷ source ∷ sink ∷ denied ∷ lanes ∷ corrupt ∷ []) z.0 z.1) same (record {
-      are = cons_same q_link (cons_same q_letter (cons_same q_opcode (cons_same q_param (cons_same q_size (cons_same q_source (cons_same q_sink (cons_same q_denied (cons_same q_lanes (cons_same q_corrupt (refl))))))))));
+      are =
+          cons_same q_link (cons_same q_letter (cons_same q_opcode (cons_same q_param (cons_same q_size (cons_same q_source (cons_same q_sink (cons_same q_denied (cons_same q_lanes (cons_same q_corrupt (refl))))))))));
       link_in_range = omega (arith, s_linked_to.fits);
       writable = (omega (arith, m.param.small), omega (arith, m.size, s_size.fits));
       in_range = (omega (arith, m.source, s_source.fits), omega (arith, m.sink, s_sink.fits), rw m.lanes s_lanes.are_lanes);
@@ -404,14 +409,10 @@ reading_fields-are {w} fs link x width e = go (nat_lt (length fs) 2) e
     go true f = absurd cc
     go false f = reading_on-fields fs link x (channel_named (field fs 1)) width refl f
 
-pub two_true : (a b : Bool) → (a && b) ≡ true → (a ≡ true) × (b ≡ true)
-two_true true b e = (refl, e)
-two_true false b e = absurd cc
-
 -- a line with its line feed
 line-whole : (line : List ℕ) → ends_with_byte 10 line ≡ true → line ≡ without_last line ++ 10 ∷ []
 line-whole line e =
-    let both = two_true (nat_lt 0 (length line)) (get_or line (length line - 1) 0 == 10) e in
+    let both = and_parts (nat_lt 0 (length line)) (get_or line (length line - 1) 0 == 10) e in
     let some : 0 < length line = ltb-true 0 (length line) both.0 in
     let last : get_or line (length line - 1) 0 ≡ 10 = eqb-true (get_or line (length line - 1) 0) 10 both.1 in
     let rest : drop (length line - 1) line ≡ 10 ∷ [] = drop-cons line (length line - 1) 0 (omega arith) ∙ ap₂ (λ (x : ℕ) (xs : List ℕ). x ∷ xs) last (drop_all (suc (length line - 1)) line (omega arith)) in

@@ -168,7 +168,7 @@ length-lanes : (w : ℕ) (lanes : Option (List ℕ)) → w ≤ 16 → AreLanes w
 length-lanes w None small all = omega arith
 length-lanes w (Some lanes) small all = omega (arith, length-lane_digits lanes, all.0)
 
-length-bit : (b : Bool) → length (bit_text b) ≡ 1
+pub length-bit : (b : Bool) → length (bit_text b) ≡ 1
 length-bit false = refl
 length-bit true = refl
 
@@ -184,17 +184,25 @@ length-spaced (f ∷ []) = omega arith
 length-spaced (f ∷ g ∷ fs) = omega (arith, length-append f (32 ∷ spaced (g ∷ fs)), length-spaced (g ∷ fs))
 
 fields-no_space : {w : ℕ} (link : Link) (x : Beat w) → NoSpaces (fields_of link x)
-fields-no_space {w} link (beat.A x) = (NoSpace-digits 2 link.0, ((refl, tt), (NoSpace-digits 1 (a_code x.opcode), (NoSpace-digits 1 x.param, (NoSpace-digits 1 x.size, (NoSpace-digits 2 x.source, (NoSpace-digits 8 x.address, (NoSpace-digits (w / 4) x.mask, (NoSpace-lanes x.lanes, (NoSpace-bit x.corrupt, tt))))))))))
-fields-no_space {w} link (beat.B x) = (NoSpace-digits 2 link.0, ((refl, tt), (NoSpace-digits 1 (b_code x.opcode), (NoSpace-digits 1 x.param, (NoSpace-digits 1 x.size, (NoSpace-digits 2 x.source, (NoSpace-digits 8 x.address, (NoSpace-digits (w / 4) x.mask, (NoSpace-lanes x.lanes, (NoSpace-bit x.corrupt, tt))))))))))
-fields-no_space {w} link (beat.C x) = (NoSpace-digits 2 link.0, ((refl, tt), (NoSpace-digits 1 (c_code x.opcode), (NoSpace-digits 1 x.param, (NoSpace-digits 1 x.size, (NoSpace-digits 2 x.source, (NoSpace-digits 8 x.address, (NoSpace-lanes x.lanes, (NoSpace-bit x.corrupt, tt)))))))))
-fields-no_space {w} link (beat.D x) = (NoSpace-digits 2 link.0, ((refl, tt), (NoSpace-digits 1 (d_code x.opcode), (NoSpace-digits 1 x.param, (NoSpace-digits 1 x.size, (NoSpace-digits 2 x.source, (NoSpace-digits 2 x.sink, (NoSpace-bit x.denied, (NoSpace-lanes x.lanes, (NoSpace-bit x.corrupt, tt))))))))))
+fields-no_space {w} link (beat.A x) =
+    (NoSpace-digits 2 link.0, ((refl, tt), (NoSpace-digits 1 (a_code x.opcode), (NoSpace-digits 1 x.param, (NoSpace-digits 1 x.size, (NoSpace-digits 2 x.source, (NoSpace-digits 8 x.address, (NoSpace-digits (w / 4) x.mask, (NoSpace-lanes x.lanes, (NoSpace-bit x.corrupt, tt))))))))))
+fields-no_space {w} link (beat.B x) =
+    (NoSpace-digits 2 link.0, ((refl, tt), (NoSpace-digits 1 (b_code x.opcode), (NoSpace-digits 1 x.param, (NoSpace-digits 1 x.size, (NoSpace-digits 2 x.source, (NoSpace-digits 8 x.address, (NoSpace-digits (w / 4) x.mask, (NoSpace-lanes x.lanes, (NoSpace-bit x.corrupt, tt))))))))))
+fields-no_space {w} link (beat.C x) =
+    (NoSpace-digits 2 link.0, ((refl, tt), (NoSpace-digits 1 (c_code x.opcode), (NoSpace-digits 1 x.param, (NoSpace-digits 1 x.size, (NoSpace-digits 2 x.source, (NoSpace-digits 8 x.address, (NoSpace-lanes x.lanes, (NoSpace-bit x.corrupt, tt)))))))))
+fields-no_space {w} link (beat.D x) =
+    (NoSpace-digits 2 link.0, ((refl, tt), (NoSpace-digits 1 (d_code x.opcode), (NoSpace-digits 1 x.param, (NoSpace-digits 1 x.size, (NoSpace-digits 2 x.source, (NoSpace-digits 2 x.sink, (NoSpace-bit x.denied, (NoSpace-lanes x.lanes, (NoSpace-bit x.corrupt, tt))))))))))
 fields-no_space {w} link (beat.E x) = (NoSpace-digits 2 link.0, ((refl, tt), (NoSpace-digits 2 x.sink, tt)))
 
 fields-short : {w : ℕ} (link : Link) (x : Beat w) → w ≤ 16 → IsInRange x → total (fields_of link x) ≤ 255
-fields-short {w} link (beat.A x) small within = omega (arith, length-digits 2 link.0, length-digits 1 (a_code x.opcode), length-digits 1 x.param, length-digits 1 x.size, length-digits 2 x.source, length-digits 8 x.address, length-digits (w / 4) x.mask, length-lanes w x.lanes small within.2, length-bit x.corrupt)
-fields-short {w} link (beat.B x) small within = omega (arith, length-digits 2 link.0, length-digits 1 (b_code x.opcode), length-digits 1 x.param, length-digits 1 x.size, length-digits 2 x.source, length-digits 8 x.address, length-digits (w / 4) x.mask, length-lanes w x.lanes small within.2, length-bit x.corrupt)
-fields-short {w} link (beat.C x) small within = omega (arith, length-digits 2 link.0, length-digits 1 (c_code x.opcode), length-digits 1 x.param, length-digits 1 x.size, length-digits 2 x.source, length-digits 8 x.address, length-lanes w x.lanes small within.2, length-bit x.corrupt)
-fields-short {w} link (beat.D x) small within = omega (arith, length-digits 2 link.0, length-digits 1 (d_code x.opcode), length-digits 1 x.param, length-digits 1 x.size, length-digits 2 x.source, length-digits 2 x.sink, length-bit x.denied, length-lanes w x.lanes small within.2, length-bit x.corrupt)
+fields-short {w} link (beat.A x) small within =
+    omega (arith, length-digits 2 link.0, length-digits 1 (a_code x.opcode), length-digits 1 x.param, length-digits 1 x.size, length-digits 2 x.source, length-digits 8 x.address, length-digits (w / 4) x.mask, length-lanes w x.lanes small within.2, length-bit x.corrupt)
+fields-short {w} link (beat.B x) small within =
+    omega (arith, length-digits 2 link.0, length-digits 1 (b_code x.opcode), length-digits 1 x.param, length-digits 1 x.size, length-digits 2 x.source, length-digits 8 x.address, length-digits (w / 4) x.mask, length-lanes w x.lanes small within.2, length-bit x.corrupt)
+fields-short {w} link (beat.C x) small within =
+    omega (arith, length-digits 2 link.0, length-digits 1 (c_code x.opcode), length-digits 1 x.param, length-digits 1 x.size, length-digits 2 x.source, length-digits 8 x.address, length-lanes w x.lanes small within.2, length-bit x.corrupt)
+fields-short {w} link (beat.D x) small within =
+    omega (arith, length-digits 2 link.0, length-digits 1 (d_code x.opcode), length-digits 1 x.param, length-digits 1 x.size, length-digits 2 x.source, length-digits 2 x.sink, length-bit x.denied, length-lanes w x.lanes small within.2, length-bit x.corrupt)
 fields-short {w} link (beat.E x) small within = omega (arith, length-digits 2 link.0, length-digits 2 x.sink)
 
 -- ---- what is spelled is read
@@ -213,12 +221,12 @@ fields-read {w} link (beat.D x) width l writable within =
     rw (number_in-digits 2 link.0 (omega arith), number_in-digits 1 (d_code x.opcode) (d_code-digit x.opcode), number_in-digits 1 x.param (omega arith), number_in-digits 1 x.size (omega arith), number_in-digits 2 x.source (omega arith), number_in-digits 2 x.sink (omega arith), bit_in-text x.denied, data_in-text w x.lanes within.2, bit_in-text x.corrupt, ← made_d-ok x (d_code x.opcode) x.param (d_with-code x.opcode) (at_most-ok 3 x.param (omega arith))) refl
 fields-read {w} link (beat.E x) width l writable within = rw (number_in-digits 2 link.0 (omega arith), number_in-digits 2 x.sink (omega arith)) refl
 
-without_last-line : (body : List ℕ) → without_last (body ++ 10 ∷ []) ≡ body
+pub without_last-line : (body : List ℕ) → without_last (body ++ 10 ∷ []) ≡ body
 without_last-line body =
     let len : length (body ++ 10 ∷ []) - 1 ≡ length body = omega (arith, length-append body (10 ∷ [])) in
     ap (λ (n : ℕ). take n (body ++ 10 ∷ [])) len ∙ take-append_seam body (10 ∷ [])
 
-ends_with_byte-line : (body : List ℕ) → ends_with_byte 10 (body ++ 10 ∷ []) ≡ true
+pub ends_with_byte-line : (body : List ℕ) → ends_with_byte 10 (body ++ 10 ∷ []) ≡ true
 ends_with_byte-line body =
     let len : length (body ++ 10 ∷ []) - 1 ≡ length body = omega (arith, length-append body (10 ∷ [])) in
     let some : nat_lt 0 (length (body ++ 10 ∷ [])) ≡ true = lt-ltb 0 (length (body ++ 10 ∷ [])) (omega (arith, length-append body (10 ∷ []))) in

@@ -3,6 +3,7 @@ use Rattle.std.proofs.Common.{◌≡◌, ℕ, suc, ◌+◌, ◌*◌, ◌%◌, �
 use Rattle.std.proofs.Math.Nat.{pow-suc}
 use Rattle.std.proofs.lemmas.Bool.Decides.{nat_tests}
 use Rattle.std.proofs.lemmas.Simd.{mask_l-lt}
+use Rattle.std.specs.Prelude.{⊤}
 use Rattle.tl_beat.specs.FromLeft.{value_or_16, lanes_at}
 use Rattle.tl_beat.proofs.AtPlaces.{digit_is}
 use lib.Lanes.{top, mask_l}
@@ -26,7 +27,7 @@ abbrev paired : ℕ → ℕ → ℕ
 paired v w = (v * 16 % 256 + w) % 256
 
 AreSet : List Bool → Type 0
-AreSet [] = Unit {0}
+AreSet [] = ⊤
 AreSet (b ∷ bs) = (b ≡ true) × AreSet bs
 
 all_set : (ms : List Bool) → mask_l ms + 1 ≡ 2 ^ length ms → AreSet ms
@@ -55,10 +56,17 @@ pair-step c d n before cs c_fits d_fits c_small d_small =
     rw (first.is, second.is, first.value, second.value, pair_value (lane c) (lane d) p q) refl
 
 abbrev tests : List ℕ → List Bool
-tests field = is_small (lane (get_or field 0 0)) ∷ is_small (lane (get_or field 1 0)) ∷ is_small (lane (get_or field 2 0)) ∷ is_small (lane (get_or field 3 0)) ∷ is_small (lane (get_or field 4 0)) ∷ is_small (lane (get_or field 5 0)) ∷ is_small (lane (get_or field 6 0)) ∷ is_small (lane (get_or field 7 0)) ∷ is_small (lane (get_or field 8 0)) ∷ is_small (lane (get_or field 9 0)) ∷ is_small (lane (get_or field 10 0)) ∷ is_small (lane (get_or field 11 0)) ∷ is_small (lane (get_or field 12 0)) ∷ is_small (lane (get_or field 13 0)) ∷ is_small (lane (get_or field 14 0)) ∷ is_small (lane (get_or field 15 0)) ∷ []
+tests field =
+    is_small (lane (get_or field 0 0)) ∷ is_small (lane (get_or field 1 0)) ∷ is_small (lane (get_or field 2 0)) ∷ is_small (lane (get_or field 3 0)) ∷ is_small (lane (get_or field 4 0))
+    ∷ is_small (lane (get_or field 5 0)) ∷ is_small (lane (get_or field 6 0)) ∷ is_small (lane (get_or field 7 0)) ∷ is_small (lane (get_or field 8 0)) ∷ is_small (lane (get_or field 9 0))
+    ∷ is_small (lane (get_or field 10 0)) ∷ is_small (lane (get_or field 11 0)) ∷ is_small (lane (get_or field 12 0)) ∷ is_small (lane (get_or field 13 0))
+    ∷ is_small (lane (get_or field 14 0)) ∷ is_small (lane (get_or field 15 0)) ∷ []
 
 abbrev spelled : List ℕ → List ℕ
-spelled field = paired (lane (get_or field 14 0)) (lane (get_or field 15 0)) ∷ paired (lane (get_or field 12 0)) (lane (get_or field 13 0)) ∷ paired (lane (get_or field 10 0)) (lane (get_or field 11 0)) ∷ paired (lane (get_or field 8 0)) (lane (get_or field 9 0)) ∷ paired (lane (get_or field 6 0)) (lane (get_or field 7 0)) ∷ paired (lane (get_or field 4 0)) (lane (get_or field 5 0)) ∷ paired (lane (get_or field 2 0)) (lane (get_or field 3 0)) ∷ paired (lane (get_or field 0 0)) (lane (get_or field 1 0)) ∷ []
+spelled field =
+    paired (lane (get_or field 14 0)) (lane (get_or field 15 0)) ∷ paired (lane (get_or field 12 0)) (lane (get_or field 13 0)) ∷ paired (lane (get_or field 10 0)) (lane (get_or field 11 0))
+    ∷ paired (lane (get_or field 8 0)) (lane (get_or field 9 0)) ∷ paired (lane (get_or field 6 0)) (lane (get_or field 7 0)) ∷ paired (lane (get_or field 4 0)) (lane (get_or field 5 0))
+    ∷ paired (lane (get_or field 2 0)) (lane (get_or field 3 0)) ∷ paired (lane (get_or field 0 0)) (lane (get_or field 1 0)) ∷ []
 
 pub eight-spelled : (field before rest : List ℕ) (n : ℕ) → length field ≡ 16 → ((i : ℕ) → get_or field i 0 < 256) → mask_l (tests field) % 18446744073709551616 ≡ 65535
     → lanes_at before (8 + n) (field ++ rest) ≡ lanes_at (spelled field ++ before) n rest

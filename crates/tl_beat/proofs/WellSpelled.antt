@@ -3,7 +3,7 @@ use Rattle.std.proofs.Common.{◌≡◌, ℕ, zero, suc, ◌+◌, ◌-◌, ◌*�
 use Rattle.std.proofs.Math.Seq.{drop-cons}
 use Rattle.std.proofs.lemmas.List.{take-append-drop, drop_all}
 use Rattle.std.proofs.lemmas.List.Sums.{sum_by-cons}
-use Rattle.std.proofs.lemmas.Bool.{eqb-true, leb-true}
+use Rattle.std.proofs.lemmas.Bool.{eqb-true, leb-true, and_parts}
 use Rattle.std.proofs.lemmas.Bool.Decides.{nat_tests}
 use Rattle.std.specs.Prelude.{Result, Ok, Err, Option, Some, None, ◌==◌, ◌&&◌, nat_le, slice_index, IfSome}
 use Rattle.std.specs.List.{after_first}
@@ -18,7 +18,7 @@ use Rattle.tl_beat.specs.Reading.{◌>>=◌}
 use Rattle.tl_beat.specs.FromLeft.{value_or_fault, digits_at, space_at, field_at, bit_of_byte, bit_field_at, lanes_at, some_lanes, data_at, at_end, head_at, tail_at, line_a_at, line_b_at, line_c_at, line_d_at, line_e_at, letter_in, spaces_in, body_at}
 use Rattle.tl_beat.proofs.Pieces.{NoSpace, after_first-piece}
 use Rattle.tl_beat.proofs.DigitLaws.{is_dash-true}
-use Rattle.tl_beat.proofs.ReadLaws.{ok_of, ok_is, ok_step, two_true}
+use Rattle.tl_beat.proofs.ReadLaws.{ok_of, ok_is, ok_step}
 
 -- ---- spaces
 
@@ -143,7 +143,7 @@ tail-spaces w bytes read e = go (nat_le 2 (length bytes) && (slice_index bytes (
     go true is f =
         ok_step (data_at w front) _ read _ f (λ lanes h f1.
         ok_step (bit_of_byte last) _ read _ f1 (λ corrupt k f2.
-        let parts = two_true (nat_le 2 (length bytes)) (slice_index bytes (length bytes - 2) == 32) is in
+        let parts = and_parts (nat_le 2 (length bytes)) (slice_index bytes (length bytes - 2) == 32) is in
         let long : 2 ≤ length bytes = leb-true 2 (length bytes) parts.0 in
         let space : get_or bytes (length bytes - 2) 0 ≡ 32 = eqb-true _ 32 parts.1 in
         let after : suc (length bytes - 2) ≡ length bytes - 1 = omega arith in

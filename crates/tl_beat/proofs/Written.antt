@@ -9,8 +9,8 @@ unfolding digits
 digits-more w k n e = rw e refl
 
 -- one more digit is written
-pub put_one : (xs old : List ℕ) (w i n d : ℕ) → i < w → xs ++ digits (w - i) n ≡ old → d ≡ digit_char (n / 2 ^ (4 * (w - 1 - i)) % 16) → (xs ++ d ∷ []) ++ digits (w - (i + 1)) n ≡ old
-put_one xs old w i n d lt so_far is =
+pub append_one : (xs old : List ℕ) (w i n d : ℕ) → i < w → xs ++ digits (w - i) n ≡ old → d ≡ digit_char (n / 2 ^ (4 * (w - 1 - i)) % 16) → (xs ++ d ∷ []) ++ digits (w - (i + 1)) n ≡ old
+append_one xs old w i n d lt so_far is =
     let left : w - i ≡ suc (w - 1 - i) = omega arith in
     let k : w - (i + 1) ≡ w - 1 - i = omega arith in
     rw (k, is, append_assoc) (rw (digits-more (w - i) (w - 1 - i) n left) at so_far)
@@ -20,9 +20,9 @@ unfolding digits
 digits-none w n e = rw e refl
 
 -- one more lane is written, from the last one down
-pub put_lane : (xs old lanes : List ℕ) (n i : ℕ) → i < n → length lanes ≡ n → xs ++ lane_digits (take (n - i) lanes) ≡ old
+pub append_lane : (xs old lanes : List ℕ) (n i : ℕ) → i < n → length lanes ≡ n → xs ++ lane_digits (take (n - i) lanes) ≡ old
     → (xs ++ digits 2 (get_or lanes (n - 1 - i) 0)) ++ lane_digits (take (n - (i + 1)) lanes) ≡ old
-put_lane xs old lanes n i lt len so_far =
+append_lane xs old lanes n i lt len so_far =
     let left : n - i ≡ n - (i + 1) + 1 = omega arith in
     let place : n - 1 - i ≡ n - (i + 1) = omega arith in
     let more : take (n - i) lanes ≡ take (n - (i + 1)) lanes ++ get_or lanes (n - (i + 1)) 0 ∷ [] = rw left (take_more lanes (n - (i + 1)) 0 (omega arith)) in

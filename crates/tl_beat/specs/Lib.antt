@@ -1,4 +1,5 @@
 pub mod Digits
+pub mod First
 pub mod FromLeft
 pub mod Line
 pub mod Names

@@ -1,15 +1,16 @@
 -- The one line of text that spells a beat, and what is wrong with a line that spells none.
-use Rattle.std.specs.Prelude.{◌≡◌, ◌<◌, ◌^◌, ◌-◌, ◌/◌, ℕ, Bool, true, false, not, ◌&&◌, ◌||◌, List, [], ◌∷◌, ◌++◌, length, take, All, Option, Some, None, is_none, option_map, nat_lt, ◌==◌, if◌then◌else◌, slice_index_or}
+use Rattle.std.specs.Prelude.{◌≡◌, ◌<◌, ◌^◌, ◌-◌, ◌/◌, ℕ, Bool, true, false, not, ◌&&◌, ◌||◌, List, [], ◌∷◌, ◌++◌, length, take, All, Option, Some, None, is_none, option_map, nat_lt, ◌==◌, if◌then◌else◌, slice_index_or, ⊤}
 use Rattle.std.specs.List.{find}
 use Rattle.std.specs.Io.BufRead.{ends_with_byte}
 use Rattle.tl_beat.specs.declared.beat.Link.{Link}
 use Rattle.tl_beat.specs.declared.beat.Beat.{Beat}
-use Rattle.tl_beat.specs.declared.beat.Beat.TheVariants.{A, B, C, D, E}
+use Rattle.tl_beat.specs.declared.beat.Beat.TheVariants as beat
 use Rattle.tl_beat.specs.declared.opcode.Channel.{Channel}
 use Rattle.tl_beat.specs.declared.opcode.Channel.TheVariants as channel
 use Rattle.tl_beat.specs.declared.fault.LineFault.{LineFault}
 use Rattle.tl_beat.specs.declared.fault.LineFault.TheVariants.{F1, F2, F3, F4, F5, F6}
 use Rattle.tl_beat.specs.Opcode.{a_code, b_code, c_code, d_code, a_carries_data, b_carries_data, c_carries_data, d_carries_data, a_with, b_with, c_with, d_with}
+use Rattle.tl_beat.specs.First.{first_if}
 use Rattle.tl_beat.specs.Names.{letter_of}
 use Rattle.tl_beat.specs.Digits.{digits, lanes_text, bit_text, is_digits, value_of, is_data, is_dash, is_bit}
 
@@ -20,11 +21,19 @@ letter c = letter_of c ∷ []
 
 -- the fields of a beat's line
 abbrev pub fields_of : {w : ℕ} → Link → Beat w → List (List ℕ)
-fields_of {w} link (A x) = digits 2 link.0 ∷ letter channel.A ∷ digits 1 (a_code x.opcode) ∷ digits 1 x.param ∷ digits 1 x.size ∷ digits 2 x.source ∷ digits 8 x.address ∷ digits (w / 4) x.mask ∷ lanes_text x.lanes ∷ bit_text x.corrupt ∷ []
-fields_of {w} link (B x) = digits 2 link.0 ∷ letter channel.B ∷ digits 1 (b_code x.opcode) ∷ digits 1 x.param ∷ digits 1 x.size ∷ digits 2 x.source ∷ digits 8 x.address ∷ digits (w / 4) x.mask ∷ lanes_text x.lanes ∷ bit_text x.corrupt ∷ []
-fields_of {w} link (C x) = digits 2 link.0 ∷ letter channel.C ∷ digits 1 (c_code x.opcode) ∷ digits 1 x.param ∷ digits 1 x.size ∷ digits 2 x.source ∷ digits 8 x.address ∷ lanes_text x.lanes ∷ bit_text x.corrupt ∷ []
-fields_of {w} link (D x) = digits 2 link.0 ∷ letter channel.D ∷ digits 1 (d_code x.opcode) ∷ digits 1 x.param ∷ digits 1 x.size ∷ digits 2 x.source ∷ digits 2 x.sink ∷ bit_text x.denied ∷ lanes_text x.lanes ∷ bit_text x.corrupt ∷ []
-fields_of {w} link (E x) = digits 2 link.0 ∷ letter channel.E ∷ digits 2 x.sink ∷ []
+fields_of {w} link (beat.A x) =
+    digits 2 link.0 ∷ letter channel.A ∷ digits 1 (a_code x.opcode) ∷ digits 1 x.param ∷ digits 1 x.size ∷ digits 2 x.source ∷ digits 8 x.address
+    ∷ digits (w / 4) x.mask ∷ lanes_text x.lanes ∷ bit_text x.corrupt ∷ []
+fields_of {w} link (beat.B x) =
+    digits 2 link.0 ∷ letter channel.B ∷ digits 1 (b_code x.opcode) ∷ digits 1 x.param ∷ digits 1 x.size ∷ digits 2 x.source ∷ digits 8 x.address
+    ∷ digits (w / 4) x.mask ∷ lanes_text x.lanes ∷ bit_text x.corrupt ∷ []
+fields_of {w} link (beat.C x) =
+    digits 2 link.0 ∷ letter channel.C ∷ digits 1 (c_code x.opcode) ∷ digits 1 x.param ∷ digits 1 x.size ∷ digits 2 x.source ∷ digits 8 x.address
+    ∷ lanes_text x.lanes ∷ bit_text x.corrupt ∷ []
+fields_of {w} link (beat.D x) =
+    digits 2 link.0 ∷ letter channel.D ∷ digits 1 (d_code x.opcode) ∷ digits 1 x.param ∷ digits 1 x.size ∷ digits 2 x.source ∷ digits 2 x.sink
+    ∷ bit_text x.denied ∷ lanes_text x.lanes ∷ bit_text x.corrupt ∷ []
+fields_of {w} link (beat.E x) = digits 2 link.0 ∷ letter channel.E ∷ digits 2 x.sink ∷ []
 
 -- fields in a row, with a space between each two
 unfoldable pub spaced : List (List ℕ) → List ℕ
@@ -38,24 +47,24 @@ line_of link beat = spaced (fields_of link beat) ++ 10 ∷ []
 
 -- param, size and mask have room in their fields
 abbrev pub IsWritable : {w : ℕ} → Beat w → Type 0
-IsWritable {w} (A x) = (x.param < 8) × (x.size < 16) × (x.mask < 2 ^ w)
-IsWritable {w} (B x) = (x.param < 8) × (x.size < 16) × (x.mask < 2 ^ w)
-IsWritable {w} (C x) = (x.param < 8) × (x.size < 16)
-IsWritable {w} (D x) = (x.param < 4) × (x.size < 16)
-IsWritable {w} (E x) = Unit {0}
+IsWritable {w} (beat.A x) = (x.param < 8) × (x.size < 16) × (x.mask < 2 ^ w)
+IsWritable {w} (beat.B x) = (x.param < 8) × (x.size < 16) × (x.mask < 2 ^ w)
+IsWritable {w} (beat.C x) = (x.param < 8) × (x.size < 16)
+IsWritable {w} (beat.D x) = (x.param < 4) × (x.size < 16)
+IsWritable {w} (beat.E x) = ⊤
 
 -- w lanes of a byte each, where there are lanes
 abbrev pub AreLanes : ℕ → Option (List ℕ) → Type 0
-AreLanes w None = Unit {0}
+AreLanes w None = ⊤
 AreLanes w (Some lanes) = (length lanes ≡ w) × All (λ lane. lane < 2 ^ 8) lanes
 
 -- each number is within its type, as those of a program's values are
 abbrev pub IsInRange : {w : ℕ} → Beat w → Type 0
-IsInRange {w} (A x) = (x.source < 2 ^ 8) × (x.address < 2 ^ 32) × AreLanes w x.lanes
-IsInRange {w} (B x) = (x.source < 2 ^ 8) × (x.address < 2 ^ 32) × AreLanes w x.lanes
-IsInRange {w} (C x) = (x.source < 2 ^ 8) × (x.address < 2 ^ 32) × AreLanes w x.lanes
-IsInRange {w} (D x) = (x.source < 2 ^ 8) × (x.sink < 2 ^ 8) × AreLanes w x.lanes
-IsInRange {w} (E x) = x.sink < 2 ^ 8
+IsInRange {w} (beat.A x) = (x.source < 2 ^ 8) × (x.address < 2 ^ 32) × AreLanes w x.lanes
+IsInRange {w} (beat.B x) = (x.source < 2 ^ 8) × (x.address < 2 ^ 32) × AreLanes w x.lanes
+IsInRange {w} (beat.C x) = (x.source < 2 ^ 8) × (x.address < 2 ^ 32) × AreLanes w x.lanes
+IsInRange {w} (beat.D x) = (x.source < 2 ^ 8) × (x.sink < 2 ^ 8) × AreLanes w x.lanes
+IsInRange {w} (beat.E x) = x.sink < 2 ^ 8
 
 -- the line is that of the beat on the link
 pub record Spells {w : ℕ} (line : List ℕ) (link : Link) (beat : Beat w) : Type 0 where
@@ -129,16 +138,11 @@ is_misplaced None field = false
 is_misplaced (Some true) field = is_dash field
 is_misplaced (Some false) field = not (is_dash field)
 
--- if the test holds, the fault; else what follows
-abbrev pub fault_if : Bool → LineFault → Option LineFault → Option LineFault
-fault_if true fault rest = Some fault
-fault_if false fault rest = rest
-
 abbrev pub opcode_fault : Channel → List (List ℕ) → Option LineFault
 opcode_fault channel fields =
-    fault_if (is_none (carries_with channel (value_of (field fields 2)))) F4
-    (fault_if (nat_lt (greatest_param channel) (value_of (field fields 3))) F5
-    (fault_if (is_misplaced (carries_with channel (value_of (field fields 2))) (field fields (data_place channel))) F6 None))
+    first_if (is_none (carries_with channel (value_of (field fields 2)))) F4
+    (first_if (nat_lt (greatest_param channel) (value_of (field fields 3))) F5
+    (first_if (is_misplaced (carries_with channel (value_of (field fields 2))) (field fields (data_place channel))) F6 None))
 
 abbrev pub value_fault : Channel → List (List ℕ) → Option LineFault
 value_fault channel.E fields = None
@@ -147,11 +151,11 @@ value_fault channel fields = opcode_fault channel fields
 abbrev pub channel_fault : ℕ → Option Channel → List (List ℕ) → Option LineFault
 channel_fault w None fields = Some F2
 channel_fault w (Some channel) fields =
-    fault_if (not (length fields == length (forms w channel))) F1
-    (fault_if (not (are_of_form (forms w channel) fields)) F3 (value_fault channel fields))
+    first_if (not (length fields == length (forms w channel))) F1
+    (first_if (not (are_of_form (forms w channel) fields)) F3 (value_fault channel fields))
 
 abbrev pub fields_fault : ℕ → List (List ℕ) → Option LineFault
-fields_fault w fields = fault_if (nat_lt (length fields) 2) F1 (channel_fault w (channel_named (field fields 1)) fields)
+fields_fault w fields = first_if (nat_lt (length fields) 2) F1 (channel_fault w (channel_named (field fields 1)) fields)
 
 -- the line without its last byte
 abbrev pub without_last : List ℕ → List ℕ
@@ -159,4 +163,4 @@ without_last line = take (length line - 1) line
 
 -- the first fault of a line, where beats have w bytes; None where it spells a beat
 abbrev pub line_fault : ℕ → List ℕ → Option LineFault
-line_fault w line = fault_if (nat_lt 256 (length line) || not (ends_with_byte 10 line)) F1 (fields_fault w (pieces (without_last line)))
+line_fault w line = first_if (nat_lt 256 (length line) || not (ends_with_byte 10 line)) F1 (fields_fault w (pieces (without_last line)))

@@ -1,5 +1,7 @@
--- The names of opcodes and params.
-use Rattle.std.specs.Prelude.{ℕ, List, [], ◌∷◌, codes}
+-- The names of channels, opcodes and faults.
+use Rattle.std.specs.Prelude.{ℕ, List, codes}
+use Rattle.tl_beat.specs.declared.fault.LineFault.{LineFault}
+use Rattle.tl_beat.specs.declared.fault.LineFault.TheVariants as fault
 use Rattle.tl_beat.specs.declared.opcode.Channel.{Channel}
 use Rattle.tl_beat.specs.declared.opcode.Channel.TheVariants as channel
 use Rattle.tl_beat.specs.declared.opcode.OpA.{OpA}
@@ -55,63 +57,10 @@ d_name d.Grant = codes "Grant"
 d_name d.GrantData = codes "GrantData"
 d_name d.ReleaseAck = codes "ReleaseAck"
 
--- ---- the names of params, by number
-
-abbrev pub arithmetic_names : List (List ℕ)
-arithmetic_names = codes "MIN" ∷ codes "MAX" ∷ codes "MINU" ∷ codes "MAXU" ∷ codes "ADD" ∷ []
-
-abbrev pub logical_names : List (List ℕ)
-logical_names = codes "XOR" ∷ codes "OR" ∷ codes "AND" ∷ codes "SWAP" ∷ []
-
-abbrev pub intent_names : List (List ℕ)
-intent_names = codes "PrefetchRead" ∷ codes "PrefetchWrite" ∷ []
-
-abbrev pub grow_names : List (List ℕ)
-grow_names = codes "NtoB" ∷ codes "NtoT" ∷ codes "BtoT" ∷ []
-
-abbrev pub cap_names : List (List ℕ)
-cap_names = codes "toT" ∷ codes "toB" ∷ codes "toN" ∷ []
-
-abbrev pub prune_names : List (List ℕ)
-prune_names = codes "TtoB" ∷ codes "TtoN" ∷ codes "BtoN" ∷ []
-
--- a prune, or a report that leaves things as they are
-abbrev pub report_names : List (List ℕ)
-report_names = codes "TtoB" ∷ codes "TtoN" ∷ codes "BtoN" ∷ codes "TtoT" ∷ codes "BtoB" ∷ codes "NtoN" ∷ []
-
-abbrev pub a_param_names : OpA → List (List ℕ)
-a_param_names a.PutFullData = []
-a_param_names a.PutPartialData = []
-a_param_names a.ArithmeticData = arithmetic_names
-a_param_names a.LogicalData = logical_names
-a_param_names a.Get = []
-a_param_names a.Intent = intent_names
-a_param_names a.AcquireBlock = grow_names
-a_param_names a.AcquirePerm = grow_names
-
-abbrev pub b_param_names : OpB → List (List ℕ)
-b_param_names b.PutFullData = []
-b_param_names b.PutPartialData = []
-b_param_names b.ArithmeticData = arithmetic_names
-b_param_names b.LogicalData = logical_names
-b_param_names b.Get = []
-b_param_names b.Intent = intent_names
-b_param_names b.ProbeBlock = cap_names
-b_param_names b.ProbePerm = cap_names
-
-abbrev pub c_param_names : OpC → List (List ℕ)
-c_param_names c.AccessAck = []
-c_param_names c.AccessAckData = []
-c_param_names c.HintAck = []
-c_param_names c.ProbeAck = report_names
-c_param_names c.ProbeAckData = report_names
-c_param_names c.Release = prune_names
-c_param_names c.ReleaseData = prune_names
-
-abbrev pub d_param_names : OpD → List (List ℕ)
-d_param_names d.AccessAck = []
-d_param_names d.AccessAckData = []
-d_param_names d.HintAck = []
-d_param_names d.Grant = cap_names
-d_param_names d.GrantData = cap_names
-d_param_names d.ReleaseAck = []
+abbrev pub line_fault_name : LineFault → List ℕ
+line_fault_name fault.F1 = codes "F1"
+line_fault_name fault.F2 = codes "F2"
+line_fault_name fault.F3 = codes "F3"
+line_fault_name fault.F4 = codes "F4"
+line_fault_name fault.F5 = codes "F5"
+line_fault_name fault.F6 = codes "F6"

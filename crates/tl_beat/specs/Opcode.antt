@@ -1,3 +1,4 @@
+-- The opcodes of each channel: their codes, and whether their beats carry data.
 use Rattle.std.specs.Prelude.{Bool, true, false, ℕ, List, [], ◌∷◌, Option, ◌==◌}
 use Rattle.std.specs.List.{find}
 use Rattle.tl_beat.specs.declared.opcode.OpA.{OpA}

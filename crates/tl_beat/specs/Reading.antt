@@ -1,5 +1,5 @@
 -- What a line is read as, by the pieces between its spaces.
-use Rattle.std.specs.Prelude.{◌≡◌, refl, ℕ, ◌/◌, Bool, true, false, not, ◌||◌, List, [], ◌∷◌, length, Option, Some, None, is_some, Result, Ok, Err, nat_lt, if◌then◌else◌}
+use Rattle.std.specs.Prelude.{◌≡◌, refl, ℕ, ◌/◌, Bool, true, false, not, ◌||◌, List, [], ◌∷◌, length, Option, Some, None, is_some, Result, Ok, Err, nat_lt, ok_or, if◌then◌else◌}
 use Rattle.std.specs.Io.BufRead.{ends_with_byte}
 use Rattle.tl_beat.specs.declared.beat.Link.{Link}
 use Rattle.tl_beat.specs.declared.beat.BeatA.{BeatA}
@@ -32,10 +32,6 @@ data_in w field = if is_data w field then Ok (data_of field) else Err F3
 abbrev pub bit_in : List ℕ → Result Bool LineFault
 bit_in field = if is_bit field then Ok (bit_of field) else Err F3
 
-abbrev pub or_fault : {A : Type 0} → Option A → LineFault → Result A LineFault
-or_fault None fault = Err fault
-or_fault (Some x) fault = Ok x
-
 -- ---- a beat of numbers: opcode in use, param at most the channel's greatest, data where the opcode has it
 
 abbrev pub at_most : ℕ → ℕ → Result ℕ LineFault
@@ -50,28 +46,28 @@ agreement false true = Err F6
 
 abbrev pub made_a : {w : ℕ} → ℕ → ℕ → ℕ → ℕ → ℕ → ℕ → Option (List ℕ) → Bool → Result (BeatA w) LineFault
 made_a opcode param size source address mask lanes corrupt = do
-  opcode ← or_fault (a_with opcode) F4
+  opcode ← ok_or (a_with opcode) F4
   param ← at_most 7 param
   carries ← agreement (is_some lanes) (a_carries_data opcode)
   Ok (record { opcode = opcode; param = param; size = size; source = source; address = address; mask = mask; lanes = lanes; corrupt = corrupt; carries = carries })
 
 abbrev pub made_b : {w : ℕ} → ℕ → ℕ → ℕ → ℕ → ℕ → ℕ → Option (List ℕ) → Bool → Result (BeatB w) LineFault
 made_b opcode param size source address mask lanes corrupt = do
-  opcode ← or_fault (b_with opcode) F4
+  opcode ← ok_or (b_with opcode) F4
   param ← at_most 7 param
   carries ← agreement (is_some lanes) (b_carries_data opcode)
   Ok (record { opcode = opcode; param = param; size = size; source = source; address = address; mask = mask; lanes = lanes; corrupt = corrupt; carries = carries })
 
 abbrev pub made_c : {w : ℕ} → ℕ → ℕ → ℕ → ℕ → ℕ → Option (List ℕ) → Bool → Result (BeatC w) LineFault
 made_c opcode param size source address lanes corrupt = do
-  opcode ← or_fault (c_with opcode) F4
+  opcode ← ok_or (c_with opcode) F4
   param ← at_most 7 param
   carries ← agreement (is_some lanes) (c_carries_data opcode)
   Ok (record { opcode = opcode; param = param; size = size; source = source; address = address; lanes = lanes; corrupt = corrupt; carries = carries })
 
 abbrev pub made_d : {w : ℕ} → ℕ → ℕ → ℕ → ℕ → ℕ → Bool → Option (List ℕ) → Bool → Result (BeatD w) LineFault
 made_d opcode param size source sink denied lanes corrupt = do
-  opcode ← or_fault (d_with opcode) F4
+  opcode ← ok_or (d_with opcode) F4
   param ← at_most 3 param
   carries ← agreement (is_some lanes) (d_carries_data opcode)
   Ok (record { opcode = opcode; param = param; size = size; source = source; sink = sink; denied = denied; lanes = lanes; corrupt = corrupt; carries = carries })

@@ -1,5 +1,8 @@
 //! What is wrong with a line of text that spells no beat.
 
+ghost use Rattle.std.specs.Prelude.{◌≡◌};
+ghost use Rattle.tl_beat.specs.Names.{line_fault_name};
+
 /// The first fault of a line, in this order; `F1` comes again behind `F2`, for a number of fields
 /// that isn't the channel's.
 #[derive(Clone, Copy, Debug, PartialEq, Eq)]
@@ -17,4 +20,20 @@ pub enum LineFault {
     F5,
     /// There is data where the opcode carries none, or none where it does.
     F6,
+}
+
+impl LineFault {
+    /// The fault's name.
+    pub fn name(self) -> &'static str
+        ensures { result.now ≡ line_fault_name self }
+    {
+        match self {
+            Self::F1 => "F1",
+            Self::F2 => "F2",
+            Self::F3 => "F3",
+            Self::F4 => "F4",
+            Self::F5 => "F5",
+            Self::F6 => "F6",
+        }
+    }
 }

@@ -221,7 +221,7 @@ fn any_lanes<const W: usize>(field: &[u8]) -> Result<[u8; W], LineFault>
 }
 
 #[inline(always)]
-fn put_eight(lanes: &mut [u8], at: usize, eight: &[u8; 8])
+fn copy_eight(lanes: &mut [u8], at: usize, eight: &[u8; 8])
     requires { at + 8 ≤ length lanes.old }
     ensures { lanes.new ≡ take at lanes.old ++ (eight.now ++ drop (at + 8) lanes.old) }
 {
@@ -240,7 +240,7 @@ fn spelled_lanes<const W: usize>(field: &[u8]) -> Option<[u8; W]>
     let mut lanes = [0u8; W];
     for i in 0..W / 8 {
         let eight = eight_lanes(&field[16 * i..16 * i + 16])?;
-        put_eight(&mut lanes[..], W - 8 * (i + 1), &eight);
+        copy_eight(&mut lanes[..], W - 8 * (i + 1), &eight);
     }
     Some(lanes)
 }

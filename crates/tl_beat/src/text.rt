@@ -18,7 +18,7 @@ fn digit_byte(digit: u8) -> u8
 
 /// Appends the lowest `count` hexadecimal digits of a number, the highest of them first.
 #[inline(always)]
-pub fn put_digits(text: &mut ArrayVec<u8, 64>, number: u32, count: u8)
+pub fn append_digits(text: &mut ArrayVec<u8, 64>, number: u32, count: u8)
     requires count { count ≤ 8 }
     requires room { length text.old.items + count ≤ 64 }
     ensures text { text.new.items ≡ text.old.items ++ digits count number }
@@ -32,20 +32,20 @@ pub fn put_digits(text: &mut ArrayVec<u8, 64>, number: u32, count: u8)
 }
 
 #[inline(always)]
-fn put_lanes<const W: usize>(text: &mut ArrayVec<u8, 64>, lanes: &[u8; W])
+fn append_lanes<const W: usize>(text: &mut ArrayVec<u8, 64>, lanes: &[u8; W])
     requires width { IsWidth W }
     requires room { length text.old.items ≤ 32 }
     ensures text { text.new.items ≡ text.old.items ++ lane_digits lanes.now }
     ensures len { length text.new.items ≡ length text.old.items + 2 * W }
 {
     for i in 0..W {
-        put_digits(text, u32::from(lanes[W - 1 - i]), 2);
+        append_digits(text, u32::from(lanes[W - 1 - i]), 2);
     }
 }
 
 /// Appends the data of a beat: the digits of its lanes, the last lane first, or a dash.
 #[inline(always)]
-pub fn put_data<const W: usize>(text: &mut ArrayVec<u8, 64>, lanes: &Option<[u8; W]>)
+pub fn append_data<const W: usize>(text: &mut ArrayVec<u8, 64>, lanes: &Option<[u8; W]>)
     requires width { IsWidth W }
     requires room { length text.old.items ≤ 32 }
     ensures text { text.new.items ≡ text.old.items ++ lanes_text lanes.now }
@@ -53,13 +53,13 @@ pub fn put_data<const W: usize>(text: &mut ArrayVec<u8, 64>, lanes: &Option<[u8;
 {
     match lanes {
         None => text.push(b'-'),
-        Some(lanes) => put_lanes(text, lanes),
+        Some(lanes) => append_lanes(text, lanes),
     }
 }
 
 /// Appends 0 or 1.
 #[inline(always)]
-pub fn put_bit(text: &mut ArrayVec<u8, 64>, bit: bool)
+pub fn append_bit(text: &mut ArrayVec<u8, 64>, bit: bool)
     requires { length text.old.items < 64 }
     ensures text { text.new.items ≡ text.old.items ++ bit_text bit }
     ensures len { length text.new.items ≡ length text.old.items + 1 }

@@ -11,31 +11,31 @@ ghost use Rattle.tl_beat.specs.Width.{IsWidth};
 ghost use Rattle.tl_beat.specs.Writing.{next_number, next_bit, head_text, tail_text};
 
 use crate::beat::{Beat, BeatA, BeatB, BeatC, BeatD, BeatE, Link};
-use crate::text::{put_bit, put_data, put_digits};
+use crate::text::{append_bit, append_data, append_digits};
 use arrayvec::ArrayVec;
 use std::alloc::AllocError;
 
 /// Appends a space and a number.
 #[inline(always)]
-fn put_number(text: &mut ArrayVec<u8, 64>, number: u32, count: u8)
+fn append_number(text: &mut ArrayVec<u8, 64>, number: u32, count: u8)
     requires count { count ≤ 8 }
     requires room { length text.old.items + count < 64 }
     ensures text { text.new.items ≡ text.old.items ++ next_number count number }
     ensures len { length text.new.items ≡ length text.old.items + count + 1 }
 {
     text.push(b' ');
-    put_digits(text, number, count);
+    append_digits(text, number, count);
 }
 
 /// Appends a space and a bit.
 #[inline(always)]
-fn put_next_bit(text: &mut ArrayVec<u8, 64>, bit: bool)
+fn append_next_bit(text: &mut ArrayVec<u8, 64>, bit: bool)
     requires { length text.old.items ≤ 62 }
     ensures text { text.new.items ≡ text.old.items ++ next_bit bit }
     ensures len { length text.new.items ≡ length text.old.items + 2 }
 {
     text.push(b' ');
-    put_bit(text, bit);
+    append_bit(text, bit);
 }
 
 /// The fields that lines of channels A to D begin with.
@@ -50,34 +50,34 @@ struct Head {
 }
 
 #[inline(always)]
-fn put_head(text: &mut ArrayVec<u8, 64>, head: Head)
+fn append_head(text: &mut ArrayVec<u8, 64>, head: Head)
     requires { text.old.items ≡ [] }
     ensures text { text.new.items ≡ head_text head.link.0 head.letter head.opcode head.param head.size head.source }
     ensures len { length text.new.items ≡ 13 }
 {
-    put_digits(text, u32::from(head.link.0), 2);
+    append_digits(text, u32::from(head.link.0), 2);
     text.push(b' ');
     text.push(head.letter);
-    put_number(text, u32::from(head.opcode), 1);
-    put_number(text, u32::from(head.param), 1);
-    put_number(text, u32::from(head.size), 1);
-    put_number(text, u32::from(head.source), 2);
+    append_number(text, u32::from(head.opcode), 1);
+    append_number(text, u32::from(head.param), 1);
+    append_number(text, u32::from(head.size), 1);
+    append_number(text, u32::from(head.source), 2);
 }
 
 #[inline(always)]
-fn put_tail<const W: usize>(text: &mut ArrayVec<u8, 64>, lanes: &Option<[u8; W]>, corrupt: bool)
+fn append_tail<const W: usize>(text: &mut ArrayVec<u8, 64>, lanes: &Option<[u8; W]>, corrupt: bool)
     requires width { IsWidth W }
     requires room { length text.old.items ≤ 28 }
     ensures text { text.new.items ≡ text.old.items ++ tail_text lanes.now corrupt }
     ensures len { length text.new.items ≤ length text.old.items + 35 }
 {
     text.push(b' ');
-    put_data(text, lanes);
-    put_next_bit(text, corrupt);
+    append_data(text, lanes);
+    append_next_bit(text, corrupt);
 }
 
 #[inline(always)]
-fn put_a<const W: usize>(text: &mut ArrayVec<u8, 64>, link: Link, beat: &BeatA<W>)
+fn append_a<const W: usize>(text: &mut ArrayVec<u8, 64>, link: Link, beat: &BeatA<W>)
     requires width { IsWidth W }
     requires empty { text.old.items ≡ [] }
     ensures text { text.new.items ≡ spaced (fields_of link (beat_of.A beat.now)) }
@@ -91,14 +91,14 @@ fn put_a<const W: usize>(text: &mut ArrayVec<u8, 64>, link: Link, beat: &BeatA<W
         size: beat.size,
         source: beat.source,
     };
-    put_head(text, head);
-    put_number(text, beat.address, 8);
-    put_number(text, u32::from(beat.mask), (W / 4) as u8);
-    put_tail(text, &beat.lanes, beat.corrupt);
+    append_head(text, head);
+    append_number(text, beat.address, 8);
+    append_number(text, u32::from(beat.mask), (W / 4) as u8);
+    append_tail(text, &beat.lanes, beat.corrupt);
 }
 
 #[inline(always)]
-fn put_b<const W: usize>(text: &mut ArrayVec<u8, 64>, link: Link, beat: &BeatB<W>)
+fn append_b<const W: usize>(text: &mut ArrayVec<u8, 64>, link: Link, beat: &BeatB<W>)
     requires width { IsWidth W }
     requires empty { text.old.items ≡ [] }
     ensures text { text.new.items ≡ spaced (fields_of link (beat_of.B beat.now)) }
@@ -112,14 +112,14 @@ fn put_b<const W: usize>(text: &mut ArrayVec<u8, 64>, link: Link, beat: &BeatB<W
         size: beat.size,
         source: beat.source,
     };
-    put_head(text, head);
-    put_number(text, beat.address, 8);
-    put_number(text, u32::from(beat.mask), (W / 4) as u8);
-    put_tail(text, &beat.lanes, beat.corrupt);
+    append_head(text, head);
+    append_number(text, beat.address, 8);
+    append_number(text, u32::from(beat.mask), (W / 4) as u8);
+    append_tail(text, &beat.lanes, beat.corrupt);
 }
 
 #[inline(always)]
-fn put_c<const W: usize>(text: &mut ArrayVec<u8, 64>, link: Link, beat: &BeatC<W>)
+fn append_c<const W: usize>(text: &mut ArrayVec<u8, 64>, link: Link, beat: &BeatC<W>)
     requires width { IsWidth W }
     requires empty { text.old.items ≡ [] }
     ensures text { text.new.items ≡ spaced (fields_of link (beat_of.C beat.now)) }
@@ -133,13 +133,13 @@ fn put_c<const W: usize>(text: &mut ArrayVec<u8, 64>, link: Link, beat: &BeatC<W
         size: beat.size,
         source: beat.source,
     };
-    put_head(text, head);
-    put_number(text, beat.address, 8);
-    put_tail(text, &beat.lanes, beat.corrupt);
+    append_head(text, head);
+    append_number(text, beat.address, 8);
+    append_tail(text, &beat.lanes, beat.corrupt);
 }
 
 #[inline(always)]
-fn put_d<const W: usize>(text: &mut ArrayVec<u8, 64>, link: Link, beat: &BeatD<W>)
+fn append_d<const W: usize>(text: &mut ArrayVec<u8, 64>, link: Link, beat: &BeatD<W>)
     requires width { IsWidth W }
     requires empty { text.old.items ≡ [] }
     ensures text { text.new.items ≡ spaced (fields_of link (beat_of.D beat.now)) }
@@ -153,22 +153,22 @@ fn put_d<const W: usize>(text: &mut ArrayVec<u8, 64>, link: Link, beat: &BeatD<W
         size: beat.size,
         source: beat.source,
     };
-    put_head(text, head);
-    put_number(text, u32::from(beat.sink), 2);
-    put_next_bit(text, beat.denied);
-    put_tail(text, &beat.lanes, beat.corrupt);
+    append_head(text, head);
+    append_number(text, u32::from(beat.sink), 2);
+    append_next_bit(text, beat.denied);
+    append_tail(text, &beat.lanes, beat.corrupt);
 }
 
 #[inline(always)]
-fn put_e<const W: usize>(text: &mut ArrayVec<u8, 64>, link: Link, beat: BeatE)
+fn append_e<const W: usize>(text: &mut ArrayVec<u8, 64>, link: Link, beat: BeatE)
     requires { text.old.items ≡ [] }
     ensures text { text.new.items ≡ spaced (fields_of {w = W} link (beat_of.E beat)) }
     ensures len { length text.new.items < 64 }
 {
-    put_digits(text, u32::from(link.0), 2);
+    append_digits(text, u32::from(link.0), 2);
     text.push(b' ');
     text.push(b'E');
-    put_number(text, u32::from(beat.sink), 2);
+    append_number(text, u32::from(beat.sink), 2);
 }
 
 /// Appends the line of a beat on a link, its line feed included. Its param must have room in the
@@ -186,11 +186,11 @@ pub fn write_line<const W: usize>(
 {
     let mut text = ArrayVec::new();
     match beat {
-        Beat::A(beat) => put_a(&mut text, link, beat),
-        Beat::B(beat) => put_b(&mut text, link, beat),
-        Beat::C(beat) => put_c(&mut text, link, beat),
-        Beat::D(beat) => put_d(&mut text, link, beat),
-        Beat::E(beat) => put_e::<W>(&mut text, link, *beat),
+        Beat::A(beat) => append_a(&mut text, link, beat),
+        Beat::B(beat) => append_b(&mut text, link, beat),
+        Beat::C(beat) => append_c(&mut text, link, beat),
+        Beat::D(beat) => append_d(&mut text, link, beat),
+        Beat::E(beat) => append_e::<W>(&mut text, link, *beat),
     }
     text.push(b'\n');
     out.extend_from_slice(text.as_slice())

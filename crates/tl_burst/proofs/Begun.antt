@@ -43,7 +43,8 @@ begun-add_one : {w : ℕ} (m : Message w) (n : ℕ) → begun m (n + 1) ≡ beat
 begun-add_one m n = rw add-one refl
 
 -- m2 is m1 with the beat written at its place n, and m1 has the beats that m0 had before
-pub begun_more : {w : ℕ} (m0 m1 m2 : Message w) (burst : List (Beat w)) (x : Beat w) (n : ℕ) → begun m0 n ≡ burst → begun m1 n ≡ begun m0 n → beat_of m2 n ≡ x → ((k : ℕ) → k < n → beat_of m2 k ≡ beat_of m1 k) → begun m2 (n + 1) ≡ x ∷ burst
+pub begun_more : {w : ℕ} (m0 m1 m2 : Message w) (burst : List (Beat w)) (x : Beat w) (n : ℕ) → begun m0 n ≡ burst → begun m1 n ≡ begun m0 n → beat_of m2 n ≡ x
+    → ((k : ℕ) → k < n → beat_of m2 k ≡ beat_of m1 k) → begun m2 (n + 1) ≡ x ∷ burst
 begun_more m0 m1 m2 burst x n view kept here earlier =
     begun-add_one m2 n ∙ ap₂ (λ y ys. y ∷ ys) here (begun_kept m1 m2 n earlier ∙ kept ∙ view)
 
@@ -62,10 +63,12 @@ completes_at : {w : ℕ} (m0 m1 : Message w) (burst : List (Beat w)) (x : Beat w
 completes_at m0 m1 burst x n view same = rw (length_of_view m0 burst n view, burst_length-is m1 x same) refl
 
 -- a beat that isn't the last of its burst
-pub completes-not_yet : {w : ℕ} (m0 m1 : Message w) (burst : List (Beat w)) (x : Beat w) (n : ℕ) → begun m0 n ≡ burst → IsTrue (same_control x (beat_of m1 0)) → n + 1 < beats_of m1 → completes x burst ≡ false
+pub completes-not_yet : {w : ℕ} (m0 m1 : Message w) (burst : List (Beat w)) (x : Beat w) (n : ℕ) → begun m0 n ≡ burst → IsTrue (same_control x (beat_of m1 0)) → n + 1 < beats_of m1
+    → completes x burst ≡ false
 completes-not_yet m0 m1 burst x n view same more = completes_at m0 m1 burst x n view same ∙ ne_eqb (n + 1) (beats_of m1) (λ e. omega arith)
 
-pub completes-now : {w : ℕ} (m0 m1 : Message w) (burst : List (Beat w)) (x : Beat w) (n : ℕ) → begun m0 n ≡ burst → IsTrue (same_control x (beat_of m1 0)) → n + 1 ≡ beats_of m1 → completes x burst ≡ true
+pub completes-now : {w : ℕ} (m0 m1 : Message w) (burst : List (Beat w)) (x : Beat w) (n : ℕ) → begun m0 n ≡ burst → IsTrue (same_control x (beat_of m1 0)) → n + 1 ≡ beats_of m1
+    → completes x burst ≡ true
 completes-now m0 m1 burst x n view same last = completes_at m0 m1 burst x n view same ∙ eq-eqb (n + 1) (beats_of m1) last
 
 pub grown-not_yet : {w : ℕ} (burst : List (Beat w)) (x : Beat w) → completes x burst ≡ false → grown x burst ≡ x ∷ burst
@@ -75,7 +78,8 @@ pub grown-now : {w : ℕ} (burst : List (Beat w)) (x : Beat w) → completes x b
 grown-now burst x e = rw e refl
 
 -- what a beat is to a burst that has begun
-pub part-later : {w : ℕ} (m : Message w) (burst : List (Beat w)) (x : Beat w) (n k : ℕ) (last : Bool) → begun m n ≡ burst → 0 < n → k ≡ burst_length x → (n + 1 == k) ≡ last → IsTrue (same_control x (beat_of m 0)) → part_of x burst ≡ Ok (place false last)
+pub part-later : {w : ℕ} (m : Message w) (burst : List (Beat w)) (x : Beat w) (n k : ℕ) (last : Bool) → begun m n ≡ burst → 0 < n → k ≡ burst_length x → (n + 1 == k) ≡ last
+    → IsTrue (same_control x (beat_of m 0)) → part_of x burst ≡ Ok (place false last)
 part-later m burst x zero k last view some length_is e same = absurd (omega arith)
 part-later m burst x (suc n) k last view some length_is e same =
     let follows : breaks_burst x (begun m (suc n)) ≡ false = rw (control_anywhere x m n, same) refl in

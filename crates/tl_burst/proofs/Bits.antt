@@ -1,7 +1,7 @@
 -- Fields of bits, put above what a number already has.
 use Rattle.std.proofs.Common.{◌≡◌, ℕ, Bool, true, false, ◌+◌, ◌*◌, ◌/◌, ◌%◌, ◌-◌, ◌<◌, ◌≤◌, ◌^◌, ◌==◌, refl, sym, ap, ◌∙◌, arith, lit<}
 use Rattle.std.proofs.Math.Nat.{add-mul-mod_self_right, mod-eq_of_lt, mul-le-mul_left, pow-le-pow_right}
-use Rattle.std.proofs.lemmas.Nat.{field_of, shr_high, pow-add, mul-add-lt, shl_whole, pow_below}
+use Rattle.std.proofs.lemmas.Nat.{field_of, shr_high, pow-add, mul-add-lt, shl_whole}
 use Rattle.tl_burst.specs.Burst.{mask_at, bit}
 use mir.Val.{bool_byte}
 

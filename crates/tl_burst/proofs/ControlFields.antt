@@ -2,6 +2,7 @@
 use Rattle.std.proofs.Common.{◌≡◌, ℕ, Bool, true, false, ◌&&◌, ◌==◌, refl, sym, ap, ◌∙◌, IsTrue, List}
 use Rattle.std.specs.Prelude.{Option, is_some, if◌then◌else◌}
 use Rattle.std.proofs.lemmas.Bool.{and_parts, eqb-true}
+use Rattle.std.specs.Bool.{beq}
 use Rattle.tl_beat.specs.declared.beat.Beat.TheVariants.{A, B, C, D}
 use Rattle.tl_beat.specs.declared.beat.BeatA.{BeatA}
 use Rattle.tl_beat.specs.declared.opcode.OpA.{OpA}
@@ -21,16 +22,17 @@ use Rattle.tl_beat.specs.declared.opcode.OpD.TheVariants as d
 use Rattle.tl_burst.specs.declared.message.MessageD.{MessageD}
 use Rattle.tl_beat.specs.Opcode.{a_code, b_code, c_code, d_code, a_carries_data, b_carries_data, c_carries_data, d_carries_data}
 use Rattle.tl_burst.specs.Burst.{lanes_at, mask_at, bit, a_beat_of, b_beat_of, c_beat_of, d_beat_of}
-use Rattle.tl_burst.specs.Messages.{same_control, same_bool}
+use Rattle.tl_burst.specs.Messages.{same_control}
 use Rattle.tl_burst.proofs.Same.{same_a, same_b, same_c, same_d}
 
-same_bools : (a b : Bool) → same_bool a b ≡ true → a ≡ b
+same_bools : (a b : Bool) → beq a b ≡ true → a ≡ b
 same_bools true true e = refl
 same_bools false false e = refl
 same_bools true false e = sym e
 same_bools false true e = e
 
-lanes_of_opcode : (w i : ℕ) (payload : List ℕ) (carries has : Bool) (lanes : Option (List ℕ)) → is_some lanes ≡ has → carries ≡ has → lanes_at (is_some lanes) w payload i ≡ lanes → lanes_at carries w payload i ≡ lanes
+lanes_of_opcode : (w i : ℕ) (payload : List ℕ) (carries has : Bool) (lanes : Option (List ℕ)) → is_some lanes ≡ has → carries ≡ has → lanes_at (is_some lanes) w payload i ≡ lanes
+    → lanes_at carries w payload i ≡ lanes
 lanes_of_opcode w i payload carries has lanes e f h = rw (f, ← e) h
 
 -- the opcode of a code
@@ -59,7 +61,8 @@ control_a x y e =
     (same_op_a x.opcode y.opcode h0.0, eqb-true x.param y.param h1.0, eqb-true x.size y.size h2.0, eqb-true x.source y.source h3.0, eqb-true x.address y.address h3.1)
 
 -- a message of these control fields, with these lanes and bits at its beat i, has this beat there
-pub a_beat_here : {w : ℕ} (m : MessageA w) (i : ℕ) (x : BeatA w) → IsTrue (same_control (A x) (A (a_beat_of m 0))) → lanes_at (is_some x.lanes) w m.payload i ≡ x.lanes → mask_at w m.mask i ≡ x.mask → bit m.corrupt i ≡ x.corrupt → a_beat_of m i ≡ x
+pub a_beat_here : {w : ℕ} (m : MessageA w) (i : ℕ) (x : BeatA w) → IsTrue (same_control (A x) (A (a_beat_of m 0))) → lanes_at (is_some x.lanes) w m.payload i ≡ x.lanes
+    → mask_at w m.mask i ≡ x.mask → bit m.corrupt i ≡ x.corrupt → a_beat_of m i ≡ x
 a_beat_here {w} m i x same lanes mask corrupt =
     let c = control_a x (a_beat_of m 0) same in
     same_a (a_beat_of m i) x (sym c.0) (sym c.1) (sym c.2) (sym c.3) (sym c.4) mask (lanes_of_opcode w i m.payload (a_carries_data m.opcode) (a_carries_data x.opcode) x.lanes x.carries (ap a_carries_data (sym c.0)) lanes) corrupt
@@ -90,7 +93,8 @@ control_b x y e =
     (same_op_b x.opcode y.opcode h0.0, eqb-true x.param y.param h1.0, eqb-true x.size y.size h2.0, eqb-true x.source y.source h3.0, eqb-true x.address y.address h3.1)
 
 -- a message of these control fields, with these lanes and bits at its beat i, has this beat there
-pub b_beat_here : {w : ℕ} (m : MessageB w) (i : ℕ) (x : BeatB w) → IsTrue (same_control (B x) (B (b_beat_of m 0))) → lanes_at (is_some x.lanes) w m.payload i ≡ x.lanes → mask_at w m.mask i ≡ x.mask → bit m.corrupt i ≡ x.corrupt → b_beat_of m i ≡ x
+pub b_beat_here : {w : ℕ} (m : MessageB w) (i : ℕ) (x : BeatB w) → IsTrue (same_control (B x) (B (b_beat_of m 0))) → lanes_at (is_some x.lanes) w m.payload i ≡ x.lanes
+    → mask_at w m.mask i ≡ x.mask → bit m.corrupt i ≡ x.corrupt → b_beat_of m i ≡ x
 b_beat_here {w} m i x same lanes mask corrupt =
     let c = control_b x (b_beat_of m 0) same in
     same_b (b_beat_of m i) x (sym c.0) (sym c.1) (sym c.2) (sym c.3) (sym c.4) mask (lanes_of_opcode w i m.payload (b_carries_data m.opcode) (b_carries_data x.opcode) x.lanes x.carries (ap b_carries_data (sym c.0)) lanes) corrupt
@@ -120,7 +124,8 @@ control_c x y e =
     (same_op_c x.opcode y.opcode h0.0, eqb-true x.param y.param h1.0, eqb-true x.size y.size h2.0, eqb-true x.source y.source h3.0, eqb-true x.address y.address h3.1)
 
 -- a message of these control fields, with these lanes and bits at its beat i, has this beat there
-pub c_beat_here : {w : ℕ} (m : MessageC w) (i : ℕ) (x : BeatC w) → IsTrue (same_control (C x) (C (c_beat_of m 0))) → lanes_at (is_some x.lanes) w m.payload i ≡ x.lanes → bit m.corrupt i ≡ x.corrupt → c_beat_of m i ≡ x
+pub c_beat_here : {w : ℕ} (m : MessageC w) (i : ℕ) (x : BeatC w) → IsTrue (same_control (C x) (C (c_beat_of m 0))) → lanes_at (is_some x.lanes) w m.payload i ≡ x.lanes
+    → bit m.corrupt i ≡ x.corrupt → c_beat_of m i ≡ x
 c_beat_here {w} m i x same lanes corrupt =
     let c = control_c x (c_beat_of m 0) same in
     same_c (c_beat_of m i) x (sym c.0) (sym c.1) (sym c.2) (sym c.3) (sym c.4) (lanes_of_opcode w i m.payload (c_carries_data m.opcode) (c_carries_data x.opcode) x.lanes x.carries (ap c_carries_data (sym c.0)) lanes) corrupt
@@ -140,17 +145,19 @@ d_op_back d.ReleaseAck = refl
 same_op_d : (x y : OpD) → (d_code x == d_code y) ≡ true → x ≡ y
 same_op_d x y e = sym (d_op_back x) ∙ ap d_op (eqb-true (d_code x) (d_code y) e) ∙ d_op_back y
 
-pub control_d : {w : ℕ} (x y : BeatD w) → IsTrue (same_control (D x) (D y)) → (x.opcode ≡ y.opcode) × (x.param ≡ y.param) × (x.size ≡ y.size) × (x.source ≡ y.source) × (x.sink ≡ y.sink) × (x.denied ≡ y.denied)
+pub control_d : {w : ℕ} (x y : BeatD w) → IsTrue (same_control (D x) (D y))
+    → (x.opcode ≡ y.opcode) × (x.param ≡ y.param) × (x.size ≡ y.size) × (x.source ≡ y.source) × (x.sink ≡ y.sink) × (x.denied ≡ y.denied)
 control_d x y e =
-    let h0 = and_parts (d_code x.opcode == d_code y.opcode) ((x.param == y.param) && ((x.size == y.size) && ((x.source == y.source) && ((x.sink == y.sink) && same_bool x.denied y.denied)))) e in
-    let h1 = and_parts (x.param == y.param) ((x.size == y.size) && ((x.source == y.source) && ((x.sink == y.sink) && same_bool x.denied y.denied))) h0.1 in
-    let h2 = and_parts (x.size == y.size) ((x.source == y.source) && ((x.sink == y.sink) && same_bool x.denied y.denied)) h1.1 in
-    let h3 = and_parts (x.source == y.source) ((x.sink == y.sink) && same_bool x.denied y.denied) h2.1 in
-    let h4 = and_parts (x.sink == y.sink) (same_bool x.denied y.denied) h3.1 in
+    let h0 = and_parts (d_code x.opcode == d_code y.opcode) ((x.param == y.param) && ((x.size == y.size) && ((x.source == y.source) && ((x.sink == y.sink) && beq x.denied y.denied)))) e in
+    let h1 = and_parts (x.param == y.param) ((x.size == y.size) && ((x.source == y.source) && ((x.sink == y.sink) && beq x.denied y.denied))) h0.1 in
+    let h2 = and_parts (x.size == y.size) ((x.source == y.source) && ((x.sink == y.sink) && beq x.denied y.denied)) h1.1 in
+    let h3 = and_parts (x.source == y.source) ((x.sink == y.sink) && beq x.denied y.denied) h2.1 in
+    let h4 = and_parts (x.sink == y.sink) (beq x.denied y.denied) h3.1 in
     (same_op_d x.opcode y.opcode h0.0, eqb-true x.param y.param h1.0, eqb-true x.size y.size h2.0, eqb-true x.source y.source h3.0, eqb-true x.sink y.sink h4.0, same_bools x.denied y.denied h4.1)
 
 -- a message of these control fields, with these lanes and bits at its beat i, has this beat there
-pub d_beat_here : {w : ℕ} (m : MessageD w) (i : ℕ) (x : BeatD w) → IsTrue (same_control (D x) (D (d_beat_of m 0))) → lanes_at (is_some x.lanes) w m.payload i ≡ x.lanes → bit m.corrupt i ≡ x.corrupt → d_beat_of m i ≡ x
+pub d_beat_here : {w : ℕ} (m : MessageD w) (i : ℕ) (x : BeatD w) → IsTrue (same_control (D x) (D (d_beat_of m 0))) → lanes_at (is_some x.lanes) w m.payload i ≡ x.lanes
+    → bit m.corrupt i ≡ x.corrupt → d_beat_of m i ≡ x
 d_beat_here {w} m i x same lanes corrupt =
     let c = control_d x (d_beat_of m 0) same in
     same_d (d_beat_of m i) x (sym c.0) (sym c.1) (sym c.2) (sym c.3) (sym c.4) (sym c.5) (lanes_of_opcode w i m.payload (d_carries_data m.opcode) (d_carries_data x.opcode) x.lanes x.carries (ap d_carries_data (sym c.0)) lanes) corrupt

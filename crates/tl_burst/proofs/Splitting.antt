@@ -6,9 +6,10 @@ use Rattle.std.proofs.lemmas.List.{take_at, drop_at, append_cancel_left}
 use Rattle.std.proofs.lemmas.Nat.{le-div}
 use Rattle.std.proofs.lemmas.Bool.{eqb-true, true≢false}
 use Rattle.std.specs.Prelude.{Option, Some, None, Result, Ok}
+use Rattle.std.specs.Bool.{beq}
 use Rattle.tl_beat.specs.Opcode.{a_code, b_code, c_code, d_code}
 use Rattle.tl_burst.specs.Burst.{IsBlankAfter}
-use Rattle.tl_burst.specs.Messages.{same_control, same_bool, breaks_burst}
+use Rattle.tl_burst.specs.Messages.{same_control, breaks_burst}
 use Rattle.tl_burst.specs.Part.{completes}
 use Rattle.tl_burst.specs.declared.part.Broken.{Broken}
 use Rattle.tl_beat.specs.Width.{IsWidth}
@@ -42,7 +43,7 @@ beats-positive {w} (C m) width = some_data_beats w m.size (c_carries_data m.opco
 beats-positive {w} (D m) width = some_data_beats w m.size (d_carries_data m.opcode) width
 beats-positive (E m) width = omega arith
 
-length-of_beat : {w : ℕ} (m : Message w) (i : ℕ) → burst_length (beat_of m i) ≡ beats_of m
+pub length-of_beat : {w : ℕ} (m : Message w) (i : ℕ) → burst_length (beat_of m i) ≡ beats_of m
 length-of_beat (A m) i = refl
 length-of_beat (B m) i = refl
 length-of_beat (C m) i = refl
@@ -135,14 +136,16 @@ split_once beats ms ks rest other width s t =
     (same_messages ms ks width wholes s.messages_are_whole t.messages_are_whole, rests)
 
 -- A whole message that has come as far as beat i, and what its next beat makes of it.
-pub split_grows : {w : ℕ} (beats : List (Beat w)) (ms : List (Message w)) (rest : List (Beat w)) (m : Message w) (x : Beat w) (n : ℕ) → x ∷ rest ≡ begun m n → n < beats_of m → Splits beats ms rest → Splits (x ∷ beats) ms (x ∷ rest)
+pub split_grows : {w : ℕ} (beats : List (Beat w)) (ms : List (Message w)) (rest : List (Beat w)) (m : Message w) (x : Beat w) (n : ℕ) → x ∷ rest ≡ begun m n → n < beats_of m
+    → Splits beats ms rest → Splits (x ∷ beats) ms (x ∷ rest)
 split_grows beats ms rest m x n begun_is lt s = record {
   whole = ap (λ t. x ∷ t) s.whole;
   messages_are_whole = s.messages_are_whole;
   rest_begins = (m, n, lt, begun_is);
 }
 
-pub split_closes : {w : ℕ} (beats : List (Beat w)) (ms : List (Message w)) (rest : List (Beat w)) (m : Message w) (x : Beat w) → IsWidth w → IsBurst m (x ∷ rest) → Splits beats ms rest → Splits (x ∷ beats) (m ∷ ms) []
+pub split_closes : {w : ℕ} (beats : List (Beat w)) (ms : List (Message w)) (rest : List (Beat w)) (m : Message w) (x : Beat w) → IsWidth w → IsBurst m (x ∷ rest) → Splits beats ms rest
+    → Splits (x ∷ beats) (m ∷ ms) []
 unfolding bursts
 split_closes beats ms rest m x width is_m s = record {
   whole = ap (λ t. x ∷ t) s.whole ∙ ap (λ t. t ++ bursts ms) is_m.0;
@@ -151,12 +154,16 @@ split_closes beats ms rest m x width is_m s = record {
 }
 
 pub control_own : {w : ℕ} (m : Message w) (i k : ℕ) → same_control (beat_of m i) (beat_of m k) ≡ true
-control_own (A m) i k = rw (eq-eqb (a_code m.opcode) (a_code m.opcode) refl, eq-eqb m.param m.param refl, eq-eqb m.size m.size refl, eq-eqb m.source m.source refl, eq-eqb m.address m.address refl) refl
-control_own (B m) i k = rw (eq-eqb (b_code m.opcode) (b_code m.opcode) refl, eq-eqb m.param m.param refl, eq-eqb m.size m.size refl, eq-eqb m.source m.source refl, eq-eqb m.address m.address refl) refl
-control_own (C m) i k = rw (eq-eqb (c_code m.opcode) (c_code m.opcode) refl, eq-eqb m.param m.param refl, eq-eqb m.size m.size refl, eq-eqb m.source m.source refl, eq-eqb m.address m.address refl) refl
-control_own (D m) i k = rw (eq-eqb (d_code m.opcode) (d_code m.opcode) refl, eq-eqb m.param m.param refl, eq-eqb m.size m.size refl, eq-eqb m.source m.source refl, eq-eqb m.sink m.sink refl) (same_with_self m.denied)
+control_own (A m) i k =
+    rw (eq-eqb (a_code m.opcode) (a_code m.opcode) refl, eq-eqb m.param m.param refl, eq-eqb m.size m.size refl, eq-eqb m.source m.source refl, eq-eqb m.address m.address refl) refl
+control_own (B m) i k =
+    rw (eq-eqb (b_code m.opcode) (b_code m.opcode) refl, eq-eqb m.param m.param refl, eq-eqb m.size m.size refl, eq-eqb m.source m.source refl, eq-eqb m.address m.address refl) refl
+control_own (C m) i k =
+    rw (eq-eqb (c_code m.opcode) (c_code m.opcode) refl, eq-eqb m.param m.param refl, eq-eqb m.size m.size refl, eq-eqb m.source m.source refl, eq-eqb m.address m.address refl) refl
+control_own (D m) i k =
+    rw (eq-eqb (d_code m.opcode) (d_code m.opcode) refl, eq-eqb m.param m.param refl, eq-eqb m.size m.size refl, eq-eqb m.source m.source refl, eq-eqb m.sink m.sink refl) (same_with_self m.denied)
   where
-    same_with_self : (b : Bool) → same_bool b b ≡ true
+    same_with_self : (b : Bool) → beq b b ≡ true
     same_with_self true = refl
     same_with_self false = refl
 control_own (E m) i k = eq-eqb m.sink m.sink refl
@@ -183,7 +190,8 @@ own-not_yet burst x m i open_still begun_is beat_is =
     let same : (i + 1 == beats_of m) ≡ false = sym (own_completes m i) ∙ rw (begun_is, beat_is) at open_still in
     rw same refl
 
-pub own-now : {w : ℕ} (burst : List (Beat w)) (x : Beat w) (k m : Message w) (i : ℕ) → IsWidth w → completes x burst ≡ true → IsBurst k (x ∷ burst) → burst ≡ begun m i → x ≡ beat_of m i → IsBlankAfter (beats_of m) m → Ok (Some k) ≡ answer_for m i
+pub own-now : {w : ℕ} (burst : List (Beat w)) (x : Beat w) (k m : Message w) (i : ℕ) → IsWidth w → completes x burst ≡ true → IsBurst k (x ∷ burst) → burst ≡ begun m i → x ≡ beat_of m i
+    → IsBlankAfter (beats_of m) m → Ok (Some k) ≡ answer_for m i
 own-now burst x k m i width closes is_k begun_is beat_is blank =
     let same : (i + 1 == beats_of m) ≡ true = sym (own_completes m i) ∙ rw (begun_is, beat_is) at closes in
     let last : suc i ≡ beats_of m = (let e = eqb-true (i + 1) (beats_of m) same in omega (arith, e)) in

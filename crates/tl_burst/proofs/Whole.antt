@@ -77,7 +77,8 @@ made_a w x h = record { opcode = x.0; param = x.1; size = x.2; source = x.3; add
 same_made_a : (w : ℕ) (x y : FieldsA) (h : x.2 ≤ 6) (k : y.2 ≤ 6) → x ≡ y → made_a w x h ≡ made_a w y k
 same_made_a w x y h k e = subst (λ (z : FieldsA). (l : z.2 ≤ 6) → made_a w x h ≡ made_a w z l) e (λ l. ap (made_a w x) (le_prop h l)) k
 
-same_fields_a : {w : ℕ} (m k : MessageA w) → m.opcode ≡ k.opcode → m.param ≡ k.param → m.size ≡ k.size → m.source ≡ k.source → m.address ≡ k.address → m.payload ≡ k.payload → m.mask ≡ k.mask → m.corrupt ≡ k.corrupt → m ≡ k
+same_fields_a : {w : ℕ} (m k : MessageA w) → m.opcode ≡ k.opcode → m.param ≡ k.param → m.size ≡ k.size → m.source ≡ k.source → m.address ≡ k.address → m.payload ≡ k.payload → m.mask ≡ k.mask
+    → m.corrupt ≡ k.corrupt → m ≡ k
 same_fields_a {w} m k e0 e1 e2 e3 e4 e5 e6 e7 =
     let e : (m.opcode, m.param, m.size, m.source, m.address, m.payload, m.mask, m.corrupt) ≡ (k.opcode, k.param, k.size, k.source, k.address, k.payload, k.mask, k.corrupt) = rw (e0, e1, e2, e3, e4, e5, e6, e7) refl in
     same_made_a w (m.opcode, m.param, m.size, m.source, m.address, m.payload, m.mask, m.corrupt) (k.opcode, k.param, k.size, k.source, k.address, k.payload, k.mask, k.corrupt) m.small k.small e
@@ -102,7 +103,8 @@ made_b w x h = record { opcode = x.0; param = x.1; size = x.2; source = x.3; add
 same_made_b : (w : ℕ) (x y : FieldsB) (h : x.2 ≤ 6) (k : y.2 ≤ 6) → x ≡ y → made_b w x h ≡ made_b w y k
 same_made_b w x y h k e = subst (λ (z : FieldsB). (l : z.2 ≤ 6) → made_b w x h ≡ made_b w z l) e (λ l. ap (made_b w x) (le_prop h l)) k
 
-same_fields_b : {w : ℕ} (m k : MessageB w) → m.opcode ≡ k.opcode → m.param ≡ k.param → m.size ≡ k.size → m.source ≡ k.source → m.address ≡ k.address → m.payload ≡ k.payload → m.mask ≡ k.mask → m.corrupt ≡ k.corrupt → m ≡ k
+same_fields_b : {w : ℕ} (m k : MessageB w) → m.opcode ≡ k.opcode → m.param ≡ k.param → m.size ≡ k.size → m.source ≡ k.source → m.address ≡ k.address → m.payload ≡ k.payload → m.mask ≡ k.mask
+    → m.corrupt ≡ k.corrupt → m ≡ k
 same_fields_b {w} m k e0 e1 e2 e3 e4 e5 e6 e7 =
     let e : (m.opcode, m.param, m.size, m.source, m.address, m.payload, m.mask, m.corrupt) ≡ (k.opcode, k.param, k.size, k.source, k.address, k.payload, k.mask, k.corrupt) = rw (e0, e1, e2, e3, e4, e5, e6, e7) refl in
     same_made_b w (m.opcode, m.param, m.size, m.source, m.address, m.payload, m.mask, m.corrupt) (k.opcode, k.param, k.size, k.source, k.address, k.payload, k.mask, k.corrupt) m.small k.small e
@@ -127,7 +129,8 @@ made_c w x h = record { opcode = x.0; param = x.1; size = x.2; source = x.3; add
 same_made_c : (w : ℕ) (x y : FieldsC) (h : x.2 ≤ 6) (k : y.2 ≤ 6) → x ≡ y → made_c w x h ≡ made_c w y k
 same_made_c w x y h k e = subst (λ (z : FieldsC). (l : z.2 ≤ 6) → made_c w x h ≡ made_c w z l) e (λ l. ap (made_c w x) (le_prop h l)) k
 
-same_fields_c : {w : ℕ} (m k : MessageC w) → m.opcode ≡ k.opcode → m.param ≡ k.param → m.size ≡ k.size → m.source ≡ k.source → m.address ≡ k.address → m.payload ≡ k.payload → m.corrupt ≡ k.corrupt → m ≡ k
+same_fields_c : {w : ℕ} (m k : MessageC w) → m.opcode ≡ k.opcode → m.param ≡ k.param → m.size ≡ k.size → m.source ≡ k.source → m.address ≡ k.address → m.payload ≡ k.payload
+    → m.corrupt ≡ k.corrupt → m ≡ k
 same_fields_c {w} m k e0 e1 e2 e3 e4 e5 e6 =
     let e : (m.opcode, m.param, m.size, m.source, m.address, m.payload, m.corrupt) ≡ (k.opcode, k.param, k.size, k.source, k.address, k.payload, k.corrupt) = rw (e0, e1, e2, e3, e4, e5, e6) refl in
     same_made_c w (m.opcode, m.param, m.size, m.source, m.address, m.payload, m.corrupt) (k.opcode, k.param, k.size, k.source, k.address, k.payload, k.corrupt) m.small k.small e
@@ -152,7 +155,8 @@ made_d w x h = record { opcode = x.0; param = x.1; size = x.2; source = x.3; sin
 same_made_d : (w : ℕ) (x y : FieldsD) (h : x.2 ≤ 6) (k : y.2 ≤ 6) → x ≡ y → made_d w x h ≡ made_d w y k
 same_made_d w x y h k e = subst (λ (z : FieldsD). (l : z.2 ≤ 6) → made_d w x h ≡ made_d w z l) e (λ l. ap (made_d w x) (le_prop h l)) k
 
-same_fields_d : {w : ℕ} (m k : MessageD w) → m.opcode ≡ k.opcode → m.param ≡ k.param → m.size ≡ k.size → m.source ≡ k.source → m.sink ≡ k.sink → m.denied ≡ k.denied → m.payload ≡ k.payload → m.corrupt ≡ k.corrupt → m ≡ k
+same_fields_d : {w : ℕ} (m k : MessageD w) → m.opcode ≡ k.opcode → m.param ≡ k.param → m.size ≡ k.size → m.source ≡ k.source → m.sink ≡ k.sink → m.denied ≡ k.denied → m.payload ≡ k.payload
+    → m.corrupt ≡ k.corrupt → m ≡ k
 same_fields_d {w} m k e0 e1 e2 e3 e4 e5 e6 e7 =
     let e : (m.opcode, m.param, m.size, m.source, m.sink, m.denied, m.payload, m.corrupt) ≡ (k.opcode, k.param, k.size, k.source, k.sink, k.denied, k.payload, k.corrupt) = rw (e0, e1, e2, e3, e4, e5, e6, e7) refl in
     same_made_d w (m.opcode, m.param, m.size, m.source, m.sink, m.denied, m.payload, m.corrupt) (k.opcode, k.param, k.size, k.source, k.sink, k.denied, k.payload, k.corrupt) m.small k.small e

@@ -1,4 +1,5 @@
-use Rattle.std.specs.Prelude.{ℕ, zero, suc, Bool, true, false, List, [], ◌∷◌, ◌==◌, ◌&&◌, ◌+◌, ◌*◌, ◌-◌, ◌/◌, ◌%◌, ◌^◌, ◌<◌, ◌≡◌, refl, if◌then◌else◌, drop, replicate, slice_range, slice_get, nat_lt, nat_le, Option, Some, None, is_some}
+-- The beats of a message: how many they are, and what each carries of it.
+use Rattle.std.specs.Prelude.{ℕ, zero, suc, Bool, true, false, List, [], ◌∷◌, ◌==◌, ◌&&◌, ◌+◌, ◌*◌, ◌-◌, ◌/◌, ◌%◌, ◌^◌, ◌<◌, ◌≡◌, refl, if◌then◌else◌, drop, replicate, slice_range, slice_get, nat_lt, nat_le, Option, Some, None, is_some, ⊤}
 use Rattle.tl_beat.specs.declared.beat.Beat.{Beat}
 use Rattle.tl_beat.specs.declared.beat.Beat.TheVariants as beat
 use Rattle.tl_beat.specs.declared.beat.BeatA.{BeatA}
@@ -7,7 +8,7 @@ use Rattle.tl_beat.specs.declared.beat.BeatC.{BeatC}
 use Rattle.tl_beat.specs.declared.beat.BeatD.{BeatD}
 use Rattle.tl_beat.specs.Opcode.{a_carries_data, b_carries_data, c_carries_data, d_carries_data}
 use Rattle.tl_burst.specs.declared.message.Message.{Message}
-use Rattle.tl_burst.specs.declared.message.Message.TheVariants.{A, B, C, D, E}
+use Rattle.tl_burst.specs.declared.message.Message.TheVariants as message
 use Rattle.tl_burst.specs.declared.message.MessageA.{MessageA}
 use Rattle.tl_burst.specs.declared.message.MessageB.{MessageB}
 use Rattle.tl_burst.specs.declared.message.MessageC.{MessageC}
@@ -19,19 +20,19 @@ data_beats w size = if nat_lt w (2 ^ size) then 2 ^ size / w else 1
 
 -- the message carries data
 abbrev pub carries_data : {w : ℕ} → Message w → Bool
-carries_data (A m) = a_carries_data m.opcode
-carries_data (B m) = b_carries_data m.opcode
-carries_data (C m) = c_carries_data m.opcode
-carries_data (D m) = d_carries_data m.opcode
-carries_data (E m) = false
+carries_data (message.A m) = a_carries_data m.opcode
+carries_data (message.B m) = b_carries_data m.opcode
+carries_data (message.C m) = c_carries_data m.opcode
+carries_data (message.D m) = d_carries_data m.opcode
+carries_data (message.E m) = false
 
 -- how many beats carry the message
 abbrev pub beats_of : {w : ℕ} → Message w → ℕ
-beats_of {w} (A m) = if a_carries_data m.opcode then data_beats w m.size else 1
-beats_of {w} (B m) = if b_carries_data m.opcode then data_beats w m.size else 1
-beats_of {w} (C m) = if c_carries_data m.opcode then data_beats w m.size else 1
-beats_of {w} (D m) = if d_carries_data m.opcode then data_beats w m.size else 1
-beats_of {w} (E m) = 1
+beats_of {w} (message.A m) = if a_carries_data m.opcode then data_beats w m.size else 1
+beats_of {w} (message.B m) = if b_carries_data m.opcode then data_beats w m.size else 1
+beats_of {w} (message.C m) = if c_carries_data m.opcode then data_beats w m.size else 1
+beats_of {w} (message.D m) = if d_carries_data m.opcode then data_beats w m.size else 1
+beats_of {w} (message.E m) = 1
 
 -- bit i of a number
 abbrev pub bit : ℕ → ℕ → Bool
@@ -104,11 +105,11 @@ d_beat_of {w} m i = record {
 }
 
 abbrev pub beat_of : {w : ℕ} → Message w → ℕ → Beat w
-beat_of (A m) i = beat.A (a_beat_of m i)
-beat_of (B m) i = beat.B (b_beat_of m i)
-beat_of (C m) i = beat.C (c_beat_of m i)
-beat_of (D m) i = beat.D (d_beat_of m i)
-beat_of (E m) i = beat.E (record { sink = m.sink })
+beat_of (message.A m) i = beat.A (a_beat_of m i)
+beat_of (message.B m) i = beat.B (b_beat_of m i)
+beat_of (message.C m) i = beat.C (c_beat_of m i)
+beat_of (message.D m) i = beat.D (d_beat_of m i)
+beat_of (message.E m) i = beat.E (record { sink = m.sink })
 
 -- the first n beats of the message, the newest first
 abbrev pub begun : {w : ℕ} → Message w → ℕ → List (Beat w)
@@ -128,11 +129,11 @@ IsZeroFrom n payload = drop n payload ≡ replicate (64 - n) 0
 
 -- all that none of the first n beats carries is zero
 abbrev pub IsBlankAfter : {w : ℕ} → ℕ → Message w → Type 0
-IsBlankAfter {w} n (A m) = IsZeroFrom (if a_carries_data m.opcode then w * n else 0) m.payload × (m.mask < 2 ^ (w * n)) × (m.corrupt < 2 ^ n)
-IsBlankAfter {w} n (B m) = IsZeroFrom (if b_carries_data m.opcode then w * n else 0) m.payload × (m.mask < 2 ^ (w * n)) × (m.corrupt < 2 ^ n)
-IsBlankAfter {w} n (C m) = IsZeroFrom (if c_carries_data m.opcode then w * n else 0) m.payload × (m.corrupt < 2 ^ n)
-IsBlankAfter {w} n (D m) = IsZeroFrom (if d_carries_data m.opcode then w * n else 0) m.payload × (m.corrupt < 2 ^ n)
-IsBlankAfter n (E m) = Unit {0}
+IsBlankAfter {w} n (message.A m) = IsZeroFrom (if a_carries_data m.opcode then w * n else 0) m.payload × (m.mask < 2 ^ (w * n)) × (m.corrupt < 2 ^ n)
+IsBlankAfter {w} n (message.B m) = IsZeroFrom (if b_carries_data m.opcode then w * n else 0) m.payload × (m.mask < 2 ^ (w * n)) × (m.corrupt < 2 ^ n)
+IsBlankAfter {w} n (message.C m) = IsZeroFrom (if c_carries_data m.opcode then w * n else 0) m.payload × (m.corrupt < 2 ^ n)
+IsBlankAfter {w} n (message.D m) = IsZeroFrom (if d_carries_data m.opcode then w * n else 0) m.payload × (m.corrupt < 2 ^ n)
+IsBlankAfter n (message.E m) = ⊤
 
 -- these are the beats of the message, the newest first, and all that no beat carries is zero
 abbrev pub IsBurst : {w : ℕ} → Message w → List (Beat w) → Type 0
@@ -153,8 +154,10 @@ reaches base size address = nat_le base address && nat_lt address (base + 2 ^ si
 -- the byte that the payload gives for an address, where it gives one. `asked` is the address of the
 -- request that a message of channel D answers.
 abbrev pub byte_at : {w : ℕ} → ℕ → Message w → ℕ → Option ℕ
-byte_at {w} asked (A m) address = if a_carries_data m.opcode then byte_if (λ p. bit m.mask p) m.payload (place_of w m.address address) else None
-byte_at {w} asked (B m) address = if b_carries_data m.opcode then byte_if (λ p. bit m.mask p) m.payload (place_of w m.address address) else None
-byte_at {w} asked (C m) address = if c_carries_data m.opcode then byte_if (λ p. reaches m.address m.size address) m.payload (place_of w m.address address) else None
-byte_at {w} asked (D m) address = if d_carries_data m.opcode then byte_if (λ p. reaches asked m.size address) m.payload (place_of w asked address) else None
-byte_at asked (E m) address = None
+byte_at {w} asked (message.A m) address = if a_carries_data m.opcode then byte_if (λ p. bit m.mask p) m.payload (place_of w m.address address) else None
+byte_at {w} asked (message.B m) address = if b_carries_data m.opcode then byte_if (λ p. bit m.mask p) m.payload (place_of w m.address address) else None
+byte_at {w} asked (message.C m) address =
+    if c_carries_data m.opcode then byte_if (λ p. reaches m.address m.size address) m.payload (place_of w m.address address) else None
+byte_at {w} asked (message.D m) address =
+    if d_carries_data m.opcode then byte_if (λ p. reaches asked m.size address) m.payload (place_of w asked address) else None
+byte_at asked (message.E m) address = None

@@ -1,6 +1,8 @@
-use Rattle.std.specs.Prelude.{ℕ, Bool, true, false, not, List, [], ◌∷◌, ◌++◌, ◌==◌, ◌&&◌, ◌+◌, ◌<◌, ◌≡◌, if◌then◌else◌, length}
+-- How the beats of a channel make messages: bursts, what is unfinished, and how a history splits.
+use Rattle.std.specs.Prelude.{ℕ, Bool, true, false, not, List, [], ◌∷◌, ◌++◌, ◌==◌, ◌&&◌, ◌+◌, ◌<◌, ◌≡◌, if◌then◌else◌, length, ⊤}
+use Rattle.std.specs.Bool.{beq}
 use Rattle.tl_beat.specs.declared.beat.Beat.{Beat}
-use Rattle.tl_beat.specs.declared.beat.Beat.TheVariants.{A, B, C, D, E}
+use Rattle.tl_beat.specs.declared.beat.Beat.TheVariants as beat
 use Rattle.tl_beat.specs.declared.opcode.Channel.{Channel}
 use Rattle.tl_beat.specs.declared.opcode.Channel.TheVariants as channel
 use Rattle.tl_beat.specs.Opcode.{a_code, b_code, c_code, d_code, a_carries_data, b_carries_data, c_carries_data, d_carries_data}
@@ -13,18 +15,18 @@ History w = List (Beat w)
 
 -- how many beats the burst has that this beat belongs to
 abbrev pub burst_length : {w : ℕ} → Beat w → ℕ
-burst_length {w} (A x) = if a_carries_data x.opcode then data_beats w x.size else 1
-burst_length {w} (B x) = if b_carries_data x.opcode then data_beats w x.size else 1
-burst_length {w} (C x) = if c_carries_data x.opcode then data_beats w x.size else 1
-burst_length {w} (D x) = if d_carries_data x.opcode then data_beats w x.size else 1
-burst_length (E x) = 1
+burst_length {w} (beat.A x) = if a_carries_data x.opcode then data_beats w x.size else 1
+burst_length {w} (beat.B x) = if b_carries_data x.opcode then data_beats w x.size else 1
+burst_length {w} (beat.C x) = if c_carries_data x.opcode then data_beats w x.size else 1
+burst_length {w} (beat.D x) = if d_carries_data x.opcode then data_beats w x.size else 1
+burst_length (beat.E x) = 1
 
 abbrev pub channel_of : {w : ℕ} → Beat w → Channel
-channel_of (A x) = channel.A
-channel_of (B x) = channel.B
-channel_of (C x) = channel.C
-channel_of (D x) = channel.D
-channel_of (E x) = channel.E
+channel_of (beat.A x) = channel.A
+channel_of (beat.B x) = channel.B
+channel_of (beat.C x) = channel.C
+channel_of (beat.D x) = channel.D
+channel_of (beat.E x) = channel.E
 
 -- the channel of a message
 abbrev pub channel_in : {w : ℕ} → Message w → Channel
@@ -32,24 +34,25 @@ channel_in m = channel_of (beat_of m 0)
 
 -- the beat is of the channel
 abbrev pub on : {w : ℕ} → Channel → Beat w → Bool
-on channel.A (A x) = true
-on channel.B (B x) = true
-on channel.C (C x) = true
-on channel.D (D x) = true
-on channel.E (E x) = true
+on channel.A (beat.A x) = true
+on channel.B (beat.B x) = true
+on channel.C (beat.C x) = true
+on channel.D (beat.D x) = true
+on channel.E (beat.E x) = true
 on _ _ = false
-
-abbrev pub same_bool : Bool → Bool → Bool
-same_bool true b = b
-same_bool false b = not b
 
 -- the control fields agree
 abbrev pub same_control : {w : ℕ} → Beat w → Beat w → Bool
-same_control (A x) (A y) = (a_code x.opcode == a_code y.opcode) && ((x.param == y.param) && ((x.size == y.size) && ((x.source == y.source) && (x.address == y.address))))
-same_control (B x) (B y) = (b_code x.opcode == b_code y.opcode) && ((x.param == y.param) && ((x.size == y.size) && ((x.source == y.source) && (x.address == y.address))))
-same_control (C x) (C y) = (c_code x.opcode == c_code y.opcode) && ((x.param == y.param) && ((x.size == y.size) && ((x.source == y.source) && (x.address == y.address))))
-same_control (D x) (D y) = (d_code x.opcode == d_code y.opcode) && ((x.param == y.param) && ((x.size == y.size) && ((x.source == y.source) && ((x.sink == y.sink) && same_bool x.denied y.denied))))
-same_control (E x) (E y) = x.sink == y.sink
+same_control (beat.A x) (beat.A y) =
+    (a_code x.opcode == a_code y.opcode) && ((x.param == y.param) && ((x.size == y.size) && ((x.source == y.source) && (x.address == y.address))))
+same_control (beat.B x) (beat.B y) =
+    (b_code x.opcode == b_code y.opcode) && ((x.param == y.param) && ((x.size == y.size) && ((x.source == y.source) && (x.address == y.address))))
+same_control (beat.C x) (beat.C y) =
+    (c_code x.opcode == c_code y.opcode) && ((x.param == y.param) && ((x.size == y.size) && ((x.source == y.source) && (x.address == y.address))))
+same_control (beat.D x) (beat.D y) =
+    (d_code x.opcode == d_code y.opcode)
+    && ((x.param == y.param) && ((x.size == y.size) && ((x.source == y.source) && ((x.sink == y.sink) && beq x.denied y.denied))))
+same_control (beat.E x) (beat.E y) = x.sink == y.sink
 same_control _ _ = false
 
 -- the beat doesn't continue the burst that is unfinished: a control field differs
@@ -81,7 +84,7 @@ abbrev pub IsBeginning : {w : ℕ} → List (Beat w) → Type 0
 IsBeginning {w} rest = (m : Message w) × (n : ℕ) × (n < beats_of m) × (rest ≡ begun m n)
 
 abbrev pub AllWhole : {w : ℕ} → List (Message w) → Type 0
-AllWhole [] = Unit {0}
+AllWhole [] = ⊤
 AllWhole (m ∷ ms) = IsBurst m (burst_of m) × AllWhole ms
 
 -- The beats are the bursts of these messages, one after another, and then this rest, which begins

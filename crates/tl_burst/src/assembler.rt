@@ -11,7 +11,7 @@ ghost use Rattle.tl_burst.specs.Messages.{breaks_burst, same_control, grown, Spl
 ghost use Rattle.tl_burst.specs.Part.{IsTakeable, completes, part_of};
 
 use crate::burst::{beat_at, beats_of, burst_length};
-use crate::gather::{blank_for, continues, put_beat};
+use crate::gather::{blank_for, continues, write_beat};
 use crate::message::{Message, MessageE};
 use crate::part::{Broken, Part};
 use std::marker::Model;
@@ -117,7 +117,7 @@ impl<const W: usize> Assembler<W> {
         if !prepare(&mut self.message, self.taken, beat) {
             return Err(Broken::S1);
         }
-        put_beat(&mut self.message, self.taken, beat);
+        write_beat(&mut self.message, self.taken, beat);
         if self.taken + 1 < beats_of(&self.message) {
             self.taken += 1;
             return Ok(None);

@@ -1,4 +1,5 @@
-//! The control fields of beats, which the beats of a burst share.
+//! The control fields of beats, which the beats of a burst share (SiFive TileLink Specification 1.8,
+//! "Serialization" on bursts).
 
 ghost use Rattle.std.specs.Prelude.{◌≡◌};
 ghost use Rattle.tl_burst.specs.Messages;

@@ -12,7 +12,7 @@ use crate::message::{Message, MessageA, MessageB, MessageC, MessageD, MessageE};
 use tl_beat::beat::{Beat, BeatA, BeatB, BeatC, BeatD};
 
 /// Writes the lanes of beat `i` into a payload.
-fn put_lanes<const W: usize>(payload: &mut [u8; 64], i: u8, lanes: &Option<[u8; W]>)
+fn write_lanes<const W: usize>(payload: &mut [u8; 64], i: u8, lanes: &Option<[u8; W]>)
     requires { W * i + W ≤ 64 }
     ensures here { lanes_at (is_some lanes.now) W payload.new i ≡ lanes.now }
     ensures earlier { (carries : Bool) (k : ℕ) → k < i →
@@ -27,7 +27,7 @@ fn put_lanes<const W: usize>(payload: &mut [u8; 64], i: u8, lanes: &Option<[u8; 
 }
 
 /// A mask with the bits of beat `i`.
-fn put_mask<const W: usize>(mask: u64, i: u8, bits: u16) -> u64
+fn with_mask<const W: usize>(mask: u64, i: u8, bits: u16) -> u64
     requires width { IsWidth W }
     requires inside { W * i + W ≤ 64 }
     requires blank { mask < 2 ^ (W * i) }
@@ -40,7 +40,7 @@ fn put_mask<const W: usize>(mask: u64, i: u8, bits: u16) -> u64
 }
 
 /// Corrupt bits with that of beat `i`.
-fn put_bit(bits: u16, i: u8, set: bool) -> u16
+fn with_corrupt(bits: u16, i: u8, set: bool) -> u16
     requires inside { i < 16 }
     requires blank { bits < 2 ^ i }
     ensures here { bit result i ≡ set }
@@ -50,7 +50,7 @@ fn put_bit(bits: u16, i: u8, set: bool) -> u16
     bits + (u16::from(set) << i)
 }
 
-fn put_a<const W: usize>(m: &mut MessageA<W>, i: u8, x: &BeatA<W>)
+fn write_a<const W: usize>(m: &mut MessageA<W>, i: u8, x: &BeatA<W>)
     requires width { IsWidth W }
     requires inside { W * i + W ≤ 64 }
     requires same { IsTrue (same_control (beat.A x.now) (beat.A (a_beat_of m.old 0))) }
@@ -61,12 +61,12 @@ fn put_a<const W: usize>(m: &mut MessageA<W>, i: u8, x: &BeatA<W>)
     ensures blank { IsBlankAfter (i + 1) (message.A m.new) }
     ensures count { beats_of (message.A m.new) ≡ beats_of (message.A m.old) }
 {
-    put_lanes(&mut m.payload, i, &x.lanes);
-    m.mask = put_mask::<W>(m.mask, i, x.mask);
-    m.corrupt = put_bit(m.corrupt, i, x.corrupt);
+    write_lanes(&mut m.payload, i, &x.lanes);
+    m.mask = with_mask::<W>(m.mask, i, x.mask);
+    m.corrupt = with_corrupt(m.corrupt, i, x.corrupt);
 }
 
-fn put_b<const W: usize>(m: &mut MessageB<W>, i: u8, x: &BeatB<W>)
+fn write_b<const W: usize>(m: &mut MessageB<W>, i: u8, x: &BeatB<W>)
     requires width { IsWidth W }
     requires inside { W * i + W ≤ 64 }
     requires same { IsTrue (same_control (beat.B x.now) (beat.B (b_beat_of m.old 0))) }
@@ -77,12 +77,12 @@ fn put_b<const W: usize>(m: &mut MessageB<W>, i: u8, x: &BeatB<W>)
     ensures blank { IsBlankAfter (i + 1) (message.B m.new) }
     ensures count { beats_of (message.B m.new) ≡ beats_of (message.B m.old) }
 {
-    put_lanes(&mut m.payload, i, &x.lanes);
-    m.mask = put_mask::<W>(m.mask, i, x.mask);
-    m.corrupt = put_bit(m.corrupt, i, x.corrupt);
+    write_lanes(&mut m.payload, i, &x.lanes);
+    m.mask = with_mask::<W>(m.mask, i, x.mask);
+    m.corrupt = with_corrupt(m.corrupt, i, x.corrupt);
 }
 
-fn put_c<const W: usize>(m: &mut MessageC<W>, i: u8, x: &BeatC<W>)
+fn write_c<const W: usize>(m: &mut MessageC<W>, i: u8, x: &BeatC<W>)
     requires width { IsWidth W }
     requires inside { W * i + W ≤ 64 }
     requires same { IsTrue (same_control (beat.C x.now) (beat.C (c_beat_of m.old 0))) }
@@ -92,11 +92,11 @@ fn put_c<const W: usize>(m: &mut MessageC<W>, i: u8, x: &BeatC<W>)
     ensures blank { IsBlankAfter (i + 1) (message.C m.new) }
     ensures count { beats_of (message.C m.new) ≡ beats_of (message.C m.old) }
 {
-    put_lanes(&mut m.payload, i, &x.lanes);
-    m.corrupt = put_bit(m.corrupt, i, x.corrupt);
+    write_lanes(&mut m.payload, i, &x.lanes);
+    m.corrupt = with_corrupt(m.corrupt, i, x.corrupt);
 }
 
-fn put_d<const W: usize>(m: &mut MessageD<W>, i: u8, x: &BeatD<W>)
+fn write_d<const W: usize>(m: &mut MessageD<W>, i: u8, x: &BeatD<W>)
     requires width { IsWidth W }
     requires inside { W * i + W ≤ 64 }
     requires same { IsTrue (same_control (beat.D x.now) (beat.D (d_beat_of m.old 0))) }
@@ -106,12 +106,12 @@ fn put_d<const W: usize>(m: &mut MessageD<W>, i: u8, x: &BeatD<W>)
     ensures blank { IsBlankAfter (i + 1) (message.D m.new) }
     ensures count { beats_of (message.D m.new) ≡ beats_of (message.D m.old) }
 {
-    put_lanes(&mut m.payload, i, &x.lanes);
-    m.corrupt = put_bit(m.corrupt, i, x.corrupt);
+    write_lanes(&mut m.payload, i, &x.lanes);
+    m.corrupt = with_corrupt(m.corrupt, i, x.corrupt);
 }
 
 /// Writes a beat into the message that it belongs to, as its beat `i`.
-pub fn put_beat<const W: usize>(message: &mut Message<W>, i: u8, beat: &Beat<W>)
+pub fn write_beat<const W: usize>(message: &mut Message<W>, i: u8, beat: &Beat<W>)
     requires width { IsWidth W }
     requires inside { W * i + W ≤ 64 }
     requires takeable { IsTakeable beat.now }
@@ -123,10 +123,10 @@ pub fn put_beat<const W: usize>(message: &mut Message<W>, i: u8, beat: &Beat<W>)
     ensures count { beats_of message.new ≡ beats_of message.old }
 {
     match (message, beat) {
-        (Message::A(m), Beat::A(x)) => put_a(m, i, x),
-        (Message::B(m), Beat::B(x)) => put_b(m, i, x),
-        (Message::C(m), Beat::C(x)) => put_c(m, i, x),
-        (Message::D(m), Beat::D(x)) => put_d(m, i, x),
+        (Message::A(m), Beat::A(x)) => write_a(m, i, x),
+        (Message::B(m), Beat::B(x)) => write_b(m, i, x),
+        (Message::C(m), Beat::C(x)) => write_c(m, i, x),
+        (Message::D(m), Beat::D(x)) => write_d(m, i, x),
         _ => {}
     }
 }

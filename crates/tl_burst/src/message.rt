@@ -1,4 +1,6 @@
-//! Messages: the control fields of their channel, and the data of all of their beats.
+//! Messages: the control fields of their channel, and the data of all of their beats (SiFive TileLink
+//! Specification 1.8, "Operations and Messages"). Fields have the units and ranges of a beat's; at
+//! most a block is carried, so `size` is at most 6.
 
 ghost use Rattle.std.specs.Prelude.{◌≤◌};
 

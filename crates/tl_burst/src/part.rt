@@ -1,4 +1,4 @@
-//! What a beat is to its burst.
+//! What a beat is to its burst (SiFive TileLink Specification 1.8, "Serialization" on bursts).
 
 /// The place of a beat in its burst.
 #[derive(Clone, Copy, Debug, PartialEq, Eq)]

@@ -32,7 +32,7 @@ use Rattle.tl_rules.specs.Agent.{sent, payload_of}
 use Rattle.tl_rules.specs.Conformance.{broken_in_order}
 use Rattle.tl_rules.specs.History.{block_at, ends, is_acquire, is_grant, is_probe_ack, is_release, pending, request_of}
 use Rattle.tl_rules.specs.Legality.{illegal}
-use Rattle.tl_rules.proofs.Bursts.{next_rule}
+use Rattle.tl_rules.proofs.Bursts.{next_rule, both_none}
 use Rattle.tl_client.specs.declared.busy.Busy.{Busy}
 use Rattle.tl_client.specs.declared.operation.Op.{Op}
 use Rattle.tl_client.specs.declared.operation.Op.TheVariants.{Load, Store, Acquire, AcquireWhole, Release, Access}
@@ -53,7 +53,6 @@ use Rattle.tl_client.proofs.Cases.{NotBusy, not_busy}
 use Rattle.tl_client.proofs.KeptAsked.{no_acquire}
 use Rattle.tl_client.proofs.KeptOffered.{incoming_only}
 use Rattle.tl_client.proofs.Opens.{unfinished-d}
-use Rattle.tl_client.proofs.Verdicts.{both_none}
 
 -- ---- operations
 
@@ -63,11 +62,15 @@ accounted_a m t is none may old = record { claimed = claimed-a m t is none may o
 accounted_c : {w : ℕ} (m : MessageC w) (t : History w) → IsWidth w → unfinished channel.C t ≡ [] → MayRelease m t → IsAccounted t → IsAccounted (sent (C m) t)
 accounted_c m t is none may old = record { claimed = claimed-c m t is none may old.claimed; acked = acked-c m t is none old.acked }
 
-accounted_release : {w : ℕ} (p : Prune) (source block : ℕ) (copy : List ℕ) (t : History w) → IsWidth w → unfinished channel.C t ≡ [] → pending (ReleaseSource source) t ≡ false → pending (AcquireOf block) t ≡ false → pending (ReleaseOf block) t ≡ false
+accounted_release : {w : ℕ} (p : Prune) (source block : ℕ) (copy : List ℕ) (t : History w) → IsWidth w → unfinished channel.C t ≡ [] → pending (ReleaseSource source) t ≡ false
+    → pending (AcquireOf block) t ≡ false → pending (ReleaseOf block) t ≡ false
     → IsAccounted t → IsAccounted (sent (release p source block copy) t)
-accounted_release prune.TtoB source block copy t is none free a r old = accounted_c (about c.ReleaseData 0 source block copy) t is none (record { releases = refl; free = free; unacquired = rw (same_block block) a; unreleased = rw (same_block block) r }) old
-accounted_release prune.TtoN source block copy t is none free a r old = accounted_c (about c.ReleaseData 1 source block copy) t is none (record { releases = refl; free = free; unacquired = rw (same_block block) a; unreleased = rw (same_block block) r }) old
-accounted_release prune.BtoN source block copy t is none free a r old = accounted_c (about c.Release 2 source block zeros) t is none (record { releases = refl; free = free; unacquired = rw (same_block block) a; unreleased = rw (same_block block) r }) old
+accounted_release prune.TtoB source block copy t is none free a r old =
+    accounted_c (about c.ReleaseData 0 source block copy) t is none (record { releases = refl; free = free; unacquired = rw (same_block block) a; unreleased = rw (same_block block) r }) old
+accounted_release prune.TtoN source block copy t is none free a r old =
+    accounted_c (about c.ReleaseData 1 source block copy) t is none (record { releases = refl; free = free; unacquired = rw (same_block block) a; unreleased = rw (same_block block) r }) old
+accounted_release prune.BtoN source block copy t is none free a r old =
+    accounted_c (about c.Release 2 source block zeros) t is none (record { releases = refl; free = free; unacquired = rw (same_block block) a; unreleased = rw (same_block block) r }) old
 
 accounted_load : {w : ℕ} (address size : ℕ) (p : Perm) (e : End w) → IsAccounted e.past → IsAccounted (load address size p e).after.past
 accounted_load address size perm.None e old = old
@@ -82,7 +85,8 @@ accounted_store address size value perm.Trunk e old = old
 free_source : {w : ℕ} (terms : Terms) (t : History w) → is_none (free_request terms t) ≡ false → pending (RequestSource (source_or_0 (free_request terms t))) t ≡ false
 free_source terms t one = (least_free-some (λ s. pending (RequestSource s) t) 0 terms.sources one).0
 
-accounted_done : {w : ℕ} (terms : Terms) (op : Op w) (e : End w) → IsWidth w → IsKept e → breaks_b4 terms.level op ≡ false → breaks_b2 op e.past ≡ false → breaks_b1 terms op e.past ≡ false → IsAccounted e.past → IsAccounted (done terms op e).after.past
+accounted_done : {w : ℕ} (terms : Terms) (op : Op w) (e : End w) → IsWidth w → IsKept e → breaks_b4 terms.level op ≡ false → breaks_b2 op e.past ≡ false → breaks_b1 terms op e.past ≡ false
+    → IsAccounted e.past → IsAccounted (done terms op e).after.past
 accounted_done terms (Load address size) e is kept four two one old = accounted_load address size (held_at e (block_at address)) e old
 accounted_done terms (Store address size value) e is kept four two one old = accounted_store address size value (held_at e (block_at address)) e old
 accounted_done {w} terms (Acquire block grow) e is kept four two one old =
@@ -106,7 +110,8 @@ accounted_done terms (Access (C m)) e is kept four two one old = old
 accounted_done terms (Access (D m)) e is kept four two one old = old
 accounted_done terms (Access (E m)) e is kept four two one old = old
 
-accounted_given : {w : ℕ} (o : Option Busy) (terms : Terms) (op : Op w) (e : End w) → IsWidth w → IsKept e → (o ≡ None → NotBusy terms op e) → IsAccounted e.past → IsAccounted (asked_given o terms op e).after.past
+accounted_given : {w : ℕ} (o : Option Busy) (terms : Terms) (op : Op w) (e : End w) → IsWidth w → IsKept e → (o ≡ None → NotBusy terms op e) → IsAccounted e.past
+    → IsAccounted (asked_given o terms op e).after.past
 accounted_given (Some b) terms op e is kept free old = old
 accounted_given None terms op e is kept free old = let n = free refl in accounted_done terms op e is kept n.b4 n.b2 n.b1 old
 
@@ -116,10 +121,12 @@ accounted-asked terms op e is kept old = accounted_given (busy terms op e) terms
 
 -- ---- a Probe
 
-accounted_report : {w : ℕ} (m : MessageC w) (x : BeatB w) (t : History w) → IsWidth w → unfinished channel.C t ≡ [] → is_probe_ack m.opcode ≡ true → is_release m.opcode ≡ false → block_at m.address ≡ block_at x.address → IsAccounted t → IsAccounted (sent (C m) (beat.B x ∷ t))
+accounted_report : {w : ℕ} (m : MessageC w) (x : BeatB w) (t : History w) → IsWidth w → unfinished channel.C t ≡ [] → is_probe_ack m.opcode ≡ true → is_release m.opcode ≡ false
+    → block_at m.address ≡ block_at x.address → IsAccounted t → IsAccounted (sent (C m) (beat.B x ∷ t))
 accounted_report m x t is none ack other block old = record { claimed = claimed-probe m x t is none other old.claimed; acked = acked-probe m x t is none ack block old.acked }
 
-accounted_probe : {w : ℕ} (opcode : OpB) (p : Perm) (r : Report) (copy : List ℕ) (x : BeatB w) (t : History w) → IsWidth w → unfinished channel.C t ≡ [] → IsAccounted t → IsAccounted (sent (probe_ack opcode p r (block_at x.address) copy) (beat.B x ∷ t))
+accounted_probe : {w : ℕ} (opcode : OpB) (p : Perm) (r : Report) (copy : List ℕ) (x : BeatB w) (t : History w) → IsWidth w → unfinished channel.C t ≡ [] → IsAccounted t
+    → IsAccounted (sent (probe_ack opcode p r (block_at x.address) copy) (beat.B x ∷ t))
 accounted_probe {w} opcode p r copy x t is none old = go opcode p
   where
     with_data : IsAccounted (sent (C (about c.ProbeAckData (report_code r) 0 (block_at x.address) copy)) (beat.B x ∷ t))
@@ -158,7 +165,8 @@ accounted_last : {w : ℕ} (x : BeatD w) (t : History w) → IsFit x t → ends 
 accounted_last x t fits last other old = record { claimed = claimed-d x t fits old.claimed; acked = acked-last x t fits last other old.acked }
 
 -- f is the end without the GrantAck
-accounted_ended : {w : ℕ} (opcode : OpD) (x : BeatD w) (finish : Finish) (t : History w) (f : End w) → IsWidth w → x.opcode ≡ opcode → f.past ≡ (beat.D x ∷ t) → IsFit x t → ends (beat.D x) t ≡ true → unfinished channel.E t ≡ [] → IsAccounted t → IsAccounted (ended opcode x finish f).after.past
+accounted_ended : {w : ℕ} (opcode : OpD) (x : BeatD w) (finish : Finish) (t : History w) (f : End w) → IsWidth w → x.opcode ≡ opcode → f.past ≡ (beat.D x ∷ t) → IsFit x t
+    → ends (beat.D x) t ≡ true → unfinished channel.E t ≡ [] → IsAccounted t → IsAccounted (ended opcode x finish f).after.past
 accounted_ended d.Grant x finish t f is code past fits last none old = rw past (accounted_grant x t is fits last none old)
 accounted_ended d.GrantData x finish t f is code past fits last none old = rw past (accounted_grant x t is fits last none old)
 accounted_ended d.AccessAck x finish t f is code past fits last none old = rw past (accounted_last x t fits last (rw code refl) old)
@@ -169,14 +177,16 @@ accounted_ended d.ReleaseAck x finish t f is code past fits last none old = rw p
 accounted_d : {w : ℕ} (x : BeatD w) (e : End w) → IsWidth w → IsFit x e.past → unfinished channel.E e.past ≡ [] → IsAccounted e.past → IsAccounted (taken (beat.D x) e).after.past
 accounted_d {w} x e is fits none old = go (ends (beat.D x) e.past) refl
   where
-    go : (b : Bool) → ends (beat.D x) e.past ≡ b → IsAccounted (cond b (responded x (request_of x.source e.past) (payload_of (beat.D x ∷ unfinished channel.D e.past)) e) (silent Taken (with_past (beat.D x ∷ e.past) e))).after.past
+    go : (b : Bool) → ends (beat.D x) e.past ≡ b
+        → IsAccounted (cond b (responded x (request_of x.source e.past) (payload_of (beat.D x ∷ unfinished channel.D e.past)) e) (silent Taken (with_past (beat.D x ∷ e.past) e))).after.past
     go true last = accounted_ended x.opcode x _ e.past (granted x.opcode (request_of x.source e.past) (payload_of (beat.D x ∷ unfinished channel.D e.past)) (with_past (beat.D x ∷ e.past) e)) is refl
         (granted_past x.opcode (request_of x.source e.past) (payload_of (beat.D x ∷ unfinished channel.D e.past)) (with_past (beat.D x ∷ e.past) e)) fits last none old
     go false more = record { claimed = claimed-d x e.past fits old.claimed; acked = acked-part x e.past fits more old.acked }
 
 -- ---- any beat
 
-accounted_taken : {w : ℕ} (terms : Terms) (ch : Channel) (x : Beat w) (e : End w) → IsWidth w → IsKept e → is_sent_on ch ≡ false → illegal terms.level ch x ≡ None → broken_in_order terms.profile x e.past ≡ None → IsAccounted e.past → IsAccounted (taken x e).after.past
+accounted_taken : {w : ℕ} (terms : Terms) (ch : Channel) (x : Beat w) (e : End w) → IsWidth w → IsKept e → is_sent_on ch ≡ false → illegal terms.level ch x ≡ None
+    → broken_in_order terms.profile x e.past ≡ None → IsAccounted e.past → IsAccounted (taken x e).after.past
 accounted_taken terms ch (beat.A x) e is kept way legal none old = absurd (incoming_only terms.level ch (beat.A x) way legal)
 accounted_taken terms ch (beat.B x) e is kept way legal none old = accounted_probed x e is kept old
 accounted_taken terms ch (beat.C x) e is kept way legal none old = absurd (incoming_only terms.level ch (beat.C x) way legal)
@@ -187,7 +197,8 @@ accounted_later : {w : ℕ} (o : Option Rule) (x : Beat w) (e : End w) → IsAcc
 accounted_later (Some r) x e old more = old
 accounted_later None x e old more = more refl
 
-accounted_judged : {w : ℕ} (o : Option Rule) (terms : Terms) (x : Beat w) (e : End w) → IsAccounted e.past → (o ≡ None → broken_later terms x e ≡ None → IsAccounted (taken x e).after.past) → IsAccounted (judged o terms x e).after.past
+accounted_judged : {w : ℕ} (o : Option Rule) (terms : Terms) (x : Beat w) (e : End w) → IsAccounted e.past → (o ≡ None → broken_later terms x e ≡ None → IsAccounted (taken x e).after.past)
+    → IsAccounted (judged o terms x e).after.past
 accounted_judged (Some r) terms x e old more = old
 accounted_judged {w} None terms x e old more = go (waits x e.past)
   where

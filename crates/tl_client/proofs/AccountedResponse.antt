@@ -17,13 +17,13 @@ use Rattle.tl_burst.specs.declared.message.Message.TheVariants.{E}
 use Rattle.tl_burst.specs.declared.message.MessageE.{MessageE}
 use Rattle.tl_burst.specs.Messages.{History, unfinished}
 use Rattle.tl_burst.specs.Part.{completes}
+use Rattle.tl_burst.proofs.Splitting.{beats-positive}
 use Rattle.tl_params.specs.declared.key.Key.{Key}
 use Rattle.tl_params.specs.declared.key.Key.TheVariants.{RequestSource, ReleaseSource, AcquireOf, ReleaseOf, GrantSink, GrantAckOf, ProbeOf}
 use Rattle.tl_rules.specs.Agent.{sent}
 use Rattle.tl_rules.specs.Conformance.{admits, answers, comes_in_grant}
 use Rattle.tl_rules.specs.Handed.{pending_with}
 use Rattle.tl_rules.specs.History.{block_at, is_acquire, is_grant, is_release_ack, asks_for, ends, grants, grant_sink, is_sink, pending, releases, request_of, release_of}
-use Rattle.tl_rules.proofs.Bursts.{has_beats}
 use Rattle.tl_rules.proofs.Handed.{pending-whole, unfinished-whole, release_of-whole}
 use Rattle.tl_rules.proofs.Sent.{pending-quiet, pending-closed}
 use Rattle.tl_client.specs.Accounted.{IsClaimed, IsAcked, comes_granting, sink_coming}
@@ -127,7 +127,8 @@ claimed-d {w} x t fits old = record {
         not_from_true true e = absurd cc
         not_from_true false e = refl
 
-    open_for : (k : ℕ) → (ends (beat.D x) t && (is_release_ack x.opcode && releases k (release_of x.source t))) ≡ false → (s : ℕ) × (releases k (open_release s t) ≡ true) → (s : ℕ) × (releases k (open_release s (beat.D x ∷ t)) ≡ true)
+    open_for : (k : ℕ) → (ends (beat.D x) t && (is_release_ack x.opcode && releases k (release_of x.source t))) ≡ false → (s : ℕ) × (releases k (open_release s t) ≡ true)
+        → (s : ℕ) × (releases k (open_release s (beat.D x ∷ t)) ≡ true)
     open_for k no_ack p = elim (cases_Bool (closes_release x t p.0)) [
       | inr other ↦ (p.0, rw (open_release-d p.0 x t, other) p.1)
       | inl closes ↦
@@ -162,25 +163,30 @@ turned_later : (last before : Bool) → cond (last && false) false before ≡ be
 turned_later true before = refl
 turned_later false before = refl
 
-pub sink_now : {w : ℕ} (s : ℕ) (x : BeatD w) (t : History w) (burst : List (Beat w)) → unfinished channel.D t ≡ burst → GoesOn x burst → pending (GrantSink s) t ≡ comes_in_grant s burst → pending (GrantSink s) (beat.D x ∷ t) ≡ (is_grant x.opcode && (x.sink == s))
+pub sink_now : {w : ℕ} (s : ℕ) (x : BeatD w) (t : History w) (burst : List (Beat w)) → unfinished channel.D t ≡ burst → GoesOn x burst → pending (GrantSink s) t ≡ comes_in_grant s burst
+    → pending (GrantSink s) (beat.D x ∷ t) ≡ (is_grant x.opcode && (x.sink == s))
 unfolding pending
 sink_now s x t [] is on old = rw is (turned_first (is_grant x.opcode && (x.sink == s)) (completes (beat.D x) []) (pending (GrantSink s) t) old)
-sink_now s x t (beat.D y ∷ burst) is on old = rw is (turned_later (completes (beat.D x) (beat.D y ∷ burst)) (pending (GrantSink s) t) ∙ old ∙ ap₂ (λ (o : OpD) (n : ℕ). is_grant o && (n == s)) (sym on.0) (sym on.2))
+sink_now s x t (beat.D y ∷ burst) is on old =
+    rw is (turned_later (completes (beat.D x) (beat.D y ∷ burst)) (pending (GrantSink s) t) ∙ old ∙ ap₂ (λ (o : OpD) (n : ℕ). is_grant o && (n == s)) (sym on.0) (sym on.2))
 sink_now s x t (beat.A y ∷ burst) is on old = absurd on
 sink_now s x t (beat.B y ∷ burst) is on old = absurd on
 sink_now s x t (beat.C y ∷ burst) is on old = absurd on
 sink_now s x t (beat.E y ∷ burst) is on old = absurd on
 
-ack_now : {w : ℕ} (k : ℕ) (x : BeatD w) (t : History w) (burst : List (Beat w)) → unfinished channel.D t ≡ burst → GoesOn x burst → pending (GrantAckOf k) t ≡ comes_granting k burst t → pending (GrantAckOf k) (beat.D x ∷ t) ≡ grants k x t
+ack_now : {w : ℕ} (k : ℕ) (x : BeatD w) (t : History w) (burst : List (Beat w)) → unfinished channel.D t ≡ burst → GoesOn x burst → pending (GrantAckOf k) t ≡ comes_granting k burst t
+    → pending (GrantAckOf k) (beat.D x ∷ t) ≡ grants k x t
 unfolding pending
 ack_now k x t [] is on old = rw is (turned_first (grants k x t) (completes (beat.D x) []) (pending (GrantAckOf k) t) old)
-ack_now k x t (beat.D y ∷ burst) is on old = rw is (turned_later (completes (beat.D x) (beat.D y ∷ burst)) (pending (GrantAckOf k) t) ∙ old ∙ ap₂ (λ (o : OpD) (s : ℕ). is_grant o && asks_for k (request_of s t)) (sym on.0) (sym on.1))
+ack_now k x t (beat.D y ∷ burst) is on old =
+    rw is (turned_later (completes (beat.D x) (beat.D y ∷ burst)) (pending (GrantAckOf k) t) ∙ old ∙ ap₂ (λ (o : OpD) (s : ℕ). is_grant o && asks_for k (request_of s t)) (sym on.0) (sym on.1))
 ack_now k x t (beat.A y ∷ burst) is on old = absurd on
 ack_now k x t (beat.B y ∷ burst) is on old = absurd on
 ack_now k x t (beat.C y ∷ burst) is on old = absurd on
 ack_now k x t (beat.E y ∷ burst) is on old = absurd on
 
-ack_sink_now : {w : ℕ} (k : ℕ) (x : BeatD w) (t : History w) (burst : List (Beat w)) → unfinished channel.D t ≡ burst → GoesOn x burst → (comes_granting k burst t ≡ true → grant_sink k t ≡ sink_coming burst) → grants k x t ≡ true → grant_sink k (beat.D x ∷ t) ≡ Some x.sink
+ack_sink_now : {w : ℕ} (k : ℕ) (x : BeatD w) (t : History w) (burst : List (Beat w)) → unfinished channel.D t ≡ burst → GoesOn x burst
+    → (comes_granting k burst t ≡ true → grant_sink k t ≡ sink_coming burst) → grants k x t ≡ true → grant_sink k (beat.D x ∷ t) ≡ Some x.sink
 unfolding grant_sink
 ack_sink_now k x t [] is on old g = rw (is, g) refl
 ack_sink_now k x t (beat.D y ∷ burst) is on old g = rw is (old (ap₂ (λ (o : OpD) (s : ℕ). is_grant o && asks_for k (request_of s t)) (sym on.0) (sym on.1) ∙ g) ∙ ap (λ (n : ℕ). Some n) (sym on.2))
@@ -243,7 +249,8 @@ falls_where b true q e f = rw (f refl) refl
 falls_where b false q e f = falls b q e
 
 -- the last beat of a Grant, and the GrantAck
-pub acked-grant : {w : ℕ} (x : BeatD w) (m : MessageE) (t : History w) → IsWidth w → IsFit x t → ends (beat.D x) t ≡ true → m.sink ≡ x.sink → unfinished channel.E t ≡ [] → IsAcked t → IsAcked (sent (E m) (beat.D x ∷ t))
+pub acked-grant : {w : ℕ} (x : BeatD w) (m : MessageE) (t : History w) → IsWidth w → IsFit x t → ends (beat.D x) t ≡ true → m.sink ≡ x.sink → unfinished channel.E t ≡ [] → IsAcked t
+    → IsAcked (sent (E m) (beat.D x ∷ t))
 acked-grant {w} x m t is fits last sink none old = record {
   probes = λ k. now (ProbeOf k) ∙ quiet_probe k x t ∙ old.probes k;
   sinks = λ s. rw burst_now (now (GrantSink s) ∙ falls_with (m.sink == s) (is_grant x.opcode) (pending (GrantSink s) (beat.D x ∷ t)) (sink_there s));
@@ -258,13 +265,13 @@ acked-grant {w} x m t is fits last sink none old = record {
     none_now = (unfinished-d x t).3 ∙ none
 
     now : (key : Key) → pending key (sent (E m) (beat.D x ∷ t)) ≡ pending_with key (E m) (beat.D x ∷ t)
-    now key = pending-whole key (E m) (beat.D x ∷ t) none_now (has_beats {w = w} (E m) is)
+    now key = pending-whole key (E m) (beat.D x ∷ t) none_now (beats-positive {w = w} (E m) is)
 
     sink_there : (s : ℕ) → pending (GrantSink s) (beat.D x ∷ t) ≡ (is_grant x.opcode && (m.sink == s))
     sink_there s = sink_now s x t (unfinished channel.D t) refl fits.goes_on (old.sinks s) ∙ ap (λ (n : ℕ). is_grant x.opcode && (n == s)) (sym sink)
 
     burst_now : unfinished channel.D (sent (E m) (beat.D x ∷ t)) ≡ []
-    burst_now = unfinished-whole channel.D (E m) (beat.D x ∷ t) none_now (has_beats {w = w} (E m) is) ∙ (unfinished-d x t).4 ∙ rw last refl
+    burst_now = unfinished-whole channel.D (E m) (beat.D x ∷ t) none_now (beats-positive {w = w} (E m) is) ∙ (unfinished-d x t).4 ∙ rw last refl
 
 -- a GrantAck
 pub claimed-e : {w : ℕ} (m : MessageE) (t : History w) → IsWidth w → unfinished channel.E t ≡ [] → IsClaimed t → IsClaimed (sent (E m) t)
@@ -274,8 +281,8 @@ claimed-e {w} m t is none old =
       same_acquires = λ k. acquire_of-e k m t is none;
       same_releases = λ k. now (ReleaseOf k);
       same_open = λ s. open_beat-e s m t is none;
-      same_open_release = λ s. rw (now (ReleaseSource s), release_of-whole s (E m) t none (has_beats {w = w} (E m) is)) refl;
+      same_open_release = λ s. rw (now (ReleaseSource s), release_of-whole s (E m) t none (beats-positive {w = w} (E m) is)) refl;
     }) old
   where
     now : (key : Key) → pending key (sent (E m) t) ≡ pending_with key (E m) t
-    now key = pending-whole key (E m) t none (has_beats {w = w} (E m) is)
+    now key = pending-whole key (E m) t none (beats-positive {w = w} (E m) is)

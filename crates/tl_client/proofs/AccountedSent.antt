@@ -1,6 +1,6 @@
 -- What is pending as a client hands a message out.
 use Rattle.std.proofs.Common.{◌≡◌, ℕ, Bool, true, false, cond, ◌&&◌, ◌⊎◌, List, [], ◌∷◌, Option, Some, None, refl, sym, ◌∙◌, inl, inr}
-use Rattle.std.specs.Prelude.{◌==◌}
+use Rattle.std.specs.Prelude.{◌==◌, ⊤}
 use Rattle.std.proofs.lemmas.Bool.{and_parts, eqb-true, eq-eqb, both_ways, cases_Bool}
 use Rattle.tl_beat.specs.Width.{IsWidth}
 use Rattle.tl_beat.specs.declared.beat.Beat.{Beat}
@@ -14,13 +14,13 @@ use Rattle.tl_burst.specs.declared.message.MessageA.{MessageA}
 use Rattle.tl_burst.specs.declared.message.MessageC.{MessageC}
 use Rattle.tl_burst.specs.Burst.{c_beat_of}
 use Rattle.tl_burst.specs.Messages.{History, unfinished}
+use Rattle.tl_burst.proofs.Splitting.{beats-positive}
 use Rattle.tl_params.specs.declared.key.Key.{Key}
 use Rattle.tl_params.specs.declared.key.Key.TheVariants.{RequestSource, ReleaseSource, AcquireOf, ReleaseOf, GrantSink, GrantAckOf, ProbeOf}
 use Rattle.tl_rules.specs.Agent.{sent}
 use Rattle.tl_rules.specs.Conformance.{admits}
 use Rattle.tl_rules.specs.Handed.{pending_with}
 use Rattle.tl_rules.specs.History.{block_at, is_acquire, is_probe_ack, is_release, grant_sink, pending, releases, request_of, release_of}
-use Rattle.tl_rules.proofs.Bursts.{has_beats}
 use Rattle.tl_rules.proofs.Handed.{pending-whole, unfinished-whole, request_of-whole, release_of-whole, grant_sink-whole}
 use Rattle.tl_client.specs.Accounted.{IsClaimed, IsAcked, IsAnswering, comes_granting}
 use Rattle.tl_client.specs.Kept.{acquires}
@@ -66,9 +66,10 @@ pub record MayAsk {w : ℕ} (m : MessageA w) (t : History w) : Type 0 where
   pub unreleased : is_acquire m.opcode ≡ true → pending (ReleaseOf (block_at m.address)) t ≡ false
 
 pub open_release-a : {w : ℕ} (s : ℕ) (m : MessageA w) (t : History w) → IsWidth w → unfinished channel.A t ≡ [] → open_release s (sent (A m) t) ≡ open_release s t
-open_release-a s m t is none = rw (pending-whole (ReleaseSource s) (A m) t none (has_beats (A m) is), release_of-whole s (A m) t none (has_beats (A m) is)) refl
+open_release-a s m t is none = rw (pending-whole (ReleaseSource s) (A m) t none (beats-positive (A m) is), release_of-whole s (A m) t none (beats-positive (A m) is)) refl
 
-still_acquired : {w : ℕ} (s k : ℕ) (m : MessageA w) (t : History w) → IsWidth w → unfinished channel.A t ≡ [] → pending (RequestSource m.source) t ≡ false → acquires k (open_beat s t) ≡ true → acquires k (open_beat s (sent (A m) t)) ≡ true
+still_acquired : {w : ℕ} (s k : ℕ) (m : MessageA w) (t : History w) → IsWidth w → unfinished channel.A t ≡ [] → pending (RequestSource m.source) t ≡ false → acquires k (open_beat s t) ≡ true
+    → acquires k (open_beat s (sent (A m) t)) ≡ true
 still_acquired s k m t is none free e =
     let other = apart_sources (λ r. RequestSource r) m.source s t free (acquires_live s k t e) in
     rw (open_beat-a s m t is none, other) e
@@ -83,13 +84,15 @@ claimed-a {w} m t is none may old = record {
 }
   where
     now : (key : Key) → pending key (sent (A m) t) ≡ pending_with key (A m) t
-    now key = pending-whole key (A m) t none (has_beats (A m) is)
+    now key = pending-whole key (A m) t none (beats-positive (A m) is)
 
-    new_acquire : (k : ℕ) → ((is_acquire m.opcode && (block_at m.address == k)) ≡ true) ⊎ ((is_acquire m.opcode && (block_at m.address == k)) ≡ false) → pending_with (AcquireOf k) (A m) t ≡ true → (s : ℕ) × (acquires k (open_beat s (sent (A m) t)) ≡ true)
+    new_acquire : (k : ℕ) → ((is_acquire m.opcode && (block_at m.address == k)) ≡ true) ⊎ ((is_acquire m.opcode && (block_at m.address == k)) ≡ false)
+        → pending_with (AcquireOf k) (A m) t ≡ true → (s : ℕ) × (acquires k (open_beat s (sent (A m) t)) ≡ true)
     new_acquire k (inl new) e = (m.source, rw (open_beat-a m.source m t is none, eq-eqb m.source m.source refl) new)
     new_acquire k (inr other) e = let p = old.acquired k (rw other at e) in (p.0, still_acquired p.0 k m t is none may.free p.1)
 
-    none_released : (k : ℕ) → ((is_acquire m.opcode && (block_at m.address == k)) ≡ true) ⊎ ((is_acquire m.opcode && (block_at m.address == k)) ≡ false) → pending_with (AcquireOf k) (A m) t ≡ true → pending (ReleaseOf k) t ≡ false
+    none_released : (k : ℕ) → ((is_acquire m.opcode && (block_at m.address == k)) ≡ true) ⊎ ((is_acquire m.opcode && (block_at m.address == k)) ≡ false)
+        → pending_with (AcquireOf k) (A m) t ≡ true → pending (ReleaseOf k) t ≡ false
     none_released k (inl new) e =
         let parts = and_parts (is_acquire m.opcode) (block_at m.address == k) new in
         rw (eqb-true (block_at m.address) k parts.1) at (may.unreleased parts.0)
@@ -98,7 +101,7 @@ claimed-a {w} m t is none may old = record {
 -- the request that an unfinished response answers is the same
 abbrev pub HasSame : {w : ℕ} → List (Beat w) → History w → History w → Type 0
 HasSame (beat.D x ∷ burst) t u = (request_of x.source u ≡ request_of x.source t) × (open_beat x.source u ≡ open_beat x.source t)
-HasSame _ t u = Unit {0}
+HasSame _ t u = ⊤
 
 coming_same : {w : ℕ} (k : ℕ) (burst : List (Beat w)) (t u : History w) → HasSame burst t u → comes_granting k burst u ≡ comes_granting k burst t
 coming_same k [] t u same = refl
@@ -135,7 +138,8 @@ acked_same t u same probes old =
       answering = rw same.same_burst (answering_same (unfinished channel.D t) t u same.same_requests old.answering);
     }
 
-answered_apart : {w : ℕ} (burst : List (Beat w)) (m : MessageA w) (t : History w) → IsWidth w → unfinished channel.A t ≡ [] → pending (RequestSource m.source) t ≡ false → IsAnswering burst t → HasSame burst t (sent (A m) t)
+answered_apart : {w : ℕ} (burst : List (Beat w)) (m : MessageA w) (t : History w) → IsWidth w → unfinished channel.A t ≡ [] → pending (RequestSource m.source) t ≡ false → IsAnswering burst t
+    → HasSame burst t (sent (A m) t)
 answered_apart [] m t is none free a = tt
 answered_apart (beat.A x ∷ burst) m t is none free a = tt
 answered_apart (beat.B x ∷ burst) m t is none free a = tt
@@ -143,18 +147,18 @@ answered_apart (beat.C x ∷ burst) m t is none free a = tt
 answered_apart (beat.E x ∷ burst) m t is none free a = tt
 answered_apart (beat.D x ∷ burst) m t is none free a =
     let other = apart_sources (λ r. RequestSource r) m.source x.source t free (admitted_live x.opcode x.source t a) in
-    (request_of-whole x.source (A m) t none (has_beats (A m) is) ∙ rw other refl, open_beat-a x.source m t is none ∙ rw other refl)
+    (request_of-whole x.source (A m) t none (beats-positive (A m) is) ∙ rw other refl, open_beat-a x.source m t is none ∙ rw other refl)
 
 pub acked-a : {w : ℕ} (m : MessageA w) (t : History w) → IsWidth w → unfinished channel.A t ≡ [] → MayAsk m t → IsAcked t → IsAcked (sent (A m) t)
 acked-a m t is none may old =
-    let now = λ (key : Key). pending-whole key (A m) t none (has_beats (A m) is) in
+    let now = λ (key : Key). pending-whole key (A m) t none (beats-positive (A m) is) in
     acked_same t (sent (A m) t)
     (record {
-      same_burst = unfinished-whole channel.D (A m) t none (has_beats (A m) is);
+      same_burst = unfinished-whole channel.D (A m) t none (beats-positive (A m) is);
       same_requests = answered_apart (unfinished channel.D t) m t is none may.free old.answering;
       same_sinks = λ s. now (GrantSink s);
       same_acks = λ k. now (GrantAckOf k);
-      same_ack_sinks = λ k. grant_sink-whole k (A m) t none (has_beats (A m) is);
+      same_ack_sinks = λ k. grant_sink-whole k (A m) t none (beats-positive (A m) is);
     })
     (λ k. now (ProbeOf k) ∙ old.probes k) old
 
@@ -170,13 +174,13 @@ all_same (beat.D x ∷ burst) t u requests opens = (requests x.source, opens x.s
 
 pub same_acks-c : {w : ℕ} (m : MessageC w) (t : History w) → IsWidth w → unfinished channel.C t ≡ [] → SameAcks t (sent (C m) t)
 same_acks-c m t is none =
-    let now = λ (key : Key). pending-whole key (C m) t none (has_beats (C m) is) in
+    let now = λ (key : Key). pending-whole key (C m) t none (beats-positive (C m) is) in
     record {
-      same_burst = unfinished-whole channel.D (C m) t none (has_beats (C m) is);
-      same_requests = all_same (unfinished channel.D t) t (sent (C m) t) (λ s. request_of-whole s (C m) t none (has_beats (C m) is)) (λ s. open_beat-c s m t is none);
+      same_burst = unfinished-whole channel.D (C m) t none (beats-positive (C m) is);
+      same_requests = all_same (unfinished channel.D t) t (sent (C m) t) (λ s. request_of-whole s (C m) t none (beats-positive (C m) is)) (λ s. open_beat-c s m t is none);
       same_sinks = λ s. now (GrantSink s);
       same_acks = λ k. now (GrantAckOf k);
-      same_ack_sinks = λ k. grant_sink-whole k (C m) t none (has_beats (C m) is);
+      same_ack_sinks = λ k. grant_sink-whole k (C m) t none (beats-positive (C m) is);
     }
 
 falls : (b p : Bool) → p ≡ false → cond b false p ≡ false
@@ -186,7 +190,7 @@ falls false p e = e
 pub acked-c : {w : ℕ} (m : MessageC w) (t : History w) → IsWidth w → unfinished channel.C t ≡ [] → IsAcked t → IsAcked (sent (C m) t)
 acked-c m t is none old =
     acked_same t (sent (C m) t) (same_acks-c m t is none)
-    (λ k. pending-whole (ProbeOf k) (C m) t none (has_beats (C m) is) ∙ falls (is_probe_ack m.opcode && (block_at m.address == k)) (pending (ProbeOf k) t) (old.probes k)) old
+    (λ k. pending-whole (ProbeOf k) (C m) t none (beats-positive (C m) is) ∙ falls (is_probe_ack m.opcode && (block_at m.address == k)) (pending (ProbeOf k) t) (old.probes k)) old
 
 -- a Release: its source is free, and of its block nothing is pending
 pub record MayRelease {w : ℕ} (m : MessageC w) (t : History w) : Type 0 where
@@ -195,9 +199,10 @@ pub record MayRelease {w : ℕ} (m : MessageC w) (t : History w) : Type 0 where
   pub unacquired : pending (AcquireOf (block_at m.address)) t ≡ false
   pub unreleased : pending (ReleaseOf (block_at m.address)) t ≡ false
 
-pub open_release-c : {w : ℕ} (s : ℕ) (m : MessageC w) (t : History w) → IsWidth w → unfinished channel.C t ≡ [] → is_release m.opcode ≡ true → open_release s (sent (C m) t) ≡ cond (m.source == s) (Some (c_beat_of m 0)) (open_release s t)
+pub open_release-c : {w : ℕ} (s : ℕ) (m : MessageC w) (t : History w) → IsWidth w → unfinished channel.C t ≡ [] → is_release m.opcode ≡ true
+    → open_release s (sent (C m) t) ≡ cond (m.source == s) (Some (c_beat_of m 0)) (open_release s t)
 open_release-c {w} s m t is none kind =
-    rw (pending-whole (ReleaseSource s) (C m) t none (has_beats (C m) is), release_of-whole s (C m) t none (has_beats (C m) is), kind)
+    rw (pending-whole (ReleaseSource s) (C m) t none (beats-positive (C m) is), release_of-whole s (C m) t none (beats-positive (C m) is), kind)
     (go (m.source == s) (pending (ReleaseSource s) t) (release_of s t))
   where
     go : (b p : Bool) (o : Option (BeatC w)) → cond (cond b true p) (cond b (Some (c_beat_of m 0)) o) None ≡ cond b (Some (c_beat_of m 0)) (cond p o None)
@@ -214,12 +219,13 @@ claimed-c {w} m t is none may old = record {
 }
   where
     now : (key : Key) → pending key (sent (C m) t) ≡ pending_with key (C m) t
-    now key = pending-whole key (C m) t none (has_beats (C m) is)
+    now key = pending-whole key (C m) t none (beats-positive (C m) is)
 
     release_now : (k : ℕ) → pending (ReleaseOf k) (sent (C m) t) ≡ cond (block_at m.address == k) true (pending (ReleaseOf k) t)
     release_now k = now (ReleaseOf k) ∙ rw may.releases refl
 
-    new_release : (k : ℕ) → ((block_at m.address == k) ≡ true) ⊎ ((block_at m.address == k) ≡ false) → cond (block_at m.address == k) true (pending (ReleaseOf k) t) ≡ true → (s : ℕ) × (releases k (open_release s (sent (C m) t)) ≡ true)
+    new_release : (k : ℕ) → ((block_at m.address == k) ≡ true) ⊎ ((block_at m.address == k) ≡ false) → cond (block_at m.address == k) true (pending (ReleaseOf k) t) ≡ true
+        → (s : ℕ) × (releases k (open_release s (sent (C m) t)) ≡ true)
     new_release k (inl new) e = (m.source, rw (open_release-c m.source m t is none may.releases, eq-eqb m.source m.source refl) new)
     new_release k (inr other) e =
         let p = old.released k (rw other at e) in
@@ -237,12 +243,14 @@ claimed-c {w} m t is none may old = record {
     no_other : (s k : ℕ) → (block_at m.address == k) ≡ true → releases k (open_release s t) ≡ true → ⊥
     no_other s k new e = both_ways (pending (ReleaseOf k) t) (rw (eqb-true (block_at m.address) k new) at may.unreleased) (old.releasing s k e)
 
-    once : (s r k : ℕ) (a b : Bool) → (m.source == s) ≡ a → (m.source == r) ≡ b → releases k (cond a (Some (c_beat_of m 0)) (open_release s t)) ≡ true → releases k (cond b (Some (c_beat_of m 0)) (open_release r t)) ≡ true → s ≡ r
+    once : (s r k : ℕ) (a b : Bool) → (m.source == s) ≡ a → (m.source == r) ≡ b → releases k (cond a (Some (c_beat_of m 0)) (open_release s t)) ≡ true
+        → releases k (cond b (Some (c_beat_of m 0)) (open_release r t)) ≡ true → s ≡ r
     once s r k true true p q e f = sym (eqb-true m.source s p) ∙ eqb-true m.source r q
     once s r k true false p q e f = absurd (no_other r k e f)
     once s r k false true p q e f = absurd (no_other s k f e)
     once s r k false false p q e f = old.release_once s r k e f
 
-    none_acquired : (k : ℕ) → ((block_at m.address == k) ≡ true) ⊎ ((block_at m.address == k) ≡ false) → pending (AcquireOf k) t ≡ true → cond (block_at m.address == k) true (pending (ReleaseOf k) t) ≡ false
+    none_acquired : (k : ℕ) → ((block_at m.address == k) ≡ true) ⊎ ((block_at m.address == k) ≡ false) → pending (AcquireOf k) t ≡ true
+        → cond (block_at m.address == k) true (pending (ReleaseOf k) t) ≡ false
     none_acquired k (inl new) e = absurd (both_ways (pending (AcquireOf k) t) (rw (eqb-true (block_at m.address) k new) at may.unacquired) e)
     none_acquired k (inr other) e = rw other (old.apart k e)

@@ -1,6 +1,6 @@
 -- What is pending as a client takes a beat.
-use Rattle.std.proofs.Common.{◌≡◌, ℕ, Bool, true, false, not, ◌&&◌, ◌⊎◌, List, [], ◌∷◌, Option, Some, None, refl, sym, ◌∙◌, ap, inl, inr}
-use Rattle.std.specs.Prelude.{◌==◌}
+use Rattle.std.proofs.Common.{◌≡◌, ℕ, true, false, not, ◌⊎◌, List, [], ◌∷◌, Option, Some, None, refl, sym, ◌∙◌, ap, inl, inr}
+use Rattle.std.specs.Prelude.{◌==◌, ⊤}
 use Rattle.std.proofs.lemmas.Bool.{and_parts, not-false, both_ways, cases_Bool}
 use Rattle.tl_beat.specs.Width.{IsWidth}
 use Rattle.tl_beat.specs.declared.beat.Beat.{Beat}
@@ -18,6 +18,7 @@ use Rattle.tl_burst.specs.declared.message.Message.TheVariants.{C}
 use Rattle.tl_burst.specs.declared.message.MessageC.{MessageC}
 use Rattle.tl_burst.specs.Messages.{History, unfinished, same_control, breaks_burst}
 use Rattle.tl_burst.proofs.ControlFields.{control_d}
+use Rattle.tl_burst.proofs.Splitting.{beats-positive}
 use Rattle.tl_params.specs.declared.key.Key.{Key}
 use Rattle.tl_params.specs.declared.key.Key.TheVariants.{RequestSource, ReleaseSource, AcquireOf, ReleaseOf, GrantSink, GrantAckOf, ProbeOf}
 use Rattle.tl_params.specs.declared.profile.Profile.{Profile}
@@ -26,9 +27,10 @@ use Rattle.tl_rules.specs.Agent.{sent}
 use Rattle.tl_rules.specs.Conformance.{admits, answers, has_request, broken_order, broken_in_order}
 use Rattle.tl_rules.specs.Handed.{pending_with, release_with}
 use Rattle.tl_rules.specs.History.{block_at, is_probe, is_probe_ack, is_release, is_release_ack, ends, grant_sink, pending, request_of, release_of}
-use Rattle.tl_rules.proofs.Bursts.{has_beats, next_rule}
+use Rattle.tl_rules.proofs.Bursts.{next_rule}
 use Rattle.tl_rules.proofs.Handed.{pending-whole, unfinished-whole, request_of-whole, release_of-whole, grant_sink-whole}
 use Rattle.tl_rules.proofs.Sent.{pending-quiet}
+use Rattle.tl_rules.proofs.Open.{never}
 use Rattle.tl_client.specs.Accounted.{IsClaimed, IsAcked, IsAnswering}
 use Rattle.tl_client.specs.Requests.{open_beat, open_release}
 use Rattle.tl_client.proofs.AccountedSent.{acked_same, all_same}
@@ -61,21 +63,18 @@ pub names_b : {w : ℕ} (s : ℕ) (x : BeatB w) (t : History w) → (release_of 
 unfolding release_of grant_sink
 names_b s x t = (refl, refl)
 
-unasked : (b : Bool) → (b && false) ≡ false
-unasked true = refl
-unasked false = refl
-
-pub acked-probe : {w : ℕ} (m : MessageC w) (x : BeatB w) (t : History w) → IsWidth w → unfinished channel.C t ≡ [] → is_probe_ack m.opcode ≡ true → block_at m.address ≡ block_at x.address → IsAcked t → IsAcked (sent (C m) (beat.B x ∷ t))
+pub acked-probe : {w : ℕ} (m : MessageC w) (x : BeatB w) (t : History w) → IsWidth w → unfinished channel.C t ≡ [] → is_probe_ack m.opcode ≡ true → block_at m.address ≡ block_at x.address
+    → IsAcked t → IsAcked (sent (C m) (beat.B x ∷ t))
 acked-probe {w} m x t is none kind block old =
     acked_same t (sent (C m) (beat.B x ∷ t))
     (record {
-      same_burst = unfinished-whole channel.D (C m) (beat.B x ∷ t) none_now (has_beats (C m) is) ∙ (burst_b x t).1;
+      same_burst = unfinished-whole channel.D (C m) (beat.B x ∷ t) none_now (beats-positive (C m) is) ∙ (burst_b x t).1;
       same_requests = all_same (unfinished channel.D t) t (sent (C m) (beat.B x ∷ t))
-          (λ s. request_of-whole s (C m) (beat.B x ∷ t) none_now (has_beats (C m) is) ∙ request_of-b s x t)
+          (λ s. request_of-whole s (C m) (beat.B x ∷ t) none_now (beats-positive (C m) is) ∙ request_of-b s x t)
           (λ s. open_beat-c s m (beat.B x ∷ t) is none_now ∙ open_beat-b s x t);
       same_sinks = λ s. now (GrantSink s) ∙ pending-quiet (GrantSink s) (beat.B x) t refl refl;
       same_acks = λ k. now (GrantAckOf k) ∙ pending-quiet (GrantAckOf k) (beat.B x) t refl refl;
-      same_ack_sinks = λ k. grant_sink-whole k (C m) (beat.B x ∷ t) none_now (has_beats (C m) is) ∙ (names_b k x t).1;
+      same_ack_sinks = λ k. grant_sink-whole k (C m) (beat.B x ∷ t) none_now (beats-positive (C m) is) ∙ (names_b k x t).1;
     })
     (λ k. now (ProbeOf k) ∙ answered k (cases_Bool (block_at m.address == k))) old
   where
@@ -83,13 +82,13 @@ acked-probe {w} m x t is none kind block old =
     none_now = (burst_b x t).0 ∙ none
 
     now : (key : Key) → pending key (sent (C m) (beat.B x ∷ t)) ≡ pending_with key (C m) (beat.B x ∷ t)
-    now key = pending-whole key (C m) (beat.B x ∷ t) none_now (has_beats (C m) is)
+    now key = pending-whole key (C m) (beat.B x ∷ t) none_now (beats-positive (C m) is)
 
     answered : (k : ℕ) → ((block_at m.address == k) ≡ true) ⊎ ((block_at m.address == k) ≡ false) → pending_with (ProbeOf k) (C m) (beat.B x ∷ t) ≡ false
     answered k (inl here) = rw (kind, here) refl
     answered k (inr other) =
         let elsewhere : (block_at x.address == k) ≡ false = ap (λ j. j == k) (sym block) ∙ other in
-        rw (kind, other) (pending-quiet (ProbeOf k) (beat.B x) t (rw elsewhere (unasked (is_probe x.opcode))) refl ∙ old.probes k)
+        rw (kind, other) (pending-quiet (ProbeOf k) (beat.B x) t (rw elsewhere (never (is_probe x.opcode))) refl ∙ old.probes k)
 
 pub claimed-probe : {w : ℕ} (m : MessageC w) (x : BeatB w) (t : History w) → IsWidth w → unfinished channel.C t ≡ [] → is_release m.opcode ≡ false → IsClaimed t → IsClaimed (sent (C m) (beat.B x ∷ t))
 claimed-probe {w} m x t is none kind old =
@@ -105,7 +104,7 @@ claimed-probe {w} m x t is none kind old =
     none_now = (burst_b x t).0 ∙ none
 
     now : (key : Key) → pending key (sent (C m) (beat.B x ∷ t)) ≡ pending_with key (C m) (beat.B x ∷ t)
-    now key = pending-whole key (C m) (beat.B x ∷ t) none_now (has_beats (C m) is)
+    now key = pending-whole key (C m) (beat.B x ∷ t) none_now (beats-positive (C m) is)
 
     opened_with : (s : ℕ) → pending_with (ReleaseSource s) (C m) (beat.B x ∷ t) ≡ pending (ReleaseSource s) (beat.B x ∷ t)
     opened_with s = rw kind refl
@@ -117,13 +116,13 @@ claimed-probe {w} m x t is none kind old =
     named_with s = rw kind refl
 
     release_now : (s : ℕ) → release_of s (sent (C m) (beat.B x ∷ t)) ≡ release_of s t
-    release_now s = release_of-whole s (C m) (beat.B x ∷ t) none_now (has_beats (C m) is) ∙ named_with s ∙ (names_b s x t).0
+    release_now s = release_of-whole s (C m) (beat.B x ∷ t) none_now (beats-positive (C m) is) ∙ named_with s ∙ (names_b s x t).0
 
 -- ---- what is known of a response that breaks no rule of order
 
 -- it goes on with the unfinished burst
 abbrev pub GoesOn : {w : ℕ} → BeatD w → List (Beat w) → Type 0
-GoesOn x [] = Unit {0}
+GoesOn x [] = ⊤
 GoesOn x (beat.D y ∷ burst) = (x.opcode ≡ y.opcode) × (x.source ≡ y.source) × (x.sink ≡ y.sink)
 GoesOn x (_ ∷ burst) = ⊥
 
@@ -175,7 +174,8 @@ admits_no_ack : {w : ℕ} (opcode : OpD) (o : Option (BeatA w)) → admits opcod
 admits_no_ack opcode None e = absurd cc
 admits_no_ack opcode (Some r) e = no_release_ack opcode r.opcode e
 
-later_fit : {w : ℕ} (x y : BeatD w) (burst : List (Beat w)) (t : History w) → unfinished channel.D t ≡ (beat.D y ∷ burst) → same_control (beat.D x) (beat.D y) ≡ true → admits y.opcode (open_beat y.source t) ≡ true → IsFit x t
+later_fit : {w : ℕ} (x y : BeatD w) (burst : List (Beat w)) (t : History w) → unfinished channel.D t ≡ (beat.D y ∷ burst) → same_control (beat.D x) (beat.D y) ≡ true
+    → admits y.opcode (open_beat y.source t) ≡ true → IsFit x t
 later_fit {w} x y burst t is same old =
     let k = control_d x y same in
     let admitted : admits x.opcode (open_beat x.source t) ≡ true = ap (λ (o : OpD). admits o (open_beat x.source t)) k.0 ∙ ap (λ (s : ℕ). admits y.opcode (open_beat s t)) k.3 ∙ old in

@@ -14,7 +14,7 @@ use Rattle.tl_client.specs.declared.busy.Busy.{Busy}
 use Rattle.tl_client.specs.declared.operation.Op.{Op}
 use Rattle.tl_client.specs.declared.operation.Op.TheVariants.{Load, Store, Acquire, AcquireWhole, Release, Access}
 use Rattle.tl_client.specs.After.{copy_left, waiting_left}
-use Rattle.tl_client.specs.Ask.{asked, asked_given, busy, done, load, store, stored}
+use Rattle.tl_client.specs.Ask.{asked, asked_given, busy, done, load, store, copy_stored}
 use Rattle.tl_client.specs.End.{Terms, End, zeros, copy_at, held_at, kept_for}
 use Rattle.tl_client.specs.Kept.{holds}
 use Rattle.tl_client.proofs.HeldAfter.{kept_past}
@@ -61,23 +61,25 @@ after_load address size perm.Trunk e = record { past_is = refl; closed_is = refl
 unwritten : {w : ℕ} (address size value : ℕ) (p : Perm) (e : End w) (k : ℕ) → held (block_at address) e.past ≡ p → same_perm perm.Trunk p ≡ false → e.copies k ≡ copy_left {w = w} None (Store address size value) k (held k e.past) (e.copies k)
 unwritten address size value p e k is low = go (cases_Bool (k == block_at address))
   where
-    go : ((k == block_at address) ≡ true) ⊎ ((k == block_at address) ≡ false) → e.copies k ≡ cond ((k == block_at address) && same_perm perm.Trunk (held k e.past)) (Some (stored address size value (unwrap_or (e.copies k) zeros))) (e.copies k)
+    go : ((k == block_at address) ≡ true) ⊎ ((k == block_at address) ≡ false)
+        → e.copies k ≡ cond ((k == block_at address) && same_perm perm.Trunk (held k e.past)) (Some (copy_stored address size value (unwrap_or (e.copies k) zeros))) (e.copies k)
     go (inr other) = rw other refl
     go (inl here) = let there : same_perm perm.Trunk (held k e.past) ≡ false = rw (eqb-true k (block_at address) here, is) low in rw (here, there) refl
 
 written : {w : ℕ} (address size value : ℕ) (e : End w) (k : ℕ) → held (block_at address) e.past ≡ perm.Trunk
-    → cond (k == block_at address) (Some (stored address size value (copy_at e (block_at address)))) (e.copies k) ≡ copy_left {w = w} None (Store address size value) k (held k e.past) (e.copies k)
+    → cond (k == block_at address) (Some (copy_stored address size value (copy_at e (block_at address)))) (e.copies k) ≡ copy_left {w = w} None (Store address size value) k (held k e.past) (e.copies k)
 written address size value e k is = go (cases_Bool (k == block_at address))
   where
     go : ((k == block_at address) ≡ true) ⊎ ((k == block_at address) ≡ false)
-        → cond (k == block_at address) (Some (stored address size value (copy_at e (block_at address)))) (e.copies k) ≡ cond ((k == block_at address) && same_perm perm.Trunk (held k e.past)) (Some (stored address size value (unwrap_or (e.copies k) zeros))) (e.copies k)
+        → cond (k == block_at address) (Some (copy_stored address size value (copy_at e (block_at address)))) (e.copies k) ≡ cond ((k == block_at address) && same_perm perm.Trunk (held k e.past)) (Some (copy_stored address size value (unwrap_or (e.copies k) zeros))) (e.copies k)
     go (inr other) = rw other refl
     go (inl here) =
         let same : k ≡ block_at address = eqb-true k (block_at address) here in
         let there : same_perm perm.Trunk (held k e.past) ≡ true = rw (same, is) refl in
-        rw (here, there) (ap (λ j. Some (stored address size value (copy_at e j))) (sym same))
+        rw (here, there) (ap (λ j. Some (copy_stored address size value (copy_at e j))) (sym same))
 
-after_store : {w : ℕ} (address size value : ℕ) (p : Perm) (e : End w) → held (block_at address) e.past ≡ p → IsAfter (store address size value p e).message (Store address size value) e (store address size value p e).after
+after_store : {w : ℕ} (address size value : ℕ) (p : Perm) (e : End w) → held (block_at address) e.past ≡ p
+    → IsAfter (store address size value p e).message (Store address size value) e (store address size value p e).after
 after_store address size value perm.None e is = record { past_is = refl; closed_is = refl; copies_are = λ k. unwritten address size value perm.None e k is refl; waiting_is = λ k. refl }
 after_store address size value perm.Branch e is = record { past_is = refl; closed_is = refl; copies_are = λ k. unwritten address size value perm.Branch e k is refl; waiting_is = λ k. refl }
 after_store address size value perm.Trunk e is = record { past_is = refl; closed_is = refl; copies_are = λ k. written address size value e k is; waiting_is = λ k. refl }

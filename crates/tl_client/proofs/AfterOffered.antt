@@ -71,15 +71,23 @@ bare_waiting opcode block k e = cond ((k == block) && is_acquire_perm opcode) No
 granted_bare : {w : ℕ} (opcode : OpA) (block : ℕ) (e : End w) → IsGranted (λ k. bare_copy opcode block k e) (λ k. bare_waiting opcode block k e) e (granted_perm opcode block e)
 unfolding bare_copy bare_waiting
 granted_bare a.AcquirePerm block e = record { same_past = refl; same_closed = refl; new_copies = λ k. taken_waiting e block k; new_waiting = λ k. with_true (k == block) None (e.waiting k) }
-granted_bare a.PutFullData block e = record { same_past = refl; same_closed = refl; new_copies = λ k. with_false (k == block) (e.waiting k) (e.copies k); new_waiting = λ k. with_false (k == block) None (e.waiting k) }
-granted_bare a.PutPartialData block e = record { same_past = refl; same_closed = refl; new_copies = λ k. with_false (k == block) (e.waiting k) (e.copies k); new_waiting = λ k. with_false (k == block) None (e.waiting k) }
-granted_bare a.ArithmeticData block e = record { same_past = refl; same_closed = refl; new_copies = λ k. with_false (k == block) (e.waiting k) (e.copies k); new_waiting = λ k. with_false (k == block) None (e.waiting k) }
-granted_bare a.LogicalData block e = record { same_past = refl; same_closed = refl; new_copies = λ k. with_false (k == block) (e.waiting k) (e.copies k); new_waiting = λ k. with_false (k == block) None (e.waiting k) }
-granted_bare a.Get block e = record { same_past = refl; same_closed = refl; new_copies = λ k. with_false (k == block) (e.waiting k) (e.copies k); new_waiting = λ k. with_false (k == block) None (e.waiting k) }
-granted_bare a.Intent block e = record { same_past = refl; same_closed = refl; new_copies = λ k. with_false (k == block) (e.waiting k) (e.copies k); new_waiting = λ k. with_false (k == block) None (e.waiting k) }
-granted_bare a.AcquireBlock block e = record { same_past = refl; same_closed = refl; new_copies = λ k. with_false (k == block) (e.waiting k) (e.copies k); new_waiting = λ k. with_false (k == block) None (e.waiting k) }
+granted_bare a.PutFullData block e =
+    record { same_past = refl; same_closed = refl; new_copies = λ k. with_false (k == block) (e.waiting k) (e.copies k); new_waiting = λ k. with_false (k == block) None (e.waiting k) }
+granted_bare a.PutPartialData block e =
+    record { same_past = refl; same_closed = refl; new_copies = λ k. with_false (k == block) (e.waiting k) (e.copies k); new_waiting = λ k. with_false (k == block) None (e.waiting k) }
+granted_bare a.ArithmeticData block e =
+    record { same_past = refl; same_closed = refl; new_copies = λ k. with_false (k == block) (e.waiting k) (e.copies k); new_waiting = λ k. with_false (k == block) None (e.waiting k) }
+granted_bare a.LogicalData block e =
+    record { same_past = refl; same_closed = refl; new_copies = λ k. with_false (k == block) (e.waiting k) (e.copies k); new_waiting = λ k. with_false (k == block) None (e.waiting k) }
+granted_bare a.Get block e =
+    record { same_past = refl; same_closed = refl; new_copies = λ k. with_false (k == block) (e.waiting k) (e.copies k); new_waiting = λ k. with_false (k == block) None (e.waiting k) }
+granted_bare a.Intent block e =
+    record { same_past = refl; same_closed = refl; new_copies = λ k. with_false (k == block) (e.waiting k) (e.copies k); new_waiting = λ k. with_false (k == block) None (e.waiting k) }
+granted_bare a.AcquireBlock block e =
+    record { same_past = refl; same_closed = refl; new_copies = λ k. with_false (k == block) (e.waiting k) (e.copies k); new_waiting = λ k. with_false (k == block) None (e.waiting k) }
 
-pub granted_is : {w : ℕ} (opcode : OpD) (r : Option (BeatA w)) (payload : List ℕ) (e : End w) → IsGranted (λ k. copy_granted opcode r payload k e) (λ k. waiting_granted opcode r k (e.waiting k)) e (granted opcode r payload e)
+pub granted_is : {w : ℕ} (opcode : OpD) (r : Option (BeatA w)) (payload : List ℕ) (e : End w)
+    → IsGranted (λ k. copy_granted opcode r payload k e) (λ k. waiting_granted opcode r k (e.waiting k)) e (granted opcode r payload e)
 unfolding bare_copy bare_waiting
 granted_is d.Grant (Some r) payload e = granted_bare r.opcode (block_at r.address) e
 granted_is d.GrantData (Some r) payload e = record { same_past = refl; same_closed = refl; new_copies = λ k. refl; new_waiting = λ k. refl }
@@ -91,12 +99,15 @@ granted_is d.HintAck r payload e = record { same_past = refl; same_closed = refl
 granted_is d.ReleaseAck r payload e = record { same_past = refl; same_closed = refl; new_copies = λ k. refl; new_waiting = λ k. refl }
 
 -- f is the end without the GrantAck
-ended_is : {w : ℕ} (opcode : OpD) (x : BeatD w) (finish : Finish) (e f : End w) → IsGranted (λ k. copy_with (beat.D x) k e) (λ k. waiting_with (beat.D x) k e) (with_past (beat.D x ∷ e.past) e) f → IsTaken (beat.D x) e (ended opcode x finish f)
+ended_is : {w : ℕ} (opcode : OpD) (x : BeatD w) (finish : Finish) (e f : End w)
+    → IsGranted (λ k. copy_with (beat.D x) k e) (λ k. waiting_with (beat.D x) k e) (with_past (beat.D x ∷ e.past) e) f → IsTaken (beat.D x) e (ended opcode x finish f)
 ended_is {w} opcode x finish e f g = go opcode
   where
     go : (opcode : OpD) → IsTaken (beat.D x) e (ended opcode x finish f)
-    go d.Grant = record { past_is = ap (λ t. sent_if_any (handed (ended d.Grant x finish f).answer) t) g.same_past; closed_is = g.same_closed ∙ or_false e.closed; copies_are = g.new_copies; waiting_is = g.new_waiting }
-    go d.GrantData = record { past_is = ap (λ t. sent_if_any (handed (ended d.GrantData x finish f).answer) t) g.same_past; closed_is = g.same_closed ∙ or_false e.closed; copies_are = g.new_copies; waiting_is = g.new_waiting }
+    go d.Grant =
+        record { past_is = ap (λ t. sent_if_any (handed (ended d.Grant x finish f).answer) t) g.same_past; closed_is = g.same_closed ∙ or_false e.closed; copies_are = g.new_copies; waiting_is = g.new_waiting }
+    go d.GrantData =
+        record { past_is = ap (λ t. sent_if_any (handed (ended d.GrantData x finish f).answer) t) g.same_past; closed_is = g.same_closed ∙ or_false e.closed; copies_are = g.new_copies; waiting_is = g.new_waiting }
     go d.AccessAck = record { past_is = g.same_past; closed_is = g.same_closed ∙ or_false e.closed; copies_are = g.new_copies; waiting_is = g.new_waiting }
     go d.AccessAckData = record { past_is = g.same_past; closed_is = g.same_closed ∙ or_false e.closed; copies_are = g.new_copies; waiting_is = g.new_waiting }
     go d.HintAck = record { past_is = g.same_past; closed_is = g.same_closed ∙ or_false e.closed; copies_are = g.new_copies; waiting_is = g.new_waiting }
@@ -105,7 +116,8 @@ ended_is {w} opcode x finish e f g = go opcode
 part_is : {w : ℕ} (x : BeatD w) (e : End w) → ends (beat.D x) e.past ≡ false → IsTaken (beat.D x) e (silent Taken (with_past (beat.D x ∷ e.past) e))
 part_is x e more = record { past_is = refl; closed_is = or_false e.closed; copies_are = λ k. rw more refl; waiting_is = λ k. rw more refl }
 
-last_is : {w : ℕ} (x : BeatD w) (e : End w) (payload : List ℕ) → payload_of (beat.D x ∷ unfinished channel.D e.past) ≡ payload → ends (beat.D x) e.past ≡ true → IsTaken (beat.D x) e (responded x (request_of x.source e.past) payload e)
+last_is : {w : ℕ} (x : BeatD w) (e : End w) (payload : List ℕ) → payload_of (beat.D x ∷ unfinished channel.D e.past) ≡ payload → ends (beat.D x) e.past ≡ true
+    → IsTaken (beat.D x) e (responded x (request_of x.source e.past) payload e)
 last_is {w} x e payload is last =
     let f : End w = with_past (beat.D x ∷ e.past) e in
     let g = granted_is x.opcode (request_of x.source e.past) payload f in
@@ -131,7 +143,8 @@ last_is {w} x e payload is last =
 taken_d : {w : ℕ} (x : BeatD w) (e : End w) → IsTaken (beat.D x) e (taken (beat.D x) e)
 taken_d {w} x e = go (ends (beat.D x) e.past) refl
   where
-    go : (b : Bool) → ends (beat.D x) e.past ≡ b → IsTaken (beat.D x) e (cond b (responded x (request_of x.source e.past) (payload_of (beat.D x ∷ unfinished channel.D e.past)) e) (silent Taken (with_past (beat.D x ∷ e.past) e)))
+    go : (b : Bool) → ends (beat.D x) e.past ≡ b
+        → IsTaken (beat.D x) e (cond b (responded x (request_of x.source e.past) (payload_of (beat.D x ∷ unfinished channel.D e.past)) e) (silent Taken (with_past (beat.D x ∷ e.past) e)))
     go true last = last_is x e (payload_of (beat.D x ∷ unfinished channel.D e.past)) refl last
     go false more = part_is x e more
 
@@ -168,7 +181,8 @@ judged_is {w} None terms x e = go (waits x e.past)
     go true = record { past_is = refl; closed_is = or_false e.closed; copies_are = λ k. refl; waiting_is = λ k. refl }
     go false = refused_is (broken_later terms x e) x e
 
-pub past-offered : {w : ℕ} (terms : Terms) (ch : Channel) (x : Beat w) (e : End w) → (offered terms ch x e).after.past ≡ sent_if_any (handed (offered terms ch x e).answer) (heard (offered terms ch x e).answer x e.past)
+pub past-offered : {w : ℕ} (terms : Terms) (ch : Channel) (x : Beat w) (e : End w)
+    → (offered terms ch x e).after.past ≡ sent_if_any (handed (offered terms ch x e).answer) (heard (offered terms ch x e).answer x e.past)
 unfolding offered
 past-offered terms ch x e = (judged_is (broken_before terms ch x e) terms x e).past_is
 

@@ -25,7 +25,7 @@ use Rattle.tl_client.specs.declared.operation.Op.{Op}
 use Rattle.tl_client.specs.declared.operation.Op.TheVariants.{Load, Store, Acquire, AcquireWhole, Release, Access}
 use Rattle.tl_client.specs.declared.verdict.Verdict.TheVariants.{Taken}
 use Rattle.tl_client.specs.After.{heard, copy_granted, waiting_granted}
-use Rattle.tl_client.specs.Ask.{asked, done, load, store, stored, is_word}
+use Rattle.tl_client.specs.Ask.{asked, done, load, store, copy_stored, is_word}
 use Rattle.tl_client.specs.Bytes.{IsLong, IsTypedOp, IsShort, HasBytes}
 use Rattle.tl_client.specs.End.{Terms, End, fresh, zeros, copy_at, held_at, kept_for, with_past}
 use Rattle.tl_client.specs.Kept.{IsKept, holds, is_acquire_perm}
@@ -70,7 +70,7 @@ long_store : {w : ℕ} (address size value : ℕ) (p : Perm) (e : End w) → is_
 long_store address size value perm.None e word long = long
 long_store address size value perm.Branch e word long = long
 long_store address size value perm.Trunk e word long = (
-  λ k. one_of_two (k == block_at address) (Some (stored address size value (copy_at e (block_at address)))) (e.copies k)
+  λ k. one_of_two (k == block_at address) (Some (copy_stored address size value (copy_at e (block_at address)))) (e.copies k)
       (length-stored address size value (copy_at e (block_at address)) (long_or_zeros (e.copies (block_at address)) (long.0 (block_at address))) (word_room address size word)) (long.0 k),
   long.1,
 )
@@ -102,7 +102,8 @@ bytes-asked {w} terms op e is kept typed old =
 
 -- ---- beats
 
-long_granted : {w : ℕ} (opcode : OpD) (r : Option (BeatA w)) (payload : List ℕ) (k : ℕ) (e : End w) → length payload ≡ 64 → AreLong e → IsLong (copy_granted opcode r payload k e) × IsLong (waiting_granted opcode r k (e.waiting k))
+long_granted : {w : ℕ} (opcode : OpD) (r : Option (BeatA w)) (payload : List ℕ) (k : ℕ) (e : End w) → length payload ≡ 64 → AreLong e
+    → IsLong (copy_granted opcode r payload k e) × IsLong (waiting_granted opcode r k (e.waiting k))
 long_granted d.Grant None payload k e whole long = (long.0 k, long.1 k)
 long_granted d.GrantData None payload k e whole long = (long.0 k, long.1 k)
 long_granted d.Grant (Some r) payload k e whole long = (
@@ -149,7 +150,8 @@ burst_b : {w : ℕ} (x : BeatB w) (t : History w) → unfinished channel.D (beat
 unfolding unfinished
 burst_b x t = refl
 
-burst_d : {w : ℕ} (terms : Terms) (ch : Channel) (x : BeatD w) (e : End w) → IsWidth w → IsTyped (beat.D x) → IsPassed terms ch (beat.D x) e → HasBytes e → IsBurstKept (unfinished channel.D (beat.D x ∷ e.past))
+burst_d : {w : ℕ} (terms : Terms) (ch : Channel) (x : BeatD w) (e : End w) → IsWidth w → IsTyped (beat.D x) → IsPassed terms ch (beat.D x) e → HasBytes e
+    → IsBurstKept (unfinished channel.D (beat.D x ∷ e.past))
 burst_d {w} terms ch x e is typed passed old =
     subst (λ t. IsBurstKept t) (sym (unfinished-d x e.past).4) (go (ends (beat.D x) e.past) refl)
   where
@@ -171,7 +173,8 @@ heard_taken (beat.C x) e = refl
 heard_taken (beat.E x) e = refl
 heard_taken {w} (beat.D x) e = go (ends (beat.D x) e.past) _ (ended-cases x.opcode x _ _ (λ o. heard o.answer (beat.D x) e.past ≡ (beat.D x ∷ e.past)) (λ grant. refl) (λ other. refl))
   where
-    go : (b : Bool) (o : Offered w) → heard o.answer (beat.D x) e.past ≡ (beat.D x ∷ e.past) → heard (cond b o (silent Taken (with_past (beat.D x ∷ e.past) e))).answer (beat.D x) e.past ≡ (beat.D x ∷ e.past)
+    go : (b : Bool) (o : Offered w) → heard o.answer (beat.D x) e.past ≡ (beat.D x ∷ e.past)
+        → heard (cond b o (silent Taken (with_past (beat.D x ∷ e.past) e))).answer (beat.D x) e.past ≡ (beat.D x ∷ e.past)
     go true o h = h
     go false o h = refl
 

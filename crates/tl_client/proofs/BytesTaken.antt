@@ -11,16 +11,16 @@ use Rattle.tl_beat.specs.Opcode.{d_carries_data}
 use Rattle.tl_burst.specs.Burst.{data_beats}
 use Rattle.tl_burst.specs.Messages.{History, burst_length, breaks_burst, same_control, unfinished}
 use Rattle.tl_burst.proofs.ControlFields.{control_d}
+use Rattle.tl_burst.proofs.Splitting.{some_data_beats}
 use Rattle.tl_params.specs.declared.profile.Profile.{Profile}
 use Rattle.tl_params.specs.declared.rule.Rule.TheVariants.{S1}
 use Rattle.tl_rules.specs.Agent.{payload_of}
 use Rattle.tl_rules.specs.Conformance.{broken_in_order}
 use Rattle.tl_rules.specs.History.{ends}
 use Rattle.tl_rules.specs.Typed.{IsTyped, AreTyped}
-use Rattle.tl_rules.proofs.Bursts.{next_rule, some_beats}
+use Rattle.tl_rules.proofs.Bursts.{next_rule}
 use Rattle.tl_rules.proofs.Checks.{data_room}
 use Rattle.tl_rules.proofs.Typed.{payload-long}
-use Rattle.tl_rules.proofs.Widths.{width-bounds}
 use Rattle.tl_client.specs.Bytes.{IsShort}
 
 goes_on : {w : ℕ} (p : Profile) (x : BeatD w) (t : History w) (burst : List (Beat w)) → unfinished channel.D t ≡ burst → broken_in_order p (beat.D x) t ≡ None → breaks_burst (beat.D x) burst ≡ false
@@ -28,7 +28,7 @@ goes_on p x t [] is e = refl
 goes_on p x t (y ∷ burst) is e = (next_rule (breaks_burst (beat.D x) (y ∷ burst)) S1 None (rw is at e)).0
 
 fewer : {w : ℕ} (x : BeatD w) (burst : List (Beat w)) → IsWidth w → breaks_burst (beat.D x) burst ≡ false → IsShort burst → length burst < burst_length (beat.D x)
-fewer {w} x [] is on short = some_beats w x.size (d_carries_data x.opcode) (let bounds = (width-bounds w is).0 in omega (arith, bounds))
+fewer {w} x [] is on short = some_data_beats w x.size (d_carries_data x.opcode) is
 fewer {w} x (beat.D y ∷ burst) is on short =
     let k = control_d x y (not-false (same_control (beat.D x) (beat.D y)) on) in
     let same : burst_length {w = w} (beat.D y) ≡ burst_length (beat.D x) = ap₂ (λ (o : OpD) (s : ℕ). cond (d_carries_data o) (data_beats w s) 1) (sym k.0) (sym k.2) in
@@ -38,11 +38,13 @@ fewer x (beat.B y ∷ burst) is on short = absurd cc
 fewer x (beat.C y ∷ burst) is on short = absurd cc
 fewer x (beat.E y ∷ burst) is on short = absurd cc
 
-pub fewer-before : {w : ℕ} (p : Profile) (x : BeatD w) (t : History w) → IsWidth w → broken_in_order p (beat.D x) t ≡ None → IsShort (unfinished channel.D t) → length (unfinished channel.D t) < burst_length (beat.D x)
+pub fewer-before : {w : ℕ} (p : Profile) (x : BeatD w) (t : History w) → IsWidth w → broken_in_order p (beat.D x) t ≡ None → IsShort (unfinished channel.D t)
+    → length (unfinished channel.D t) < burst_length (beat.D x)
 fewer-before p x t is e short = fewer x (unfinished channel.D t) is (goes_on p x t (unfinished channel.D t) refl e) short
 
 -- the last beat makes a payload of 64 bytes
-pub payload-last : {w : ℕ} (x : BeatD w) (t : History w) → IsWidth w → x.size ≤ 6 → ends (beat.D x) t ≡ true → IsTyped (beat.D x) → AreTyped (unfinished channel.D t) → length (payload_of (beat.D x ∷ unfinished channel.D t)) ≡ 64
+pub payload-last : {w : ℕ} (x : BeatD w) (t : History w) → IsWidth w → x.size ≤ 6 → ends (beat.D x) t ≡ true → IsTyped (beat.D x) → AreTyped (unfinished channel.D t)
+    → length (payload_of (beat.D x ∷ unfinished channel.D t)) ≡ 64
 payload-last {w} x t is small last typed before =
     let whole : length (unfinished channel.D t) + 1 ≡ burst_length (beat.D x) = eqb-true (length (unfinished channel.D t) + 1) (burst_length (beat.D x)) last in
     let room : w * burst_length (beat.D x) ≤ 64 = data_room w x.size (d_carries_data x.opcode) is small in
@@ -50,7 +52,8 @@ payload-last {w} x t is small last typed before =
     payload-long (beat.D x ∷ unfinished channel.D t) (typed, before) (rw count room)
 
 -- and another beat isn't the last but one too many
-pub short-part : {w : ℕ} (x : BeatD w) (t : History w) → x.size ≤ 6 → length (unfinished channel.D t) < burst_length (beat.D x) → ends (beat.D x) t ≡ false → IsShort (beat.D x ∷ unfinished channel.D t)
+pub short-part : {w : ℕ} (x : BeatD w) (t : History w) → x.size ≤ 6 → length (unfinished channel.D t) < burst_length (beat.D x) → ends (beat.D x) t ≡ false
+    → IsShort (beat.D x ∷ unfinished channel.D t)
 short-part {w} x t small fewer more = (small, omega (arith, fewer, apart))
   where
     apart : length (unfinished channel.D t) + 1 ≡ burst_length (beat.D x) → ⊥

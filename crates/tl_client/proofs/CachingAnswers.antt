@@ -4,6 +4,7 @@ use Rattle.std.specs.Prelude.{is_some, is_none, unwrap_or}
 use Rattle.tl_beat.specs.declared.beat.BeatA.{BeatA}
 use Rattle.tl_beat.specs.declared.beat.BeatC.{BeatC}
 use Rattle.tl_beat.specs.declared.opcode.OpA.TheVariants as a
+use Rattle.tl_beat.specs.First.{first_if}
 use Rattle.tl_burst.specs.declared.message.Message.{Message}
 use Rattle.tl_burst.specs.declared.message.Message.TheVariants as message
 use Rattle.tl_burst.specs.declared.message.MessageA.{MessageA}
@@ -22,7 +23,7 @@ use Rattle.tl_client.specs.declared.operation.Op.{Op}
 use Rattle.tl_client.specs.declared.operation.Op.TheVariants.{Load, Store, Acquire, AcquireWhole, Release, Access}
 use Rattle.tl_client.specs.declared.reply.Reply.{Reply}
 use Rattle.tl_client.specs.declared.reply.Reply.TheVariants as reply
-use Rattle.tl_client.specs.Ask.{asked, busy, busy_if, breaks_b1, block_of, done, only, least_free, free_request, free_release, source_or_0, loaded, whole_grow, load, store}
+use Rattle.tl_client.specs.Ask.{asked, busy, breaks_b1, op_block, done, only, least_free, free_request, free_release, source_or_0, loaded, whole_grow, load, store}
 use Rattle.tl_client.specs.Caching.{busy_by, busy_in, answer_by, free_in, release_with, bytes_in}
 use Rattle.tl_client.specs.End.{Terms, End, copy_at, held_at, zeros}
 use Rattle.tl_client.specs.Kept.{holds}
@@ -38,17 +39,17 @@ abbrev pub busy_or : Option Busy → Option Busy → Option Busy
 busy_or (Some b) rest = Some b
 busy_or None rest = rest
 
-four : (p q r s : Bool) (rest : Option Busy) → busy_if p B4 (busy_if q B5 (busy_if r B2 (busy_if s B3 rest))) ≡ busy_or (busy_if p B4 (busy_if q B5 (busy_if r B2 (busy_if s B3 None)))) rest
+four : (p q r s : Bool) (rest : Option Busy) → first_if p B4 (first_if q B5 (first_if r B2 (first_if s B3 rest))) ≡ busy_or (first_if p B4 (first_if q B5 (first_if r B2 (first_if s B3 None)))) rest
 four true q r s rest = refl
 four false true r s rest = refl
 four false false true s rest = refl
 four false false false true rest = refl
 four false false false false rest = refl
 
-pub busy-known : {w : ℕ} (c : Caching w) (op : Op w) (e : End w) → KnowsCaching c e → busy (terms_of c) op e ≡ busy_or (busy_by c op) (busy_if (breaks_b1 (terms_of c) op e.past) B1 None)
+pub busy-known : {w : ℕ} (c : Caching w) (op : Op w) (e : End w) → KnowsCaching c e → busy (terms_of c) op e ≡ busy_or (busy_by c op) (first_if (breaks_b1 (terms_of c) op e.past) B1 None)
 unfolding busy
 busy-known c op e knows =
-    rw (← acquiring c e (block_of op) knows, ← releasing c e (block_of op) knows, ← knows.held_is (block_of op)) (four _ _ _ _ (busy_if (breaks_b1 (terms_of c) op e.past) B1 None))
+    rw (← acquiring c e (op_block op) knows, ← releasing c e (op_block op) knows, ← knows.held_is (op_block op)) (four _ _ _ _ (first_if (breaks_b1 (terms_of c) op e.past) B1 None))
 
 pub asked-busy : {w : ℕ} (c : Caching w) (op : Op w) (e : End w) (b : Busy) → KnowsCaching c e → Some b ≡ busy_by c op → asked (terms_of c) op e ≡ only (reply.Busy b) e
 unfolding asked
@@ -56,7 +57,7 @@ asked-busy c op e b knows is =
     let because : busy (terms_of c) op e ≡ Some b = rw (busy-known c op e knows, ← is) refl in
     rw because refl
 
-busy-free : {w : ℕ} (c : Caching w) (op : Op w) (e : End w) → KnowsCaching c e → busy_by c op ≡ None → busy (terms_of c) op e ≡ busy_if (breaks_b1 (terms_of c) op e.past) B1 None
+busy-free : {w : ℕ} (c : Caching w) (op : Op w) (e : End w) → KnowsCaching c e → busy_by c op ≡ None → busy (terms_of c) op e ≡ first_if (breaks_b1 (terms_of c) op e.past) B1 None
 busy-free c op e knows is = rw (busy-known c op e knows, is) refl
 
 -- ---- the source that is free
@@ -99,26 +100,30 @@ answered_busy : {w : ℕ} (terms : Terms) (op : Op w) (e : End w) (b : Busy) →
 unfolding asked
 answered_busy terms op e b is = record { busy_is = is; reply_is = rw is refl; message_is = rw is refl }
 
-answered_done : {w : ℕ} (terms : Terms) (op : Op w) (e : End w) (r : Reply × Option (Message w)) → busy terms op e ≡ None → busy_in r.0 ≡ None → (done terms op e).reply ≡ r.0 → (done terms op e).message ≡ r.1 → IsAnswered terms op e r
+answered_done : {w : ℕ} (terms : Terms) (op : Op w) (e : End w) (r : Reply × Option (Message w)) → busy terms op e ≡ None → busy_in r.0 ≡ None → (done terms op e).reply ≡ r.0
+    → (done terms op e).message ≡ r.1 → IsAnswered terms op e r
 unfolding asked
 answered_done terms op e r free started replies messages = record { busy_is = free ∙ sym started; reply_is = rw free replies; message_is = rw free messages }
 
-answered_request : {w : ℕ} (terms : Terms) (op : Op w) (e : End w) (m : MessageA w) (free : Option ℕ) → busy terms op e ≡ busy_if (is_none free) B1 None
+answered_request : {w : ℕ} (terms : Terms) (op : Op w) (e : End w) (m : MessageA w) (free : Option ℕ) → busy terms op e ≡ first_if (is_none free) B1 None
     → (done terms op e).reply ≡ reply.Started (source_or_0 free) → (done terms op e).message ≡ Some (access (source_or_0 free) m) → IsAnswered terms op e (start_with free m)
 answered_request terms op e m None because replies messages = answered_busy terms op e B1 because
 answered_request terms op e m (Some s) because replies messages = answered_done terms op e _ because refl replies messages
 
-answered_release : {w : ℕ} (terms : Terms) (op : Op w) (e : End w) (prune : Prune) (block : ℕ) (copy : List ℕ) (free : Option ℕ) → busy terms op e ≡ busy_if (is_none free) B1 None
-    → (done terms op e).reply ≡ reply.Started (source_or_0 free) → (done terms op e).message ≡ Some (release prune (source_or_0 free) block copy) → IsAnswered terms op e (release_with free prune block copy)
+answered_release : {w : ℕ} (terms : Terms) (op : Op w) (e : End w) (prune : Prune) (block : ℕ) (copy : List ℕ) (free : Option ℕ) → busy terms op e ≡ first_if (is_none free) B1 None
+    → (done terms op e).reply ≡ reply.Started (source_or_0 free) → (done terms op e).message ≡ Some (release prune (source_or_0 free) block copy)
+    → IsAnswered terms op e (release_with free prune block copy)
 answered_release terms op e prune block copy None because replies messages = answered_busy terms op e B1 because
 answered_release terms op e prune block copy (Some s) because replies messages = answered_done terms op e _ because refl replies messages
 
-load_answer : {w : ℕ} (address size : ℕ) (p : Perm) (e : End w) (bytes : List ℕ) → copy_at e (block_at address) ≡ bytes → ((load address size p e).reply ≡ cond (holds p) (reply.Value (loaded address size bytes)) reply.Miss) × ((load address size p e).message ≡ None) × (busy_in (cond (holds p) (reply.Value (loaded address size bytes)) reply.Miss) ≡ None)
+load_answer : {w : ℕ} (address size : ℕ) (p : Perm) (e : End w) (bytes : List ℕ) → copy_at e (block_at address) ≡ bytes
+    → ((load address size p e).reply ≡ cond (holds p) (reply.Value (loaded address size bytes)) reply.Miss) × ((load address size p e).message ≡ None) × (busy_in (cond (holds p) (reply.Value (loaded address size bytes)) reply.Miss) ≡ None)
 load_answer address size perm.None e bytes is = (refl, refl, refl)
 load_answer address size perm.Branch e bytes is = (rw is refl, refl, refl)
 load_answer address size perm.Trunk e bytes is = (rw is refl, refl, refl)
 
-store_answer : {w : ℕ} (address size value : ℕ) (p : Perm) (e : End w) → ((store address size value p e).reply ≡ cond (same_perm perm.Trunk p) reply.Stored reply.Miss) × ((store address size value p e).message ≡ None) × (busy_in (cond (same_perm perm.Trunk p) reply.Stored reply.Miss) ≡ None)
+store_answer : {w : ℕ} (address size value : ℕ) (p : Perm) (e : End w)
+    → ((store address size value p e).reply ≡ cond (same_perm perm.Trunk p) reply.Stored reply.Miss) × ((store address size value p e).message ≡ None) × (busy_in (cond (same_perm perm.Trunk p) reply.Stored reply.Miss) ≡ None)
 store_answer address size value perm.None e = (refl, refl, refl)
 store_answer address size value perm.Branch e = (refl, refl, refl)
 store_answer address size value perm.Trunk e = (refl, refl, refl)

@@ -75,7 +75,8 @@ ack_unsaid k reply.Stored (Some (message.E m)) t started = absurd started
 ack_unsaid k reply.Miss (Some (message.E m)) t started = absurd started
 ack_unsaid k (reply.Busy b) (Some (message.E m)) t started = absurd started
 
-pub knows-asked : {w : ℕ} (c d : Caching w) (op : Op w) (e : End w) (r : Reply × Option (Message w)) → KnowsCaching c e → busy_by c op ≡ None → Does c d op r → KnowsCaching d (asked (terms_of c) op e).after
+pub knows-asked : {w : ℕ} (c d : Caching w) (op : Op w) (e : End w) (r : Reply × Option (Message w)) → KnowsCaching c e → busy_by c op ≡ None → Does c d op r
+    → KnowsCaching d (asked (terms_of c) op e).after
 knows-asked {w} c d op e r knows free does =
     let said : IsAnswered (terms_of c) op e r = rw (does.answer) (answered c op e knows free) in
     let after = (asked (terms_of c) op e).after in
@@ -87,8 +88,10 @@ knows-asked {w} c d op e r knows free does =
       held_is = λ k. does.holdings k ∙ rw (← said.busy_is, knows.held_is k) (sym (held-asked (terms_of c) op e k c.width knows.kept.c_whole));
       copies_are = λ k. does.copies k ∙ rw (← said.busy_is, knows.held_is k, knows.copies_are k) (sym (copies-asked (terms_of c) op e k));
       waiting_are = λ k. does.waiting k ∙ rw (← said.busy_is, knows.waiting_are k) (sym (waiting-asked (terms_of c) op e k));
-      requests_are = λ s. does.requests s ∙ rw (← said.message_is, knows.requests_are s) (opened-fields s (asked (terms_of c) op e).message (open_beat s e.past)) ∙ sym (ap fields_of (open-asked (terms_of c) op e s c.width knows.kept));
-      releases_are = λ s. does.releases s ∙ rw (← said.message_is, knows.releases_are s) (released-fields s (asked (terms_of c) op e).message (open_release s e.past)) ∙ sym (ap release_fields (open_release-asked (terms_of c) op e s c.width knows.kept));
+      requests_are =
+          λ s. does.requests s ∙ rw (← said.message_is, knows.requests_are s) (opened-fields s (asked (terms_of c) op e).message (open_beat s e.past)) ∙ sym (ap fields_of (open-asked (terms_of c) op e s c.width knows.kept));
+      releases_are =
+          λ s. does.releases s ∙ rw (← said.message_is, knows.releases_are s) (released-fields s (asked (terms_of c) op e).message (open_release s e.past)) ∙ sym (ap release_fields (open_release-asked (terms_of c) op e s c.width knows.kept));
       response_is = does.response ∙ knows.response_is ∙ sym burst;
       granting_is = λ k. ap (is_granting k) does.granting ∙ knows.granting_is k ∙ sym (knows.accounted.acked.acks k)
           ∙ sym (pending-asked (terms_of c) op e (GrantAckOf k) c.width knows.kept ∙ ack_unsaid k (asked (terms_of c) op e).reply (asked (terms_of c) op e).message e.past (started-asked (terms_of c) op e))
@@ -99,7 +102,8 @@ knows-asked {w} c d op e r knows free does =
       inside = subst (λ terms. IsInside terms after.past) (sym does.terms) (inside-asked (terms_of c) op e c.width knows.kept knows.inside);
     }
 
-pub answers-asked : {w : ℕ} (c d : Caching w) (op : Op w) (e : End w) (r : Reply × Option (Message w)) → KnowsCaching c e → busy_by c op ≡ None → Does c d op r → (r.0 ≡ (asked (terms_of c) op e).reply) × (r.1 ≡ (asked (terms_of c) op e).message)
+pub answers-asked : {w : ℕ} (c d : Caching w) (op : Op w) (e : End w) (r : Reply × Option (Message w)) → KnowsCaching c e → busy_by c op ≡ None → Does c d op r
+    → (r.0 ≡ (asked (terms_of c) op e).reply) × (r.1 ≡ (asked (terms_of c) op e).message)
 answers-asked c d op e r knows free does =
     let said : IsAnswered (terms_of c) op e r = rw (does.answer) (answered c op e knows free) in
     (sym said.reply_is, sym said.message_is)

@@ -4,13 +4,17 @@ use Rattle.std.specs.Prelude.{Result, Ok, Err, ◌&&◌, is_none, is_ok}
 use Rattle.tl_beat.specs.declared.beat.Beat.{Beat}
 use Rattle.tl_beat.specs.declared.beat.Beat.TheVariants as beat
 use Rattle.tl_beat.specs.declared.opcode.Channel.{Channel}
+use Rattle.tl_beat.specs.First.{first_if}
 use Rattle.tl_burst.specs.declared.message.Message.{Message}
 use Rattle.tl_burst.specs.Part.{completes}
 use Rattle.tl_params.specs.declared.rule.Rule.{Rule}
 use Rattle.tl_params.specs.declared.rule.Rule.TheVariants.{A3, L1}
+use Rattle.tl_params.specs.Refusal.{ok_unless}
+use Rattle.tl_params.proofs.Refusals.{some_broken, none_broken}
 use Rattle.tl_rules.specs.Conformance.{broken_in_order}
 use Rattle.tl_rules.specs.History.{ends}
-use Rattle.tl_rules.specs.Legality.{illegal, rule_if, verdict}
+use Rattle.tl_rules.specs.Legality.{illegal}
+use Rattle.tl_rules.proofs.Bursts.{both_none}
 use Rattle.tl_client.specs.declared.caching.Caching.{Caching}
 use Rattle.tl_client.specs.declared.verdict.Verdict.{Verdict}
 use Rattle.tl_client.specs.declared.verdict.Verdict.TheVariants.{Stalled}
@@ -23,28 +27,31 @@ use Rattle.tl_client.proofs.CachingProbed.{answer-probed, knows-probed}
 use Rattle.tl_client.proofs.CachingResponded.{grants_inside, knows-goes, knows-ends}
 use Rattle.tl_client.proofs.Cases.{takes}
 use Rattle.tl_client.proofs.HeldAfter.{incoming}
-use Rattle.tl_client.proofs.Verdicts.{some_rule, no_rule, both_none}
 
-before-known : {w : ℕ} (c : Caching w) (ch : Channel) (x : Beat w) (e : End w) → KnowsCaching c e → broken_before (terms_of c) ch x e ≡ rule_if c.closed A3 (rule_if (is_sent_on ch) L1 (illegal c.config.level ch x))
+before-known : {w : ℕ} (c : Caching w) (ch : Channel) (x : Beat w) (e : End w) → KnowsCaching c e
+    → broken_before (terms_of c) ch x e ≡ first_if c.closed A3 (first_if (is_sent_on ch) L1 (illegal c.config.level ch x))
 before-known c ch x e knows = rw (knows.closed_is) refl
 
-pub passes_alone : {w : ℕ} (c : Caching w) (ch : Channel) (x : Beat w) (e : End w) → KnowsCaching c e → Ok tt ≡ verdict (rule_if c.closed A3 (rule_if (is_sent_on ch) L1 (illegal c.config.level ch x))) → broken_before (terms_of c) ch x e ≡ None
-passes_alone c ch x e knows ok = before-known c ch x e knows ∙ no_rule _ ok
+pub passes_alone : {w : ℕ} (c : Caching w) (ch : Channel) (x : Beat w) (e : End w) → KnowsCaching c e
+    → Ok tt ≡ ok_unless (first_if c.closed A3 (first_if (is_sent_on ch) L1 (illegal c.config.level ch x))) → broken_before (terms_of c) ch x e ≡ None
+passes_alone c ch x e knows ok = before-known c ch x e knows ∙ none_broken _ ok
 
-pub refused_alone : {w : ℕ} (c : Caching w) (ch : Channel) (x : Beat w) (e : End w) (rule : Rule) → KnowsCaching c e → Err rule ≡ verdict (rule_if c.closed A3 (rule_if (is_sent_on ch) L1 (illegal c.config.level ch x))) → offered (terms_of c) ch x e ≡ refused rule e
+pub refused_alone : {w : ℕ} (c : Caching w) (ch : Channel) (x : Beat w) (e : End w) (rule : Rule) → KnowsCaching c e
+    → Err rule ≡ ok_unless (first_if c.closed A3 (first_if (is_sent_on ch) L1 (illegal c.config.level ch x))) → offered (terms_of c) ch x e ≡ refused rule e
 unfolding offered
 refused_alone c ch x e rule knows broken =
-    let before : broken_before (terms_of c) ch x e ≡ Some rule = before-known c ch x e knows ∙ some_rule _ rule broken in
+    let before : broken_before (terms_of c) ch x e ≡ Some rule = before-known c ch x e knows ∙ some_broken _ rule broken in
     rw before refl
 
 pub stalled : {w : ℕ} (c : Caching w) (ch : Channel) (x : Beat w) (e : End w) → broken_before (terms_of c) ch x e ≡ None → waits x e.past ≡ true → offered (terms_of c) ch x e ≡ silent Stalled e
 unfolding offered
 stalled c ch x e before waiting = rw (before, waiting) refl
 
-pub refused_order : {w : ℕ} (c : Caching w) (ch : Channel) (x : Beat w) (e : End w) (rule : Rule) → broken_before (terms_of c) ch x e ≡ None → waits x e.past ≡ false → Err rule ≡ verdict (broken_later (terms_of c) x e) → offered (terms_of c) ch x e ≡ refused rule e
+pub refused_order : {w : ℕ} (c : Caching w) (ch : Channel) (x : Beat w) (e : End w) (rule : Rule) → broken_before (terms_of c) ch x e ≡ None → waits x e.past ≡ false
+    → Err rule ≡ ok_unless (broken_later (terms_of c) x e) → offered (terms_of c) ch x e ≡ refused rule e
 unfolding offered
 refused_order c ch x e rule before moves broken =
-    let later : broken_later (terms_of c) x e ≡ Some rule = some_rule _ rule broken in
+    let later : broken_later (terms_of c) x e ≡ Some rule = some_broken _ rule broken in
     rw (before, moves, later) refl
 
 -- what is answered to a beat that was taken, and what is known afterwards
@@ -72,20 +79,22 @@ knows-took {w} c d ch (beat.D x) e r knows judged took =
     go true is part last = last is
     go false is part last = part is
 
-stalls_if : (o : Option Rule) (b : Bool) → is_ok (verdict o) ≡ true → (is_none o && b) ≡ b
+stalls_if : (o : Option Rule) (b : Bool) → is_ok (ok_unless o) ≡ true → (is_none o && b) ≡ b
 stalls_if None b ok = refl
 stalls_if (Some rule) b ok = absurd cc
 
-never_if : (o : Option Rule) (b : Bool) → is_ok (verdict o) ≡ false → (is_none o && b) ≡ false
+never_if : (o : Option Rule) (b : Bool) → is_ok (ok_unless o) ≡ false → (is_none o && b) ≡ false
 never_if None b ok = absurd cc
 never_if (Some rule) b ok = refl
 
 -- whether a beat is stalled
-pub stalls-passed : {w : ℕ} (c : Caching w) (ch : Channel) (x : Beat w) (e : End w) (b : Bool) → KnowsCaching c e → is_ok (verdict (rule_if c.closed A3 (rule_if (is_sent_on ch) L1 (illegal c.config.level ch x)))) ≡ true → b ≡ waits x e.past → b ≡ stalls (terms_of c) ch x e
+pub stalls-passed : {w : ℕ} (c : Caching w) (ch : Channel) (x : Beat w) (e : End w) (b : Bool) → KnowsCaching c e
+    → is_ok (ok_unless (first_if c.closed A3 (first_if (is_sent_on ch) L1 (illegal c.config.level ch x)))) ≡ true → b ≡ waits x e.past → b ≡ stalls (terms_of c) ch x e
 unfolding stalls
 stalls-passed c ch x e b knows ok is = is ∙ sym (ap (λ o. is_none o && waits x e.past) (before-known c ch x e knows) ∙ stalls_if _ _ ok)
 
-pub stalls-broken : {w : ℕ} (c : Caching w) (ch : Channel) (x : Beat w) (e : End w) (b : Bool) → KnowsCaching c e → is_ok (verdict (rule_if c.closed A3 (rule_if (is_sent_on ch) L1 (illegal c.config.level ch x)))) ≡ b → b ≡ false → b ≡ stalls (terms_of c) ch x e
+pub stalls-broken : {w : ℕ} (c : Caching w) (ch : Channel) (x : Beat w) (e : End w) (b : Bool) → KnowsCaching c e
+    → is_ok (ok_unless (first_if c.closed A3 (first_if (is_sent_on ch) L1 (illegal c.config.level ch x)))) ≡ b → b ≡ false → b ≡ stalls (terms_of c) ch x e
 unfolding stalls
 stalls-broken c ch x e b knows ok is = is ∙ sym (ap (λ o. is_none o && waits x e.past) (before-known c ch x e knows) ∙ never_if _ _ (ok ∙ is))
 

@@ -21,7 +21,8 @@ no_release : (w s : ℕ) → release_fields (open_release {w = w} s []) ≡ None
 unfolding pending
 no_release w s = refl
 
-pub knows-new : {w : ℕ} (c : Caching w) → c.closed ≡ false → c.responses ≡ [] → c.granting ≡ None → ((k : ℕ) → held_in c.table k ≡ perm.None) → ((k : ℕ) → copy_in c.table k ≡ None) → ((k : ℕ) → waiting_in c.table k ≡ None)
+pub knows-new : {w : ℕ} (c : Caching w) → c.closed ≡ false → c.responses ≡ [] → c.granting ≡ None → ((k : ℕ) → held_in c.table k ≡ perm.None) → ((k : ℕ) → copy_in c.table k ≡ None)
+    → ((k : ℕ) → waiting_in c.table k ≡ None)
     → ((s : ℕ) → open_at c.requests s ≡ None) → ((s : ℕ) → open_at c.releases s ≡ None) → KnowsCaching c fresh
 unfolding unfinished held
 knows-new {w} c closed responses granting holds copies waiting requests releases = record {

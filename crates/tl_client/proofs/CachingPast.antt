@@ -24,12 +24,15 @@ request_pending c t key s b knows of is = is ∙ ap is_some (knows.1.requests_ar
 pub release_pending : {w : ℕ} (c : Caching w) (t : History w) (key : Key) (s : ℕ) (b : Bool) → KnowsPast c t → key ≡ ReleaseSource s → b ≡ is_some (open_at c.releases s) → b ≡ pending key t
 release_pending c t key s b knows of is = is ∙ ap is_some (knows.1.releases_are s) ∙ is_some-release s knows.0.past ∙ rw (of, knows.2) refl
 
-pub acquire_pending : {w : ℕ} (c : Caching w) (t : History w) (key : Key) (k : ℕ) (b : Bool) → KnowsPast c t → key ≡ AcquireOf k → b ≡ list_any (acquires_block k) c.requests.with_source → b ≡ pending key t
+pub acquire_pending : {w : ℕ} (c : Caching w) (t : History w) (key : Key) (k : ℕ) (b : Bool) → KnowsPast c t → key ≡ AcquireOf k → b ≡ list_any (acquires_block k) c.requests.with_source
+    → b ≡ pending key t
 acquire_pending c t key k b knows of is = is ∙ acquiring c knows.0 k knows.1 ∙ rw (of, knows.2) refl
 
-pub release_of_pending : {w : ℕ} (c : Caching w) (t : History w) (key : Key) (k : ℕ) (b : Bool) → KnowsPast c t → key ≡ ReleaseOf k → b ≡ list_any (releases_block k) c.releases.with_source → b ≡ pending key t
+pub release_of_pending : {w : ℕ} (c : Caching w) (t : History w) (key : Key) (k : ℕ) (b : Bool) → KnowsPast c t → key ≡ ReleaseOf k → b ≡ list_any (releases_block k) c.releases.with_source
+    → b ≡ pending key t
 release_of_pending c t key k b knows of is = is ∙ releasing c knows.0 k knows.1 ∙ rw (of, knows.2) refl
 
 -- a Probe waits where a Release of its block is open
-pub waits_known : {w : ℕ} (c : Caching w) (e : End w) (x : Beat w) (p : BeatB w) (b : Bool) → KnowsCaching c e → x ≡ beat.B p → is_probe p.opcode ≡ true → b ≡ list_any (releases_block (block_at p.address)) c.releases.with_source → b ≡ waits x e.past
+pub waits_known : {w : ℕ} (c : Caching w) (e : End w) (x : Beat w) (p : BeatB w) (b : Bool) → KnowsCaching c e → x ≡ beat.B p → is_probe p.opcode ≡ true
+    → b ≡ list_any (releases_block (block_at p.address)) c.releases.with_source → b ≡ waits x e.past
 waits_known c e x p b knows own probe is = is ∙ releasing c e (block_at p.address) knows ∙ rw (own, probe) refl

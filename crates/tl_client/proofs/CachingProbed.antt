@@ -43,6 +43,7 @@ follows-probed c d x e r knows probes = record {
   sink = λ s. ap (has_sink s) probes.granting ∙ knows.sink_is s ∙ ap (comes_in_grant s) (sym (burst_same x e.past));
 }
 
-pub knows-probed : {w : ℕ} (c d : Caching w) (ch : Channel) (x : BeatB w) (e : End w) (r : Verdict × Option (Message w)) → KnowsCaching c e → Probes c d x r → offered (terms_of c) ch (beat.B x) e ≡ taken (beat.B x) e → KnowsCaching d (offered (terms_of c) ch (beat.B x) e).after
+pub knows-probed : {w : ℕ} (c d : Caching w) (ch : Channel) (x : BeatB w) (e : End w) (r : Verdict × Option (Message w)) → KnowsCaching c e → Probes c d x r
+    → offered (terms_of c) ch (beat.B x) e ≡ taken (beat.B x) e → KnowsCaching d (offered (terms_of c) ch (beat.B x) e).after
 knows-probed c d ch x e r knows probes is =
     knows-after c d ch (beat.B x) e _ knows (ap (λ o. o.answer) is) (taking (Some (probe_ack x.opcode (held_at e (block_at x.address)) (report_for x (held_at e (block_at x.address))) (block_at x.address) (copy_at e (block_at x.address)))) (beat.B x)) (follows-probed c d x e r knows probes)

@@ -69,7 +69,9 @@ granting-goes {w} c x e k knows fits = go (is_grant x.opcode) refl
   where
     go : (b : Bool) → is_grant x.opcode ≡ b → is_granting k (cond b (granting_to x (open_at c.requests x.source)) None) ≡ (b && asks_for k (request_of x.source e.past))
     go false is = refl
-    go true is = ap (λ o. is_granting k (granting_to x o)) (knows.requests_are x.source) ∙ granting-to k x (open_beat x.source e.past) ∙ ap (asks_for k) (sym (named x e.past fits (not_release_ack x.opcode is)))
+    go true is =
+        ap (λ o. is_granting k (granting_to x o)) (knows.requests_are x.source) ∙ granting-to k x (open_beat x.source e.past)
+        ∙ ap (asks_for k) (sym (named x e.past fits (not_release_ack x.opcode is)))
 
 sink-goes : {w : ℕ} (c : Caching w) (x : BeatD w) (e : End w) (s : ℕ) → KnowsCaching c e → IsFit x e.past → has_sink s (granting_by c x) ≡ (is_grant x.opcode && (x.sink == s))
 sink-goes {w} c x e s knows fits = go (is_grant x.opcode) refl
@@ -78,7 +80,8 @@ sink-goes {w} c x e s knows fits = go (is_grant x.opcode) refl
     go false is = refl
     go true is = rw (knows.requests_are x.source) (sink-to s x (open_beat x.source e.past) (fits.answers (not_release_ack x.opcode is)))
 
-follows-goes : {w : ℕ} (c d : Caching w) (x : BeatD w) (e : End w) (r : Verdict × Option (Message w)) → KnowsCaching c e → IsFit x e.past → ends (beat.D x) e.past ≡ false → Goes c d x r → Follows c d (beat.D x) e
+follows-goes : {w : ℕ} (c d : Caching w) (x : BeatD w) (e : End w) (r : Verdict × Option (Message w)) → KnowsCaching c e → IsFit x e.past → ends (beat.D x) e.past ≡ false → Goes c d x r
+    → Follows c d (beat.D x) e
 follows-goes c d x e r knows fits more goes =
     let burst = burst_part x e.past more in
     record {
@@ -111,7 +114,8 @@ address-fields : {w : ℕ} (o : Option (BeatA w)) → address_asked o ≡ addres
 address-fields None = refl
 address-fields (Some r) = refl
 
-finish-known : (w : ℕ) (opcode : OpD) (param size : ℕ) (a b : ℕ) (payload : List ℕ) → (is_release_ack opcode ≡ false → a ≡ b) → finish_of w opcode param size a payload ≡ finish_of w opcode param size b payload
+finish-known : (w : ℕ) (opcode : OpD) (param size : ℕ) (a b : ℕ) (payload : List ℕ) → (is_release_ack opcode ≡ false → a ≡ b)
+    → finish_of w opcode param size a payload ≡ finish_of w opcode param size b payload
 finish-known w d.AccessAck param size a b payload same = refl
 finish-known w d.AccessAckData param size a b payload same = rw (same refl) refl
 finish-known w d.HintAck param size a b payload same = refl
@@ -122,7 +126,8 @@ finish-known w d.ReleaseAck param size a b payload same = refl
 abbrev done_by : {w : ℕ} → Caching w → BeatD w → Finish
 done_by {w} c x = finish_of w x.opcode x.param x.size (address_in (open_at c.requests x.source)) (payload_of (beat.D x ∷ c.responses))
 
-answer-ends : {w : ℕ} (c : Caching w) (x : BeatD w) (e : End w) → KnowsCaching c e → IsFit x e.past → ends (beat.D x) e.past ≡ true → (taken (beat.D x) e).answer ≡ Ok (Done x.source (done_by c x), ack_after x.opcode x.sink)
+answer-ends : {w : ℕ} (c : Caching w) (x : BeatD w) (e : End w) → KnowsCaching c e → IsFit x e.past → ends (beat.D x) e.past ≡ true
+    → (taken (beat.D x) e).answer ≡ Ok (Done x.source (done_by c x), ack_after x.opcode x.sink)
 answer-ends {w} c x e knows fits last =
     let finish : finish_of w x.opcode x.param x.size (address_asked (request_of x.source e.past)) (payload_of (beat.D x ∷ unfinished channel.D e.past)) ≡ done_by c x =
     finish-known w x.opcode x.param x.size _ _ _ (λ answer. ap address_asked (named x e.past fits answer) ∙ address-fields (open_beat x.source e.past) ∙ ap address_in (sym (knows.requests_are x.source)))
@@ -140,7 +145,8 @@ grants-known {w} c x e k knows fits = go (is_grant x.opcode) refl
     go false is = refl
     go true is = ap (is_for k) (knows.requests_are x.source) ∙ for-fields k (open_beat x.source e.past) ∙ ap (asks_for k) (sym (named x e.past fits (not_release_ack x.opcode is)))
 
-copy-known : {w : ℕ} (opcode : OpD) (o p : Option (BeatA w)) (payload : List ℕ) (k : ℕ) (e : End w) → (is_release_ack opcode ≡ false → o ≡ p) → copy_after opcode (fields_of p) payload k (e.copies k) (e.waiting k) ≡ copy_granted opcode o payload k e
+copy-known : {w : ℕ} (opcode : OpD) (o p : Option (BeatA w)) (payload : List ℕ) (k : ℕ) (e : End w) → (is_release_ack opcode ≡ false → o ≡ p)
+    → copy_after opcode (fields_of p) payload k (e.copies k) (e.waiting k) ≡ copy_granted opcode o payload k e
 copy-known d.AccessAck o p payload k e same = refl
 copy-known d.AccessAckData o p payload k e same = refl
 copy-known d.HintAck o p payload k e same = refl
@@ -150,7 +156,8 @@ copy-known d.Grant o (Some r) payload k e same = rw (same refl) refl
 copy-known d.GrantData o None payload k e same = rw (same refl) refl
 copy-known d.GrantData o (Some r) payload k e same = rw (same refl) refl
 
-waiting-known : {w : ℕ} (opcode : OpD) (o p : Option (BeatA w)) (k : ℕ) (waiting : Option (List ℕ)) → (is_release_ack opcode ≡ false → o ≡ p) → waiting_after opcode (fields_of p) k waiting ≡ waiting_granted opcode o k waiting
+waiting-known : {w : ℕ} (opcode : OpD) (o p : Option (BeatA w)) (k : ℕ) (waiting : Option (List ℕ)) → (is_release_ack opcode ≡ false → o ≡ p)
+    → waiting_after opcode (fields_of p) k waiting ≡ waiting_granted opcode o k waiting
 waiting-known d.AccessAck o p k waiting same = refl
 waiting-known d.AccessAckData o p k waiting same = refl
 waiting-known d.HintAck o p k waiting same = refl
@@ -168,7 +175,8 @@ closed-release : {w : ℕ} (b : Bool) (o : Option (BeatC w)) → cond b None (re
 closed-release true o = refl
 closed-release false o = refl
 
-follows-ends : {w : ℕ} (c d : Caching w) (x : BeatD w) (e : End w) (r : Verdict × Option (Message w)) → KnowsCaching c e → IsFit x e.past → ends (beat.D x) e.past ≡ true → Ends c d x r → Follows c d (beat.D x) e
+follows-ends : {w : ℕ} (c d : Caching w) (x : BeatD w) (e : End w) (r : Verdict × Option (Message w)) → KnowsCaching c e → IsFit x e.past → ends (beat.D x) e.past ≡ true → Ends c d x r
+    → Follows c d (beat.D x) e
 follows-ends c d x e r knows fits last done =
     let burst = burst_done x e.past last in
     record {
@@ -199,13 +207,15 @@ grants_inside {w} c x e knows order = λ g. rw (knows.requests_are x.source) (go
 
 -- ---- any beat of it
 
-pub knows-goes : {w : ℕ} (c d : Caching w) (ch : Channel) (x : BeatD w) (e : End w) (r : Verdict × Option (Message w)) → KnowsCaching c e → IsFit x e.past → ends (beat.D x) e.past ≡ false → Goes c d x r → offered (terms_of c) ch (beat.D x) e ≡ taken (beat.D x) e
+pub knows-goes : {w : ℕ} (c d : Caching w) (ch : Channel) (x : BeatD w) (e : End w) (r : Verdict × Option (Message w)) → KnowsCaching c e → IsFit x e.past → ends (beat.D x) e.past ≡ false
+    → Goes c d x r → offered (terms_of c) ch (beat.D x) e ≡ taken (beat.D x) e
     → ((offered (terms_of c) ch (beat.D x) e).answer ≡ Ok r) × KnowsCaching d (offered (terms_of c) ch (beat.D x) e).after
 knows-goes c d ch x e r knows fits more goes is =
     let answer = ap (λ o. o.answer) is ∙ answer-goes x e more in
     (answer ∙ rw (goes.answer) refl, knows-after c d ch (beat.D x) e _ knows answer (taking None (beat.D x)) (follows-goes c d x e r knows fits more goes))
 
-pub knows-ends : {w : ℕ} (c d : Caching w) (ch : Channel) (x : BeatD w) (e : End w) (r : Verdict × Option (Message w)) → KnowsCaching c e → IsFit x e.past → ends (beat.D x) e.past ≡ true → Ends c d x r → offered (terms_of c) ch (beat.D x) e ≡ taken (beat.D x) e
+pub knows-ends : {w : ℕ} (c d : Caching w) (ch : Channel) (x : BeatD w) (e : End w) (r : Verdict × Option (Message w)) → KnowsCaching c e → IsFit x e.past → ends (beat.D x) e.past ≡ true
+    → Ends c d x r → offered (terms_of c) ch (beat.D x) e ≡ taken (beat.D x) e
     → ((offered (terms_of c) ch (beat.D x) e).answer ≡ Ok r) × KnowsCaching d (offered (terms_of c) ch (beat.D x) e).after
 knows-ends c d ch x e r knows fits last done is =
     let answer = ap (λ o. o.answer) is ∙ answer-ends c x e knows fits last in

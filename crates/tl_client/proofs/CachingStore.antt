@@ -10,7 +10,7 @@ use Rattle.tl_rules.specs.History.{block_at}
 use Rattle.tl_client.specs.declared.caching.Caching.{Caching}
 use Rattle.tl_client.specs.declared.operation.Op.TheVariants.{Store}
 use Rattle.tl_client.specs.declared.reply.Reply.TheVariants as reply
-use Rattle.tl_client.specs.Ask.{low_bytes, stored}
+use Rattle.tl_client.specs.Ask.{low_bytes, copy_stored}
 use Rattle.tl_client.specs.Caching.{Does, bytes_in}
 use Rattle.tl_client.specs.KnowsCaching.{terms_of}
 use Rattle.tl_client.specs.End.{zeros}
@@ -29,20 +29,26 @@ low-written (suc (suc (suc zero))) value small = ap (λ b. b ∷ low_bytes value
 low-written (suc (suc (suc (suc n)))) value small = absurd (omega arith)
 
 -- the bytes that are written are those of the Store
-pub written : (address size value at count : ℕ) (old new : List ℕ) → size ≤ 3 → at ≡ address % 64 → count ≡ 2 ^ size → new ≡ take at old ++ take count (to_le_bytes w64 value) ++ drop (at + count) old → new ≡ stored address size value old
+pub written : (address size value at count : ℕ) (old new : List ℕ) → size ≤ 3 → at ≡ address % 64 → count ≡ 2 ^ size
+    → new ≡ take at old ++ take count (to_le_bytes w64 value) ++ drop (at + count) old → new ≡ copy_stored address size value old
 written address size value at count old new small at_is count_is is = is ∙ rw (at_is, count_is, low-written size value small) refl
 
-one_block : {w : ℕ} (c : Caching w) (address size value : ℕ) (bytes : List ℕ) (k : ℕ) → held_in c.table (block_at address) ≡ perm.Trunk → bytes ≡ stored address size value (bytes_in c (block_at address))
-    → cond (k == block_at address) (Some bytes) (copy_in c.table k) ≡ cond ((k == block_at address) && same_perm perm.Trunk (held_in c.table k)) (Some (stored address size value (unwrap_or (copy_in c.table k) zeros))) (copy_in c.table k)
+one_block : {w : ℕ} (c : Caching w) (address size value : ℕ) (bytes : List ℕ) (k : ℕ) → held_in c.table (block_at address) ≡ perm.Trunk
+    → bytes ≡ copy_stored address size value (bytes_in c (block_at address))
+    → cond (k == block_at address) (Some bytes) (copy_in c.table k) ≡ cond ((k == block_at address) && same_perm perm.Trunk (held_in c.table k)) (Some (copy_stored address size value (unwrap_or (copy_in c.table k) zeros))) (copy_in c.table k)
 one_block c address size value bytes k trunk is = go (k == block_at address) (λ e. eqb-true k (block_at address) e)
   where
-    go : (b : Bool) → (b ≡ true → k ≡ block_at address) → cond b (Some bytes) (copy_in c.table k) ≡ cond (b && same_perm perm.Trunk (held_in c.table k)) (Some (stored address size value (unwrap_or (copy_in c.table k) zeros))) (copy_in c.table k)
+    go : (b : Bool) → (b ≡ true → k ≡ block_at address)
+        → cond b (Some bytes) (copy_in c.table k) ≡ cond (b && same_perm perm.Trunk (held_in c.table k)) (Some (copy_stored address size value (unwrap_or (copy_in c.table k) zeros))) (copy_in c.table k)
     go false same = refl
     go true same = rw (same refl, trunk, is) refl
 
-pub does-stored : {w : ℕ} (c d : Caching w) (address size value : ℕ) (bytes : List ℕ) → held_in c.table (block_at address) ≡ perm.Trunk → bytes ≡ stored address size value (bytes_in c (block_at address))
-    → ((k : ℕ) → held_in d.table k ≡ held_in c.table k) → ((k : ℕ) → copy_in d.table k ≡ cond (k == block_at address) (Some bytes) (copy_in c.table k)) → ((k : ℕ) → waiting_in d.table k ≡ waiting_in c.table k)
-    → d.requests ≡ c.requests → d.releases ≡ c.releases → d.responses ≡ c.responses → d.granting ≡ c.granting → d.closed ≡ c.closed → terms_of d ≡ terms_of c → Does c d (Store address size value) (reply.Stored, None)
+pub does-stored : {w : ℕ} (c d : Caching w) (address size value : ℕ) (bytes : List ℕ) → held_in c.table (block_at address) ≡ perm.Trunk
+    → bytes ≡ copy_stored address size value (bytes_in c (block_at address))
+    → ((k : ℕ) → held_in d.table k ≡ held_in c.table k) → ((k : ℕ) → copy_in d.table k ≡ cond (k == block_at address) (Some bytes) (copy_in c.table k))
+    → ((k : ℕ) → waiting_in d.table k ≡ waiting_in c.table k)
+    → d.requests ≡ c.requests → d.releases ≡ c.releases → d.responses ≡ c.responses → d.granting ≡ c.granting → d.closed ≡ c.closed → terms_of d ≡ terms_of c
+    → Does c d (Store address size value) (reply.Stored, None)
 does-stored c d address size value bytes trunk is holds copies waiting requests releases responses granting closed terms = record {
   answer = rw trunk refl;
   requests = λ s. ap (λ m. open_at m s) requests;

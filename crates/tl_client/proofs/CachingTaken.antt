@@ -16,7 +16,7 @@ use Rattle.tl_client.specs.declared.verdict.Verdict.{Verdict}
 use Rattle.tl_client.specs.declared.verdict.Verdict.TheVariants.{Taken, Done}
 use Rattle.tl_client.specs.Accounted.{comes_granting}
 use Rattle.tl_client.specs.After.{heard, is_refused, copy_by, copy_with, waiting_by, waiting_with, open_by, open_heard, release_by, release_heard}
-use Rattle.tl_client.specs.End.{End, shut}
+use Rattle.tl_client.specs.End.{End}
 use Rattle.tl_client.specs.Held.{held_by, held_with}
 use Rattle.tl_client.specs.Inside.{IsInside}
 use Rattle.tl_client.specs.KnowsCaching.{KnowsCaching, terms_of, is_granting, has_sink}
@@ -73,7 +73,8 @@ pub record Follows {w : ℕ} (c d : Caching w) (x : Beat w) (e : End w) : Type 0
   pub granting : (k : ℕ) → is_granting k d.granting ≡ comes_granting k (unfinished channel.D (x ∷ e.past)) e.past
   pub sink : (s : ℕ) → has_sink s d.granting ≡ comes_in_grant s (unfinished channel.D (x ∷ e.past))
 
-pub knows-after : {w : ℕ} (c d : Caching w) (ch : Channel) (x : Beat w) (e : End w) (a : Result (Verdict × Option (Message w)) Rule) → KnowsCaching c e → (offered (terms_of c) ch x e).answer ≡ a → IsTaking a x → Follows c d x e → KnowsCaching d (offered (terms_of c) ch x e).after
+pub knows-after : {w : ℕ} (c d : Caching w) (ch : Channel) (x : Beat w) (e : End w) (a : Result (Verdict × Option (Message w)) Rule) → KnowsCaching c e
+    → (offered (terms_of c) ch x e).answer ≡ a → IsTaking a x → Follows c d x e → KnowsCaching d (offered (terms_of c) ch x e).after
 knows-after {w} c d ch x e a knows is takes follows =
     let after = (offered (terms_of c) ch x e).after in
     let burst : unfinished channel.D after.past ≡ unfinished channel.D (x ∷ e.past) =

@@ -1,5 +1,5 @@
 -- Messages and replies, and answers that change nothing.
-use Rattle.std.proofs.Common.{◌≡◌, ℕ, Bool, true, false, cond, ◌&&◌, ◌∷◌, Option, Some, None, Ok, Err, refl, ◌∙◌, ap}
+use Rattle.std.proofs.Common.{◌≡◌, ℕ, Bool, true, false, cond, ◌∷◌, Option, Some, None, Ok, Err, refl, ◌∙◌, ap}
 use Rattle.std.specs.Prelude.{is_none}
 use Rattle.tl_beat.specs.declared.beat.Beat.{Beat}
 use Rattle.tl_beat.specs.declared.beat.Beat.TheVariants as beat
@@ -14,6 +14,7 @@ use Rattle.tl_params.specs.declared.perm.Perm.TheVariants as perm
 use Rattle.tl_params.specs.declared.rule.Rule.{Rule}
 use Rattle.tl_rules.specs.Conformance.{same_perm}
 use Rattle.tl_rules.specs.History.{block_at, ends, pending, held}
+use Rattle.tl_rules.proofs.Open.{never}
 use Rattle.tl_client.specs.declared.busy.Busy.{Busy}
 use Rattle.tl_client.specs.declared.operation.Op.{Op}
 use Rattle.tl_client.specs.declared.operation.Op.TheVariants.{Load, Store, Acquire, AcquireWhole, Release, Access}
@@ -123,14 +124,12 @@ kept_up {w} (beat.D x) e = go (ends (beat.D x) e.past) _ (ended-cases x.opcode x
     go false o up = refl
 
 pub refusal-offered : {w : ℕ} (terms : Terms) (ch : Channel) (x : Beat w) (e : End w) (r : Rule) → (offered terms ch x e).answer ≡ Err r → (offered terms ch x e).after ≡ shut e
-refusal-offered {w} terms ch x e r = offered-cases terms ch x e (λ o. o.answer ≡ Err r → o.after ≡ shut e) (λ s is. refl) (λ is. absurd cc) (λ passed is. absurd (let bad : true ≡ false = rw is at (kept_up x e) in cc))
+refusal-offered {w} terms ch x e r =
+    offered-cases terms ch x e (λ o. o.answer ≡ Err r → o.after ≡ shut e) (λ s is. refl) (λ is. absurd cc) (λ passed is. absurd (let bad : true ≡ false = rw is at (kept_up x e) in cc))
 
 pub stall-offered : {w : ℕ} (terms : Terms) (ch : Channel) (x : Beat w) (e : End w) (m : Option (Message w)) → (offered terms ch x e).answer ≡ Ok (Stalled, m) → (offered terms ch x e).after ≡ e
-stall-offered {w} terms ch x e m = offered-cases terms ch x e (λ o. o.answer ≡ Ok (Stalled, m) → o.after ≡ e) (λ s is. absurd cc) (λ is. refl) (λ passed is. absurd (let bad : true ≡ false = rw is at (taken_now x e) in cc))
-
-never : (b : Bool) → (b && false) ≡ false
-never true = refl
-never false = refl
+stall-offered {w} terms ch x e m =
+    offered-cases terms ch x e (λ o. o.answer ≡ Ok (Stalled, m) → o.after ≡ e) (λ s is. absurd cc) (λ is. refl) (λ passed is. absurd (let bad : true ≡ false = rw is at (taken_now x e) in cc))
 
 pub never_stalls_d : {w : ℕ} (terms : Terms) (ch : Channel) (x : BeatD w) (e : End w) → stalls terms ch (beat.D x) e ≡ false
 unfolding stalls
@@ -143,7 +142,8 @@ load_is address size perm.None e = refl
 load_is address size perm.Branch e = refl
 load_is address size perm.Trunk e = refl
 
-pub load-reply : {w : ℕ} (terms : Terms) (address size : ℕ) (e : End w) → busy terms (Load address size) e ≡ None → (asked terms (Load address size) e).reply ≡ cond (holds (held (block_at address) e.past)) (reply.Value (loaded address size (copy_at e (block_at address)))) reply.Miss
+pub load-reply : {w : ℕ} (terms : Terms) (address size : ℕ) (e : End w) → busy terms (Load address size) e ≡ None
+    → (asked terms (Load address size) e).reply ≡ cond (holds (held (block_at address) e.past)) (reply.Value (loaded address size (copy_at e (block_at address)))) reply.Miss
 unfolding asked
 load-reply {w} terms address size e free = ap (λ o. (asked_given o terms (Load address size) e).reply) free ∙ load_is address size (held_at e (block_at address)) e
 
@@ -152,6 +152,7 @@ store_is address size value perm.None e = refl
 store_is address size value perm.Branch e = refl
 store_is address size value perm.Trunk e = refl
 
-pub store-reply : {w : ℕ} (terms : Terms) (address size value : ℕ) (e : End w) → busy terms (Store address size value) e ≡ None → (asked terms (Store address size value) e).reply ≡ cond (same_perm perm.Trunk (held (block_at address) e.past)) reply.Stored reply.Miss
+pub store-reply : {w : ℕ} (terms : Terms) (address size value : ℕ) (e : End w) → busy terms (Store address size value) e ≡ None
+    → (asked terms (Store address size value) e).reply ≡ cond (same_perm perm.Trunk (held (block_at address) e.past)) reply.Stored reply.Miss
 unfolding asked
 store-reply {w} terms address size value e free = ap (λ o. (asked_given o terms (Store address size value) e).reply) free ∙ store_is address size value (held_at e (block_at address)) e

@@ -21,18 +21,17 @@ use Rattle.tl_rules.specs.Agent.{is_outside, is_spoiled}
 use Rattle.tl_rules.specs.Conformance.{broken_in_order}
 use Rattle.tl_rules.specs.History.{is_grant}
 use Rattle.tl_rules.specs.Legality.{illegal}
-use Rattle.tl_rules.proofs.Bursts.{next_rule}
+use Rattle.tl_rules.proofs.Bursts.{next_rule, both_none}
 use Rattle.tl_client.specs.declared.busy.Busy.{Busy}
 use Rattle.tl_client.specs.declared.busy.Busy.TheVariants.{B1, B2, B3, B4, B5}
 use Rattle.tl_client.specs.declared.operation.Op.{Op}
 use Rattle.tl_client.specs.declared.reply.Reply.TheVariants as reply
 use Rattle.tl_client.specs.declared.verdict.Finish.{Finish}
 use Rattle.tl_client.specs.declared.verdict.Verdict.TheVariants.{Stalled, Done}
-use Rattle.tl_client.specs.Ask.{Asked, asked, asked_given, busy, breaks_b1, breaks_b2, breaks_b3, breaks_b4, breaks_b5, block_of, done, only}
+use Rattle.tl_client.specs.Ask.{Asked, asked, asked_given, busy, breaks_b1, breaks_b2, breaks_b3, breaks_b4, breaks_b5, op_block, done, only}
 use Rattle.tl_client.specs.End.{Terms, End, held_at, zeros}
 use Rattle.tl_client.specs.Offer.{Offered, offered, taken, ended, refused, silent, answered, is_sent_on, waits, broken_before, broken_later, judged, judged_later}
 use Rattle.tl_client.specs.Send.{on_c, release, probe_ack, grant_ack}
-use Rattle.tl_client.proofs.Verdicts.{next_busy, both_none}
 
 -- ---- operations
 
@@ -40,17 +39,17 @@ pub record NotBusy {w : ℕ} (terms : Terms) (op : Op w) (e : End w) : Type 0 wh
   pub b4 : breaks_b4 terms.level op ≡ false
   pub b5 : breaks_b5 terms op ≡ false
   pub b2 : breaks_b2 op e.past ≡ false
-  pub b3 : breaks_b3 op (held_at e (block_of op)) ≡ false
+  pub b3 : breaks_b3 op (held_at e (op_block op)) ≡ false
   pub b1 : breaks_b1 terms op e.past ≡ false
 
 pub not_busy : {w : ℕ} (terms : Terms) (op : Op w) (e : End w) → busy terms op e ≡ None → NotBusy terms op e
 unfolding busy
 not_busy terms op e none =
-    let four = next_busy (breaks_b4 terms.level op) B4 _ none in
-    let five = next_busy (breaks_b5 terms op) B5 _ four.1 in
-    let two = next_busy (breaks_b2 op e.past) B2 _ five.1 in
-    let three = next_busy (breaks_b3 op (held_at e (block_of op))) B3 _ two.1 in
-    let one = next_busy (breaks_b1 terms op e.past) B1 None three.1 in
+    let four = next_rule (breaks_b4 terms.level op) B4 _ none in
+    let five = next_rule (breaks_b5 terms op) B5 _ four.1 in
+    let two = next_rule (breaks_b2 op e.past) B2 _ five.1 in
+    let three = next_rule (breaks_b3 op (held_at e (op_block op))) B3 _ two.1 in
+    let one = next_rule (breaks_b1 terms op e.past) B1 None three.1 in
     record { b4 = four.0; b5 = five.0; b2 = two.0; b3 = three.0; b1 = one.0 }
 
 -- what holds of an answer where the client is busy and where it isn't holds of the answer
@@ -83,7 +82,8 @@ passed terms ch x e before moves later =
     record { live = live.0; comes = way.0; lawful = way.1; moves = moves; order = order.0; inside = inside.0; clean = clean.0 }
 
 -- what holds of an answer where the beat is refused, stalled and taken holds of the answer
-pub offered-cases : {w : ℕ} (terms : Terms) (ch : Channel) (x : Beat w) (e : End w) (P : Offered w → Type 0) → ((r : Rule) → P (refused r e)) → P (silent Stalled e) → (IsPassed terms ch x e → P (taken x e)) → P (offered terms ch x e)
+pub offered-cases : {w : ℕ} (terms : Terms) (ch : Channel) (x : Beat w) (e : End w) (P : Offered w → Type 0) → ((r : Rule) → P (refused r e)) → P (silent Stalled e)
+    → (IsPassed terms ch x e → P (taken x e)) → P (offered terms ch x e)
 unfolding offered
 offered-cases {w} terms ch x e P refusals stall takes = before (broken_before terms ch x e) refl
   where
@@ -100,7 +100,8 @@ offered-cases {w} terms ch x e P refusals stall takes = before (broken_before te
     before None is = stalled (waits x e.past) refl is
 
 -- the last beat of a response
-pub ended-cases : {w : ℕ} (opcode : OpD) (x : BeatD w) (f : Finish) (e : End w) (P : Offered w → Type 0) → (is_grant opcode ≡ true → P (answered (Done x.source f) (grant_ack x.sink) e)) → (is_grant opcode ≡ false → P (silent (Done x.source f) e)) → P (ended opcode x f e)
+pub ended-cases : {w : ℕ} (opcode : OpD) (x : BeatD w) (f : Finish) (e : End w) (P : Offered w → Type 0) → (is_grant opcode ≡ true → P (answered (Done x.source f) (grant_ack x.sink) e))
+    → (is_grant opcode ≡ false → P (silent (Done x.source f) e)) → P (ended opcode x f e)
 ended-cases d.Grant x f e P grant other = grant refl
 ended-cases d.GrantData x f e P grant other = grant refl
 ended-cases d.AccessAck x f e P grant other = other refl
@@ -110,7 +111,8 @@ ended-cases d.ReleaseAck x f e P grant other = other refl
 
 -- ---- messages of channel C
 
-pub probe_ack-cases : {w : ℕ} (opcode : OpB) (p : Perm) (r : Report) (block : ℕ) (copy : List ℕ) (P : Message w → Type 0) → P (on_c c.ProbeAckData (report_code r) 0 block copy) → P (on_c c.ProbeAck (report_code r) 0 block zeros) → P (probe_ack opcode p r block copy)
+pub probe_ack-cases : {w : ℕ} (opcode : OpB) (p : Perm) (r : Report) (block : ℕ) (copy : List ℕ) (P : Message w → Type 0) → P (on_c c.ProbeAckData (report_code r) 0 block copy)
+    → P (on_c c.ProbeAck (report_code r) 0 block zeros) → P (probe_ack opcode p r block copy)
 probe_ack-cases b.ProbeBlock perm.Trunk r block copy P with_data bare = with_data
 probe_ack-cases b.ProbeBlock perm.Branch r block copy P with_data bare = bare
 probe_ack-cases b.ProbeBlock perm.None r block copy P with_data bare = bare
@@ -122,7 +124,8 @@ probe_ack-cases b.LogicalData p r block copy P with_data bare = bare
 probe_ack-cases b.Get p r block copy P with_data bare = bare
 probe_ack-cases b.Intent p r block copy P with_data bare = bare
 
-pub release-cases : {w : ℕ} (p : Prune) (source block : ℕ) (copy : List ℕ) (P : Message w → Type 0) → P (on_c c.ReleaseData (prune_code p) source block copy) → P (on_c c.Release (prune_code p) source block zeros) → P (release p source block copy)
+pub release-cases : {w : ℕ} (p : Prune) (source block : ℕ) (copy : List ℕ) (P : Message w → Type 0) → P (on_c c.ReleaseData (prune_code p) source block copy)
+    → P (on_c c.Release (prune_code p) source block zeros) → P (release p source block copy)
 release-cases prune.TtoB source block copy P with_data bare = with_data
 release-cases prune.TtoN source block copy P with_data bare = with_data
 release-cases prune.BtoN source block copy P with_data bare = bare
@@ -130,7 +133,8 @@ release-cases prune.BtoN source block copy P with_data bare = bare
 -- ---- what is taken
 
 -- a beat that breaks no rule and doesn't wait is taken
-pub takes : {w : ℕ} (terms : Terms) (ch : Channel) (x : Beat w) (e : End w) → broken_before terms ch x e ≡ None → waits x e.past ≡ false → broken_later terms x e ≡ None → offered terms ch x e ≡ taken x e
+pub takes : {w : ℕ} (terms : Terms) (ch : Channel) (x : Beat w) (e : End w) → broken_before terms ch x e ≡ None → waits x e.past ≡ false → broken_later terms x e ≡ None
+    → offered terms ch x e ≡ taken x e
 unfolding offered
 takes {w} terms ch x e passed moves lawful = judged_none (broken_before terms ch x e) passed ∙ unstalled (waits x e.past) moves ∙ later (broken_later terms x e) lawful
   where

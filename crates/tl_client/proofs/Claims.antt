@@ -2,6 +2,7 @@
 use Rattle.std.proofs.Common.{◌≡◌, ℕ, zero, suc, Bool, true, false, ◌||◌, List, [], ◌∷◌, Option, Some, None, refl, sym, ◌∙◌, ap}
 use Rattle.std.specs.List.{list_any}
 use Rattle.std.specs.Prelude.{slice_get}
+use Rattle.std.specs.Option.{option_flatten}
 use Rattle.tl_beat.specs.declared.beat.BeatA.{BeatA}
 use Rattle.tl_beat.specs.declared.beat.BeatC.{BeatC}
 use Rattle.tl_params.specs.declared.key.Key.TheVariants.{AcquireOf, ReleaseOf}
@@ -11,9 +12,8 @@ use Rattle.tl_client.specs.End.{End}
 use Rattle.tl_client.specs.Kept.{acquires}
 use Rattle.tl_client.specs.KnowsCaching.{KnowsCaching}
 use Rattle.tl_client.specs.Requests.{open_beat, open_release, fields_of, release_fields, acquires_block, releases_block}
-use Rattle.tl_client.specs.Sources.{or_none}
 
-any-at : {T : Type 0} (f : Option T → Bool) (xs : List (Option T)) (s : ℕ) → f None ≡ false → f (or_none (slice_get xs s)) ≡ true → list_any f xs ≡ true
+any-at : {T : Type 0} (f : Option T → Bool) (xs : List (Option T)) (s : ℕ) → f None ≡ false → f (option_flatten (slice_get xs s)) ≡ true → list_any f xs ≡ true
 any-at f [] s none is = absurd cc
 any-at f (x ∷ xs) zero none is = rw is refl
 any-at {T} f (x ∷ xs) (suc s) none is = go (f x) (any-at f xs s none is)
@@ -22,11 +22,12 @@ any-at {T} f (x ∷ xs) (suc s) none is = go (f x) (any-at f xs s none is)
     go true more = refl
     go false more = more
 
-at-any : {T : Type 0} (f : Option T → Bool) (xs : List (Option T)) → list_any f xs ≡ true → (s : ℕ) × (f (or_none (slice_get xs s)) ≡ true)
+at-any : {T : Type 0} (f : Option T → Bool) (xs : List (Option T)) → list_any f xs ≡ true → (s : ℕ) × (f (option_flatten (slice_get xs s)) ≡ true)
 at-any f [] is = absurd cc
 at-any {T} f (x ∷ xs) is = go (f x) refl (λ any. at-any f xs any) is
   where
-    go : (b : Bool) → f x ≡ b → (list_any f xs ≡ true → (s : ℕ) × (f (or_none (slice_get xs s)) ≡ true)) → (b || list_any f xs) ≡ true → (s : ℕ) × (f (or_none (slice_get (x ∷ xs) s)) ≡ true)
+    go : (b : Bool) → f x ≡ b → (list_any f xs ≡ true → (s : ℕ) × (f (option_flatten (slice_get xs s)) ≡ true)) → (b || list_any f xs) ≡ true
+        → (s : ℕ) × (f (option_flatten (slice_get (x ∷ xs) s)) ≡ true)
     go true e later any = (0, e)
     go false e later any = let found = later any in (suc found.0, found.1)
 

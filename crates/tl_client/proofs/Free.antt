@@ -22,6 +22,7 @@ least_free-some taken s zero e = absurd cc
 least_free-some taken s (suc n) e = go (taken s) refl (least_free-some taken (s + 1) n) e
   where
     go : (b : Bool) → taken s ≡ b → (is_none (least_free taken (s + 1) n) ≡ false → (taken (source_or_0 (least_free taken (s + 1) n)) ≡ false) × (source_or_0 (least_free taken (s + 1) n) < s + 1 + n))
-        → is_none (cond b (least_free taken (s + 1) n) (Some s)) ≡ false → (taken (source_or_0 (cond b (least_free taken (s + 1) n) (Some s))) ≡ false) × (source_or_0 (cond b (least_free taken (s + 1) n) (Some s)) < s + suc n)
+        → is_none (cond b (least_free taken (s + 1) n) (Some s)) ≡ false
+        → (taken (source_or_0 (cond b (least_free taken (s + 1) n) (Some s))) ≡ false) × (source_or_0 (cond b (least_free taken (s + 1) n) (Some s)) < s + suc n)
     go true is later some = let p = later some in (p.0, let q = p.1 in omega arith)
     go false is later some = (is, omega arith)

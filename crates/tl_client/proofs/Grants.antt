@@ -1,7 +1,7 @@
 -- What is known of a Grant that breaks no rule.
-use Rattle.std.proofs.Common.{◌≡◌, ℕ, zero, suc, ◌≤◌, Bool, true, false, not, cond, leb, ◌&&◌, ◌||◌, List, [], ◌∷◌, Option, Some, None, refl, sym, ◌∙◌, arith, inl, inr}
-use Rattle.std.specs.Prelude.{◌==◌}
-use Rattle.std.proofs.lemmas.Bool.{and_parts, or_parts, not-false, eqb-true, leb-true, cases_Bool, both_ways}
+use Rattle.std.proofs.Common.{◌≡◌, ℕ, zero, suc, ◌≤◌, Bool, true, false, not, cond, ◌&&◌, ◌||◌, List, [], ◌∷◌, Option, Some, None, refl, sym, ◌∙◌, arith, inl, inr}
+use Rattle.std.specs.Prelude.{◌==◌, ⊤}
+use Rattle.std.proofs.lemmas.Bool.{and_parts, or_parts, not-false, eqb-true, cases_Bool, both_ways, or_cases}
 use Rattle.tl_beat.specs.declared.beat.Beat.{Beat}
 use Rattle.tl_beat.specs.declared.beat.Beat.TheVariants as beat
 use Rattle.tl_beat.specs.declared.beat.BeatA.{BeatA}
@@ -28,7 +28,7 @@ use Rattle.tl_client.specs.Requests.{open_beat}
 
 -- a client that gets no data has a copy already
 abbrev pub HasCopy : {w : ℕ} → Option (BeatA w) → History w → Type 0
-HasCopy None t = Unit {0}
+HasCopy None t = ⊤
 HasCopy (Some r) t = is_acquire_block r.opcode ≡ true → holds (held (block_at r.address) t) ≡ true
 
 pub record IsGoodGrant {w : ℕ} (x : BeatD w) (t : History w) : Type 0 where
@@ -78,11 +78,14 @@ one_or_none grow cap e = go (grow == 0) e
     go true f = let one = eqb-true cap 1 f in omega (arith, one)
     go false f = let none = eqb-true cap 0 f in omega (arith, none)
 
-at_most_one : (grow cap : ℕ) → cond (grow == 0) (leb cap 1) (cap == 0) ≡ true → cap ≤ 1
+at_most_one : (grow cap : ℕ) → cond (grow == 0) ((cap == 0) || (cap == 1)) (cap == 0) ≡ true → cap ≤ 1
 at_most_one grow cap e = go (grow == 0) e
   where
-    go : (b : Bool) → cond b (leb cap 1) (cap == 0) ≡ true → cap ≤ 1
-    go true f = leb-true cap 1 f
+    go : (b : Bool) → cond b ((cap == 0) || (cap == 1)) (cap == 0) ≡ true → cap ≤ 1
+    go true f = elim (or_cases (cap == 0) (cap == 1) f) [
+      | inl none ↦ let h = eqb-true cap 0 none in omega (arith, h)
+      | inr one ↦ let h = eqb-true cap 1 one in omega (arith, h)
+    ]
     go false f = let none = eqb-true cap 0 f in omega (arith, none)
 
 fits : (p : Profile) (opcode : OpA) (grow cap : ℕ) → fits_grow p opcode grow cap ≡ true → cap ≤ 1
@@ -101,7 +104,8 @@ branch_holds perm.None e = absurd cc
 branch_holds perm.Branch e = refl
 branch_holds perm.Trunk e = refl
 
-good_first : {w : ℕ} (p : Profile) (x : BeatD w) (t : History w) (o : Option (BeatA w)) → is_grant x.opcode ≡ true → request_of x.source t ≡ o → pending (RequestSource x.source) t ≡ true → admits x.opcode o ≡ true → misgrants p x o t ≡ false → IsGoodGrant x t
+good_first : {w : ℕ} (p : Profile) (x : BeatD w) (t : History w) (o : Option (BeatA w)) → is_grant x.opcode ≡ true → request_of x.source t ≡ o → pending (RequestSource x.source) t ≡ true
+    → admits x.opcode o ≡ true → misgrants p x o t ≡ false → IsGoodGrant x t
 good_first p x t None g is live admitted fine = absurd cc
 good_first p x t (Some r) g is live admitted fine =
     let parts = or_parts (not (fits_grow p r.opcode r.param x.param)) _ fine in
@@ -140,7 +144,8 @@ bare-code d.Grant = refl
 bare-code d.GrantData = refl
 bare-code d.ReleaseAck = refl
 
-later_grant : {w : ℕ} (x : BeatD w) (burst : List (Beat w)) (y : Beat w) (t : History w) → is_grant x.opcode ≡ true → same_control (beat.D x) y ≡ true → IsGranting (y ∷ burst) t → IsGoodGrant x t × (is_grant_without_data x.opcode ≡ false)
+later_grant : {w : ℕ} (x : BeatD w) (burst : List (Beat w)) (y : Beat w) (t : History w) → is_grant x.opcode ≡ true → same_control (beat.D x) y ≡ true → IsGranting (y ∷ burst) t
+    → IsGoodGrant x t × (is_grant_without_data x.opcode ≡ false)
 later_grant x burst (beat.A y) t g same granting = absurd cc
 later_grant x burst (beat.B y) t g same granting = absurd cc
 later_grant x burst (beat.C y) t g same granting = absurd cc
@@ -174,7 +179,8 @@ first_bare x more = elim (cases_Bool (is_grant_without_data x.opcode)) [
   | inr other ↦ other
 ]
 
-pub good_grant : {w : ℕ} (p : Profile) (x : BeatD w) (t : History w) (burst : List (Beat w)) → unfinished channel.D t ≡ burst → IsGranting burst t → is_grant x.opcode ≡ true → broken_in_order p (beat.D x) t ≡ None
+pub good_grant : {w : ℕ} (p : Profile) (x : BeatD w) (t : History w) (burst : List (Beat w)) → unfinished channel.D t ≡ burst → IsGranting burst t → is_grant x.opcode ≡ true
+    → broken_in_order p (beat.D x) t ≡ None
     → IsGoodGrant x t × (completes (beat.D x) burst ≡ false → is_grant_without_data x.opcode ≡ false)
 good_grant p x t [] is granting g none = (first_grant p x t g (rw is at none), first_bare x)
 good_grant p x t (y ∷ burst) is granting g none =

@@ -1,6 +1,6 @@
 -- What is held after the calls of a client.
 use Rattle.std.proofs.Common.{◌≡◌, ℕ, ◌*◌, Bool, true, false, cond, ◌&&◌, ◌||◌, List, [], ◌∷◌, Option, Some, None, refl, sym, ◌∙◌, ap, arith}
-use Rattle.std.specs.Prelude.{◌==◌}
+use Rattle.std.specs.Prelude.{◌==◌, unwrap_or, ⊤}
 use Rattle.std.proofs.lemmas.Bool.Decides.{nat_tests}
 use Rattle.tl_beat.specs.Width.{IsWidth}
 use Rattle.tl_beat.specs.declared.beat.Beat.{Beat}
@@ -20,6 +20,7 @@ use Rattle.tl_beat.specs.declared.opcode.OpD.{OpD}
 use Rattle.tl_beat.specs.declared.opcode.OpD.TheVariants as d
 use Rattle.tl_burst.specs.Messages.{History, unfinished}
 use Rattle.tl_burst.specs.declared.message.Message.TheVariants as message
+use Rattle.tl_burst.proofs.Splitting.{beats-positive}
 use Rattle.tl_params.specs.declared.param.Prune.{Prune}
 use Rattle.tl_params.specs.declared.param.Prune.TheVariants as prune
 use Rattle.tl_params.specs.declared.param.Report.{Report}
@@ -30,10 +31,10 @@ use Rattle.tl_params.specs.declared.level.Level.{Level}
 use Rattle.tl_params.specs.declared.rule.Rule.{Rule}
 use Rattle.tl_params.specs.declared.rule.Rule.TheVariants.{L1, A3}
 use Rattle.tl_rules.specs.Agent.{sent, payload_of}
-use Rattle.tl_rules.specs.History.{block_at, is_probe_ack, is_release, ends, grants, capped, reported, request_of, or_perm, held}
+use Rattle.tl_rules.specs.History.{block_at, is_probe_ack, is_release, ends, grants, capped, reported, request_of, held}
 use Rattle.tl_params.specs.Param.{prune_right, report_code, report_right}
 use Rattle.tl_rules.specs.Legality.{illegal, breaks_l1}
-use Rattle.tl_rules.proofs.Bursts.{has_beats, next_rule}
+use Rattle.tl_rules.proofs.Bursts.{next_rule}
 use Rattle.tl_client.specs.declared.busy.Busy.{Busy}
 use Rattle.tl_client.specs.declared.operation.Op.{Op}
 use Rattle.tl_client.specs.declared.operation.Op.TheVariants.{Load, Store, Acquire, AcquireWhole, Release, Access}
@@ -49,7 +50,7 @@ use Rattle.tl_rules.proofs.Sent.{held-sent_c, held-sent_unsaid, held_unsaid}
 pub same_block : (block : ℕ) → block_at (64 * block) ≡ block
 same_block block = omega arith
 
-said : (b d : Bool) (p q : Perm) → b ≡ d → or_perm (cond b (Some p) None) q ≡ cond d p q
+said : (b d : Bool) (p q : Perm) → b ≡ d → unwrap_or (cond b (Some p) None) q ≡ cond d p q
 said true d p q e = rw (← e) refl
 said false d p q e = rw (← e) refl
 
@@ -60,7 +61,7 @@ swapped a b = grind (arith, nat_tests)
 held-on_c : {w : ℕ} (k : ℕ) (opcode : OpC) (param source block : ℕ) (payload : List ℕ) (t : History w) → IsWidth w → unfinished channel.C t ≡ [] → (is_probe_ack opcode || is_release opcode) ≡ true
     → held k (sent (on_c opcode param source block payload) t) ≡ cond (k == block) (reported param) (held k t)
 held-on_c k opcode param source block payload t is none tells =
-    held-sent_c k (about opcode param source block payload) t none (has_beats (on_c opcode param source block payload) is)
+    held-sent_c k (about opcode param source block payload) t none (beats-positive (on_c opcode param source block payload) is)
     ∙ said ((is_probe_ack opcode || is_release opcode) && (block_at (64 * block) == k)) (k == block) (reported param) (held k t) (rw (tells, same_block block) (swapped block k))
 
 -- ---- operations
@@ -73,12 +74,14 @@ report_told report.TtoT = refl
 report_told report.BtoB = refl
 report_told report.NtoN = refl
 
-pub held-release : {w : ℕ} (k : ℕ) (p : Prune) (source block : ℕ) (copy : List ℕ) (t : History w) → IsWidth w → unfinished channel.C t ≡ [] → held k (sent (release p source block copy) t) ≡ cond (k == block) (prune_right p) (held k t)
+pub held-release : {w : ℕ} (k : ℕ) (p : Prune) (source block : ℕ) (copy : List ℕ) (t : History w) → IsWidth w → unfinished channel.C t ≡ []
+    → held k (sent (release p source block copy) t) ≡ cond (k == block) (prune_right p) (held k t)
 held-release k prune.TtoB source block copy t is none = held-on_c k c.ReleaseData 0 source block copy t is none refl
 held-release k prune.TtoN source block copy t is none = held-on_c k c.ReleaseData 1 source block copy t is none refl
 held-release k prune.BtoN source block copy t is none = held-on_c k c.Release 2 source block zeros t is none refl
 
-pub held-probe_ack : {w : ℕ} (k : ℕ) (opcode : OpB) (p : Perm) (r : Report) (block : ℕ) (copy : List ℕ) (t : History w) → IsWidth w → unfinished channel.C t ≡ [] → held k (sent (probe_ack opcode p r block copy) t) ≡ cond (k == block) (report_right r) (held k t)
+pub held-probe_ack : {w : ℕ} (k : ℕ) (opcode : OpB) (p : Perm) (r : Report) (block : ℕ) (copy : List ℕ) (t : History w) → IsWidth w → unfinished channel.C t ≡ []
+    → held k (sent (probe_ack opcode p r block copy) t) ≡ cond (k == block) (report_right r) (held k t)
 held-probe_ack k opcode p r block copy t is none = go opcode p
   where
     with_data : held k (sent (on_c c.ProbeAckData (report_code r) 0 block copy) t) ≡ cond (k == block) (report_right r) (held k t)
@@ -128,12 +131,14 @@ held-done terms (Access (message.C m)) e k is none = refl
 held-done terms (Access (message.D m)) e k is none = refl
 held-done terms (Access (message.E m)) e k is none = refl
 
-held-asked_given : {w : ℕ} (b : Option Busy) (terms : Terms) (op : Op w) (e : End w) (k : ℕ) → IsWidth w → unfinished channel.C e.past ≡ [] → held k (asked_given b terms op e).after.past ≡ left_by b op k (held k e.past)
+held-asked_given : {w : ℕ} (b : Option Busy) (terms : Terms) (op : Op w) (e : End w) (k : ℕ) → IsWidth w → unfinished channel.C e.past ≡ []
+    → held k (asked_given b terms op e).after.past ≡ left_by b op k (held k e.past)
 held-asked_given None terms op e k is none = held-done terms op e k is none
 held-asked_given (Some b) terms op e k is none = refl
 
 -- what is held after an operation
-pub held-asked : {w : ℕ} (terms : Terms) (op : Op w) (e : End w) (k : ℕ) → IsWidth w → unfinished channel.C e.past ≡ [] → held k (asked terms op e).after.past ≡ left_by (busy terms op e) op k (held k e.past)
+pub held-asked : {w : ℕ} (terms : Terms) (op : Op w) (e : End w) (k : ℕ) → IsWidth w → unfinished channel.C e.past ≡ []
+    → held k (asked terms op e).after.past ≡ left_by (busy terms op e) op k (held k e.past)
 unfolding asked
 held-asked terms op e k is none = held-asked_given (busy terms op e) terms op e k is none
 
@@ -142,7 +147,7 @@ held-asked terms op e k is none = held-asked_given (busy terms op e) terms op e 
 held-beat_b : {w : ℕ} (k : ℕ) (x : BeatB w) (t : History w) → held k (beat.B x ∷ t) ≡ held k t
 held-beat_b k x t = held_unsaid k (beat.B x) t refl
 
-still_whole : {w : ℕ} (x : BeatB w) (t : History w) → unfinished channel.C (beat.B x ∷ t) ≡ unfinished channel.C t
+pub still_whole : {w : ℕ} (x : BeatB w) (t : History w) → unfinished channel.C (beat.B x ∷ t) ≡ unfinished channel.C t
 unfolding unfinished
 still_whole x t = refl
 
@@ -157,7 +162,7 @@ pub held-beat_d : {w : ℕ} (k : ℕ) (x : BeatD w) (t : History w) → held k (
 unfolding held
 held-beat_d k x t = go (ends (beat.D x) t) (grants k x t)
   where
-    go : (a b : Bool) → cond a (or_perm (cond b (Some (capped x.param)) None) (held k t)) (held k t) ≡ cond (a && b) (capped x.param) (held k t)
+    go : (a b : Bool) → cond a (unwrap_or (cond b (Some (capped x.param)) None) (held k t)) (held k t) ≡ cond (a && b) (capped x.param) (held k t)
     go true true = refl
     go true false = refl
     go false b = refl
@@ -222,8 +227,8 @@ held-taken_d {w} x e k = go (ends (beat.D x) e.past)
 
 -- the beat comes to a client
 abbrev pub IsIncoming : {w : ℕ} → Beat w → Type 0
-IsIncoming (beat.B x) = Unit {0}
-IsIncoming (beat.D x) = Unit {0}
+IsIncoming (beat.B x) = ⊤
+IsIncoming (beat.D x) = ⊤
 IsIncoming _ = ⊥
 
 pub comes : {w : ℕ} (l : Level) (ch : Channel) (x : Beat w) → is_sent_on ch ≡ false → breaks_l1 l ch x ≡ false → IsIncoming x
@@ -260,7 +265,8 @@ held-judged_later : {w : ℕ} (o : Option Rule) (x : Beat w) (e : End w) (k : �
 held-judged_later (Some r) x e k is none comes_in = refl
 held-judged_later None x e k is none comes_in = held-taken x e k is none comes_in
 
-held-judged : {w : ℕ} (o : Option Rule) (terms : Terms) (x : Beat w) (e : End w) (k : ℕ) → IsWidth w → unfinished channel.C e.past ≡ [] → (o ≡ None → IsIncoming x) → IsHeldBy (judged o terms x e) x e.past k
+held-judged : {w : ℕ} (o : Option Rule) (terms : Terms) (x : Beat w) (e : End w) (k : ℕ) → IsWidth w → unfinished channel.C e.past ≡ [] → (o ≡ None → IsIncoming x)
+    → IsHeldBy (judged o terms x e) x e.past k
 held-judged (Some r) terms x e k is none comes_in = refl
 held-judged {w} None terms x e k is none comes_in = go (waits x e.past)
   where
@@ -269,6 +275,7 @@ held-judged {w} None terms x e k is none comes_in = go (waits x e.past)
     go false = held-judged_later (broken_later terms x e) x e k is none (comes_in refl)
 
 -- what is held after a beat
-pub held-offered : {w : ℕ} (terms : Terms) (ch : Channel) (x : Beat w) (e : End w) (k : ℕ) → IsWidth w → unfinished channel.C e.past ≡ [] → held k (offered terms ch x e).after.past ≡ held_by (offered terms ch x e).answer x e.past k
+pub held-offered : {w : ℕ} (terms : Terms) (ch : Channel) (x : Beat w) (e : End w) (k : ℕ) → IsWidth w → unfinished channel.C e.past ≡ []
+    → held k (offered terms ch x e).after.past ≡ held_by (offered terms ch x e).answer x e.past k
 unfolding offered
 held-offered terms ch x e k is none = held-judged (broken_before terms ch x e) terms x e k is none (incoming terms ch x e)

@@ -1,6 +1,6 @@
 -- The messages that a client hands out break no rule of order.
-use Rattle.std.proofs.Common.{◌≡◌, ℕ, ◌*◌, Bool, true, false, not, cond, leb, ◌&&◌, ◌||◌, List, [], ◌∷◌, Option, Some, None, refl, ◌∙◌}
-use Rattle.std.specs.Prelude.{◌==◌, is_some, Result, Ok, Err}
+use Rattle.std.proofs.Common.{◌≡◌, ℕ, ◌*◌, Bool, true, false, not, cond, ◌&&◌, ◌||◌, List, [], ◌∷◌, Option, Some, None, refl, ◌∙◌}
+use Rattle.std.specs.Prelude.{◌==◌, is_some, Result, Ok, Err, unwrap_or}
 use Rattle.std.proofs.lemmas.Bool.{and_parts, or_parts, not-false, eq-eqb, both_ways}
 use Rattle.tl_beat.specs.Width.{IsWidth}
 use Rattle.tl_beat.specs.declared.beat.Beat.{Beat}
@@ -13,7 +13,7 @@ use Rattle.tl_beat.specs.declared.opcode.OpA.TheVariants as a
 use Rattle.tl_beat.specs.declared.opcode.OpB.{OpB}
 use Rattle.tl_beat.specs.declared.opcode.OpB.TheVariants as b
 use Rattle.tl_beat.specs.declared.opcode.OpC.TheVariants as c
-use Rattle.tl_beat.specs.Opcode.{b_code}
+use Rattle.tl_beat.specs.First.{first_if}
 use Rattle.tl_burst.specs.declared.message.Message.{Message}
 use Rattle.tl_burst.specs.declared.message.Message.TheVariants.{A, B, C, D, E}
 use Rattle.tl_burst.specs.declared.message.MessageA.{MessageA}
@@ -22,6 +22,7 @@ use Rattle.tl_burst.specs.Messages.{History, unfinished}
 use Rattle.tl_params.specs.declared.key.Key.TheVariants.{RequestSource, ReleaseSource, AcquireOf, ReleaseOf, GrantSink, ProbeOf}
 use Rattle.tl_params.specs.declared.level.Level.{Level}
 use Rattle.tl_params.specs.declared.param.Cap.{Cap}
+use Rattle.tl_params.specs.declared.param.Cap.TheVariants as cap
 use Rattle.tl_params.specs.declared.param.Grow.{Grow}
 use Rattle.tl_params.specs.declared.param.Grow.TheVariants as grow
 use Rattle.tl_params.specs.declared.param.Prune.{Prune}
@@ -34,7 +35,7 @@ use Rattle.tl_params.specs.declared.rule.Rule.TheVariants.{L1, L2, L7, H4, H5, H
 use Rattle.tl_params.specs.Param.{cap_of, grow_code, grow_left, prune_code, prune_left, prune_of, report_at, report_code}
 use Rattle.tl_rules.specs.Conformance.{same_perm, grows_from, is_probe_block, is_report_at, broken_order, broken_in_order, comes_in_grant}
 use Rattle.tl_rules.specs.History.{block_at, is_acquire, is_grant, is_probe, ends, pending, probe_of, held}
-use Rattle.tl_rules.specs.Legality.{illegal, rule_if, breaks_l1}
+use Rattle.tl_rules.specs.Legality.{illegal, breaks_l1, is_forwarded}
 use Rattle.tl_rules.proofs.Bursts.{next_rule}
 use Rattle.tl_rules.proofs.Later.{message-legal}
 use Rattle.tl_rules.proofs.Sent.{pending-quiet, held_unsaid}
@@ -47,14 +48,14 @@ use Rattle.tl_client.specs.After.{heard, handed}
 use Rattle.tl_client.specs.Ask.{asked, done, load, store, free_request, free_release, is_access_of, source_or_0, whole_grow}
 use Rattle.tl_client.specs.End.{Terms, End, zeros, copy_at, held_at, with_past}
 use Rattle.tl_client.specs.Kept.{IsKept}
-use Rattle.tl_client.specs.Offer.{Offered, offered, taken, silent, report_for, cap_or_none}
+use Rattle.tl_client.specs.Offer.{Offered, offered, taken, silent, report_for}
 use Rattle.tl_client.specs.Send.{sourced, acquisition, on_c, release, probe_ack, grant_ack}
 use Rattle.tl_client.specs.Sound.{IsSoundIfAny, IsSoundAnswer, IsInOrder, IsLegalAfter}
 use Rattle.tl_client.proofs.AccountedResponse.{sink_now}
 use Rattle.tl_client.proofs.AccountedTaken.{IsFit, fit}
 use Rattle.tl_client.proofs.Cases.{NotBusy, asked-cases, IsPassed, offered-cases, ended-cases, release-cases}
 use Rattle.tl_client.proofs.Free.{least_free-some}
-use Rattle.tl_client.proofs.HeldAfter.{same_block}
+use Rattle.tl_client.proofs.HeldAfter.{same_block, still_whole}
 use Rattle.tl_client.proofs.KeptAsked.{no_acquire}
 use Rattle.tl_client.proofs.Opens.{unfinished-d}
 use Rattle.tl_client.proofs.Outstanding.{IsFree, free_asked, free_offered}
@@ -62,7 +63,8 @@ use Rattle.tl_client.proofs.Sound.{asked-sound, offered-sound}
 
 -- ---- requests: H1, H4 and H5
 
-rules_a : (acquires before released grows : Bool) → (acquires ≡ true → (before ≡ false) × (released ≡ false) × (grows ≡ true)) → rule_if (acquires && (before || released)) H4 (rule_if (acquires && not grows) H5 None) ≡ None
+rules_a : (acquires before released grows : Bool) → (acquires ≡ true → (before ≡ false) × (released ≡ false) × (grows ≡ true))
+    → first_if (acquires && (before || released)) H4 (first_if (acquires && not grows) H5 None) ≡ None
 rules_a false before released grows fine = refl
 rules_a true before released grows fine = let p = fine refl in rw (p.0, p.1, p.2) refl
 
@@ -100,7 +102,8 @@ prune_again prune.TtoB = refl
 prune_again prune.TtoN = refl
 prune_again prune.BtoN = refl
 
-in_order_release : {w : ℕ} (profile : Profile) (p : Prune) (source block : ℕ) (copy : List ℕ) (t : History w) → unfinished channel.C t ≡ [] → pending (ReleaseSource source) t ≡ false → pending (AcquireOf block) t ≡ false → pending (ReleaseOf block) t ≡ false
+in_order_release : {w : ℕ} (profile : Profile) (p : Prune) (source block : ℕ) (copy : List ℕ) (t : History w) → unfinished channel.C t ≡ [] → pending (ReleaseSource source) t ≡ false
+    → pending (AcquireOf block) t ≡ false → pending (ReleaseOf block) t ≡ false
     → same_perm (prune_left p) (held block t) ≡ true → IsInOrder profile (Some (release p source block copy)) t
 unfolding broken_order
 in_order_release {w} profile p source block copy t none free before released left =
@@ -148,7 +151,7 @@ asked-in_order terms op e kept = asked-cases terms op e (λ o. IsInOrder terms.p
 
 -- ---- a ProbeAck: H10, H11 and H12
 
-probe_kind : (opcode : OpB) → leb (b_code opcode) 5 ≡ false → is_probe opcode ≡ true
+probe_kind : (opcode : OpB) → is_forwarded opcode ≡ false → is_probe opcode ≡ true
 probe_kind b.ProbeBlock e = refl
 probe_kind b.ProbePerm e = refl
 probe_kind b.Get e = absurd (let bad : true ≡ false = e in cc)
@@ -162,24 +165,21 @@ lawful_probe : {w : ℕ} (l : Level) (ch : Channel) (x : BeatB w) → illegal l 
 unfolding illegal
 lawful_probe l ch x e =
     let one = next_rule (breaks_l1 l ch (beat.B x)) L1 _ e in
-    let seven = next_rule (leb (b_code x.opcode) 5) L7 _ one.1 in
+    let seven = next_rule (is_forwarded x.opcode) L7 _ one.1 in
     let two = next_rule (not (is_some (cap_of x.param) && (x.source == 0))) L2 _ seven.1 in
     (probe_kind x.opcode seven.0, (and_parts (is_some (cap_of x.param)) (x.source == 0) (not-false (is_some (cap_of x.param) && (x.source == 0)) two.0)).0)
 
-probe_now : {w : ℕ} (x : BeatB w) (t : History w) → unfinished channel.B t ≡ [] → is_probe x.opcode ≡ true → (pending (ProbeOf (block_at x.address)) (beat.B x ∷ t) ≡ true) × (probe_of (block_at x.address) (beat.B x ∷ t) ≡ Some x)
+probe_now : {w : ℕ} (x : BeatB w) (t : History w) → unfinished channel.B t ≡ [] → is_probe x.opcode ≡ true
+    → (pending (ProbeOf (block_at x.address)) (beat.B x ∷ t) ≡ true) × (probe_of (block_at x.address) (beat.B x ∷ t) ≡ Some x)
 unfolding pending probe_of
 probe_now x t none kind = (rw (none, kind, eq-eqb (block_at x.address) (block_at x.address) refl) refl, rw (none, kind, eq-eqb (block_at x.address) (block_at x.address) refl) refl)
 
-rules_c : (probed wrong late bad : Bool) → probed ≡ true → wrong ≡ false → late ≡ false → bad ≡ false → rule_if (not probed || wrong) H10 (rule_if late H11 (rule_if bad H12 None)) ≡ None
+rules_c : (probed wrong late bad : Bool) → probed ≡ true → wrong ≡ false → late ≡ false → bad ≡ false → first_if (not probed || wrong) H10 (first_if late H11 (first_if bad H12 None)) ≡ None
 rules_c probed wrong late bad e f g h = rw (e, f, g, h) refl
 
-reported_so : (o : Option Cap) (p : Perm) → is_some o ≡ true → is_report_at (report_code (report_at (cap_or_none o) p)) o p ≡ true
+reported_so : (o : Option Cap) (p : Perm) → is_some o ≡ true → is_report_at (report_code (report_at (unwrap_or o cap.ToN) p)) o p ≡ true
 reported_so None p e = absurd cc
 reported_so (Some k) p e = eq-eqb (report_code (report_at k p)) (report_code (report_at k p)) refl
-
-burst_b : {w : ℕ} (x : BeatB w) (t : History w) → unfinished channel.C (beat.B x ∷ t) ≡ unfinished channel.C t
-unfolding unfinished
-burst_b x t = refl
 
 not_so : (b : Bool) → b ≡ true → not b ≡ false
 not_so b e = rw e refl
@@ -193,17 +193,22 @@ record IsProbed {w : ℕ} (x : BeatB w) (p : Perm) (u : History w) : Type 0 wher
   held_is : held (block_at (64 * block_at x.address)) u ≡ p
   named : is_some (cap_of x.param) ≡ true
 
-bare_report : {w : ℕ} (profile : Profile) (x : BeatB w) (p : Perm) (u : History w) → IsProbed x p u → IsInOrder profile (Some (on_c c.ProbeAck (report_code (report_for x p)) 0 (block_at x.address) zeros)) u
+bare_report : {w : ℕ} (profile : Profile) (x : BeatB w) (p : Perm) (u : History w) → IsProbed x p u
+    → IsInOrder profile (Some (on_c c.ProbeAck (report_code (report_for x p)) 0 (block_at x.address) zeros)) u
 unfolding broken_order
-bare_report {w} profile x p u is = rw (is.whole, is.found, is.held_is) (rules_c (pending (ProbeOf (block_at (64 * block_at x.address))) u) false (pending (ReleaseOf (block_at (64 * block_at x.address))) u)
+bare_report {w} profile x p u is =
+    rw (is.whole, is.found, is.held_is) (rules_c (pending (ProbeOf (block_at (64 * block_at x.address))) u) false (pending (ReleaseOf (block_at (64 * block_at x.address))) u)
     (not (is_report_at (report_code (report_for x p)) (cap_of x.param) p)) is.probed refl is.unreleased (not_so (is_report_at (report_code (report_for x p)) (cap_of x.param) p) (reported_so (cap_of x.param) p is.named)))
 
-data_report : {w : ℕ} (profile : Profile) (x : BeatB w) (p : Perm) (copy : List ℕ) (u : History w) → is_probe_block x.opcode ≡ true → IsProbed x p u → IsInOrder profile (Some (on_c c.ProbeAckData (report_code (report_for x p)) 0 (block_at x.address) copy)) u
+data_report : {w : ℕ} (profile : Profile) (x : BeatB w) (p : Perm) (copy : List ℕ) (u : History w) → is_probe_block x.opcode ≡ true → IsProbed x p u
+    → IsInOrder profile (Some (on_c c.ProbeAckData (report_code (report_for x p)) 0 (block_at x.address) copy)) u
 unfolding broken_order
-data_report {w} profile x p copy u kind is = rw (is.whole, is.found, is.held_is) (rules_c (pending (ProbeOf (block_at (64 * block_at x.address))) u) (not (is_probe_block x.opcode)) (pending (ReleaseOf (block_at (64 * block_at x.address))) u)
+data_report {w} profile x p copy u kind is =
+    rw (is.whole, is.found, is.held_is) (rules_c (pending (ProbeOf (block_at (64 * block_at x.address))) u) (not (is_probe_block x.opcode)) (pending (ReleaseOf (block_at (64 * block_at x.address))) u)
     (not (is_report_at (report_code (report_for x p)) (cap_of x.param) p)) is.probed (not_so (is_probe_block x.opcode) kind) is.unreleased (not_so (is_report_at (report_code (report_for x p)) (cap_of x.param) p) (reported_so (cap_of x.param) p is.named)))
 
-in_order_ack : {w : ℕ} (profile : Profile) (opcode : OpB) (q : Perm) (x : BeatB w) (p : Perm) (copy : List ℕ) (u : History w) → x.opcode ≡ opcode → IsProbed x p u → IsInOrder profile (Some (probe_ack opcode q (report_for x p) (block_at x.address) copy)) u
+in_order_ack : {w : ℕ} (profile : Profile) (opcode : OpB) (q : Perm) (x : BeatB w) (p : Perm) (copy : List ℕ) (u : History w) → x.opcode ≡ opcode → IsProbed x p u
+    → IsInOrder profile (Some (probe_ack opcode q (report_for x p) (block_at x.address) copy)) u
 in_order_ack profile b.ProbeBlock perm.Trunk x p copy u code is = data_report profile x p copy u (rw code refl) is
 in_order_ack profile b.ProbeBlock perm.Branch x p copy u code is = bare_report profile x p u is
 in_order_ack profile b.ProbeBlock perm.None x p copy u code is = bare_report profile x p u is
@@ -226,7 +231,7 @@ probed_so {w} terms ch x e kept passed =
     let now = probe_now x e.past kept.b_whole lawful.0 in
     let late = waits_not (is_probe x.opcode) (pending (ReleaseOf block) e.past) lawful.0 passed.moves in
     record {
-      whole = burst_b x e.past ∙ kept.c_whole;
+      whole = still_whole x e.past ∙ kept.c_whole;
       probed = rw (same_block block) now.0;
       found = rw (same_block block) now.1;
       unreleased = rw (same_block block) (pending-quiet (ReleaseOf block) (beat.B x) e.past refl refl ∙ late);
@@ -236,7 +241,8 @@ probed_so {w} terms ch x e kept passed =
 
 -- ---- a GrantAck: H8
 
-in_order_grant_ack : {w : ℕ} (profile : Profile) (x : BeatD w) (t : History w) → unfinished channel.E t ≡ [] → ends (beat.D x) t ≡ true → is_grant x.opcode ≡ true → IsFit x t → ((s : ℕ) → pending (GrantSink s) t ≡ comes_in_grant s (unfinished channel.D t)) → IsInOrder profile (Some (grant_ack x.sink)) (beat.D x ∷ t)
+in_order_grant_ack : {w : ℕ} (profile : Profile) (x : BeatD w) (t : History w) → unfinished channel.E t ≡ [] → ends (beat.D x) t ≡ true → is_grant x.opcode ≡ true → IsFit x t
+    → ((s : ℕ) → pending (GrantSink s) t ≡ comes_in_grant s (unfinished channel.D t)) → IsInOrder profile (Some (grant_ack x.sink)) (beat.D x ∷ t)
 unfolding broken_order
 in_order_grant_ack {w} profile x t none last grants fits sinks =
     let whole : unfinished channel.E (beat.D x ∷ t) ≡ [] = (unfinished-d x t).3 ∙ none in
@@ -246,11 +252,13 @@ in_order_grant_ack {w} profile x t none last grants fits sinks =
 
 -- ---- beats
 
-in_order_taken : {w : ℕ} (terms : Terms) (ch : Channel) (x : Beat w) (e : End w) → IsKept e → IsAccounted e.past → IsPassed terms ch x e → IsInOrder terms.profile (handed (taken x e).answer) (heard (taken x e).answer x e.past)
+in_order_taken : {w : ℕ} (terms : Terms) (ch : Channel) (x : Beat w) (e : End w) → IsKept e → IsAccounted e.past → IsPassed terms ch x e
+    → IsInOrder terms.profile (handed (taken x e).answer) (heard (taken x e).answer x e.past)
 in_order_taken terms ch (beat.A x) e kept account passed = tt
 in_order_taken terms ch (beat.C x) e kept account passed = tt
 in_order_taken terms ch (beat.E x) e kept account passed = tt
-in_order_taken terms ch (beat.B x) e kept account passed = in_order_ack terms.profile x.opcode (held_at e (block_at x.address)) x (held_at e (block_at x.address)) (copy_at e (block_at x.address)) (beat.B x ∷ e.past) refl (probed_so terms ch x e kept passed)
+in_order_taken terms ch (beat.B x) e kept account passed =
+    in_order_ack terms.profile x.opcode (held_at e (block_at x.address)) x (held_at e (block_at x.address)) (copy_at e (block_at x.address)) (beat.B x ∷ e.past) refl (probed_so terms ch x e kept passed)
 in_order_taken {w} terms ch (beat.D x) e kept account passed =
     go (ends (beat.D x) e.past) refl _ (λ last. ended-cases x.opcode x _ _ (λ o. IsInOrder terms.profile (handed o.answer) (heard o.answer (beat.D x) e.past))
     (λ grants. in_order_grant_ack terms.profile x e.past kept.e_whole last grants (fit terms.profile x e.past account.acked passed.order) account.acked.sinks) (λ other. tt))
@@ -260,8 +268,10 @@ in_order_taken {w} terms ch (beat.D x) e kept account passed =
     go true last o h = h last
     go false more o h = tt
 
-pub offered-in_order : {w : ℕ} (terms : Terms) (ch : Channel) (x : Beat w) (e : End w) → IsKept e → IsAccounted e.past → IsInOrder terms.profile (handed (offered terms ch x e).answer) (heard (offered terms ch x e).answer x e.past)
-offered-in_order terms ch x e kept account = offered-cases terms ch x e (λ o. IsInOrder terms.profile (handed o.answer) (heard o.answer x e.past)) (λ r. tt) tt (λ passed. in_order_taken terms ch x e kept account passed)
+pub offered-in_order : {w : ℕ} (terms : Terms) (ch : Channel) (x : Beat w) (e : End w) → IsKept e → IsAccounted e.past
+    → IsInOrder terms.profile (handed (offered terms ch x e).answer) (heard (offered terms ch x e).answer x e.past)
+offered-in_order terms ch x e kept account =
+    offered-cases terms ch x e (λ o. IsInOrder terms.profile (handed o.answer) (heard o.answer x e.past)) (λ r. tt) tt (λ passed. in_order_taken terms ch x e kept account passed)
 
 -- ---- whole messages
 
@@ -278,7 +288,8 @@ sound_handed l (Ok (Stalled, m)) sound = tt
 sound_handed l (Ok (Taken, m)) sound = sound
 sound_handed l (Ok (Done s f, m)) sound = sound
 
-pub offered-legal : {w : ℕ} (terms : Terms) (ch : Channel) (x : Beat w) (e : End w) → IsKept e → IsAccounted e.past → IsLegalAfter terms.level terms.profile (handed (offered terms ch x e).answer) (heard (offered terms ch x e).answer x e.past)
+pub offered-legal : {w : ℕ} (terms : Terms) (ch : Channel) (x : Beat w) (e : End w) → IsKept e → IsAccounted e.past
+    → IsLegalAfter terms.level terms.profile (handed (offered terms ch x e).answer) (heard (offered terms ch x e).answer x e.past)
 offered-legal terms ch x e kept account =
     legal_after terms.level terms.profile (handed (offered terms ch x e).answer) (heard (offered terms ch x e).answer x e.past)
     (sound_handed terms.level (offered terms ch x e).answer (offered-sound terms ch x e)) (offered-in_order terms ch x e kept account) (free_offered terms ch x e kept)

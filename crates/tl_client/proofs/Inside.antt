@@ -1,6 +1,6 @@
 -- What a client asks for and holds stays of its level, of the map and of its own sources.
 use Rattle.std.proofs.Common.{◌≡◌, ℕ, ◌*◌, ◌<◌, Bool, true, false, not, cond, leb, ◌&&◌, ◌||◌, ◌⊎◌, List, [], ◌∷◌, Option, Some, None, refl, sym, ◌∙◌, subst, arith, inl, inr}
-use Rattle.std.specs.Prelude.{◌==◌, is_none}
+use Rattle.std.specs.Prelude.{◌==◌, is_none, unwrap_or}
 use Rattle.std.proofs.lemmas.Bool.{and_parts, or_parts, not-false, eqb-true, both_ways}
 use Rattle.tl_beat.specs.Width.{IsWidth}
 use Rattle.tl_beat.specs.declared.beat.Beat.{Beat}
@@ -18,6 +18,8 @@ use Rattle.tl_burst.specs.declared.message.MessageC.{MessageC}
 use Rattle.tl_burst.specs.declared.message.MessageE.{MessageE}
 use Rattle.tl_burst.specs.Burst.{a_beat_of}
 use Rattle.tl_burst.specs.Messages.{History, unfinished}
+use Rattle.tl_burst.proofs.Splitting.{beats-positive}
+use Rattle.tl_params.specs.declared.param.Cap.TheVariants as cap
 use Rattle.tl_params.specs.declared.key.Key.TheVariants.{RequestSource, ReleaseSource}
 use Rattle.tl_params.specs.declared.param.Prune.{Prune}
 use Rattle.tl_params.specs.declared.perm.Perm.{Perm}
@@ -27,7 +29,6 @@ use Rattle.tl_rules.specs.Agent.{sent, payload_of}
 use Rattle.tl_rules.specs.Conformance.{same_perm, broken_in_order}
 use Rattle.tl_rules.specs.History.{block_at, is_acquire, is_release, is_grant, asks_for, ends, grants, capped, closes, pending, request_of, held}
 use Rattle.tl_rules.specs.Legality.{has_transfers}
-use Rattle.tl_rules.proofs.Bursts.{has_beats}
 use Rattle.tl_rules.proofs.Handed.{pending-whole}
 use Rattle.tl_rules.proofs.Sent.{pending-quiet, pending-closed, held_unsaid, held-sent_unsaid}
 use Rattle.tl_client.specs.declared.operation.Op.{Op}
@@ -37,12 +38,12 @@ use Rattle.tl_client.specs.Ask.{asked, done, load, store, free_request, free_rel
 use Rattle.tl_client.specs.End.{Terms, End, zeros, copy_at, held_at, with_past}
 use Rattle.tl_client.specs.Inside.{IsInside, is_holdable}
 use Rattle.tl_client.specs.Kept.{IsKept, acquires, holds, is_acquire_beat}
-use Rattle.tl_client.specs.Offer.{offered, taken, granted, responded, silent, report_for, cap_or_none}
+use Rattle.tl_client.specs.Offer.{offered, taken, granted, responded, silent, report_for}
 use Rattle.tl_client.specs.Requests.{open_beat}
 use Rattle.tl_client.specs.Send.{about, sourced, acquisition, release}
 use Rattle.tl_client.proofs.Cases.{NotBusy, asked-cases, IsPassed, offered-cases, ended-cases, probe_ack-cases, release-cases}
 use Rattle.tl_client.proofs.Free.{least_free-some}
-use Rattle.tl_client.proofs.HeldAfter.{same_block, held-release, held-probe_ack, held-beat_d, kept_past, granted_past}
+use Rattle.tl_client.proofs.HeldAfter.{same_block, held-release, held-probe_ack, held-beat_d, kept_past, granted_past, still_whole}
 use Rattle.tl_client.proofs.KeptAsked.{no_acquire, falls_to}
 use Rattle.tl_client.proofs.KeptGranted.{still_acquires, acquires_granted}
 use Rattle.tl_client.proofs.KeptOffered.{incoming_only, reports_held, good_beat}
@@ -54,17 +55,20 @@ opened_below : (b : Bool) (p : Bool) (n m : ℕ) → (b ≡ true → n < m) → 
 opened_below true p n m new old e = new refl
 opened_below false p n m new old e = old e
 
-own_block : {w : ℕ} (k : ℕ) (b : Bool) (m : MessageA w) (o : Option (BeatA w)) → acquires k (cond b (Some (a_beat_of m 0)) o) ≡ true → ((is_acquire m.opcode && (block_at m.address == k)) ≡ true) ⊎ (acquires k o ≡ true)
+own_block : {w : ℕ} (k : ℕ) (b : Bool) (m : MessageA w) (o : Option (BeatA w)) → acquires k (cond b (Some (a_beat_of m 0)) o) ≡ true
+    → ((is_acquire m.opcode && (block_at m.address == k)) ≡ true) ⊎ (acquires k o ≡ true)
 own_block k true m o e = inl e
 own_block k false m o e = inr e
 
-inside_a : {w : ℕ} (terms : Terms) (m : MessageA w) (t : History w) → IsWidth w → unfinished channel.A t ≡ [] → m.source < terms.sources → (is_acquire m.opcode ≡ true → is_holdable terms (block_at m.address) ≡ true) → IsInside terms t → IsInside terms (sent (A m) t)
+inside_a : {w : ℕ} (terms : Terms) (m : MessageA w) (t : History w) → IsWidth w → unfinished channel.A t ≡ [] → m.source < terms.sources
+    → (is_acquire m.opcode ≡ true → is_holdable terms (block_at m.address) ≡ true) → IsInside terms t → IsInside terms (sent (A m) t)
 inside_a {w} terms m t is none below maps old = record {
   acquires_inside = λ s k e. asked_for s k (own_block k (m.source == s) m (open_beat s t) (rw (open_beat-a s m t is none) at e));
   holds_inside = λ k e. old.holds_inside k (rw (held-sent_unsaid k (A m) t (λ i u. refl)) at e);
-  requests_below = λ s e. opened_below (m.source == s) (pending (RequestSource s) t) s terms.sources (λ same. let source = eqb-true m.source s same in omega (arith, below, source)) (old.requests_below s)
-      (sym (pending-whole (RequestSource s) (A m) t none (has_beats (A m) is)) ∙ e);
-  releases_below = λ s e. old.releases_below s (sym (pending-whole (ReleaseSource s) (A m) t none (has_beats (A m) is)) ∙ e);
+  requests_below =
+      λ s e. opened_below (m.source == s) (pending (RequestSource s) t) s terms.sources (λ same. let source = eqb-true m.source s same in omega (arith, below, source)) (old.requests_below s)
+      (sym (pending-whole (RequestSource s) (A m) t none (beats-positive (A m) is)) ∙ e);
+  releases_below = λ s e. old.releases_below s (sym (pending-whole (ReleaseSource s) (A m) t none (beats-positive (A m) is)) ∙ e);
 }
   where
     asked_for : (s k : ℕ) → ((is_acquire m.opcode && (block_at m.address == k)) ≡ true) ⊎ (acquires k (open_beat s t) ≡ true) → is_holdable terms k ≡ true
@@ -73,22 +77,23 @@ inside_a {w} terms m t is none below maps old = record {
         let parts = and_parts (is_acquire m.opcode) (block_at m.address == k) new in
         rw (eqb-true (block_at m.address) k parts.1) at (maps parts.0)
 
-inside_c : {w : ℕ} (terms : Terms) (m : MessageC w) (t : History w) → IsWidth w → unfinished channel.C t ≡ [] → (is_release m.opcode ≡ true → m.source < terms.sources) → ((k : ℕ) → holds (held k (sent (C m) t)) ≡ true → holds (held k t) ≡ true) → IsInside terms t → IsInside terms (sent (C m) t)
+inside_c : {w : ℕ} (terms : Terms) (m : MessageC w) (t : History w) → IsWidth w → unfinished channel.C t ≡ [] → (is_release m.opcode ≡ true → m.source < terms.sources)
+    → ((k : ℕ) → holds (held k (sent (C m) t)) ≡ true → holds (held k t) ≡ true) → IsInside terms t → IsInside terms (sent (C m) t)
 inside_c {w} terms m t is none below falls old = record {
   acquires_inside = λ s k e. old.acquires_inside s k (rw (open_beat-c s m t is none) at e);
   holds_inside = λ k e. old.holds_inside k (falls k e);
-  requests_below = λ s e. old.requests_below s (sym (pending-whole (RequestSource s) (C m) t none (has_beats (C m) is)) ∙ e);
+  requests_below = λ s e. old.requests_below s (sym (pending-whole (RequestSource s) (C m) t none (beats-positive (C m) is)) ∙ e);
   releases_below = λ s e. opened_below (is_release m.opcode && (m.source == s)) (pending (ReleaseSource s) t) s terms.sources
       (λ same. let parts = and_parts (is_release m.opcode) (m.source == s) same in let source = eqb-true m.source s parts.1 in let low = below parts.0 in omega (arith, low, source)) (old.releases_below s)
-      (sym (pending-whole (ReleaseSource s) (C m) t none (has_beats (C m) is)) ∙ e);
+      (sym (pending-whole (ReleaseSource s) (C m) t none (beats-positive (C m) is)) ∙ e);
 }
 
 inside_e : {w : ℕ} (terms : Terms) (m : MessageE) (t : History w) → IsWidth w → unfinished channel.E t ≡ [] → IsInside terms t → IsInside terms (sent (E m) t)
 inside_e {w} terms m t is none old = record {
   acquires_inside = λ s k e. old.acquires_inside s k (rw (open_beat-e s m t is none) at e);
   holds_inside = λ k e. old.holds_inside k (rw (held-sent_unsaid k (E m) t (λ i u. refl)) at e);
-  requests_below = λ s e. old.requests_below s (sym (pending-whole (RequestSource s) (E m) t none (has_beats {w = w} (E m) is)) ∙ e);
-  releases_below = λ s e. old.releases_below s (sym (pending-whole (ReleaseSource s) (E m) t none (has_beats {w = w} (E m) is)) ∙ e);
+  requests_below = λ s e. old.requests_below s (sym (pending-whole (RequestSource s) (E m) t none (beats-positive {w = w} (E m) is)) ∙ e);
+  releases_below = λ s e. old.releases_below s (sym (pending-whole (ReleaseSource s) (E m) t none (beats-positive {w = w} (E m) is)) ∙ e);
 }
 
 -- ---- operations
@@ -118,7 +123,8 @@ falls_from : (b : Bool) (p q : Perm) → (holds p ≡ true → b ≡ true → ho
 falls_from true p q from e = from e refl
 falls_from false p q from e = e
 
-inside_release : {w : ℕ} (terms : Terms) (p : Prune) (source block : ℕ) (copy : List ℕ) (t : History w) → IsWidth w → unfinished channel.C t ≡ [] → source < terms.sources → same_perm (prune_left p) (held block t) ≡ true → IsInside terms t → IsInside terms (sent (release p source block copy) t)
+inside_release : {w : ℕ} (terms : Terms) (p : Prune) (source block : ℕ) (copy : List ℕ) (t : History w) → IsWidth w → unfinished channel.C t ≡ [] → source < terms.sources
+    → same_perm (prune_left p) (held block t) ≡ true → IsInside terms t → IsInside terms (sent (release p source block copy) t)
 inside_release {w} terms p source block copy t is none below left old =
     release-cases p source block copy (λ m. ((k : ℕ) → holds (held k (sent m t)) ≡ true → holds (held k t) ≡ true) → IsInside terms (sent m t))
     (λ falls. inside_c terms (about c.ReleaseData (prune_code p) source block copy) t is none (λ r. below) falls old)
@@ -156,24 +162,20 @@ inside_b terms x t old = record {
   releases_below = λ s e. old.releases_below s (sym (pending-quiet (ReleaseSource s) (beat.B x) t refl refl) ∙ e);
 }
 
-still_c : {w : ℕ} (x : BeatB w) (t : History w) → unfinished channel.C (beat.B x ∷ t) ≡ unfinished channel.C t
-unfolding unfinished
-still_c x t = refl
-
 inside_probed : {w : ℕ} (terms : Terms) (x : BeatB w) (e : End w) → IsWidth w → IsKept e → IsInside terms e.past → IsInside terms (taken (beat.B x) e).after.past
 inside_probed {w} terms x e is kept old =
     let block = block_at x.address in
     let p = held_at e block in
     let r = report_for x p in
     let t : History w = beat.B x ∷ e.past in
-    let none : unfinished channel.C t ≡ [] = still_c x e.past ∙ kept.c_whole in
+    let none : unfinished channel.C t ≡ [] = still_whole x e.past ∙ kept.c_whole in
     let before = inside_b terms x e.past old in
     subst (λ u. IsInside terms u) (sym (kept_past block (report_right r) _))
     (probe_ack-cases x.opcode p r block (copy_at e block) (λ m. ((k : ℕ) → holds (held k (sent m t)) ≡ true → holds (held k t) ≡ true) → IsInside terms (sent m t))
     (λ falls. inside_c terms (about c.ProbeAckData (report_code r) 0 block (copy_at e block)) t is none (λ releases. absurd (let bad : false ≡ true = releases in cc)) falls before)
     (λ falls. inside_c terms (about c.ProbeAck (report_code r) 0 block zeros) t is none (λ releases. absurd (let bad : false ≡ true = releases in cc)) falls before)
     (λ k e1. falls_from (k == block) (report_right r) (held k t)
-    (λ h same. rw (eqb-true k block same, held_unsaid block (beat.B x) e.past refl) (reports_held (cap_or_none (cap_of x.param)) p h))
+    (λ h same. rw (eqb-true k block same, held_unsaid block (beat.B x) e.past refl) (reports_held (unwrap_or (cap_of x.param) cap.ToN) p h))
     (rw (held-probe_ack k x.opcode p r block (copy_at e block) t is none) at e1)))
 
 still : (b p : Bool) → cond b false p ≡ true → p ≡ true
@@ -188,8 +190,10 @@ inside_d : {w : ℕ} (terms : Terms) (x : BeatD w) (t : History w) → (is_grant
 inside_d {w} terms x t acquired old = record {
   acquires_inside = λ s k e. old.acquires_inside s k (still_acquires k (closes_source x t s) (open_beat s t) (rw (open_beat-d s x t) at e)).1;
   holds_inside = λ k e. gives k (held_more (ends (beat.D x) t && grants k x t) (capped x.param) (held k t) (rw (held-beat_d k x t) at e));
-  requests_below = λ s e. old.requests_below s (still (ends (beat.D x) t && closes (RequestSource s) (beat.D x) t) (pending (RequestSource s) t) (sym (pending-closed (RequestSource s) (beat.D x) t refl) ∙ e));
-  releases_below = λ s e. old.releases_below s (still (ends (beat.D x) t && closes (ReleaseSource s) (beat.D x) t) (pending (ReleaseSource s) t) (sym (pending-closed (ReleaseSource s) (beat.D x) t refl) ∙ e));
+  requests_below =
+      λ s e. old.requests_below s (still (ends (beat.D x) t && closes (RequestSource s) (beat.D x) t) (pending (RequestSource s) t) (sym (pending-closed (RequestSource s) (beat.D x) t refl) ∙ e));
+  releases_below =
+      λ s e. old.releases_below s (still (ends (beat.D x) t && closes (ReleaseSource s) (beat.D x) t) (pending (ReleaseSource s) t) (sym (pending-closed (ReleaseSource s) (beat.D x) t refl) ∙ e));
 }
   where
     gives : (k : ℕ) → ((ends (beat.D x) t && grants k x t) ≡ true) ⊎ (holds (held k t) ≡ true) → is_holdable terms k ≡ true
@@ -199,7 +203,8 @@ inside_d {w} terms x t acquired old = record {
         let kind = and_parts (is_grant x.opcode) (asks_for k (request_of x.source t)) parts.1 in
         old.acquires_inside x.source k (acquires_granted x t k (acquired kind.0) kind.1)
 
-inside_taken_d : {w : ℕ} (terms : Terms) (x : BeatD w) (e : End w) → IsWidth w → IsKept e → broken_in_order terms.profile (beat.D x) e.past ≡ None → IsInside terms e.past → IsInside terms (taken (beat.D x) e).after.past
+inside_taken_d : {w : ℕ} (terms : Terms) (x : BeatD w) (e : End w) → IsWidth w → IsKept e → broken_in_order terms.profile (beat.D x) e.past ≡ None → IsInside terms e.past
+    → IsInside terms (taken (beat.D x) e).after.past
 inside_taken_d {w} terms x e is kept order old = go (ends (beat.D x) e.past)
   where
     now : IsInside terms (beat.D x ∷ e.past)

@@ -12,10 +12,10 @@ use Rattle.tl_burst.specs.declared.message.MessageC.{MessageC}
 use Rattle.tl_burst.specs.declared.message.MessageE.{MessageE}
 use Rattle.tl_burst.specs.Burst.{a_beat_of}
 use Rattle.tl_burst.specs.Messages.{History, unfinished}
+use Rattle.tl_burst.proofs.Splitting.{beats-positive}
 use Rattle.tl_params.specs.declared.key.Key.TheVariants.{RequestSource, AcquireOf}
 use Rattle.tl_rules.specs.Agent.{sent}
 use Rattle.tl_rules.specs.History.{block_at, is_acquire, pending, held}
-use Rattle.tl_rules.proofs.Bursts.{has_beats}
 use Rattle.tl_client.specs.End.{End}
 use Rattle.tl_client.specs.Kept.{IsKept, IsGranting, holds, acquires, stores_whole, is_acquire_perm, is_acquire_beat}
 use Rattle.tl_client.specs.Requests.{open_beat}
@@ -32,7 +32,8 @@ pub record MayStart {w : ℕ} (m : MessageA w) (t : History w) : Type 0 where
 open_new : {w : ℕ} (s : ℕ) (t : History w) → pending (RequestSource s) t ≡ false → open_beat s t ≡ None
 open_new s t free = rw free refl
 
-granting_a : {w : ℕ} (burst : List (Beat w)) (m : MessageA w) (t : History w) → IsWidth w → unfinished channel.A t ≡ [] → pending (RequestSource m.source) t ≡ false → IsGranting burst t → IsGranting burst (sent (A m) t)
+granting_a : {w : ℕ} (burst : List (Beat w)) (m : MessageA w) (t : History w) → IsWidth w → unfinished channel.A t ≡ [] → pending (RequestSource m.source) t ≡ false → IsGranting burst t
+    → IsGranting burst (sent (A m) t)
 granting_a [] m t is none free g = tt
 granting_a (beat.A x ∷ burst) m t is none free g = tt
 granting_a (beat.B x ∷ burst) m t is none free g = tt
@@ -40,7 +41,8 @@ granting_a (beat.C x ∷ burst) m t is none free g = tt
 granting_a (beat.E x ∷ burst) m t is none free g = tt
 granting_a {w} (beat.D x ∷ burst) m t is none free g = λ e. ((g e).0, (g e).1, rw (open_beat-a x.source m t is none) (go (cases_Bool (m.source == x.source)) (g e).2))
   where
-    go : ((m.source == x.source) ≡ true) ⊎ ((m.source == x.source) ≡ false) → is_acquire_beat (open_beat x.source t) ≡ true → is_acquire_beat (cond (m.source == x.source) (Some (a_beat_of m 0)) (open_beat x.source t)) ≡ true
+    go : ((m.source == x.source) ≡ true) ⊎ ((m.source == x.source) ≡ false) → is_acquire_beat (open_beat x.source t) ≡ true
+        → is_acquire_beat (cond (m.source == x.source) (Some (a_beat_of m 0)) (open_beat x.source t)) ≡ true
     go (inl same) live =
         let source : m.source ≡ x.source = eqb-true m.source x.source same in
         let none_open : open_beat x.source t ≡ None = rw source at (open_new m.source t free) in
@@ -61,13 +63,15 @@ no_other e m r k kept may new old =
     let block : block_at m.address ≡ k = eqb-true (block_at m.address) k parts.1 in
     both_ways (pending (AcquireOf k) e.past) (rw block at (may.alone parts.0)) (kept.outstanding r k old)
 
-once_a : {w : ℕ} (e : End w) (m : MessageA w) (s r k : ℕ) (a b : Bool) → IsKept e → MayStart m e.past → (m.source == s) ≡ a → (m.source == r) ≡ b → acquires k (cond a (Some (a_beat_of m 0)) (open_beat s e.past)) ≡ true → acquires k (cond b (Some (a_beat_of m 0)) (open_beat r e.past)) ≡ true → s ≡ r
+once_a : {w : ℕ} (e : End w) (m : MessageA w) (s r k : ℕ) (a b : Bool) → IsKept e → MayStart m e.past → (m.source == s) ≡ a → (m.source == r) ≡ b
+    → acquires k (cond a (Some (a_beat_of m 0)) (open_beat s e.past)) ≡ true → acquires k (cond b (Some (a_beat_of m 0)) (open_beat r e.past)) ≡ true → s ≡ r
 once_a e m s r k true true kept may p q h i = sym (eqb-true m.source s p) ∙ eqb-true m.source r q
 once_a e m s r k true false kept may p q h i = absurd (no_other e m r k kept may h i)
 once_a e m s r k false true kept may p q h i = absurd (no_other e m s k kept may i h)
 once_a e m s r k false false kept may p q h i = kept.once s r k h i
 
-outstanding_a : {w : ℕ} (e : End w) (m : MessageA w) (s k : ℕ) (a : Bool) → IsKept e → acquires k (cond a (Some (a_beat_of m 0)) (open_beat s e.past)) ≡ true → cond (is_acquire m.opcode && (block_at m.address == k)) true (pending (AcquireOf k) e.past) ≡ true
+outstanding_a : {w : ℕ} (e : End w) (m : MessageA w) (s k : ℕ) (a : Bool) → IsKept e → acquires k (cond a (Some (a_beat_of m 0)) (open_beat s e.past)) ≡ true
+    → cond (is_acquire m.opcode && (block_at m.address == k)) true (pending (AcquireOf k) e.past) ≡ true
 outstanding_a e m s k true kept h = rw h refl
 outstanding_a e m s k false kept h = rw (kept.outstanding s k h) (both (is_acquire m.opcode && (block_at m.address == k)))
   where
@@ -78,7 +82,7 @@ outstanding_a e m s k false kept h = rw (kept.outstanding s k h) (both (is_acqui
 pub kept-a : {w : ℕ} (e f : End w) (m : MessageA w) → IsWidth w → IsKept e → MayStart m e.past → f.past ≡ sent (A m) e.past → ((k : ℕ) → f.copies k ≡ e.copies k)
     → ((k : ℕ) → is_some (e.waiting k) ≡ true → is_some (f.waiting k) ≡ true) → (is_acquire_perm m.opcode ≡ true → is_some (f.waiting (block_at m.address)) ≡ true) → IsKept f
 kept-a e f m is kept may past copies more new = record {
-  a_whole = rw past (unfinished-sent (A m) e.past kept.a_whole (has_beats (A m) is));
+  a_whole = rw past (unfinished-sent (A m) e.past kept.a_whole (beats-positive (A m) is));
   b_whole = rw past (unfinished-sent_other channel.B (A m) e.past refl ∙ kept.b_whole);
   c_whole = rw past (unfinished-sent_other channel.C (A m) e.past refl ∙ kept.c_whole);
   e_whole = rw past (unfinished-sent_other channel.E (A m) e.past refl ∙ kept.e_whole);
@@ -105,7 +109,8 @@ granting_same (beat.E x ∷ burst) t u same g = tt
 granting_same (beat.D x ∷ burst) t u same g = λ e. ((g e).0, (g e).1, rw (same.same_open x.source) (g e).2)
 
 -- all but the copies
-pub kept-same : {w : ℕ} (e f : End w) → IsKept e → SameRequests f.past e.past → unfinished channel.A f.past ≡ [] → unfinished channel.B f.past ≡ [] → unfinished channel.C f.past ≡ [] → unfinished channel.E f.past ≡ []
+pub kept-same : {w : ℕ} (e f : End w) → IsKept e → SameRequests f.past e.past → unfinished channel.A f.past ≡ [] → unfinished channel.B f.past ≡ [] → unfinished channel.C f.past ≡ []
+    → unfinished channel.E f.past ≡ []
     → unfinished channel.D f.past ≡ unfinished channel.D e.past → ((k : ℕ) → f.waiting k ≡ e.waiting k) → ((k : ℕ) → is_some (f.copies k) ≡ holds (held k f.past)) → IsKept f
 kept-same e f kept same a b c d_none d waiting copies = record {
   a_whole = a;
@@ -119,12 +124,13 @@ kept-same e f kept same a b c d_none d waiting copies = record {
   granting = rw d (granting_same (unfinished channel.D e.past) f.past e.past same kept.granting);
 }
 
-pub kept-c : {w : ℕ} (e f : End w) (m : MessageC w) → IsWidth w → IsKept e → f.past ≡ sent (C m) e.past → ((k : ℕ) → f.waiting k ≡ e.waiting k) → ((k : ℕ) → is_some (f.copies k) ≡ holds (held k f.past)) → IsKept f
+pub kept-c : {w : ℕ} (e f : End w) (m : MessageC w) → IsWidth w → IsKept e → f.past ≡ sent (C m) e.past → ((k : ℕ) → f.waiting k ≡ e.waiting k)
+    → ((k : ℕ) → is_some (f.copies k) ≡ holds (held k f.past)) → IsKept f
 kept-c e f m is kept past waiting copies = kept-same e f kept
     (record { same_open = λ s. rw past (open_beat-c s m e.past is kept.c_whole); same_acquires = λ k. rw past (acquire_of-c k m e.past is kept.c_whole) })
     (rw past (unfinished-sent_other channel.A (C m) e.past refl ∙ kept.a_whole))
     (rw past (unfinished-sent_other channel.B (C m) e.past refl ∙ kept.b_whole))
-    (rw past (unfinished-sent (C m) e.past kept.c_whole (has_beats (C m) is)))
+    (rw past (unfinished-sent (C m) e.past kept.c_whole (beats-positive (C m) is)))
     (rw past (unfinished-sent_other channel.E (C m) e.past refl ∙ kept.e_whole))
     (rw past (unfinished-sent_other channel.D (C m) e.past refl)) waiting copies
 
@@ -134,6 +140,6 @@ kept-e e f m is kept past waiting copies = kept-same e f kept
     (rw past (unfinished-sent_other channel.A (E m) e.past refl ∙ kept.a_whole))
     (rw past (unfinished-sent_other channel.B (E m) e.past refl ∙ kept.b_whole))
     (rw past (unfinished-sent_other channel.C (E m) e.past refl ∙ kept.c_whole))
-    (rw past (unfinished-sent (E m) e.past kept.e_whole (has_beats (E m) is)))
+    (rw past (unfinished-sent (E m) e.past kept.e_whole (beats-positive (E m) is)))
     (rw past (unfinished-sent_other channel.D (E m) e.past refl)) waiting
     (λ k. rw (past, copies k, held-sent_unsaid k (E m) e.past (λ i t. refl)) (kept.copies_held k))

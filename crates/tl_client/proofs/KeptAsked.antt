@@ -23,7 +23,7 @@ use Rattle.tl_client.specs.declared.busy.Busy.{Busy}
 use Rattle.tl_client.specs.declared.operation.Op.{Op}
 use Rattle.tl_client.specs.declared.operation.Op.TheVariants.{Load, Store, Acquire, AcquireWhole, Release, Access}
 use Rattle.tl_client.specs.declared.reply.Reply.TheVariants as reply
-use Rattle.tl_client.specs.Ask.{asked, asked_given, busy, breaks_b1, breaks_b2, breaks_b3, breaks_b4, block_of, is_access_of, done, load, store, free_request, free_release, source_or_0, whole_grow}
+use Rattle.tl_client.specs.Ask.{asked, asked_given, busy, breaks_b1, breaks_b2, breaks_b3, breaks_b4, op_block, is_access_of, done, load, store, free_request, free_release, source_or_0, whole_grow}
 use Rattle.tl_client.specs.End.{Terms, End, copy_at, held_at, kept_for, sending, set_at, with_copy, with_waiting, zeros}
 use Rattle.tl_client.specs.Kept.{IsKept, holds, is_acquire_perm}
 use Rattle.tl_client.specs.Send.{about, sourced, acquisition, release}
@@ -42,7 +42,8 @@ copy_set e block k bytes kept held_is = go (cases_Bool (k == block))
     go (inr other) = rw other (kept.copies_held k)
 
 -- what falls to this permission loses its copy where that is None
-pub copies_kept_for : {w : ℕ} (e f : End w) (block k : ℕ) (p : Perm) → IsKept e → ((j : ℕ) → f.copies j ≡ e.copies j) → (holds p ≡ true → holds (held block e.past) ≡ true) → is_some ((kept_for block p f).copies k) ≡ holds (cond (k == block) p (held k e.past))
+pub copies_kept_for : {w : ℕ} (e f : End w) (block k : ℕ) (p : Perm) → IsKept e → ((j : ℕ) → f.copies j ≡ e.copies j) → (holds p ≡ true → holds (held block e.past) ≡ true)
+    → is_some ((kept_for block p f).copies k) ≡ holds (cond (k == block) p (held k e.past))
 copies_kept_for e f block k perm.None kept same falls = rw (same k) (go (k == block))
   where
     go : (b : Bool) → is_some (cond b None (e.copies k)) ≡ holds (cond b perm.None (held k e.past))
@@ -113,7 +114,8 @@ release_is prune.TtoB source block copy = (about c.ReleaseData 0 source block co
 release_is prune.TtoN source block copy = (about c.ReleaseData 1 source block copy, refl)
 release_is prune.BtoN source block copy = (about c.Release 2 source block zeros, refl)
 
-kept_release : {w : ℕ} (e : End w) (p : Prune) (source block : ℕ) (copy : List ℕ) → IsWidth w → IsKept e → same_perm (prune_left p) (held block e.past) ≡ true → IsKept (kept_for block (prune_right p) (sending (release p source block copy) e))
+kept_release : {w : ℕ} (e : End w) (p : Prune) (source block : ℕ) (copy : List ℕ) → IsWidth w → IsKept e → same_perm (prune_left p) (held block e.past) ≡ true
+    → IsKept (kept_for block (prune_right p) (sending (release p source block copy) e))
 kept_release e p source block copy is kept left =
     let m = release_is p source block copy in
     let f = sending (release p source block copy) e in
@@ -133,7 +135,8 @@ set_more block j bytes blocks some = go (j == block)
 set_here : (block j : ℕ) (bytes : List ℕ) (blocks : ℕ → Option (List ℕ)) → j ≡ block → is_some (set_at block (Some bytes) blocks j) ≡ true
 set_here block j bytes blocks e = rw (eq-eqb j block e) refl
 
-kept_done : {w : ℕ} (terms : Terms) (op : Op w) (e : End w) → IsWidth w → IsKept e → breaks_b4 terms.level op ≡ false → breaks_b2 op e.past ≡ false → breaks_b3 op (held_at e (block_of op)) ≡ false → breaks_b1 terms op e.past ≡ false → IsKept (done terms op e).after
+kept_done : {w : ℕ} (terms : Terms) (op : Op w) (e : End w) → IsWidth w → IsKept e → breaks_b4 terms.level op ≡ false → breaks_b2 op e.past ≡ false
+    → breaks_b3 op (held_at e (op_block op)) ≡ false → breaks_b1 terms op e.past ≡ false → IsKept (done terms op e).after
 kept_done terms (Load address size) e is kept four two three one = kept_load address size (held_at e (block_at address)) e kept
 kept_done terms (Store address size value) e is kept four two three one = kept_store address size value (held_at e (block_at address)) e kept refl
 kept_done {w} terms (Acquire block grow) e is kept four two three one =
@@ -148,7 +151,8 @@ kept_done {w} terms (AcquireWhole block bytes) e is kept four two three one =
     kept-a e (with_waiting block (Some bytes) (sending (A m) e)) m is kept
     (record { free = (least_free-some (λ s. pending (RequestSource s) e.past) 0 terms.sources one).0; alone = λ acquires. rw (same_block block) idle.0 })
     refl (λ k. refl) (λ k some. set_more block k bytes e.waiting some) (λ whole. set_here block (block_at (64 * block)) bytes e.waiting (same_block block))
-kept_done terms (Release block prune) e is kept four two three one = kept_release e prune (source_or_0 (free_release terms e.past)) block (copy_at e block) is kept (not-false (same_perm (prune_left prune) (held_at e block)) three)
+kept_done terms (Release block prune) e is kept four two three one =
+    kept_release e prune (source_or_0 (free_release terms e.past)) block (copy_at e block) is kept (not-false (same_perm (prune_left prune) (held_at e block)) three)
 kept_done {w} terms (Access (A x)) e is kept four two three one =
     let plain = no_acquire terms.level x.opcode (not-false (is_access_of terms.level x.opcode) four) in
     let m : MessageA w = sourced (source_or_0 (free_request terms e.past)) x in
@@ -170,13 +174,15 @@ no_start_stored address size value perm.None e s is = absurd cc
 no_start_stored address size value perm.Branch e s is = absurd cc
 no_start_stored address size value perm.Trunk e s is = absurd cc
 
-request_below : {w : ℕ} (terms : Terms) (e : End w) (s : ℕ) → is_none (free_request terms e.past) ≡ false → reply.Started (source_or_0 (free_request terms e.past)) ≡ reply.Started s → s < terms.sources
+request_below : {w : ℕ} (terms : Terms) (e : End w) (s : ℕ) → is_none (free_request terms e.past) ≡ false → reply.Started (source_or_0 (free_request terms e.past)) ≡ reply.Started s
+    → s < terms.sources
 request_below terms e s one is =
     let same : source_or_0 (free_request terms e.past) ≡ s = cc in
     let below = (least_free-some (λ k. pending (RequestSource k) e.past) 0 terms.sources one).1 in
     omega (arith, below, same)
 
-release_below : {w : ℕ} (terms : Terms) (e : End w) (s : ℕ) → is_none (free_release terms e.past) ≡ false → reply.Started (source_or_0 (free_release terms e.past)) ≡ reply.Started s → s < terms.sources
+release_below : {w : ℕ} (terms : Terms) (e : End w) (s : ℕ) → is_none (free_release terms e.past) ≡ false → reply.Started (source_or_0 (free_release terms e.past)) ≡ reply.Started s
+    → s < terms.sources
 release_below terms e s one is =
     let same : source_or_0 (free_release terms e.past) ≡ s = cc in
     let below = (least_free-some (λ k. pending (ReleaseSource k) e.past) 0 terms.sources one).1 in

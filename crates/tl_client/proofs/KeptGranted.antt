@@ -42,7 +42,8 @@ still_stores k true o h = absurd cc
 still_stores k false o h = (refl, h)
 
 -- the request that a Grant of the block answers is an Acquire of it
-pub acquires_granted : {w : ℕ} (x : BeatD w) (t : History w) (k : ℕ) → is_acquire_beat (open_beat x.source t) ≡ true → asks_for k (request_of x.source t) ≡ true → acquires k (open_beat x.source t) ≡ true
+pub acquires_granted : {w : ℕ} (x : BeatD w) (t : History w) (k : ℕ) → is_acquire_beat (open_beat x.source t) ≡ true → asks_for k (request_of x.source t) ≡ true
+    → acquires k (open_beat x.source t) ≡ true
 acquires_granted {w} x t k acquire block = go (pending (RequestSource x.source) t) (request_of x.source t) acquire block
   where
     go : (b : Bool) (o : Option (BeatA w)) → is_acquire_beat (cond b o None) ≡ true → asks_for k o ≡ true → acquires k (cond b o None) ≡ true
@@ -55,7 +56,8 @@ closes_own : {w : ℕ} (x : BeatD w) (t : History w) (s : ℕ) → is_grant x.op
 closes_own x t s g last is = rw (last, not_release_ack x.opcode g) (eq-eqb x.source s (sym is))
 
 -- no Acquire stays open whose block is granted
-none_left : {w : ℕ} (e : End w) (x : BeatD w) (s k : ℕ) → IsKept e → (is_grant x.opcode ≡ true → is_acquire_beat (open_beat x.source e.past) ≡ true) → closes_source x e.past s ≡ false → acquires k (open_beat s e.past) ≡ true
+none_left : {w : ℕ} (e : End w) (x : BeatD w) (s k : ℕ) → IsKept e → (is_grant x.opcode ≡ true → is_acquire_beat (open_beat x.source e.past) ≡ true) → closes_source x e.past s ≡ false
+    → acquires k (open_beat s e.past) ≡ true
     → (ends (beat.D x) e.past && grants k x e.past) ≡ false
 none_left e x s k kept acquired closed live = elim (cases_Bool (ends (beat.D x) e.past && grants k x e.past)) [
   | inr no_grant ↦ no_grant
@@ -91,7 +93,8 @@ kept-d e f x kept past acquired next waiting copies =
 
 -- ---- what the burst says after the beat
 
-pub next_burst : {w : ℕ} (x : BeatD w) (t : History w) (burst : List (Beat w)) → unfinished channel.D t ≡ burst → (is_grant x.opcode ≡ true → IsGoodGrant x t × (completes (beat.D x) burst ≡ false → is_grant_without_data x.opcode ≡ false)) → IsGranting (grown (beat.D x) burst) (beat.D x ∷ t)
+pub next_burst : {w : ℕ} (x : BeatD w) (t : History w) (burst : List (Beat w)) → unfinished channel.D t ≡ burst
+    → (is_grant x.opcode ≡ true → IsGoodGrant x t × (completes (beat.D x) burst ≡ false → is_grant_without_data x.opcode ≡ false)) → IsGranting (grown (beat.D x) burst) (beat.D x ∷ t)
 next_burst {w} x t burst is good = go (completes (beat.D x) burst) refl
   where
     go : (b : Bool) → completes (beat.D x) burst ≡ b → IsGranting (cond b [] (beat.D x ∷ burst)) (beat.D x ∷ t)
@@ -127,10 +130,12 @@ ends_none : {w : ℕ} (x : BeatD w) (t : History w) (k : ℕ) → ends (beat.D x
 ends_none x t k more = rw more refl
 
 -- at the last beat of a Grant of a block, by the request that it answers
-grants_block : {w : ℕ} (x : BeatD w) (t : History w) (r : BeatA w) (k : ℕ) → is_grant x.opcode ≡ true → ends (beat.D x) t ≡ true → request_of x.source t ≡ Some r → (ends (beat.D x) t && grants k x t) ≡ (k == block_at r.address)
+grants_block : {w : ℕ} (x : BeatD w) (t : History w) (r : BeatA w) (k : ℕ) → is_grant x.opcode ≡ true → ends (beat.D x) t ≡ true → request_of x.source t ≡ Some r
+    → (ends (beat.D x) t && grants k x t) ≡ (k == block_at r.address)
 grants_block x t r k g last is = rw (g, last, is) (swapped (block_at r.address) k)
 
-granted_copy : {w : ℕ} (e f : End w) (x : BeatD w) (r : BeatA w) (bytes : Option (List ℕ)) → IsKept e → is_some bytes ≡ true → holds (capped x.param) ≡ true → (k : ℕ) → is_some (set_at (block_at r.address) bytes e.copies k) ≡ holds (cond (k == block_at r.address) (capped x.param) (held k e.past))
+granted_copy : {w : ℕ} (e f : End w) (x : BeatD w) (r : BeatA w) (bytes : Option (List ℕ)) → IsKept e → is_some bytes ≡ true → holds (capped x.param) ≡ true → (k : ℕ)
+    → is_some (set_at (block_at r.address) bytes e.copies k) ≡ holds (cond (k == block_at r.address) (capped x.param) (held k e.past))
 granted_copy e f x r bytes kept some gives k = go (k == block_at r.address)
   where
     go : (b : Bool) → is_some (cond b bytes (e.copies k)) ≡ holds (cond b (capped x.param) (held k e.past))
@@ -138,13 +143,15 @@ granted_copy e f x r bytes kept some gives k = go (k == block_at r.address)
     go false = kept.copies_held k
 
 -- GrantData
-kept_data : {w : ℕ} (e : End w) (x : BeatD w) (r : BeatA w) (payload : List ℕ) → IsKept e → IsGoodBeat x e.past → is_grant x.opcode ≡ true → ends (beat.D x) e.past ≡ true → request_of x.source e.past ≡ Some r → IsKept (with_copy (block_at r.address) (Some payload) (after_d x e))
+kept_data : {w : ℕ} (e : End w) (x : BeatD w) (r : BeatA w) (payload : List ℕ) → IsKept e → IsGoodBeat x e.past → is_grant x.opcode ≡ true → ends (beat.D x) e.past ≡ true
+    → request_of x.source e.past ≡ Some r → IsKept (with_copy (block_at r.address) (Some payload) (after_d x e))
 kept_data e x r payload kept good g last is =
     kept-d e (with_copy (block_at r.address) (Some payload) (after_d x e)) x kept refl (λ h. (good.good h).answers_acquire) good.next (λ s k closed live. kept.awaited s k live)
     (λ k. rw (grants_block x e.past r k g last is) (granted_copy e e x r (Some payload) kept refl (good.good g).gives k))
 
 -- Grant for an AcquireBlock
-kept_block : {w : ℕ} (e : End w) (x : BeatD w) (r : BeatA w) → IsKept e → IsGoodBeat x e.past → is_grant x.opcode ≡ true → is_grant_without_data x.opcode ≡ true → is_acquire_block r.opcode ≡ true → ends (beat.D x) e.past ≡ true → request_of x.source e.past ≡ Some r → IsKept (after_d x e)
+kept_block : {w : ℕ} (e : End w) (x : BeatD w) (r : BeatA w) → IsKept e → IsGoodBeat x e.past → is_grant x.opcode ≡ true → is_grant_without_data x.opcode ≡ true
+    → is_acquire_block r.opcode ≡ true → ends (beat.D x) e.past ≡ true → request_of x.source e.past ≡ Some r → IsKept (after_d x e)
 kept_block e x r kept good g bare block last is =
     kept-d e (after_d x e) x kept refl (λ h. (good.good h).answers_acquire) good.next (λ s k closed live. kept.awaited s k live)
     (λ k. rw (grants_block x e.past r k g last is) (kept.copies_held k ∙ go k (cases_Bool (k == block_at r.address))))
@@ -180,7 +187,8 @@ open_is {w} s t r live is = go (pending (RequestSource s) t) (request_of s t) li
     go true o h i = i
 
 -- Grant for an AcquirePerm
-kept_perm : {w : ℕ} (e : End w) (x : BeatD w) (r : BeatA w) → IsKept e → IsGoodBeat x e.past → is_grant x.opcode ≡ true → is_acquire_perm r.opcode ≡ true → ends (beat.D x) e.past ≡ true → request_of x.source e.past ≡ Some r
+kept_perm : {w : ℕ} (e : End w) (x : BeatD w) (r : BeatA w) → IsKept e → IsGoodBeat x e.past → is_grant x.opcode ≡ true → is_acquire_perm r.opcode ≡ true → ends (beat.D x) e.past ≡ true
+    → request_of x.source e.past ≡ Some r
     → IsKept (with_waiting (block_at r.address) None (with_copy (block_at r.address) (e.waiting (block_at r.address)) (after_d x e)))
 kept_perm {w} e x r kept good g perm last is =
     kept-d e (with_waiting (block_at r.address) None (with_copy (block_at r.address) (e.waiting (block_at r.address)) (after_d x e))) x kept refl (λ h. (good.good h).answers_acquire) good.next
@@ -196,7 +204,8 @@ kept_perm {w} e x r kept good g perm last is =
     bytes : is_some (e.waiting (block_at r.address)) ≡ true
     bytes = kept.awaited x.source (block_at r.address) whole
 
-    keeps : (s k : ℕ) → closes_source x e.past s ≡ false → stores_whole k (open_beat s e.past) ≡ true → ((k == block_at r.address) ≡ true) ⊎ ((k == block_at r.address) ≡ false) → is_some (set_at (block_at r.address) None e.waiting k) ≡ true
+    keeps : (s k : ℕ) → closes_source x e.past s ≡ false → stores_whole k (open_beat s e.past) ≡ true → ((k == block_at r.address) ≡ true) ⊎ ((k == block_at r.address) ≡ false)
+        → is_some (set_at (block_at r.address) None e.waiting k) ≡ true
     keeps s k closed live (inr other) = rw other (kept.awaited s k live)
     keeps s k closed live (inl here) =
         let same : k ≡ block_at r.address = eqb-true k (block_at r.address) here in
@@ -205,7 +214,8 @@ kept_perm {w} e x r kept good g perm last is =
 
 -- ---- the last beat
 
-kept_granted : {w : ℕ} (e : End w) (x : BeatD w) (r : BeatA w) (opcode : OpA) → IsKept e → IsGoodBeat x e.past → r.opcode ≡ opcode → is_acquire opcode ≡ true → is_grant x.opcode ≡ true → is_grant_without_data x.opcode ≡ true → ends (beat.D x) e.past ≡ true → request_of x.source e.past ≡ Some r
+kept_granted : {w : ℕ} (e : End w) (x : BeatD w) (r : BeatA w) (opcode : OpA) → IsKept e → IsGoodBeat x e.past → r.opcode ≡ opcode → is_acquire opcode ≡ true → is_grant x.opcode ≡ true
+    → is_grant_without_data x.opcode ≡ true → ends (beat.D x) e.past ≡ true → request_of x.source e.past ≡ Some r
     → IsKept (granted_perm opcode (block_at r.address) (after_d x e))
 kept_granted e x r a.AcquirePerm kept good is acquire g bare last asked = kept_perm e x r kept good g (rw is refl) last asked
 kept_granted e x r a.AcquireBlock kept good is acquire g bare last asked = kept_block e x r kept good g bare (rw is refl) last asked
@@ -227,7 +237,8 @@ nothing_asked {w} x t live none = go (pending (RequestSource x.source) t) (reque
     go true None h i = absurd cc
     go true (Some r) h i = absurd cc
 
-kept_ended : {w : ℕ} (e : End w) (x : BeatD w) (opcode : OpD) (o : Option (BeatA w)) (payload : List ℕ) (f : Finish) → IsWidth w → IsKept e → IsGoodBeat x e.past → x.opcode ≡ opcode → ends (beat.D x) e.past ≡ true → request_of x.source e.past ≡ o
+kept_ended : {w : ℕ} (e : End w) (x : BeatD w) (opcode : OpD) (o : Option (BeatA w)) (payload : List ℕ) (f : Finish) → IsWidth w → IsKept e → IsGoodBeat x e.past → x.opcode ≡ opcode
+    → ends (beat.D x) e.past ≡ true → request_of x.source e.past ≡ o
     → IsKept (ended opcode x f (granted opcode o payload (after_d x e))).after
 kept_ended e x d.AccessAck o payload f is kept good code last asked = kept_plain e x kept good (λ k. grants_none x e.past k (rw code refl))
 kept_ended e x d.AccessAckData o payload f is kept good code last asked = kept_plain e x kept good (λ k. grants_none x e.past k (rw code refl))

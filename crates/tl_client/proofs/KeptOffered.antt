@@ -1,5 +1,6 @@
 -- What is kept as a client takes a beat.
-use Rattle.std.proofs.Common.{◌≡◌, ℕ, Bool, true, false, cond, leb, List, [], ◌∷◌, Option, Some, None, refl, sym, ◌∙◌, ap}
+use Rattle.std.proofs.Common.{◌≡◌, ℕ, Bool, true, false, cond, List, [], ◌∷◌, Option, Some, None, refl, sym, ◌∙◌, ap}
+use Rattle.std.specs.Prelude.{unwrap_or}
 use Rattle.tl_beat.specs.Width.{IsWidth}
 use Rattle.tl_beat.specs.declared.beat.Beat.{Beat}
 use Rattle.tl_beat.specs.declared.beat.Beat.TheVariants as beat
@@ -10,7 +11,7 @@ use Rattle.tl_beat.specs.declared.opcode.Channel.TheVariants as channel
 use Rattle.tl_beat.specs.declared.opcode.OpB.{OpB}
 use Rattle.tl_beat.specs.declared.opcode.OpB.TheVariants as b
 use Rattle.tl_beat.specs.declared.opcode.OpC.TheVariants as c
-use Rattle.tl_beat.specs.Opcode.{b_code, b_carries_data}
+use Rattle.tl_beat.specs.Opcode.{b_carries_data}
 use Rattle.tl_burst.specs.declared.message.Message.TheVariants as message
 use Rattle.tl_burst.specs.declared.message.MessageC.{MessageC}
 use Rattle.tl_burst.specs.Messages.{History, unfinished}
@@ -26,16 +27,15 @@ use Rattle.tl_params.specs.declared.perm.Perm.TheVariants as perm
 use Rattle.tl_params.specs.declared.rule.Rule.{Rule}
 use Rattle.tl_params.specs.declared.rule.Rule.TheVariants.{L1, L7, A3}
 use Rattle.tl_rules.specs.Agent.{sent}
-use Rattle.tl_rules.specs.Legality.{illegal, breaks_l1}
+use Rattle.tl_rules.specs.Legality.{illegal, breaks_l1, is_forwarded}
 use Rattle.tl_params.specs.Param.{cap_of, report_at, report_code, report_right}
-use Rattle.tl_rules.proofs.Bursts.{next_rule}
+use Rattle.tl_rules.proofs.Bursts.{next_rule, both_none}
 use Rattle.tl_client.specs.declared.verdict.Verdict.TheVariants.{Stalled}
 use Rattle.tl_client.specs.Send.{about, probe_ack}
 use Rattle.tl_client.proofs.KeptAsked.{copies_kept_for, kept_waiting}
-use Rattle.tl_client.proofs.Verdicts.{both_none}
 use Rattle.tl_client.specs.End.{Terms, End, fresh, zeros, copy_at, held_at, kept_for, sending, shut, with_past}
 use Rattle.tl_client.specs.Kept.{IsKept, holds}
-use Rattle.tl_client.specs.Offer.{offered, silent, taken, is_sent_on, waits, broken_before, broken_later, judged, judged_later, report_for, cap_or_none}
+use Rattle.tl_client.specs.Offer.{offered, silent, taken, is_sent_on, waits, broken_before, broken_later, judged, judged_later, report_for}
 use Rattle.tl_client.proofs.Grants.{good_grant}
 use Rattle.tl_client.proofs.HeldAfter.{IsIncoming, comes, held-probe_ack, kept_past}
 use Rattle.tl_client.proofs.Kept.{kept-c, kept-same}
@@ -49,7 +49,8 @@ single_b : {w : ℕ} (x : BeatB w) (t : History w) → b_carries_data x.opcode �
 unfolding unfinished
 single_b x t bare none = rw (none, bare) refl
 
-other_b : {w : ℕ} (x : BeatB w) (t : History w) → (unfinished channel.A (beat.B x ∷ t) ≡ unfinished channel.A t) × (unfinished channel.C (beat.B x ∷ t) ≡ unfinished channel.C t) × (unfinished channel.D (beat.B x ∷ t) ≡ unfinished channel.D t) × (unfinished channel.E (beat.B x ∷ t) ≡ unfinished channel.E t)
+other_b : {w : ℕ} (x : BeatB w) (t : History w)
+    → (unfinished channel.A (beat.B x ∷ t) ≡ unfinished channel.A t) × (unfinished channel.C (beat.B x ∷ t) ≡ unfinished channel.C t) × (unfinished channel.D (beat.B x ∷ t) ≡ unfinished channel.D t) × (unfinished channel.E (beat.B x ∷ t) ≡ unfinished channel.E t)
 unfolding unfinished
 other_b x t = (refl, refl, refl, refl)
 
@@ -92,10 +93,10 @@ kept_probed {w} e x is bare kept =
     kept-c e1 (kept_for block (report_right r) f) m.0 is kept1
     (kept_past block (report_right r) f ∙ ap (λ n. sent n t) m.1)
     (kept_waiting block (report_right r) f)
-    (λ k. copies_kept_for e1 f block k (report_right r) kept1 (λ j. refl) (λ h. rw (held_unsaid block (beat.B x) e.past refl) (reports_held (cap_or_none (cap_of x.param)) p h))
+    (λ k. copies_kept_for e1 f block k (report_right r) kept1 (λ j. refl) (λ h. rw (held_unsaid block (beat.B x) e.past refl) (reports_held (unwrap_or (cap_of x.param) cap.ToN) p h))
     ∙ ap holds (sym (held-probe_ack k x.opcode p r block (copy_at e block) t is kept1.c_whole) ∙ ap (λ u. held k u) (sym (kept_past block (report_right r) f))))
 
-no_access : (opcode : OpB) → leb (b_code opcode) 5 ≡ false → b_carries_data opcode ≡ false
+no_access : (opcode : OpB) → is_forwarded opcode ≡ false → b_carries_data opcode ≡ false
 no_access b.ProbeBlock e = refl
 no_access b.ProbePerm e = refl
 no_access b.Get e = refl
@@ -109,7 +110,7 @@ legal_probe : {w : ℕ} (l : Level) (ch : Channel) (x : BeatB w) → illegal l c
 unfolding illegal
 legal_probe l ch x e =
     let one = next_rule (breaks_l1 l ch (beat.B x)) L1 _ e in
-    let seven = next_rule (leb (b_code x.opcode) 5) L7 _ one.1 in
+    let seven = next_rule (is_forwarded x.opcode) L7 _ one.1 in
     no_access x.opcode seven.0
 
 -- ---- any beat
@@ -123,7 +124,8 @@ pub incoming_only : {w : ℕ} (l : Level) (ch : Channel) (x : Beat w) → is_sen
 unfolding illegal
 incoming_only l ch x way legal = comes l ch x way (next_rule (breaks_l1 l ch x) L1 _ legal).0
 
-kept_taken : {w : ℕ} (terms : Terms) (ch : Channel) (x : Beat w) (e : End w) → IsWidth w → IsKept e → is_sent_on ch ≡ false → illegal terms.level ch x ≡ None → broken_in_order terms.profile x e.past ≡ None → IsKept (taken x e).after
+kept_taken : {w : ℕ} (terms : Terms) (ch : Channel) (x : Beat w) (e : End w) → IsWidth w → IsKept e → is_sent_on ch ≡ false → illegal terms.level ch x ≡ None
+    → broken_in_order terms.profile x e.past ≡ None → IsKept (taken x e).after
 kept_taken terms ch (beat.A x) e is kept way legal none = absurd (incoming_only terms.level ch (beat.A x) way legal)
 kept_taken terms ch (beat.B x) e is kept way legal none = kept_probed e x is (legal_probe terms.level ch x legal) kept
 kept_taken terms ch (beat.C x) e is kept way legal none = absurd (incoming_only terms.level ch (beat.C x) way legal)
@@ -131,7 +133,8 @@ kept_taken terms ch (beat.D x) e is kept way legal none = kept_taken_d e x is ke
 kept_taken terms ch (beat.E x) e is kept way legal none = absurd (incoming_only terms.level ch (beat.E x) way legal)
 
 kept_shut : {w : ℕ} (e : End w) → IsKept e → IsKept (shut e)
-kept_shut e kept = record { a_whole = kept.a_whole; b_whole = kept.b_whole; c_whole = kept.c_whole; e_whole = kept.e_whole; copies_held = kept.copies_held; awaited = kept.awaited; once = kept.once; outstanding = kept.outstanding; granting = kept.granting }
+kept_shut e kept =
+    record { a_whole = kept.a_whole; b_whole = kept.b_whole; c_whole = kept.c_whole; e_whole = kept.e_whole; copies_held = kept.copies_held; awaited = kept.awaited; once = kept.once; outstanding = kept.outstanding; granting = kept.granting }
 
 kept_later : {w : ℕ} (o : Option Rule) (x : Beat w) (e : End w) → IsKept e → (o ≡ None → IsKept (taken x e).after) → IsKept (judged_later o x e).after
 kept_later (Some r) x e kept more = kept_shut e kept

@@ -15,6 +15,7 @@ use Rattle.tl_burst.specs.declared.message.MessageA.{MessageA}
 use Rattle.tl_burst.specs.declared.message.MessageC.{MessageC}
 use Rattle.tl_burst.specs.declared.message.MessageE.{MessageE}
 use Rattle.tl_burst.specs.Messages.{History, unfinished}
+use Rattle.tl_burst.proofs.Splitting.{beats-positive}
 use Rattle.tl_params.specs.declared.key.Key.TheVariants.{ReleaseSource}
 use Rattle.tl_params.specs.declared.perm.Perm.{Perm}
 use Rattle.tl_params.specs.declared.perm.Perm.TheVariants as perm
@@ -22,7 +23,6 @@ use Rattle.tl_params.specs.Param.{prune_code, prune_right, report_code, report_r
 use Rattle.tl_rules.specs.Agent.{sent, payload_of}
 use Rattle.tl_rules.specs.Handed.{pending_with, release_with, request_if_any, release_if_any}
 use Rattle.tl_rules.specs.History.{block_at, ends, is_release, pending, request_of, release_of}
-use Rattle.tl_rules.proofs.Bursts.{has_beats}
 use Rattle.tl_rules.proofs.Handed.{pending-whole, release_of-whole}
 use Rattle.tl_rules.proofs.Sent.{pending-quiet}
 use Rattle.tl_client.specs.declared.operation.Op.{Op}
@@ -39,7 +39,7 @@ use Rattle.tl_client.proofs.AccountedResponse.{open_release-d}
 use Rattle.tl_client.proofs.AccountedSent.{open_release-a, open_release-c}
 use Rattle.tl_client.proofs.AccountedTaken.{names_b}
 use Rattle.tl_client.proofs.Cases.{IsPassed, asked-cases, offered-cases, ended-cases, probe_ack-cases, release-cases}
-use Rattle.tl_client.proofs.HeldAfter.{kept_past, granted_past}
+use Rattle.tl_client.proofs.HeldAfter.{kept_past, granted_past, still_whole}
 use Rattle.tl_client.proofs.KeptOffered.{incoming_only}
 use Rattle.tl_client.proofs.Opens.{open_beat-a, open_beat-b, open_beat-c, open_beat-d, open_beat-e, unfinished-d}
 
@@ -82,10 +82,12 @@ opens_done terms (Access (E m)) e s is kept = (refl, refl)
 opens_asked : {w : ℕ} (terms : Terms) (op : Op w) (e : End w) (s : ℕ) → IsWidth w → IsKept e → OpensBy s (asked terms op e).message e.past (asked terms op e).after.past
 opens_asked terms op e s is kept = asked-cases terms op e (λ o. OpensBy s o.message e.past o.after.past) (λ b. (refl, refl)) (λ free. opens_done terms op e s is kept)
 
-pub open-asked : {w : ℕ} (terms : Terms) (op : Op w) (e : End w) (s : ℕ) → IsWidth w → IsKept e → open_beat s (asked terms op e).after.past ≡ request_if_any s (asked terms op e).message (open_beat s e.past)
+pub open-asked : {w : ℕ} (terms : Terms) (op : Op w) (e : End w) (s : ℕ) → IsWidth w → IsKept e
+    → open_beat s (asked terms op e).after.past ≡ request_if_any s (asked terms op e).message (open_beat s e.past)
 open-asked terms op e s is kept = (opens_asked terms op e s is kept).0
 
-pub open_release-asked : {w : ℕ} (terms : Terms) (op : Op w) (e : End w) (s : ℕ) → IsWidth w → IsKept e → open_release s (asked terms op e).after.past ≡ release_if_any s (asked terms op e).message (open_release s e.past)
+pub open_release-asked : {w : ℕ} (terms : Terms) (op : Op w) (e : End w) (s : ℕ) → IsWidth w → IsKept e
+    → open_release s (asked terms op e).after.past ≡ release_if_any s (asked terms op e).message (open_release s e.past)
 open_release-asked terms op e s is kept = (opens_asked terms op e s is kept).1
 
 -- ---- beats
@@ -100,19 +102,20 @@ OpensAs s o x t = (open_beat s o.after.past ≡ open_by s o.answer x t) × (open
 opens_b : {w : ℕ} (s : ℕ) (x : BeatB w) (t : History w) → OpensAfter s (beat.B x) t (beat.B x ∷ t)
 opens_b s x t = (open_beat-b s x t, rw (pending-quiet (ReleaseSource s) (beat.B x) t refl refl, (names_b s x t).0) refl)
 
-opens_c : {w : ℕ} (s : ℕ) (m : MessageC w) (x : BeatB w) (t : History w) → IsWidth w → unfinished channel.C (beat.B x ∷ t) ≡ [] → is_release m.opcode ≡ false → OpensAfter s (beat.B x) t (sent (C m) (beat.B x ∷ t))
+opens_c : {w : ℕ} (s : ℕ) (m : MessageC w) (x : BeatB w) (t : History w) → IsWidth w → unfinished channel.C (beat.B x ∷ t) ≡ [] → is_release m.opcode ≡ false
+    → OpensAfter s (beat.B x) t (sent (C m) (beat.B x ∷ t))
 opens_c {w} s m x t is none kind =
     let before = opens_b s x t in
     (open_beat-c s m (beat.B x ∷ t) is none ∙ before.0, same ∙ before.1)
   where
     same_pending : pending (ReleaseSource s) (sent (C m) (beat.B x ∷ t)) ≡ pending (ReleaseSource s) (beat.B x ∷ t)
-    same_pending = pending-whole (ReleaseSource s) (C m) (beat.B x ∷ t) none (has_beats (C m) is) ∙ unopened kind
+    same_pending = pending-whole (ReleaseSource s) (C m) (beat.B x ∷ t) none (beats-positive (C m) is) ∙ unopened kind
       where
         unopened : is_release m.opcode ≡ false → pending_with (ReleaseSource s) (C m) (beat.B x ∷ t) ≡ pending (ReleaseSource s) (beat.B x ∷ t)
         unopened e = rw e refl
 
     same_release : release_of s (sent (C m) (beat.B x ∷ t)) ≡ release_of s (beat.B x ∷ t)
-    same_release = release_of-whole s (C m) (beat.B x ∷ t) none (has_beats (C m) is) ∙ unnamed kind
+    same_release = release_of-whole s (C m) (beat.B x ∷ t) none (beats-positive (C m) is) ∙ unnamed kind
       where
         unnamed : is_release m.opcode ≡ false → release_with s (C m) (release_of s (beat.B x ∷ t)) ≡ release_of s (beat.B x ∷ t)
         unnamed e = rw e refl
@@ -120,16 +123,12 @@ opens_c {w} s m x t is none kind =
     same : open_release s (sent (C m) (beat.B x ∷ t)) ≡ open_release s (beat.B x ∷ t)
     same = rw (same_pending, same_release) refl
 
-still_c : {w : ℕ} (x : BeatB w) (t : History w) → unfinished channel.C (beat.B x ∷ t) ≡ unfinished channel.C t
-unfolding unfinished
-still_c x t = refl
-
 opens_probed : {w : ℕ} (s : ℕ) (x : BeatB w) (e : End w) → IsWidth w → IsKept e → OpensAs s (taken (beat.B x) e) (beat.B x) e.past
 opens_probed {w} s x e is kept =
     let block = block_at x.address in
     let p = held_at e block in
     let r = report_for x p in
-    let none : unfinished channel.C (beat.B x ∷ e.past) ≡ [] = still_c x e.past ∙ kept.c_whole in
+    let none : unfinished channel.C (beat.B x ∷ e.past) ≡ [] = still_whole x e.past ∙ kept.c_whole in
     subst (λ u. OpensAfter s (beat.B x) e.past u) (sym (kept_past block (report_right r) _))
     (probe_ack-cases x.opcode p r block (copy_at e block) (λ m. OpensAfter s (beat.B x) e.past (sent m (beat.B x ∷ e.past)))
     (opens_c s (about c.ProbeAckData (report_code r) 0 block (copy_at e block)) x e.past is none refl)
@@ -140,7 +139,7 @@ opens_d s x t = (open_beat-d s x t, open_release-d s x t)
 
 opens_e : {w : ℕ} (s : ℕ) (m : MessageE) (x : Beat w) (t u : History w) → IsWidth w → unfinished channel.E u ≡ [] → OpensAfter s x t u → OpensAfter s x t (sent (E m) u)
 opens_e {w} s m x t u is none before =
-    (open_beat-e s m u is none ∙ before.0, rw (pending-whole (ReleaseSource s) (E m) u none (has_beats {w = w} (E m) is), release_of-whole s (E m) u none (has_beats {w = w} (E m) is)) before.1)
+    (open_beat-e s m u is none ∙ before.0, rw (pending-whole (ReleaseSource s) (E m) u none (beats-positive {w = w} (E m) is), release_of-whole s (E m) u none (beats-positive {w = w} (E m) is)) before.1)
 
 opens_answered : {w : ℕ} (s : ℕ) (x : BeatD w) (e : End w) → IsWidth w → IsKept e → OpensAs s (taken (beat.D x) e) (beat.D x) e.past
 opens_answered {w} s x e is kept = go (ends (beat.D x) e.past)
@@ -172,8 +171,10 @@ opens_taken terms ch (beat.E x) e s is kept passed = absurd (incoming_only terms
 opens_offered : {w : ℕ} (terms : Terms) (ch : Channel) (x : Beat w) (e : End w) (s : ℕ) → IsWidth w → IsKept e → OpensAs s (offered terms ch x e) x e.past
 opens_offered terms ch x e s is kept = offered-cases terms ch x e (λ o. OpensAs s o x e.past) (λ r. (refl, refl)) (refl, refl) (λ passed. opens_taken terms ch x e s is kept passed)
 
-pub open-offered : {w : ℕ} (terms : Terms) (ch : Channel) (x : Beat w) (e : End w) (s : ℕ) → IsWidth w → IsKept e → open_beat s (offered terms ch x e).after.past ≡ open_by s (offered terms ch x e).answer x e.past
+pub open-offered : {w : ℕ} (terms : Terms) (ch : Channel) (x : Beat w) (e : End w) (s : ℕ) → IsWidth w → IsKept e
+    → open_beat s (offered terms ch x e).after.past ≡ open_by s (offered terms ch x e).answer x e.past
 open-offered terms ch x e s is kept = (opens_offered terms ch x e s is kept).0
 
-pub open_release-offered : {w : ℕ} (terms : Terms) (ch : Channel) (x : Beat w) (e : End w) (s : ℕ) → IsWidth w → IsKept e → open_release s (offered terms ch x e).after.past ≡ release_by s (offered terms ch x e).answer x e.past
+pub open_release-offered : {w : ℕ} (terms : Terms) (ch : Channel) (x : Beat w) (e : End w) (s : ℕ) → IsWidth w → IsKept e
+    → open_release s (offered terms ch x e).after.past ≡ release_by s (offered terms ch x e).answer x e.past
 open_release-offered terms ch x e s is kept = (opens_offered terms ch x e s is kept).1

@@ -14,17 +14,18 @@ use Rattle.tl_burst.specs.declared.message.MessageC.{MessageC}
 use Rattle.tl_burst.specs.declared.message.MessageE.{MessageE}
 use Rattle.tl_burst.specs.Burst.{a_beat_of, beat_of, beats_of, begun}
 use Rattle.tl_burst.specs.Messages.{History, channel_in, unfinished, grown}
+use Rattle.tl_burst.proofs.Splitting.{beats-positive}
 use Rattle.tl_params.specs.declared.key.Key.{Key}
 use Rattle.tl_params.specs.declared.key.Key.TheVariants.{RequestSource, AcquireOf}
 use Rattle.tl_rules.specs.Agent.{sent}
 use Rattle.tl_rules.specs.History.{ends, opens, grants, is_acquire, is_release_ack, block_at, pending, request_of}
-use Rattle.tl_rules.proofs.Bursts.{has_beats}
 use Rattle.tl_client.specs.Requests.{open_beat}
 use Rattle.tl_rules.proofs.Sent.{pending-sent, request_of-sent, request_closes_nothing, ClosesNothing, pending-quiet, pending-closed}
 
 -- a message that neither opens nor closes it
-pub pending-sent_quiet : {w : ℕ} (k : Key) (m : Message w) (t : History w) → IsWidth w → unfinished (channel_in m) t ≡ [] → ClosesNothing k m → opens k (beat_of m 0) t ≡ false → pending k (sent m t) ≡ pending k t
-pending-sent_quiet k m t is none closes_none o = pending-sent k m t none closes_none (has_beats m is) ∙ rw o refl
+pub pending-sent_quiet : {w : ℕ} (k : Key) (m : Message w) (t : History w) → IsWidth w → unfinished (channel_in m) t ≡ [] → ClosesNothing k m → opens k (beat_of m 0) t ≡ false
+    → pending k (sent m t) ≡ pending k t
+pending-sent_quiet k m t is none closes_none o = pending-sent k m t none closes_none (beats-positive m is) ∙ rw o refl
 
 request_of-c : {w : ℕ} (s : ℕ) (m : MessageC w) (t : History w) (n : ℕ) → request_of s (begun (C m) n ++ t) ≡ request_of s t
 unfolding request_of
@@ -47,7 +48,7 @@ request_of-d s x t = refl
 
 pub open_beat-a : {w : ℕ} (s : ℕ) (m : MessageA w) (t : History w) → IsWidth w → unfinished channel.A t ≡ [] → open_beat s (sent (A m) t) ≡ cond (m.source == s) (Some (a_beat_of m 0)) (open_beat s t)
 open_beat-a {w} s m t is none =
-    rw (pending-sent (RequestSource s) (A m) t none (request_closes_nothing (RequestSource s) m) (has_beats (A m) is), request_of-sent s m t none (has_beats (A m) is))
+    rw (pending-sent (RequestSource s) (A m) t none (request_closes_nothing (RequestSource s) m) (beats-positive (A m) is), request_of-sent s m t none (beats-positive (A m) is))
     (go (m.source == s) (pending (RequestSource s) t) (request_of s t))
   where
     go : (b p : Bool) (o : Option (BeatA w)) → cond (cond b true p) (cond b (Some (a_beat_of m 0)) o) None ≡ cond b (Some (a_beat_of m 0)) (cond p o None)
@@ -76,8 +77,9 @@ open_beat-d {w} s x t = rw (pending-closed (RequestSource s) (beat.D x) t refl, 
 
 -- ---- the Acquire of a block
 
-pub acquire_of-a : {w : ℕ} (k : ℕ) (m : MessageA w) (t : History w) → IsWidth w → unfinished channel.A t ≡ [] → pending (AcquireOf k) (sent (A m) t) ≡ cond (is_acquire m.opcode && (block_at m.address == k)) true (pending (AcquireOf k) t)
-acquire_of-a k m t is none = pending-sent (AcquireOf k) (A m) t none (request_closes_nothing (AcquireOf k) m) (has_beats (A m) is)
+pub acquire_of-a : {w : ℕ} (k : ℕ) (m : MessageA w) (t : History w) → IsWidth w → unfinished channel.A t ≡ []
+    → pending (AcquireOf k) (sent (A m) t) ≡ cond (is_acquire m.opcode && (block_at m.address == k)) true (pending (AcquireOf k) t)
+acquire_of-a k m t is none = pending-sent (AcquireOf k) (A m) t none (request_closes_nothing (AcquireOf k) m) (beats-positive (A m) is)
 
 pub acquire_of-c : {w : ℕ} (k : ℕ) (m : MessageC w) (t : History w) → IsWidth w → unfinished channel.C t ≡ [] → pending (AcquireOf k) (sent (C m) t) ≡ pending (AcquireOf k) t
 acquire_of-c k m t is none = pending-sent_quiet (AcquireOf k) (C m) t is none (λ i u. refl) refl
@@ -93,6 +95,7 @@ acquire_of-d k x t = pending-closed (AcquireOf k) (beat.D x) t refl
 
 -- ---- what is unfinished after a response
 
-pub unfinished-d : {w : ℕ} (x : BeatD w) (t : History w) → (unfinished channel.A (beat.D x ∷ t) ≡ unfinished channel.A t) × (unfinished channel.B (beat.D x ∷ t) ≡ unfinished channel.B t) × (unfinished channel.C (beat.D x ∷ t) ≡ unfinished channel.C t) × (unfinished channel.E (beat.D x ∷ t) ≡ unfinished channel.E t) × (unfinished channel.D (beat.D x ∷ t) ≡ grown (beat.D x) (unfinished channel.D t))
+pub unfinished-d : {w : ℕ} (x : BeatD w) (t : History w)
+    → (unfinished channel.A (beat.D x ∷ t) ≡ unfinished channel.A t) × (unfinished channel.B (beat.D x ∷ t) ≡ unfinished channel.B t) × (unfinished channel.C (beat.D x ∷ t) ≡ unfinished channel.C t) × (unfinished channel.E (beat.D x ∷ t) ≡ unfinished channel.E t) × (unfinished channel.D (beat.D x ∷ t) ≡ grown (beat.D x) (unfinished channel.D t))
 unfolding unfinished
 unfinished-d x t = (refl, refl, refl, refl, refl)

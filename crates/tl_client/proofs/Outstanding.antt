@@ -1,5 +1,6 @@
 -- What a client's history says after a call.
 use Rattle.std.proofs.Common.{◌≡◌, ℕ, Bool, true, false, cond, List, [], ◌∷◌, Option, Some, None, refl, sym, ◌∙◌, ap, subst}
+use Rattle.std.specs.Prelude.{⊤}
 use Rattle.tl_beat.specs.Width.{IsWidth}
 use Rattle.tl_beat.specs.declared.beat.Beat.{Beat}
 use Rattle.tl_beat.specs.declared.beat.Beat.TheVariants as beat
@@ -17,6 +18,7 @@ use Rattle.tl_burst.specs.declared.message.Message.TheVariants.{A, B, C, D, E}
 use Rattle.tl_burst.specs.declared.message.MessageC.{MessageC}
 use Rattle.tl_burst.specs.declared.message.MessageE.{MessageE}
 use Rattle.tl_burst.specs.Messages.{History, channel_in, unfinished}
+use Rattle.tl_burst.proofs.Splitting.{beats-positive}
 use Rattle.tl_params.specs.declared.key.Key.{Key}
 use Rattle.tl_params.specs.declared.param.Prune.{Prune}
 use Rattle.tl_params.specs.declared.param.Prune.TheVariants as prune
@@ -27,7 +29,6 @@ use Rattle.tl_params.specs.Param.{report_code, report_right}
 use Rattle.tl_rules.specs.Agent.{sent, sent_if_any, payload_of}
 use Rattle.tl_rules.specs.Handed.{pending_if_any, release_with, request_if_any, release_if_any}
 use Rattle.tl_rules.specs.History.{block_at, ends, is_release, pending, request_of, release_of}
-use Rattle.tl_rules.proofs.Bursts.{has_beats}
 use Rattle.tl_rules.proofs.Handed.{pending-whole, unfinished-whole, request_of-whole, release_of-whole}
 use Rattle.tl_client.specs.declared.operation.Op.{Op}
 use Rattle.tl_client.specs.declared.operation.Op.TheVariants.{Load, Store, Acquire, AcquireWhole, Release, Access}
@@ -44,13 +45,13 @@ use Rattle.tl_client.proofs.AccountedTaken.{names_b}
 use Rattle.tl_client.proofs.AfterAsked.{past-asked}
 use Rattle.tl_client.proofs.AfterOffered.{past-offered}
 use Rattle.tl_client.proofs.Cases.{IsPassed, asked-cases, offered-cases, ended-cases, probe_ack-cases}
-use Rattle.tl_client.proofs.HeldAfter.{kept_past, granted_past}
+use Rattle.tl_client.proofs.HeldAfter.{kept_past, granted_past, still_whole}
 use Rattle.tl_client.proofs.KeptOffered.{incoming_only}
 use Rattle.tl_client.proofs.Opens.{request_of-b, request_of-d, unfinished-d}
 
 -- nothing is unfinished on the channel of the message
 abbrev pub IsFree : {w : ℕ} → Option (Message w) → History w → Type 0
-IsFree None t = Unit {0}
+IsFree None t = ⊤
 IsFree (Some m) t = unfinished (channel_in m) t ≡ []
 
 -- ---- operations
@@ -102,10 +103,6 @@ free_probe_ack b.LogicalData p r block copy t none = none
 free_probe_ack b.Get p r block copy t none = none
 free_probe_ack b.Intent p r block copy t none = none
 
-still_c : {w : ℕ} (x : BeatB w) (t : History w) → unfinished channel.C (beat.B x ∷ t) ≡ unfinished channel.C t
-unfolding unfinished
-still_c x t = refl
-
 free_ended : {w : ℕ} (opcode : OpD) (x : BeatD w) (f : Finish) (g : End w) (t : History w) → unfinished channel.E (beat.D x ∷ t) ≡ [] → IsFreeAfter (ended opcode x f g) (beat.D x) t
 free_ended d.Grant x f g t none = none
 free_ended d.GrantData x f g t none = none
@@ -117,7 +114,7 @@ free_ended d.ReleaseAck x f g t none = tt
 free_taken : {w : ℕ} (x : Beat w) (e : End w) → IsKept e → IsFreeAfter (taken x e) x e.past
 free_taken (beat.A x) e kept = tt
 free_taken (beat.B x) e kept =
-    free_probe_ack x.opcode (held_at e (block_at x.address)) (report_for x (held_at e (block_at x.address))) (block_at x.address) (copy_at e (block_at x.address)) (beat.B x ∷ e.past) (still_c x e.past ∙ kept.c_whole)
+    free_probe_ack x.opcode (held_at e (block_at x.address)) (report_for x (held_at e (block_at x.address))) (block_at x.address) (copy_at e (block_at x.address)) (beat.B x ∷ e.past) (still_whole x e.past ∙ kept.c_whole)
 free_taken (beat.C x) e kept = tt
 free_taken {w} (beat.D x) e kept = go (ends (beat.D x) e.past) _ (free_ended x.opcode x _ _ e.past ((unfinished-d x e.past).3 ∙ kept.e_whole))
   where
@@ -133,29 +130,31 @@ free_offered terms ch x e kept = offered-cases terms ch x e (λ o. IsFreeAfter o
 
 pending_after : {w : ℕ} (k : Key) (o : Option (Message w)) (t : History w) → IsWidth w → IsFree o t → pending k (sent_if_any o t) ≡ pending_if_any k o t
 pending_after k None t is free = refl
-pending_after k (Some m) t is free = pending-whole k m t free (has_beats m is)
+pending_after k (Some m) t is free = pending-whole k m t free (beats-positive m is)
 
 request_after : {w : ℕ} (s : ℕ) (o : Option (Message w)) (t : History w) → IsWidth w → IsFree o t → request_of s (sent_if_any o t) ≡ request_if_any s o (request_of s t)
 request_after s None t is free = refl
-request_after s (Some m) t is free = request_of-whole s m t free (has_beats m is)
+request_after s (Some m) t is free = request_of-whole s m t free (beats-positive m is)
 
 release_after : {w : ℕ} (s : ℕ) (o : Option (Message w)) (t : History w) → IsWidth w → IsFree o t → release_of s (sent_if_any o t) ≡ release_if_any s o (release_of s t)
 release_after s None t is free = refl
-release_after s (Some m) t is free = release_of-whole s m t free (has_beats m is)
+release_after s (Some m) t is free = release_of-whole s m t free (beats-positive m is)
 
 unfinished_after : {w : ℕ} (ch : Channel) (o : Option (Message w)) (t : History w) → IsWidth w → IsFree o t → unfinished ch (sent_if_any o t) ≡ unfinished ch t
 unfinished_after ch None t is free = refl
-unfinished_after ch (Some m) t is free = unfinished-whole ch m t free (has_beats m is)
+unfinished_after ch (Some m) t is free = unfinished-whole ch m t free (beats-positive m is)
 
 -- ---- after an operation
 
 pub pending-asked : {w : ℕ} (terms : Terms) (op : Op w) (e : End w) (k : Key) → IsWidth w → IsKept e → pending k (asked terms op e).after.past ≡ pending_if_any k (asked terms op e).message e.past
 pending-asked terms op e k is kept = ap (λ t. pending k t) (past-asked terms op e) ∙ pending_after k (asked terms op e).message e.past is (free_asked terms op e kept)
 
-pub request-asked : {w : ℕ} (terms : Terms) (op : Op w) (e : End w) (s : ℕ) → IsWidth w → IsKept e → request_of s (asked terms op e).after.past ≡ request_if_any s (asked terms op e).message (request_of s e.past)
+pub request-asked : {w : ℕ} (terms : Terms) (op : Op w) (e : End w) (s : ℕ) → IsWidth w → IsKept e
+    → request_of s (asked terms op e).after.past ≡ request_if_any s (asked terms op e).message (request_of s e.past)
 request-asked terms op e s is kept = ap (λ t. request_of s t) (past-asked terms op e) ∙ request_after s (asked terms op e).message e.past is (free_asked terms op e kept)
 
-pub release-asked : {w : ℕ} (terms : Terms) (op : Op w) (e : End w) (s : ℕ) → IsWidth w → IsKept e → release_of s (asked terms op e).after.past ≡ release_if_any s (asked terms op e).message (release_of s e.past)
+pub release-asked : {w : ℕ} (terms : Terms) (op : Op w) (e : End w) (s : ℕ) → IsWidth w → IsKept e
+    → release_of s (asked terms op e).after.past ≡ release_if_any s (asked terms op e).message (release_of s e.past)
 release-asked terms op e s is kept = ap (λ t. release_of s t) (past-asked terms op e) ∙ release_after s (asked terms op e).message e.past is (free_asked terms op e kept)
 
 pub unfinished-asked : {w : ℕ} (terms : Terms) (op : Op w) (e : End w) (ch : Channel) → IsWidth w → IsKept e → unfinished ch (asked terms op e).after.past ≡ unfinished ch e.past
@@ -165,10 +164,15 @@ unfinished-asked terms op e ch is kept = ap (λ t. unfinished ch t) (past-asked 
 
 pub pending-offered : {w : ℕ} (terms : Terms) (ch : Channel) (x : Beat w) (e : End w) (k : Key) → IsWidth w → IsKept e
     → pending k (offered terms ch x e).after.past ≡ pending_if_any k (handed (offered terms ch x e).answer) (heard (offered terms ch x e).answer x e.past)
-pending-offered terms ch x e k is kept = ap (λ t. pending k t) (past-offered terms ch x e) ∙ pending_after k (handed (offered terms ch x e).answer) (heard (offered terms ch x e).answer x e.past) is (free_offered terms ch x e kept)
+pending-offered terms ch x e k is kept =
+    ap (λ t. pending k t) (past-offered terms ch x e)
+    ∙ pending_after k (handed (offered terms ch x e).answer) (heard (offered terms ch x e).answer x e.past) is (free_offered terms ch x e kept)
 
-pub unfinished-offered : {w : ℕ} (terms : Terms) (ch : Channel) (x : Beat w) (e : End w) (at : Channel) → IsWidth w → IsKept e → unfinished at (offered terms ch x e).after.past ≡ unfinished at (heard (offered terms ch x e).answer x e.past)
-unfinished-offered terms ch x e at is kept = ap (λ t. unfinished at t) (past-offered terms ch x e) ∙ unfinished_after at (handed (offered terms ch x e).answer) (heard (offered terms ch x e).answer x e.past) is (free_offered terms ch x e kept)
+pub unfinished-offered : {w : ℕ} (terms : Terms) (ch : Channel) (x : Beat w) (e : End w) (at : Channel) → IsWidth w → IsKept e
+    → unfinished at (offered terms ch x e).after.past ≡ unfinished at (heard (offered terms ch x e).answer x e.past)
+unfinished-offered terms ch x e at is kept =
+    ap (λ t. unfinished at t) (past-offered terms ch x e)
+    ∙ unfinished_after at (handed (offered terms ch x e).answer) (heard (offered terms ch x e).answer x e.past) is (free_offered terms ch x e kept)
 
 -- ---- the requests and Releases after a beat
 
@@ -179,10 +183,11 @@ HasSameNames s t u = (request_of s u ≡ request_of s t) × (release_of s u ≡ 
 names_d : {w : ℕ} (s : ℕ) (x : BeatD w) (t : History w) → HasSameNames s t (beat.D x ∷ t)
 names_d s x t = (request_of-d s x t, release_of-d s x t)
 
-names_c : {w : ℕ} (s : ℕ) (m : MessageC w) (x : BeatB w) (t : History w) → IsWidth w → unfinished channel.C (beat.B x ∷ t) ≡ [] → is_release m.opcode ≡ false → HasSameNames s t (sent (C m) (beat.B x ∷ t))
+names_c : {w : ℕ} (s : ℕ) (m : MessageC w) (x : BeatB w) (t : History w) → IsWidth w → unfinished channel.C (beat.B x ∷ t) ≡ [] → is_release m.opcode ≡ false
+    → HasSameNames s t (sent (C m) (beat.B x ∷ t))
 names_c s m x t is none kind = (
-  request_of-whole s (C m) (beat.B x ∷ t) none (has_beats (C m) is) ∙ request_of-b s x t,
-  release_of-whole s (C m) (beat.B x ∷ t) none (has_beats (C m) is) ∙ unnamed kind ∙ (names_b s x t).0,
+  request_of-whole s (C m) (beat.B x ∷ t) none (beats-positive (C m) is) ∙ request_of-b s x t,
+  release_of-whole s (C m) (beat.B x ∷ t) none (beats-positive (C m) is) ∙ unnamed kind ∙ (names_b s x t).0,
 )
   where
     unnamed : is_release m.opcode ≡ false → release_with s (C m) (release_of s (beat.B x ∷ t)) ≡ release_of s (beat.B x ∷ t)
@@ -193,14 +198,14 @@ names_probed {w} s x e is kept =
     let block = block_at x.address in
     let p = held_at e block in
     let r = report_for x p in
-    let none : unfinished channel.C (beat.B x ∷ e.past) ≡ [] = still_c x e.past ∙ kept.c_whole in
+    let none : unfinished channel.C (beat.B x ∷ e.past) ≡ [] = still_whole x e.past ∙ kept.c_whole in
     subst (λ u. HasSameNames s e.past u) (sym (kept_past block (report_right r) _))
     (probe_ack-cases x.opcode p r block (copy_at e block) (λ m. HasSameNames s e.past (sent m (beat.B x ∷ e.past)))
     (names_c s (about c.ProbeAckData (report_code r) 0 block (copy_at e block)) x e.past is none refl)
     (names_c s (about c.ProbeAck (report_code r) 0 block zeros) x e.past is none refl))
 
 names_e : {w : ℕ} (s : ℕ) (m : MessageE) (t u : History w) → IsWidth w → unfinished channel.E u ≡ [] → HasSameNames s t u → HasSameNames s t (sent (E m) u)
-names_e {w} s m t u is none same = (request_of-whole s (E m) u none (has_beats {w = w} (E m) is) ∙ same.0, release_of-whole s (E m) u none (has_beats {w = w} (E m) is) ∙ same.1)
+names_e {w} s m t u is none same = (request_of-whole s (E m) u none (beats-positive {w = w} (E m) is) ∙ same.0, release_of-whole s (E m) u none (beats-positive {w = w} (E m) is) ∙ same.1)
 
 names_answered : {w : ℕ} (s : ℕ) (x : BeatD w) (e : End w) → IsWidth w → IsKept e → HasSameNames s e.past (taken (beat.D x) e).after.past
 names_answered {w} s x e is kept = go (ends (beat.D x) e.past)

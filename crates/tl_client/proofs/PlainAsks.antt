@@ -6,16 +6,16 @@ use Rattle.tl_beat.specs.declared.beat.Beat.{Beat}
 use Rattle.tl_beat.specs.declared.beat.Beat.TheVariants as beat
 use Rattle.tl_beat.specs.declared.beat.BeatA.{BeatA}
 use Rattle.tl_beat.specs.declared.opcode.Channel.TheVariants as channel
+use Rattle.tl_beat.specs.First.{first_if}
 use Rattle.tl_burst.specs.declared.message.Message.TheVariants as message
 use Rattle.tl_burst.specs.declared.message.MessageA.{MessageA}
 use Rattle.tl_burst.specs.Burst.{a_beat_of}
 use Rattle.tl_burst.specs.Messages.{History, unfinished}
+use Rattle.tl_burst.proofs.Splitting.{beats-positive}
 use Rattle.tl_params.specs.declared.key.Key.{Key}
 use Rattle.tl_params.specs.declared.key.Key.TheVariants.{RequestSource, ReleaseSource, AcquireOf, ReleaseOf, GrantSink, GrantAckOf, ProbeOf}
 use Rattle.tl_rules.specs.Agent.{sent}
 use Rattle.tl_rules.specs.History.{begins, ends, closes, opens, is_acquire, pending, request_of, held}
-use Rattle.tl_rules.specs.Legality.{has_transfers}
-use Rattle.tl_rules.proofs.Bursts.{has_beats}
 use Rattle.tl_client.specs.declared.busy.Busy.{Busy}
 use Rattle.tl_client.specs.declared.busy.Busy.TheVariants.{B1, B2, B3, B4, B5}
 use Rattle.tl_client.specs.declared.operation.Op.{Op}
@@ -23,7 +23,7 @@ use Rattle.tl_client.specs.declared.operation.Op.TheVariants.{Load, Store, Acqui
 use Rattle.tl_client.specs.declared.plain.Plain.{Plain}
 use Rattle.tl_client.specs.declared.request.Request.{Request}
 use Rattle.tl_client.specs.declared.reply.Reply.TheVariants as reply
-use Rattle.tl_client.specs.Ask.{Asked, asked, block_of, breaks_b1, breaks_b2, breaks_b3, breaks_b4, busy, busy_if, is_formed, is_access_of, only, started, free_request, least_free}
+use Rattle.tl_client.specs.Ask.{Asked, asked, op_block, breaks_b1, breaks_b2, breaks_b3, breaks_b4, busy, is_formed, is_access_of, only, started, free_request, least_free}
 use Rattle.tl_client.specs.End.{Terms, End, fresh, held_at, sending}
 use Rattle.tl_client.specs.KnowsPlain.{KnowsPlain, terms_of, answers_pending, is_request}
 use Rattle.tl_client.specs.Plain.{access_in}
@@ -42,48 +42,51 @@ begun None m e = only (reply.Busy B1) e
 begun (Some s) m e = started s (access s m) e
 
 abbrev pub busy_alone : {w : ℕ} → Terms → Op w → Option Busy
-busy_alone terms op = busy_if (breaks_b4 terms.level op) B4 (busy_if (nat_le terms.blocks (block_of op) || not (is_formed terms.level op)) B5 None)
+busy_alone terms op = first_if (breaks_b4 terms.level op) B4 (first_if (nat_le terms.blocks (op_block op) || not (is_formed terms.level op)) B5 None)
 
-two : (p q : Bool) (rest : Option Busy) (b : Busy) → Some b ≡ busy_if p B4 (busy_if q B5 None) → busy_if p B4 (busy_if q B5 rest) ≡ Some b
+two : (p q : Bool) (rest : Option Busy) (b : Busy) → Some b ≡ first_if p B4 (first_if q B5 None) → first_if p B4 (first_if q B5 rest) ≡ Some b
 two true q rest b is = sym is
 two false true rest b is = sym is
 two false false rest b is = absurd cc
 
-neither : (p q : Bool) (rest : Option Busy) → busy_if p B4 (busy_if q B5 None) ≡ None → busy_if p B4 (busy_if q B5 rest) ≡ rest
+neither : (p q : Bool) (rest : Option Busy) → first_if p B4 (first_if q B5 None) ≡ None → first_if p B4 (first_if q B5 rest) ≡ rest
 neither true q rest is = absurd cc
 neither false true rest is = absurd cc
 neither false false rest is = refl
 
 pub asked-alone : {w : ℕ} (terms : Terms) (op : Op w) (e : End w) (b : Busy) → Some b ≡ busy_alone terms op → asked terms op e ≡ only (reply.Busy b) e
 unfolding asked busy
-asked-alone terms op e b is = rw (two _ _ (busy_if (breaks_b2 op e.past) B2 (busy_if (breaks_b3 op (held_at e (block_of op))) B3 (busy_if (breaks_b1 terms op e.past) B1 None))) b is) refl
+asked-alone terms op e b is = rw (two _ _ (first_if (breaks_b2 op e.past) B2 (first_if (breaks_b3 op (held_at e (op_block op))) B3 (first_if (breaks_b1 terms op e.past) B1 None))) b is) refl
 
-begun_by : {w : ℕ} (terms : Terms) (m : MessageA w) (e : End w) (free : Option ℕ) → busy terms (Access (message.A m)) e ≡ busy_if (is_none free) B1 None → free_request terms e.past ≡ free → asked terms (Access (message.A m)) e ≡ begun free m e
+begun_by : {w : ℕ} (terms : Terms) (m : MessageA w) (e : End w) (free : Option ℕ) → busy terms (Access (message.A m)) e ≡ first_if (is_none free) B1 None → free_request terms e.past ≡ free
+    → asked terms (Access (message.A m)) e ≡ begun free m e
 unfolding asked
 begun_by terms m e None is source = rw is refl
 begun_by terms m e (Some s) is source = rw is (rw source refl)
 
 pub asked-access : {w : ℕ} (terms : Terms) (m : MessageA w) (e : End w) → busy_alone terms (Access (message.A m)) ≡ None → asked terms (Access (message.A m)) e ≡ begun (free_request terms e.past) m e
 unfolding busy
-asked-access terms m e is = begun_by terms m e (free_request terms e.past) (neither _ _ (busy_if (is_none (free_request terms e.past)) B1 None) is) refl
+asked-access terms m e is = begun_by terms m e (free_request terms e.past) (neither _ _ (first_if (is_none (free_request terms e.past)) B1 None) is) refl
 
 -- ---- what is known afterwards
 
-open-sent : {w : ℕ} (s : ℕ) (m : MessageA w) (t : History w) → IsWidth w → unfinished channel.A t ≡ [] → open_request s (sent (message.A m) t) ≡ cond (m.source == s) (Some (fields_in m)) (open_request s t)
+open-sent : {w : ℕ} (s : ℕ) (m : MessageA w) (t : History w) → IsWidth w → unfinished channel.A t ≡ []
+    → open_request s (sent (message.A m) t) ≡ cond (m.source == s) (Some (fields_in m)) (open_request s t)
 open-sent {w} s m t is none = rw (open_beat-a s m t is none) (go (m.source == s) (open_beat s t))
   where
     go : (b : Bool) (o : Option (BeatA w)) → fields_of (cond b (Some (a_beat_of m 0)) o) ≡ cond b (Some (fields_in m)) (fields_of o)
     go true o = refl
     go false o = refl
 
-still_pending : {w : ℕ} (burst : List (Beat w)) (m : MessageA w) (t : History w) → IsWidth w → unfinished channel.A t ≡ [] → answers_pending burst t ≡ true → answers_pending burst (sent (message.A m) t) ≡ true
+still_pending : {w : ℕ} (burst : List (Beat w)) (m : MessageA w) (t : History w) → IsWidth w → unfinished channel.A t ≡ [] → answers_pending burst t ≡ true
+    → answers_pending burst (sent (message.A m) t) ≡ true
 still_pending [] m t is none e = refl
 still_pending (beat.A x ∷ burst) m t is none e = refl
 still_pending (beat.B x ∷ burst) m t is none e = refl
 still_pending (beat.C x ∷ burst) m t is none e = refl
 still_pending (beat.E x ∷ burst) m t is none e = refl
 still_pending (beat.D x ∷ burst) m t is none e =
-    rw (pending-sent (RequestSource x.source) (message.A m) t none (request_closes_nothing (RequestSource x.source) m) (has_beats (message.A m) is), e) (go (m.source == x.source))
+    rw (pending-sent (RequestSource x.source) (message.A m) t none (request_closes_nothing (RequestSource x.source) m) (beats-positive (message.A m) is), e) (go (m.source == x.source))
   where
     go : (b : Bool) → cond b true true ≡ true
     go true = refl
@@ -99,9 +102,10 @@ opens_source (GrantSink s) m t plain other = refl
 opens_source (GrantAckOf k) m t plain other = refl
 opens_source (ProbeOf k) m t plain other = refl
 
-alone-sent : {w : ℕ} (key : Key) (m : MessageA w) (t : History w) → IsWidth w → unfinished channel.A t ≡ [] → is_acquire m.opcode ≡ false → is_request key ≡ false → pending key t ≡ false → pending key (sent (message.A m) t) ≡ false
+alone-sent : {w : ℕ} (key : Key) (m : MessageA w) (t : History w) → IsWidth w → unfinished channel.A t ≡ [] → is_acquire m.opcode ≡ false → is_request key ≡ false → pending key t ≡ false
+    → pending key (sent (message.A m) t) ≡ false
 alone-sent key m t is none plain other e =
-    pending-sent key (message.A m) t none (request_closes_nothing key m) (has_beats (message.A m) is) ∙ rw (opens_source key m t plain other) e
+    pending-sent key (message.A m) t none (request_closes_nothing key m) (beats-positive (message.A m) is) ∙ rw (opens_source key m t plain other) e
 
 -- an access was handed out
 pub knows-started : {w : ℕ} (p q : Plain w) (e : End w) (m : MessageA w) → IsWidth w → is_acquire m.opcode ≡ false → KnowsPlain p e → q.closed ≡ p.closed → q.responses ≡ p.responses
@@ -112,7 +116,7 @@ knows-started p q e m is plain k closed responses requests =
       closed_is = closed ∙ k.closed_is;
       requests_are = λ s. requests s ∙ rw (k.requests_are s) (sym (open-sent s m e.past is k.sent_whole));
       response_is = responses ∙ k.response_is ∙ sym burst;
-      sent_whole = unfinished-sent (message.A m) e.past k.sent_whole (has_beats (message.A m) is);
+      sent_whole = unfinished-sent (message.A m) e.past k.sent_whole (beats-positive (message.A m) is);
       answers_open = rw burst (still_pending (unfinished channel.D e.past) m e.past is k.sent_whole k.answers_open);
       requests_alone = λ key other. alone-sent key m e.past is k.sent_whole plain other (k.requests_alone key other);
       holds_nothing = λ b. held-sent_unsaid b (message.A m) e.past (λ i t. refl) ∙ k.holds_nothing b;
@@ -156,7 +160,8 @@ unfolding pending request_of
 requested s [] e = absurd cc
 requested s (beat.A x ∷ t) e = go (begins (beat.A x) t && (x.source == s)) (ends (beat.A x) t) (requested s t) e
   where
-    go : (b c : Bool) → (pending (RequestSource s) t ≡ true → is_some (request_of s t) ≡ true) → cond b true (cond (c && false) false (pending (RequestSource s) t)) ≡ true → is_some (cond b (Some x) (request_of s t)) ≡ true
+    go : (b c : Bool) → (pending (RequestSource s) t ≡ true → is_some (request_of s t) ≡ true) → cond b true (cond (c && false) false (pending (RequestSource s) t)) ≡ true
+        → is_some (cond b (Some x) (request_of s t)) ≡ true
     go true c before live = refl
     go false true before live = before live
     go false false before live = before live
@@ -174,7 +179,8 @@ is_some-open {w} s t = go (pending (RequestSource s) t) (request_of s t) (reques
     go true (Some x) some = refl
 
 -- the source that is free is the one that the client finds
-pub free_found : {w : ℕ} (f : ℕ → Option Request) (t : History w) (s n : ℕ) → ((k : ℕ) → f k ≡ open_request k t) → least_free (λ k. is_some (f k)) s n ≡ least_free (λ k. pending (RequestSource k) t) s n
+pub free_found : {w : ℕ} (f : ℕ → Option Request) (t : History w) (s n : ℕ) → ((k : ℕ) → f k ≡ open_request k t)
+    → least_free (λ k. is_some (f k)) s n ≡ least_free (λ k. pending (RequestSource k) t) s n
 unfolding least_free
 free_found f t s zero same = refl
 free_found f t s (suc n) same = rw (same s, is_some-open s t, free_found f t (s + 1) n same) refl
@@ -191,13 +197,14 @@ access_of (Acquire block grow) m is = absurd cc
 access_of (AcquireWhole block bytes) m is = absurd cc
 access_of (Release block prune) m is = absurd cc
 
-pub asked-started : {w : ℕ} (p : Plain w) (e : End w) (op : Op w) (m : MessageA w) → KnowsPlain p e → None ≡ busy_alone (terms_of p) op → Some m ≡ access_in op → asked (terms_of p) op e ≡ begun (least_free (λ s. is_some (open_at p.requests s)) 0 p.config.sources) m e
+pub asked-started : {w : ℕ} (p : Plain w) (e : End w) (op : Op w) (m : MessageA w) → KnowsPlain p e → None ≡ busy_alone (terms_of p) op → Some m ≡ access_in op
+    → asked (terms_of p) op e ≡ begun (least_free (λ s. is_some (open_at p.requests s)) 0 p.config.sources) m e
 asked-started p e op m k alone is =
     let own : op ≡ Access (message.A m) = access_of op m is in
     let passes : busy_alone (terms_of p) op ≡ None = sym alone in
     rw (own, free_found (open_at p.requests) e.past 0 p.config.sources k.requests_are) (asked-access (terms_of p) m e (rw own at passes))
 
-allowed : (b c : Bool) → None ≡ busy_if (not b) B4 (busy_if c B5 None) → b ≡ true
+allowed : (b c : Bool) → None ≡ first_if (not b) B4 (first_if c B5 None) → b ≡ true
 allowed true c is = refl
 allowed false c is = absurd cc
 

@@ -1,6 +1,6 @@
 -- What the parts of a plain client's calls answer.
-use Rattle.std.proofs.Common.{◌≡◌, ℕ, zero, suc, ◌+◌, true, false, List, ◌∷◌, length, Option, Some, None, Ok, Err, refl, sym, arith, subst}
-use Rattle.std.specs.Prelude.{Result, OnOk, ◌==◌}
+use Rattle.std.proofs.Common.{◌≡◌, ℕ, zero, suc, ◌+◌, true, List, ◌∷◌, length, Ok, Err, sym, arith}
+use Rattle.std.specs.Prelude.{Result, OnOk, ⊤}
 use Rattle.tl_beat.specs.Width.{IsWidth}
 use Rattle.tl_beat.specs.declared.beat.Beat.{Beat}
 use Rattle.tl_beat.specs.declared.beat.Beat.TheVariants as beat
@@ -11,27 +11,15 @@ use Rattle.tl_burst.specs.Burst.{beats_of, beat_of, begun, d_beat_of, IsBurst}
 use Rattle.tl_burst.specs.Part.{IsTakeable, completes}
 use Rattle.tl_burst.proofs.Begun.{length-begun}
 use Rattle.tl_params.specs.declared.rule.Rule.{Rule}
-use Rattle.tl_params.specs.declared.config.NewFault.{NewFault}
-use Rattle.tl_params.specs.Config.{config_verdict}
 use Rattle.tl_rules.specs.Agent.{payload_of}
-use Rattle.tl_client.specs.declared.request.Request.{Request}
-use Rattle.tl_client.specs.declared.verdict.Verdict.TheVariants.{Taken}
-use Rattle.tl_client.specs.Plain.{plain_verdict, ends_request}
-use Rattle.tl_client.specs.Response.{Response, in_message, done_with, Completes}
 use Rattle.tl_rules.proofs.Sent.{is_last}
 use Rattle.tl_rules.proofs.Payload.{payload-d}
 
 -- ---- what is refused
 
-pub takeable_response : {w : ℕ} (r : Result (Unit {0}) Rule) (x : Beat w) → IsTakeable x → OnOk r (IsTakeable x)
+pub takeable_response : {w : ℕ} (r : Result ⊤ Rule) (x : Beat w) → IsTakeable x → OnOk r (IsTakeable x)
 takeable_response (Ok u) x takeable = takeable
 takeable_response (Err rule) x takeable = tt
-
--- ---- a new client
-
-pub no_fault : (o : Option NewFault) → Ok tt ≡ config_verdict o → o ≡ None
-no_fault None e = refl
-no_fault (Some fault) e = absurd cc
 
 -- ---- a response that is complete
 

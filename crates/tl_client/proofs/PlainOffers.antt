@@ -12,6 +12,7 @@ use Rattle.tl_beat.specs.declared.opcode.Channel.TheVariants as channel
 use Rattle.tl_beat.specs.declared.opcode.OpD.{OpD}
 use Rattle.tl_beat.specs.declared.opcode.OpD.TheVariants as d
 use Rattle.tl_beat.specs.Opcode.{d_code}
+use Rattle.tl_beat.specs.First.{first_if}
 use Rattle.tl_burst.specs.Messages.{History, unfinished, grown, same_control, breaks_burst}
 use Rattle.tl_burst.specs.Part.{completes}
 use Rattle.tl_params.specs.declared.level.Level.{Level}
@@ -19,10 +20,12 @@ use Rattle.tl_params.specs.declared.key.Key.{Key}
 use Rattle.tl_params.specs.declared.key.Key.TheVariants.{RequestSource, ReleaseSource, AcquireOf, ReleaseOf, GrantSink, GrantAckOf, ProbeOf}
 use Rattle.tl_params.specs.declared.rule.Rule.{Rule}
 use Rattle.tl_params.specs.declared.rule.Rule.TheVariants.{L1, S1, A3}
+use Rattle.tl_params.specs.Refusal.{ok_unless}
+use Rattle.tl_params.proofs.Refusals.{some_broken, none_broken}
 use Rattle.tl_rules.specs.Agent.{payload_of}
 use Rattle.tl_rules.specs.History.{ends, closes, opens, says_held, pending, request_of}
-use Rattle.tl_rules.specs.Legality.{illegal, rule_if, has_transfers, verdict}
-use Rattle.tl_rules.proofs.Bursts.{next_rule}
+use Rattle.tl_rules.specs.Legality.{illegal, has_transfers}
+use Rattle.tl_rules.proofs.Bursts.{next_rule, both_none}
 use Rattle.tl_client.specs.declared.plain.Plain.{Plain}
 use Rattle.tl_client.specs.declared.request.Request.{Request}
 use Rattle.tl_client.specs.declared.verdict.Finish.{Finish}
@@ -34,7 +37,6 @@ use Rattle.tl_client.specs.Plain.{response_rule, order_rule, plain_rule, address
 use Rattle.tl_client.specs.Sources.{open_at}
 use Rattle.tl_client.specs.Requests.{fields_of, open_beat, open_request}
 use Rattle.tl_client.proofs.PlainRules.{IsAccessAnswer, legal_answer, judged}
-use Rattle.tl_client.proofs.Verdicts.{both_none, some_rule, no_rule}
 use Rattle.tl_client.proofs.Opens.{open_beat-d, unfinished-d}
 use Rattle.tl_rules.proofs.Sent.{held_unsaid, pending-closed}
 
@@ -44,7 +46,8 @@ pub record IsGoodResponse {w : ℕ} (l : Level) (x : BeatD w) (request : Option 
   pub is_legal : illegal l channel.D (D x) ≡ None
   pub in_order : order_rule x request burst ≡ None
 
-good_response : {w : ℕ} (l : Level) (asked : ℕ → Option Request) (burst : List (Beat w)) (closed : Bool) (ch : Channel) (x : Beat w) → plain_rule l asked burst closed ch x ≡ None → (y : BeatD w) × (x ≡ D y) × IsGoodResponse l y (asked y.source) burst
+good_response : {w : ℕ} (l : Level) (asked : ℕ → Option Request) (burst : List (Beat w)) (closed : Bool) (ch : Channel) (x : Beat w) → plain_rule l asked burst closed ch x ≡ None
+    → (y : BeatD w) × (x ≡ D y) × IsGoodResponse l y (asked y.source) burst
 good_response l asked burst true ch x e = absurd cc
 good_response l asked burst false channel.A x e = absurd cc
 good_response l asked burst false channel.B x e = absurd cc
@@ -72,7 +75,8 @@ same_source x z e =
     let four = and_parts (x.source == z.source) _ three.1 in
     eqb-true x.source z.source four.0
 
-pending_here : {w : ℕ} (x : BeatD w) (burst : List (Beat w)) (t : History w) → answers_pending burst t ≡ true → order_rule x (open_request x.source t) burst ≡ None → pending (RequestSource x.source) t ≡ true
+pending_here : {w : ℕ} (x : BeatD w) (burst : List (Beat w)) (t : History w) → answers_pending burst t ≡ true → order_rule x (open_request x.source t) burst ≡ None
+    → pending (RequestSource x.source) t ≡ true
 pending_here x [] t answer e =
     let first = both_none (response_rule x (open_request x.source t)) _ e in
     has_some x (pending (RequestSource x.source) t) (request_of x.source t) first.0
@@ -81,14 +85,15 @@ pending_here x (B z ∷ burst) t answer e = absurd cc
 pending_here x (C z ∷ burst) t answer e = absurd cc
 pending_here x (E z ∷ burst) t answer e = absurd cc
 pending_here x (D z ∷ burst) t answer e =
-    let first = both_none (rule_if (breaks_burst (D x) (D z ∷ burst)) S1 None) _ e in
+    let first = both_none (first_if (breaks_burst (D x) (D z ∷ burst)) S1 None) _ e in
     let continues = next_rule (breaks_burst (D x) (D z ∷ burst)) S1 None first.0 in
     let source : x.source ≡ z.source = same_source x z (not-false (same_control (D x) (D z)) continues.0) in
     rw source answer
 
 -- ---- the answer
 
-access_ended : {w : ℕ} (opcode : OpD) (x : BeatD w) (f : Finish) (r : Option (BeatA w)) (payload : List ℕ) (e : End w) → IsAccessAnswer opcode → ended opcode x f (granted opcode r payload e) ≡ silent (Done x.source f) e
+access_ended : {w : ℕ} (opcode : OpD) (x : BeatD w) (f : Finish) (r : Option (BeatA w)) (payload : List ℕ) (e : End w) → IsAccessAnswer opcode
+    → ended opcode x f (granted opcode r payload e) ≡ silent (Done x.source f) e
 access_ended d.AccessAck x f r payload e answer = refl
 access_ended d.AccessAckData x f r payload e answer = refl
 access_ended d.HintAck x f r payload e answer = refl
@@ -117,7 +122,8 @@ response_taken {w} x e asked burst answer live asked_is burst_is = rw (asked_is,
 
 -- ---- what is known afterwards
 
-pending-response : {w : ℕ} (s : ℕ) (x : BeatD w) (t : History w) → IsAccessAnswer x.opcode → pending (RequestSource s) (D x ∷ t) ≡ cond (ends (D x) t && (x.source == s)) false (pending (RequestSource s) t)
+pending-response : {w : ℕ} (s : ℕ) (x : BeatD w) (t : History w) → IsAccessAnswer x.opcode
+    → pending (RequestSource s) (D x ∷ t) ≡ cond (ends (D x) t && (x.source == s)) false (pending (RequestSource s) t)
 pending-response s x t answer = pending-closed (RequestSource s) (D x) t refl ∙ rw answer.1 refl
 
 open-response : {w : ℕ} (s : ℕ) (x : BeatD w) (t : History w) → IsAccessAnswer x.opcode → open_request s (D x ∷ t) ≡ cond (ends_request (unfinished channel.D t) (D x) s) None (open_request s t)
@@ -154,7 +160,8 @@ alone-response {w} key x t answer e = pending-closed key (D x) t (opens_none key
 grants_nothing : {w : ℕ} (k : ℕ) (x : BeatD w) (t : History w) → IsAccessAnswer x.opcode → says_held k (D x) t ≡ None
 grants_nothing k x t answer = rw answer.0 refl
 
-response_known : {w : ℕ} (p q : Plain w) (e : End w) (x : BeatD w) → KnowsPlain p e → IsAccessAnswer x.opcode → pending (RequestSource x.source) e.past ≡ true → q.closed ≡ p.closed → q.responses ≡ grown (D x) p.responses
+response_known : {w : ℕ} (p q : Plain w) (e : End w) (x : BeatD w) → KnowsPlain p e → IsAccessAnswer x.opcode → pending (RequestSource x.source) e.past ≡ true → q.closed ≡ p.closed
+    → q.responses ≡ grown (D x) p.responses
     → ((s : ℕ) → open_at q.requests s ≡ cond (ends_request p.responses (D x) s) None (open_at p.requests s)) → KnowsPlain q (with_past (D x ∷ e.past) e)
 response_known p q e x k answer live closed responses requests = record {
   closed_is = closed ∙ k.closed_is;
@@ -177,10 +184,11 @@ offered-plain : {w : ℕ} (p : Plain w) (e : End w) (ch : Channel) (x : Beat w) 
 offered-plain p e ch x k = rw k.closed_is (judged (terms_of p) ch x e (open_at p.requests) p.responses p.accesses k.sent_whole k.requests_are k.response_is)
 
 -- a beat that breaks a rule
-pub offered-refused : {w : ℕ} (p : Plain w) (e : End w) (ch : Channel) (x : Beat w) (r : Rule) → KnowsPlain p e → Err r ≡ verdict (rule_at p ch x) → offered (terms_of p) ch x e ≡ refused r e
-offered-refused p e ch x r k broken = offered-plain p e ch x k ∙ rw (some_rule (rule_at p ch x) r broken) refl
+pub offered-refused : {w : ℕ} (p : Plain w) (e : End w) (ch : Channel) (x : Beat w) (r : Rule) → KnowsPlain p e → Err r ≡ ok_unless (rule_at p ch x) → offered (terms_of p) ch x e ≡ refused r e
+offered-refused p e ch x r k broken = offered-plain p e ch x k ∙ rw (some_broken (rule_at p ch x) r broken) refl
 
-pub knows-refused : {w : ℕ} (p q : Plain w) (e : End w) (ch : Channel) (x : Beat w) (r : Rule) → KnowsPlain p e → Err r ≡ verdict (rule_at p ch x) → q.closed ≡ true → q.requests ≡ p.requests → q.responses ≡ p.responses
+pub knows-refused : {w : ℕ} (p q : Plain w) (e : End w) (ch : Channel) (x : Beat w) (r : Rule) → KnowsPlain p e → Err r ≡ ok_unless (rule_at p ch x) → q.closed ≡ true
+    → q.requests ≡ p.requests → q.responses ≡ p.responses
     → KnowsPlain q (offered (terms_of p) ch x e).after
 knows-refused p q e ch x r k broken closed requests responses = rw (offered-refused p e ch x r k broken) (record {
   closed_is = closed;
@@ -194,28 +202,33 @@ knows-refused p q e ch x r k broken closed requests responses = rw (offered-refu
 })
 
 -- a beat that breaks none
-good_source : {w : ℕ} (p : Plain w) (e : End w) (x : BeatD w) → KnowsPlain p e → IsGoodResponse p.config.level x (open_at p.requests x.source) p.responses → pending (RequestSource x.source) e.past ≡ true
+good_source : {w : ℕ} (p : Plain w) (e : End w) (x : BeatD w) → KnowsPlain p e → IsGoodResponse p.config.level x (open_at p.requests x.source) p.responses
+    → pending (RequestSource x.source) e.past ≡ true
 good_source p e x k good = pending_here x (unfinished channel.D e.past) e.past k.answers_open (rw (k.requests_are x.source, k.response_is) at good.in_order)
 
 good_answer : {w : ℕ} (p : Plain w) (x : BeatD w) → IsGoodResponse p.config.level x (open_at p.requests x.source) p.responses → IsAccessAnswer x.opcode
 good_answer p x good = legal_answer p.config.level x p.accesses good.is_legal
 
-pub offered-taken : {w : ℕ} (p : Plain w) (e : End w) (ch : Channel) (x : Beat w) → KnowsPlain p e → Ok tt ≡ verdict (rule_at p ch x) → offered (terms_of p) ch x e ≡ silent (plain_verdict (open_at p.requests) p.responses x) (with_past (x ∷ e.past) e)
-offered-taken {w} p e ch x k none = offered-plain p e ch x k ∙ rw (no_rule (rule_at p ch x) none) (go (good_response p.config.level (open_at p.requests) p.responses p.closed ch x (no_rule (rule_at p ch x) none)))
+pub offered-taken : {w : ℕ} (p : Plain w) (e : End w) (ch : Channel) (x : Beat w) → KnowsPlain p e → Ok tt ≡ ok_unless (rule_at p ch x)
+    → offered (terms_of p) ch x e ≡ silent (plain_verdict (open_at p.requests) p.responses x) (with_past (x ∷ e.past) e)
+offered-taken {w} p e ch x k none =
+    offered-plain p e ch x k ∙ rw (none_broken (rule_at p ch x) none) (go (good_response p.config.level (open_at p.requests) p.responses p.closed ch x (none_broken (rule_at p ch x) none)))
   where
-    go : (y : BeatD w) × (x ≡ D y) × IsGoodResponse p.config.level y (open_at p.requests y.source) p.responses → taken x e ≡ silent (plain_verdict (open_at p.requests) p.responses x) (with_past (x ∷ e.past) e)
+    go : (y : BeatD w) × (x ≡ D y) × IsGoodResponse p.config.level y (open_at p.requests y.source) p.responses
+        → taken x e ≡ silent (plain_verdict (open_at p.requests) p.responses x) (with_past (x ∷ e.past) e)
     go (y, is, good) = rw is (response_taken y e (open_at p.requests) p.responses (good_answer p y good) (good_source p e y k good) (k.requests_are y.source) k.response_is)
 
-pub knows-taken : {w : ℕ} (p q : Plain w) (e : End w) (ch : Channel) (x : Beat w) → KnowsPlain p e → Ok tt ≡ verdict (rule_at p ch x) → q.closed ≡ p.closed → q.responses ≡ grown x p.responses
+pub knows-taken : {w : ℕ} (p q : Plain w) (e : End w) (ch : Channel) (x : Beat w) → KnowsPlain p e → Ok tt ≡ ok_unless (rule_at p ch x) → q.closed ≡ p.closed → q.responses ≡ grown x p.responses
     → ((s : ℕ) → open_at q.requests s ≡ cond (ends_request p.responses x s) None (open_at p.requests s)) → KnowsPlain q (offered (terms_of p) ch x e).after
-knows-taken {w} p q e ch x k none closed responses requests = rw (offered-taken p e ch x k none) (go (good_response p.config.level (open_at p.requests) p.responses p.closed ch x (no_rule (rule_at p ch x) none)))
+knows-taken {w} p q e ch x k none closed responses requests =
+    rw (offered-taken p e ch x k none) (go (good_response p.config.level (open_at p.requests) p.responses p.closed ch x (none_broken (rule_at p ch x) none)))
   where
     go : (y : BeatD w) × (x ≡ D y) × IsGoodResponse p.config.level y (open_at p.requests y.source) p.responses → KnowsPlain q (with_past (x ∷ e.past) e)
     go (y, is, good) = rw is (response_known p q e y k (good_answer p y good) (good_source p e y k good) closed (rw is at responses) (λ s. rw is at requests s))
 
 -- ---- stalls
 
-waits_for_nothing : {w : ℕ} (l : Level) (ch : Channel) (x : BeatB w) (closed : Bool) → has_transfers l ≡ false → is_none (rule_if closed A3 (rule_if (is_sent_on ch) L1 (illegal l ch (B x)))) ≡ false
+waits_for_nothing : {w : ℕ} (l : Level) (ch : Channel) (x : BeatB w) (closed : Bool) → has_transfers l ≡ false → is_none (first_if closed A3 (first_if (is_sent_on ch) L1 (illegal l ch (B x)))) ≡ false
 unfolding illegal
 waits_for_nothing l ch x true low = refl
 waits_for_nothing l channel.A x false low = refl

@@ -5,6 +5,7 @@ use Rattle.tl_beat.specs.declared.beat.Beat.{Beat}
 use Rattle.tl_beat.specs.declared.beat.Beat.TheVariants.{D}
 use Rattle.tl_beat.specs.declared.beat.BeatD.{BeatD}
 use Rattle.tl_beat.specs.declared.opcode.Channel.TheVariants as channel
+use Rattle.tl_beat.specs.First.{first_if}
 use Rattle.tl_burst.specs.declared.part.Broken.{Broken}
 use Rattle.tl_burst.specs.declared.part.Part.{Part}
 use Rattle.tl_burst.specs.Messages.{History, channel_of, unfinished, breaks_burst}
@@ -13,10 +14,11 @@ use Rattle.tl_params.specs.declared.key.Key.{Key}
 use Rattle.tl_params.specs.declared.key.Key.TheVariants.{RequestSource}
 use Rattle.tl_params.specs.declared.rule.Rule.{Rule}
 use Rattle.tl_params.specs.declared.rule.Rule.TheVariants.{S1, A2}
+use Rattle.tl_params.specs.Refusal.{ok_unless}
 use Rattle.tl_rules.specs.Agent.{is_spoiled}
 use Rattle.tl_rules.specs.Conformance.{broken_in_order}
 use Rattle.tl_rules.specs.History.{pending}
-use Rattle.tl_rules.specs.Legality.{illegal, rule_if, verdict}
+use Rattle.tl_rules.specs.Legality.{illegal}
 use Rattle.tl_client.specs.declared.plain.Plain.{Plain}
 use Rattle.tl_client.specs.End.{End}
 use Rattle.tl_client.specs.KnowsPlain.{KnowsPlain, KnowsPast}
@@ -30,7 +32,7 @@ request_pending p t key s b knows of is = is ∙ ap is_some (knows.1.requests_ar
 
 -- what the order of messages judges of a response, by what is kept
 abbrev in_order : {w : ℕ} → Plain w → BeatD w → Option Rule
-in_order p y = cond (is_empty p.responses) (response_rule y (open_at p.requests y.source)) (rule_if (breaks_burst (D y) p.responses) S1 None)
+in_order p y = cond (is_empty p.responses) (response_rule y (open_at p.requests y.source)) (first_if (breaks_burst (D y) p.responses) S1 None)
 
 -- a judge that is right for each history that the client knows
 abbrev pub JudgesOrder : {w : ℕ} → Plain w → Beat w → Result Part Broken → Option Rule → Type 0
@@ -45,13 +47,13 @@ agreed p e x y part o own k legal peeked judges =
     ∙ order_agrees p.profile y e.past (open_at p.requests y.source) p.responses answer k.sent_whole (k.requests_are y.source) k.response_is
 
 pub refused_in_order : {w : ℕ} (p : Plain w) (e : End w) (x : Beat w) (y : BeatD w) (part : Result Part Broken) (rule : Rule) → x ≡ D y → KnowsPlain p e → illegal p.config.level channel.D x ≡ None
-    → part ≡ part_of x p.responses → JudgesOrder p x part (Some rule) → Err rule ≡ verdict (order_rule y (open_at p.requests y.source) p.responses)
+    → part ≡ part_of x p.responses → JudgesOrder p x part (Some rule) → Err rule ≡ ok_unless (order_rule y (open_at p.requests y.source) p.responses)
 refused_in_order p e x y part rule own k legal peeked judges =
     let broken : in_order p y ≡ Some rule = sym (agreed p e x y part (Some rule) own k legal peeked judges) in
     rw broken refl
 
 pub judged_by_bits : {w : ℕ} (p : Plain w) (e : End w) (x : Beat w) (y : BeatD w) (part : Result Part Broken) (b : Bool) → x ≡ D y → KnowsPlain p e → illegal p.config.level channel.D x ≡ None
-    → part ≡ part_of x p.responses → JudgesOrder p x part None → b ≡ is_spoiled x → verdict (rule_if b A2 None) ≡ verdict (order_rule y (open_at p.requests y.source) p.responses)
+    → part ≡ part_of x p.responses → JudgesOrder p x part None → b ≡ is_spoiled x → ok_unless (first_if b A2 None) ≡ ok_unless (order_rule y (open_at p.requests y.source) p.responses)
 judged_by_bits p e x y part b own k legal peeked judges bits =
     let passes : in_order p y ≡ None = sym (agreed p e x y part None own k legal peeked judges) in
     rw (passes, bits, own) refl

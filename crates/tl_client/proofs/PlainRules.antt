@@ -10,6 +10,7 @@ use Rattle.tl_beat.specs.declared.opcode.Channel.{Channel}
 use Rattle.tl_beat.specs.declared.opcode.Channel.TheVariants as channel
 use Rattle.tl_beat.specs.declared.opcode.OpD.{OpD}
 use Rattle.tl_beat.specs.declared.opcode.OpD.TheVariants as d
+use Rattle.tl_beat.specs.First.{first_if}
 use Rattle.tl_burst.specs.Messages.{History, unfinished, breaks_burst}
 use Rattle.tl_burst.specs.Part.{is_empty}
 use Rattle.tl_params.specs.declared.level.Level.{Level}
@@ -20,7 +21,7 @@ use Rattle.tl_params.specs.declared.rule.Rule.{Rule}
 use Rattle.tl_params.specs.declared.rule.Rule.TheVariants.{L1, S1, H2, H3}
 use Rattle.tl_rules.specs.Conformance.{broken_order, broken_in_order, broken_d, admits, size_of_request}
 use Rattle.tl_rules.specs.History.{is_grant, is_release_ack, pending, request_of}
-use Rattle.tl_rules.specs.Legality.{illegal, rule_if, has_transfers, d_of_level, breaks_l1}
+use Rattle.tl_rules.specs.Legality.{illegal, has_transfers, d_of_level, breaks_l1}
 use Rattle.tl_rules.proofs.Bursts.{next_rule}
 use Rattle.tl_client.specs.declared.request.Request.{Request}
 use Rattle.tl_client.specs.Requests.{fields_of, open_request}
@@ -58,13 +59,14 @@ response_agrees : {w : ℕ} (p : Profile) (x : BeatD w) (t : History w) → IsAc
 response_agrees {w} p x t answer sent =
     rw (answer.0, answer.1, sent) (go (pending (RequestSource x.source) t) (request_of x.source t))
   where
-    go : (b : Bool) (o : Option (BeatA w)) → rule_if (not (b && (true && admits x.opcode o))) H2 (rule_if (not (x.size == size_of_request o)) H3 None) ≡ response_rule x (fields_of (cond b o None))
+    go : (b : Bool) (o : Option (BeatA w)) → first_if (not (b && (true && admits x.opcode o))) H2 (first_if (not (x.size == size_of_request o)) H3 None) ≡ response_rule x (fields_of (cond b o None))
     go false o = refl
     go true None = refl
     go true (Some r) = refl
 
-pub order_agrees : {w : ℕ} (p : Profile) (x : BeatD w) (t : History w) (request : Option Request) (burst : List (Beat w)) → IsAccessAnswer x.opcode → unfinished channel.A t ≡ [] → request ≡ open_request x.source t → burst ≡ unfinished channel.D t
-    → broken_in_order p (D x) t ≡ cond (is_empty burst) (response_rule x request) (rule_if (breaks_burst (D x) burst) S1 None)
+pub order_agrees : {w : ℕ} (p : Profile) (x : BeatD w) (t : History w) (request : Option Request) (burst : List (Beat w)) → IsAccessAnswer x.opcode → unfinished channel.A t ≡ []
+    → request ≡ open_request x.source t → burst ≡ unfinished channel.D t
+    → broken_in_order p (D x) t ≡ cond (is_empty burst) (response_rule x request) (first_if (breaks_burst (D x) burst) S1 None)
 unfolding broken_order
 order_agrees p x t request burst answer sent asked_is burst_is = rw (asked_is, burst_is, response_agrees p x t answer sent) refl
 
@@ -74,7 +76,8 @@ order_agrees p x t request burst answer sent asked_is burst_is = rw (asked_is, b
 abbrev pub Judges : {w : ℕ} → Terms → Channel → Beat w → End w → (ℕ → Option Request) → List (Beat w) → Type 0
 Judges terms ch x e asked burst = offered terms ch x e ≡ judged_later (plain_rule terms.level asked burst e.closed ch x) x e
 
-response_judged : {w : ℕ} (terms : Terms) (x : BeatD w) (e : End w) (asked : ℕ → Option Request) (burst : List (Beat w)) → e.closed ≡ false → has_transfers terms.level ≡ false → unfinished channel.A e.past ≡ []
+response_judged : {w : ℕ} (terms : Terms) (x : BeatD w) (e : End w) (asked : ℕ → Option Request) (burst : List (Beat w)) → e.closed ≡ false → has_transfers terms.level ≡ false
+    → unfinished channel.A e.past ≡ []
     → asked x.source ≡ open_request x.source e.past → burst ≡ unfinished channel.D e.past → Judges terms channel.D (D x) e asked burst
 unfolding offered
 response_judged {w} terms x e asked burst live low sent asked_is burst_is = go (illegal terms.level channel.D (D x)) refl
@@ -84,15 +87,18 @@ response_judged {w} terms x e asked burst live low sent asked_is burst_is = go (
     go None is = rw (live, is, order_agrees terms.profile x e.past (asked x.source) burst (legal_answer terms.level x low is) sent asked_is burst_is) refl
 
 -- a beat that doesn't come to a plain client
-wrong_way : {w : ℕ} (terms : Terms) (ch : Channel) (x : Beat w) (e : End w) (asked : ℕ → Option Request) (burst : List (Beat w)) → e.closed ≡ false → is_sent_on ch ≡ true → plain_rule terms.level asked burst false ch x ≡ Some L1 → Judges terms ch x e asked burst
+wrong_way : {w : ℕ} (terms : Terms) (ch : Channel) (x : Beat w) (e : End w) (asked : ℕ → Option Request) (burst : List (Beat w)) → e.closed ≡ false → is_sent_on ch ≡ true
+    → plain_rule terms.level asked burst false ch x ≡ Some L1 → Judges terms ch x e asked burst
 unfolding offered
 wrong_way terms ch x e asked burst live sends rule = rw (live, sends, rule) refl
 
-wrong_beat : {w : ℕ} (terms : Terms) (ch : Channel) (x : Beat w) (e : End w) (asked : ℕ → Option Request) (burst : List (Beat w)) → e.closed ≡ false → is_sent_on ch ≡ false → breaks_l1 terms.level ch x ≡ true → plain_rule terms.level asked burst false ch x ≡ Some L1 → Judges terms ch x e asked burst
+wrong_beat : {w : ℕ} (terms : Terms) (ch : Channel) (x : Beat w) (e : End w) (asked : ℕ → Option Request) (burst : List (Beat w)) → e.closed ≡ false → is_sent_on ch ≡ false
+    → breaks_l1 terms.level ch x ≡ true → plain_rule terms.level asked burst false ch x ≡ Some L1 → Judges terms ch x e asked burst
 unfolding offered illegal
 wrong_beat terms ch x e asked burst live comes broken rule = rw (live, comes, broken, rule) refl
 
-live_judged : {w : ℕ} (terms : Terms) (ch : Channel) (x : Beat w) (e : End w) (asked : ℕ → Option Request) (burst : List (Beat w)) → e.closed ≡ false → has_transfers terms.level ≡ false → unfinished channel.A e.past ≡ []
+live_judged : {w : ℕ} (terms : Terms) (ch : Channel) (x : Beat w) (e : End w) (asked : ℕ → Option Request) (burst : List (Beat w)) → e.closed ≡ false → has_transfers terms.level ≡ false
+    → unfinished channel.A e.past ≡ []
     → ((s : ℕ) → asked s ≡ open_request s e.past) → burst ≡ unfinished channel.D e.past → Judges terms ch x e asked burst
 live_judged terms channel.A x e asked burst live low sent asked_is burst_is = wrong_way terms channel.A x e asked burst live refl refl
 live_judged terms channel.C x e asked burst live low sent asked_is burst_is = wrong_way terms channel.C x e asked burst live refl refl

@@ -103,7 +103,8 @@ proper_store blocks address size value perm.Trunk e = tt
 proper_done : {w : ℕ} (terms : Terms) (op : Op w) (e : End w) → IsWidth w → NotBusy terms op e → IsTypedOp op → HasBytes e → IsProperIfAny terms.blocks (done terms op e).message
 proper_done terms (Load address size) e is free typed old = proper_load terms.blocks address size (held_at e (block_at address)) e
 proper_done terms (Store address size value) e is free typed old = proper_store terms.blocks address size value (held_at e (block_at address)) e
-proper_done terms (Acquire block grow) e is free typed old = proper_acquire terms.blocks a.AcquireBlock grow (source_or_0 (free_request terms e.past)) block refl (inside_map terms.blocks block true free.b5)
+proper_done terms (Acquire block grow) e is free typed old =
+    proper_acquire terms.blocks a.AcquireBlock grow (source_or_0 (free_request terms e.past)) block refl (inside_map terms.blocks block true free.b5)
 proper_done terms (AcquireWhole block bytes) e is free typed old =
     proper_acquire terms.blocks a.AcquirePerm (whole_grow (held_at e block)) (source_or_0 (free_request terms e.past)) block refl (inside_map terms.blocks block true free.b5)
 proper_done terms (Release block prune) e is free typed old =

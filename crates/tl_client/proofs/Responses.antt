@@ -27,7 +27,8 @@ same_response m x burst i is payload =
     rw same (ap (λ p. record { opcode = m.opcode; param = m.param; size = m.size; source = m.source; sink = m.sink; payload = p }) bytes)
 
 -- its fields are those of the last beat, and its payload that of all beats
-response-complete : {w : ℕ} (m : MessageD w) (x : BeatD w) (b : Beat w) (burst : List (Beat w)) → IsWidth w → length m.payload ≡ 64 → IsBurst (message.D m) (b ∷ burst) → b ≡ beat.D x → (completes (beat.D x) burst ≡ true) × (in_message m ≡ in_beats x burst)
+response-complete : {w : ℕ} (m : MessageD w) (x : BeatD w) (b : Beat w) (burst : List (Beat w)) → IsWidth w → length m.payload ≡ 64 → IsBurst (message.D m) (b ∷ burst) → b ≡ beat.D x
+    → (completes (beat.D x) burst ≡ true) × (in_message m ≡ in_beats x burst)
 response-complete m x b burst is long whole own =
     let p = last_of m b burst (beats_of (message.D m)) refl whole.0 in
     let last : beat.D x ≡ beat.D (d_beat_of m p.0) = sym own ∙ p.1.last in
@@ -63,7 +64,8 @@ completes-other m (beat.C x) burst none whole = tt
 completes-other m (beat.E x) burst none whole = tt
 
 -- the response that a message is, where it is complete with this beat
-pub completes-of : {w : ℕ} (m : Message w) (r : Option (MessageD w)) (b : Beat w) (burst : List (Beat w)) → IsWidth w → r ≡ d_of m → IfSome r (λ n. length n.payload ≡ 64) → IsBurst m (b ∷ burst) → Completes r b burst
+pub completes-of : {w : ℕ} (m : Message w) (r : Option (MessageD w)) (b : Beat w) (burst : List (Beat w)) → IsWidth w → r ≡ d_of m → IfSome r (λ n. length n.payload ≡ 64)
+    → IsBurst m (b ∷ burst) → Completes r b burst
 completes-of m None b burst is same long whole = completes-other m b burst (sym same) whole
 completes-of m (Some n) b burst is same long whole = completes-d n b burst is long (rw (of_d m n same) at whole)
 
@@ -71,7 +73,8 @@ completes-of m (Some n) b burst is same long whole = completes-d n b burst is lo
 pub nothing_left : {w : ℕ} (x : BeatD w) (b : Beat w) (burst new : List (Beat w)) → new ≡ grown b burst → b ≡ beat.D x → completes (beat.D x) burst ≡ true → new ≡ []
 nothing_left x b burst new grows own last = grows ∙ ap (λ y. grown y burst) own ∙ rw last refl
 
-pub ends-from : {w : ℕ} (c c1 d : Caching w) (n : Response) (x : BeatD w) (r : Verdict × Option (Message w)) → n ≡ in_beats x c.responses → c1.table ≡ c.table → c1.requests ≡ c.requests → c1.releases ≡ c.releases → c1.closed ≡ c.closed → terms_of c1 ≡ terms_of c
+pub ends-from : {w : ℕ} (c c1 d : Caching w) (n : Response) (x : BeatD w) (r : Verdict × Option (Message w)) → n ≡ in_beats x c.responses → c1.table ≡ c.table → c1.requests ≡ c.requests
+    → c1.releases ≡ c.releases → c1.closed ≡ c.closed → terms_of c1 ≡ terms_of c
     → (GrantsInside c1 n → Finishes c1 d n r) → d.responses ≡ [] → d.granting ≡ None → GrantsInside c (in_beats x c.responses) → Ends c d x r
 ends-from {w} c c1 d n x r same table requests releases closed terms finishes response granting fits =
     let blocks : c1.blocks ≡ c.blocks = ap (λ (t : Terms). t.blocks) terms in

@@ -121,7 +121,8 @@ get size small = Ask (Access (get_from 5 size small))
 
 -- a PutPartialData of two bytes at 7, of which one has a lane
 abbrev part : Event 8
-part = Ask (Access (message.A (record { opcode = a.PutPartialData; param = 0; size = 1; source = 0; address = 7; payload = replicate 7 0 ++ 17 ∷ replicate 56 0; mask = 128; corrupt = 0; small = lit≤ tt })))
+part =
+    Ask (Access (message.A (record { opcode = a.PutPartialData; param = 0; size = 1; source = 0; address = 7; payload = replicate 7 0 ++ 17 ∷ replicate 56 0; mask = 128; corrupt = 0; small = lit≤ tt })))
 
 -- a ProbeBlock (0 toT, 1 toB, 2 toN)
 abbrev probe : ℕ → ℕ → Event 8
@@ -138,7 +139,8 @@ abbrev grant : ℕ → Event 8
 grant cap = Offer channel.D (D (record { opcode = d.Grant; param = cap; size = 6; source = 0; sink = 0; denied = false; lanes = None; corrupt = false; carries = refl }))
 
 abbrev grant_data : ℕ → ℕ → ℕ → Event 8
-grant_data cap source byte = Offer channel.D (D (record { opcode = d.GrantData; param = cap; size = 6; source = source; sink = 0; denied = false; lanes = Some (first_of 8 byte); corrupt = false; carries = refl }))
+grant_data cap source byte =
+    Offer channel.D (D (record { opcode = d.GrantData; param = cap; size = 6; source = source; sink = 0; denied = false; lanes = Some (first_of 8 byte); corrupt = false; carries = refl }))
 
 -- the data of a Grant beat by beat
 abbrev grants : ℕ → ℕ → List (Event 8)

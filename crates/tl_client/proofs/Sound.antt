@@ -1,6 +1,6 @@
 -- The messages that a client hands out break no rule by themselves.
 use Rattle.std.proofs.Common.{◌≡◌, ℕ, ◌-◌, ◌*◌, ◌%◌, ◌^◌, ◌<◌, Bool, true, false, not, cond, leb, eqb, List, ◌∷◌, Option, Some, None, refl, ◌∙◌, arith, inl, inr}
-use Rattle.std.specs.Prelude.{is_none}
+use Rattle.std.specs.Prelude.{is_none, unwrap_or}
 use Rattle.std.proofs.lemmas.Bool.{not-false, and_parts, eqb-true, or_parts}
 use Rattle.std.proofs.Math.Nat.{zero-div}
 use Rattle.tl_beat.specs.Width.{IsWidth}
@@ -17,7 +17,6 @@ use Rattle.tl_beat.specs.declared.opcode.OpB.{OpB}
 use Rattle.tl_beat.specs.declared.opcode.OpB.TheVariants as b
 use Rattle.tl_beat.specs.declared.opcode.OpC.{OpC}
 use Rattle.tl_beat.specs.declared.opcode.OpC.TheVariants as c
-use Rattle.tl_beat.specs.Opcode.{c_code}
 use Rattle.tl_burst.specs.declared.message.Message.{Message}
 use Rattle.tl_burst.specs.declared.message.Message.TheVariants.{A, B, C, D, E}
 use Rattle.tl_burst.specs.declared.message.MessageA.{MessageA}
@@ -34,7 +33,7 @@ use Rattle.tl_params.specs.declared.param.Report.{Report}
 use Rattle.tl_params.specs.declared.param.Report.TheVariants as report
 use Rattle.tl_params.specs.declared.perm.Perm.{Perm}
 use Rattle.tl_params.specs.declared.perm.Perm.TheVariants as perm
-use Rattle.tl_rules.specs.Legality.{illegal, illegal_message, is_aligned, is_full_mask, each_below, c_has_param, c_has_source, d_of_level, has_transfers}
+use Rattle.tl_rules.specs.Legality.{illegal, illegal_message, is_aligned, is_full_mask, each_below, c_has_param, c_has_source, d_of_level, has_transfers, answers_forwarded}
 use Rattle.tl_params.specs.Param.{report_code, report_at, cap_of}
 use Rattle.tl_rules.proofs.Legal.{legal_from_beats, legal_beat}
 use Rattle.tl_rules.specs.History.{block_at, is_grant, ends}
@@ -43,15 +42,14 @@ use Rattle.tl_params.specs.declared.rule.Rule.TheVariants.{L1, A3}
 use Rattle.tl_rules.proofs.Bursts.{next_rule}
 use Rattle.tl_client.specs.declared.verdict.Finish.{Finish}
 use Rattle.tl_client.specs.declared.verdict.Verdict.TheVariants.{Stalled, Taken}
-use Rattle.tl_client.specs.Offer.{Offered, offered, taken, ended, silent, is_sent_on, waits, broken_before, broken_later, judged, judged_later, report_for, cap_or_none}
+use Rattle.tl_client.specs.Offer.{Offered, offered, taken, ended, silent, is_sent_on, waits, broken_before, broken_later, judged, judged_later, report_for}
 use Rattle.tl_client.specs.declared.busy.Busy.{Busy}
 use Rattle.tl_client.specs.declared.busy.Busy.TheVariants.{B4, B5}
 use Rattle.tl_client.specs.declared.operation.Op.{Op}
 use Rattle.tl_client.specs.declared.operation.Op.TheVariants.{Load, Store, Acquire, AcquireWhole, Release, Access}
-use Rattle.tl_client.specs.Ask.{asked, asked_given, busy, breaks_b4, breaks_b5, block_of, is_sound, is_clean, done, load, store, source_or_0, free_request, free_release, whole_grow}
+use Rattle.tl_client.specs.Ask.{asked, asked_given, busy, breaks_b4, breaks_b5, op_block, is_sound, is_clean, done, load, store, source_or_0, free_request, free_release, whole_grow}
 use Rattle.tl_client.specs.Send.{access, acquire, on_c, release, probe_ack, grant_ack}
 use Rattle.tl_client.specs.End.{Terms, End, zeros, copy_at, held_at, with_past}
-use Rattle.tl_client.proofs.Verdicts.{next_busy}
 use Rattle.tl_client.specs.Sound.{IsSound, IsSoundIfAny, IsSoundAnswer}
 
 -- ---- fields
@@ -98,11 +96,11 @@ sound_acquire_perm w g source block is = record {
   is_clean = refl;
 }
 
-legal_about : (w : ℕ) (opcode : OpC) (param source block i : ℕ) (payload : List ℕ) → leb (c_code opcode) 2 ≡ false → c_has_param opcode param ≡ true → c_has_source opcode source ≡ true → illegal {w = w} level.C channel.C (beat_of (on_c opcode param source block payload) i) ≡ None
+legal_about : (w : ℕ) (opcode : OpC) (param source block i : ℕ) (payload : List ℕ) → answers_forwarded opcode ≡ false → c_has_param opcode param ≡ true → c_has_source opcode source ≡ true → illegal {w = w} level.C channel.C (beat_of (on_c opcode param source block payload) i) ≡ None
 unfolding illegal
 legal_about w opcode param source block i payload code named sourced = rw (code, named, sourced, block_aligned block, no_bit i) refl
 
-sound_on_c : (w : ℕ) (opcode : OpC) (param source block : ℕ) (payload : List ℕ) → leb (c_code opcode) 2 ≡ false → c_has_param opcode param ≡ true → c_has_source opcode source ≡ true → IsSound {w = w} level.C (on_c opcode param source block payload)
+sound_on_c : (w : ℕ) (opcode : OpC) (param source block : ℕ) (payload : List ℕ) → answers_forwarded opcode ≡ false → c_has_param opcode param ≡ true → c_has_source opcode source ≡ true → IsSound {w = w} level.C (on_c opcode param source block payload)
 sound_on_c w opcode param source block payload code named sourced = record {
   is_legal = legal_from_beats level.C channel.C (on_c opcode param source block payload) (λ i lt. legal_about w opcode param source block i payload code named sourced);
   is_clean = refl;
@@ -170,7 +168,7 @@ at_c level.UH m e sound = absurd cc
 
 pub formed_access : {w : ℕ} (terms : Terms) (m : Message w) → breaks_b5 terms (Access m) ≡ false → is_sound terms.level m ≡ true
 formed_access terms m e =
-    let parts = or_parts (leb terms.blocks (block_of (Access m))) _ e in
+    let parts = or_parts (leb terms.blocks (op_block (Access m))) _ e in
     not-false (is_sound terms.level m) parts.1
 
 no_message : {w : ℕ} (l : Level) (address size : ℕ) (p : Perm) (e : End w) → IsSoundIfAny l (load address size p e).message
@@ -186,9 +184,12 @@ no_message_stored l address size value perm.Trunk e = tt
 done_sound : {w : ℕ} (terms : Terms) (op : Op w) (e : End w) → IsWidth w → breaks_b4 terms.level op ≡ false → breaks_b5 terms op ≡ false → IsSoundIfAny terms.level (done terms op e).message
 done_sound terms (Load address size) e is four five = no_message terms.level address size (held_at e (block_at address)) e
 done_sound terms (Store address size value) e is four five = no_message_stored terms.level address size value (held_at e (block_at address)) e
-done_sound {w} terms (Acquire block grow) e is four five = at_c terms.level (acquire a.AcquireBlock grow (source_or_0 (free_request terms e.past)) block) (not-false (has_transfers terms.level) four) (sound_acquire w grow (source_or_0 (free_request terms e.past)) block is)
-done_sound {w} terms (AcquireWhole block bytes) e is four five = at_c terms.level (acquire a.AcquirePerm (whole_grow (held_at e block)) (source_or_0 (free_request terms e.past)) block) (not-false (has_transfers terms.level) four) (sound_acquire_perm w (whole_grow (held_at e block)) (source_or_0 (free_request terms e.past)) block is)
-done_sound {w} terms (Release block prune) e is four five = at_c terms.level (release prune (source_or_0 (free_release terms e.past)) block (copy_at e block)) (not-false (has_transfers terms.level) four) (sound_release w prune (source_or_0 (free_release terms e.past)) block (copy_at e block))
+done_sound {w} terms (Acquire block grow) e is four five =
+    at_c terms.level (acquire a.AcquireBlock grow (source_or_0 (free_request terms e.past)) block) (not-false (has_transfers terms.level) four) (sound_acquire w grow (source_or_0 (free_request terms e.past)) block is)
+done_sound {w} terms (AcquireWhole block bytes) e is four five =
+    at_c terms.level (acquire a.AcquirePerm (whole_grow (held_at e block)) (source_or_0 (free_request terms e.past)) block) (not-false (has_transfers terms.level) four) (sound_acquire_perm w (whole_grow (held_at e block)) (source_or_0 (free_request terms e.past)) block is)
+done_sound {w} terms (Release block prune) e is four five =
+    at_c terms.level (release prune (source_or_0 (free_release terms e.past)) block (copy_at e block)) (not-false (has_transfers terms.level) four) (sound_release w prune (source_or_0 (free_release terms e.past)) block (copy_at e block))
 done_sound terms (Access (A m)) e is four five =
     let sound = and_parts (is_none (illegal_message terms.level channel.A (A m))) (is_clean m) (formed_access terms (A m) five) in
     let clean = and_parts (eqb m.corrupt 0) _ sound.1 in
@@ -198,7 +199,8 @@ done_sound terms (Access (C m)) e is four five = tt
 done_sound terms (Access (D m)) e is four five = tt
 done_sound terms (Access (E m)) e is four five = tt
 
-asked_given_sound : {w : ℕ} (o : Option Busy) (terms : Terms) (op : Op w) (e : End w) → IsWidth w → (o ≡ None → (breaks_b4 terms.level op ≡ false) × (breaks_b5 terms op ≡ false)) → IsSoundIfAny terms.level (asked_given o terms op e).message
+asked_given_sound : {w : ℕ} (o : Option Busy) (terms : Terms) (op : Op w) (e : End w) → IsWidth w → (o ≡ None → (breaks_b4 terms.level op ≡ false) × (breaks_b5 terms op ≡ false))
+    → IsSoundIfAny terms.level (asked_given o terms op e).message
 asked_given_sound (Some b) terms op e is parts = tt
 asked_given_sound None terms op e is parts = done_sound terms op e is (parts refl).0 (parts refl).1
 
@@ -206,8 +208,8 @@ asked_given_sound None terms op e is parts = done_sound terms op e is (parts ref
 pub asked-sound : {w : ℕ} (terms : Terms) (op : Op w) (e : End w) → IsWidth w → IsSoundIfAny terms.level (asked terms op e).message
 unfolding asked busy
 asked-sound terms op e is = asked_given_sound (busy terms op e) terms op e is (λ none.
-    let four = next_busy (breaks_b4 terms.level op) B4 _ none in
-    let five = next_busy (breaks_b5 terms op) B5 _ four.1 in
+    let four = next_rule (breaks_b4 terms.level op) B4 _ none in
+    let five = next_rule (breaks_b5 terms op) B5 _ four.1 in
     (four.0, five.0))
 
 -- ---- beats
@@ -256,7 +258,7 @@ taken_sound l ch (beat.A x) e legal = tt
 taken_sound {w} l ch (beat.B x) e legal =
     let p = held_at e (block_at x.address) in
     at_c l (probe_ack x.opcode p (report_for x p) (block_at x.address) (copy_at e (block_at x.address))) (transfers_with_probe l ch x legal)
-    (sound_probe_ack w x.opcode p (cap_or_none (cap_of x.param)) (block_at x.address) (copy_at e (block_at x.address)))
+    (sound_probe_ack w x.opcode p (unwrap_or (cap_of x.param) cap.ToN) (block_at x.address) (copy_at e (block_at x.address)))
 taken_sound l ch (beat.C x) e legal = tt
 taken_sound {w} l ch (beat.D x) e legal = go (ends (beat.D x) e.past) _ (ended_sound l x.opcode x _ _ (λ grants. transfers_with_grant l ch x grants legal))
   where

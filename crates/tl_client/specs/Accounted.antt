@@ -1,5 +1,5 @@
 -- What is pending at a client's end, and by which messages.
-use Rattle.std.specs.Prelude.{ℕ, Bool, true, false, List, ◌∷◌, ◌≡◌, Option, Some, None}
+use Rattle.std.specs.Prelude.{ℕ, Bool, true, false, List, ◌∷◌, ◌≡◌, Option, Some, None, ⊤}
 use Rattle.tl_beat.specs.declared.beat.Beat.{Beat}
 use Rattle.tl_beat.specs.declared.beat.Beat.TheVariants as beat
 use Rattle.tl_beat.specs.declared.opcode.Channel.TheVariants as channel
@@ -30,7 +30,7 @@ sink_coming _ = None
 -- the unfinished response answers a request that is pending
 abbrev pub IsAnswering : {w : ℕ} → List (Beat w) → History w → Type 0
 IsAnswering (beat.D x ∷ burst) t = admits x.opcode (open_beat x.source t) ≡ true
-IsAnswering _ t = Unit {0}
+IsAnswering _ t = ⊤
 
 -- A Probe is answered at once, and a Grant once it is complete.
 pub record IsAcked {w : ℕ} (t : History w) : Type 0 where

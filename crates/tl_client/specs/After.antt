@@ -1,5 +1,5 @@
 -- What a client's end of its link is after a call, by what it was before.
-use Rattle.std.specs.Prelude.{ℕ, Bool, true, false, not, List, ◌∷◌, ◌≡◌, ◌==◌, ◌&&◌, if◌then◌else◌, unwrap_or, Option, Some, None, Result, Ok, Err}
+use Rattle.std.specs.Prelude.{ℕ, Bool, true, false, not, List, ◌∷◌, ◌≡◌, ◌==◌, ◌&&◌, if◌then◌else◌, unwrap_or, Option, Some, None, Result, Ok, Err, ⊤}
 use Rattle.tl_beat.specs.declared.beat.Beat.{Beat}
 use Rattle.tl_beat.specs.declared.beat.Beat.TheVariants as beat
 use Rattle.tl_beat.specs.declared.beat.BeatA.{BeatA}
@@ -8,7 +8,7 @@ use Rattle.tl_beat.specs.declared.opcode.Channel.TheVariants as channel
 use Rattle.tl_beat.specs.declared.opcode.OpD.{OpD}
 use Rattle.tl_beat.specs.declared.opcode.OpD.TheVariants as d
 use Rattle.tl_burst.specs.declared.message.Message.{Message}
-use Rattle.tl_burst.specs.declared.message.Message.TheVariants.{A, C}
+use Rattle.tl_burst.specs.declared.message.Message.TheVariants as message
 use Rattle.tl_burst.specs.Messages.{History, unfinished}
 use Rattle.tl_params.specs.declared.key.Key.TheVariants.{RequestSource, ReleaseSource}
 use Rattle.tl_params.specs.declared.perm.Perm.{Perm}
@@ -25,7 +25,7 @@ use Rattle.tl_client.specs.declared.reply.Reply.{Reply}
 use Rattle.tl_client.specs.declared.reply.Reply.TheVariants.{Started}
 use Rattle.tl_client.specs.declared.verdict.Verdict.{Verdict}
 use Rattle.tl_client.specs.declared.verdict.Verdict.TheVariants.{Stalled}
-use Rattle.tl_client.specs.Ask.{stored}
+use Rattle.tl_client.specs.Ask.{copy_stored}
 use Rattle.tl_client.specs.End.{End, zeros}
 use Rattle.tl_client.specs.Kept.{holds, is_acquire_perm}
 use Rattle.tl_client.specs.Offer.{report_for}
@@ -54,7 +54,8 @@ is_refused (Ok v) = false
 -- after an operation, where p is held of the block: a Store with Trunk writes to it, and a Release that
 -- leaves nothing drops it
 abbrev pub copy_left : {w : ℕ} → Option Busy → Op w → ℕ → Perm → Option (List ℕ) → Option (List ℕ)
-copy_left None (Store address size value) k p copy = if (k == block_at address) && same_perm perm.Trunk p then Some (stored address size value (unwrap_or copy zeros)) else copy
+copy_left None (Store address size value) k p copy =
+    if (k == block_at address) && same_perm perm.Trunk p then Some (copy_stored address size value (unwrap_or copy zeros)) else copy
 copy_left None (Release block prune) k p copy = if (k == block) && not (holds (prune_right prune)) then None else copy
 copy_left _ _ k p copy = copy
 
@@ -66,7 +67,8 @@ copy_granted _ _ payload k e = e.copies k
 
 -- after a beat that is taken: a Probe that leaves nothing drops it
 abbrev pub copy_with : {w : ℕ} → Beat w → ℕ → End w → Option (List ℕ)
-copy_with (beat.B x) k e = if (k == block_at x.address) && not (holds (report_right (report_for x (held (block_at x.address) e.past)))) then None else e.copies k
+copy_with (beat.B x) k e =
+    if (k == block_at x.address) && not (holds (report_right (report_for x (held (block_at x.address) e.past)))) then None else e.copies k
 copy_with (beat.D x) k e =
     if ends (beat.D x) e.past
     then copy_granted x.opcode (request_of x.source e.past) (payload_of (beat.D x ∷ unfinished channel.D e.past)) k e
@@ -102,10 +104,10 @@ waiting_by (Ok _) x k e = waiting_with x k e
 -- A message is there exactly where an operation started, with the source that the reply names, which
 -- was free.
 abbrev pub IsStarted : {w : ℕ} → Reply → Option (Message w) → History w → Type 0
-IsStarted (Started s) (Some (A m)) t = (m.source ≡ s) × (pending (RequestSource s) t ≡ false)
-IsStarted (Started s) (Some (C m)) t = (m.source ≡ s) × (pending (ReleaseSource s) t ≡ false)
+IsStarted (Started s) (Some (message.A m)) t = (m.source ≡ s) × (pending (RequestSource s) t ≡ false)
+IsStarted (Started s) (Some (message.C m)) t = (m.source ≡ s) × (pending (ReleaseSource s) t ≡ false)
 IsStarted (Started s) _ t = ⊥
-IsStarted _ None t = Unit {0}
+IsStarted _ None t = ⊤
 IsStarted _ (Some m) t = ⊥
 
 -- ---- the open request and the open Release with a source

@@ -3,7 +3,7 @@ use Rattle.std.specs.Prelude.{ℕ, zero, suc, Bool, true, false, not, List, [], 
 use Rattle.tl_beat.specs.declared.opcode.Channel.TheVariants as channel
 use Rattle.tl_beat.specs.declared.opcode.OpA.{OpA}
 use Rattle.tl_beat.specs.declared.opcode.OpA.TheVariants as a
-use Rattle.tl_beat.specs.Opcode.{a_code}
+use Rattle.tl_beat.specs.First.{first_if}
 use Rattle.tl_burst.specs.declared.message.Message.{Message}
 use Rattle.tl_burst.specs.declared.message.Message.TheVariants as message
 use Rattle.tl_burst.specs.declared.message.MessageA.{MessageA}
@@ -17,7 +17,7 @@ use Rattle.tl_params.specs.declared.perm.Perm.{Perm}
 use Rattle.tl_params.specs.declared.perm.Perm.TheVariants as perm
 use Rattle.tl_rules.specs.Conformance.{same_perm}
 use Rattle.tl_rules.specs.Effect.{number_from, byte_of}
-use Rattle.tl_rules.specs.History.{block_at, pending}
+use Rattle.tl_rules.specs.History.{block_at, is_acquire, pending}
 use Rattle.tl_rules.specs.Legality.{a_of_level, has_transfers, illegal_message, is_aligned}
 use Rattle.tl_params.specs.Param.{grow_left, prune_left, prune_right}
 use Rattle.tl_client.specs.declared.busy.Busy.{Busy}
@@ -33,7 +33,7 @@ use Rattle.tl_client.specs.Send.{access, acquire, release}
 
 -- an access that the level has
 abbrev pub is_access_of : Level → OpA → Bool
-is_access_of l opcode = a_of_level l opcode && nat_lt (a_code opcode) 6
+is_access_of l opcode = a_of_level l opcode && not (is_acquire opcode)
 
 -- a request for one
 abbrev pub is_access : {w : ℕ} → Level → Message w → Bool
@@ -66,14 +66,14 @@ abbrev pub is_sound : {w : ℕ} → Level → Message w → Bool
 is_sound l (message.A m) = is_none (illegal_message l channel.A (message.A m)) && is_clean m
 is_sound l _ = false
 
-abbrev pub block_of : {w : ℕ} → Op w → ℕ
-block_of (Load address size) = block_at address
-block_of (Store address size value) = block_at address
-block_of (Acquire block grow) = block
-block_of (AcquireWhole block bytes) = block
-block_of (Release block prune) = block
-block_of (Access (message.A m)) = block_at m.address
-block_of (Access _) = 0
+abbrev pub op_block : {w : ℕ} → Op w → ℕ
+op_block (Load address size) = block_at address
+op_block (Store address size value) = block_at address
+op_block (Acquire block grow) = block
+op_block (AcquireWhole block bytes) = block
+op_block (Release block prune) = block
+op_block (Access (message.A m)) = block_at m.address
+op_block (Access _) = 0
 
 abbrev pub is_formed : {w : ℕ} → Level → Op w → Bool
 is_formed l (Load address size) = is_word address size
@@ -82,7 +82,7 @@ is_formed l (Access m) = is_sound l m
 is_formed l _ = true
 
 abbrev pub breaks_b5 : {w : ℕ} → Terms → Op w → Bool
-breaks_b5 terms op = nat_le terms.blocks (block_of op) || not (is_formed terms.level op)
+breaks_b5 terms op = nat_le terms.blocks (op_block op) || not (is_formed terms.level op)
 
 -- ---- B2: a transfer of the block is outstanding
 
@@ -93,7 +93,7 @@ is_transfer (Release block prune) = true
 is_transfer _ = false
 
 abbrev pub breaks_b2 : {w : ℕ} → Op w → History w → Bool
-breaks_b2 op t = is_transfer op && (pending (AcquireOf (block_of op)) t || pending (ReleaseOf (block_of op)) t)
+breaks_b2 op t = is_transfer op && (pending (AcquireOf (op_block op)) t || pending (ReleaseOf (op_block op)) t)
 
 -- ---- B3: the operation doesn't begin at the permission that is held
 
@@ -124,17 +124,13 @@ breaks_b1 terms _ t = is_none (free_request terms t)
 
 -- ---- the first that applies
 
-abbrev pub busy_if : Bool → Busy → Option Busy → Option Busy
-busy_if true b rest = Some b
-busy_if false b rest = rest
-
 unfoldable pub busy : {w : ℕ} → Terms → Op w → End w → Option Busy
 busy terms op e =
-    busy_if (breaks_b4 terms.level op) B4
-    (busy_if (breaks_b5 terms op) B5
-    (busy_if (breaks_b2 op e.past) B2
-    (busy_if (breaks_b3 op (held_at e (block_of op))) B3
-    (busy_if (breaks_b1 terms op e.past) B1 None))))
+    first_if (breaks_b4 terms.level op) B4
+    (first_if (breaks_b5 terms op) B5
+    (first_if (breaks_b2 op e.past) B2
+    (first_if (breaks_b3 op (held_at e (op_block op))) B3
+    (first_if (breaks_b1 terms op e.past) B1 None))))
 
 -- ---- the answer
 
@@ -163,8 +159,8 @@ low_bytes value i zero = []
 low_bytes value i (suc n) = byte_of value i ∷ low_bytes value (i + 1) n
 
 -- a copy after a Store
-abbrev pub stored : ℕ → ℕ → ℕ → List ℕ → List ℕ
-stored address size value copy = take (address % 64) copy ++ low_bytes value 0 (2 ^ size) ++ drop (address % 64 + 2 ^ size) copy
+abbrev pub copy_stored : ℕ → ℕ → ℕ → List ℕ → List ℕ
+copy_stored address size value copy = take (address % 64) copy ++ low_bytes value 0 (2 ^ size) ++ drop (address % 64 + 2 ^ size) copy
 
 abbrev pub load : {w : ℕ} → ℕ → ℕ → Perm → End w → Asked w
 load address size perm.None e = only reply.Miss e
@@ -172,7 +168,7 @@ load address size _ e = only (reply.Value (loaded address size (copy_at e (block
 
 abbrev pub store : {w : ℕ} → ℕ → ℕ → ℕ → Perm → End w → Asked w
 store address size value perm.Trunk e =
-    only reply.Stored (with_copy (block_at address) (Some (stored address size value (copy_at e (block_at address)))) e)
+    only reply.Stored (with_copy (block_at address) (Some (copy_stored address size value (copy_at e (block_at address)))) e)
 store address size value _ e = only reply.Miss e
 
 -- a whole block is written from Branch or from None

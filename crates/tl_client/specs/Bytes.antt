@@ -1,5 +1,5 @@
 -- The bytes that a client keeps are those of a block.
-use Rattle.std.specs.Prelude.{ℕ, List, ◌∷◌, ◌≡◌, ◌≤◌, ◌<◌, length, IfSome, Option}
+use Rattle.std.specs.Prelude.{ℕ, List, ◌∷◌, ◌≡◌, ◌≤◌, ◌<◌, length, IfSome, Option, ⊤}
 use Rattle.tl_beat.specs.declared.beat.Beat.{Beat}
 use Rattle.tl_beat.specs.declared.beat.Beat.TheVariants as beat
 use Rattle.tl_beat.specs.declared.opcode.Channel.TheVariants as channel
@@ -16,12 +16,12 @@ IsLong bytes = IfSome bytes (λ b. length b ≡ 64)
 abbrev pub IsTypedOp : {w : ℕ} → Op w → Type 0
 IsTypedOp (AcquireWhole block bytes) = length bytes ≡ 64
 IsTypedOp (Access m) = HasBlock m
-IsTypedOp _ = Unit {0}
+IsTypedOp _ = ⊤
 
 -- the beats of an unfinished response are fewer than make the message, which is a block at most
 abbrev pub IsShort : {w : ℕ} → List (Beat w) → Type 0
 IsShort (beat.D x ∷ burst) = (x.size ≤ 6) × (length (beat.D x ∷ burst) < burst_length (beat.D x))
-IsShort _ = Unit {0}
+IsShort _ = ⊤
 
 pub record HasBytes {w : ℕ} (e : End w) : Type 0 where
   pub long_copies : (k : ℕ) → IsLong (e.copies k)

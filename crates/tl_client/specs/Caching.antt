@@ -2,6 +2,7 @@
 use Rattle.std.specs.Prelude.{ℕ, Bool, not, List, ◌≡◌, ◌&&◌, ◌||◌, if◌then◌else◌, nat_le, Option, Some, None, is_some, unwrap_or}
 use Rattle.std.specs.List.{list_any}
 use Rattle.tl_beat.specs.declared.opcode.OpA.TheVariants as a
+use Rattle.tl_beat.specs.First.{first_if}
 use Rattle.tl_burst.specs.declared.message.Message.{Message}
 use Rattle.tl_burst.specs.declared.message.Message.TheVariants as message
 use Rattle.tl_params.specs.declared.param.Prune.{Prune}
@@ -17,7 +18,7 @@ use Rattle.tl_client.specs.declared.reply.Reply.{Reply}
 use Rattle.tl_client.specs.declared.reply.Reply.TheVariants as reply
 use Rattle.tl_client.specs.declared.sources.Sources.{Sources}
 use Rattle.tl_client.specs.After.{copy_left, waiting_left}
-use Rattle.tl_client.specs.Ask.{least_free, busy_if, breaks_b3, breaks_b4, block_of, is_formed, is_transfer, loaded, whole_grow}
+use Rattle.tl_client.specs.Ask.{least_free, breaks_b3, breaks_b4, op_block, is_formed, is_transfer, loaded, whole_grow}
 use Rattle.tl_client.specs.End.{zeros}
 use Rattle.tl_client.specs.Held.{left_by}
 use Rattle.tl_client.specs.Kept.{holds}
@@ -40,10 +41,10 @@ is_transferring c k = list_any (acquires_block k) c.requests.with_source || list
 -- why an operation isn't started, but for want of a source
 abbrev pub busy_by : {w : ℕ} → Caching w → Op w → Option Busy
 busy_by c op =
-    busy_if (breaks_b4 c.config.level op) B4
-    (busy_if (nat_le c.blocks (block_of op) || not (is_formed c.config.level op)) B5
-    (busy_if (is_transfer op && is_transferring c (block_of op)) B2
-    (busy_if (breaks_b3 op (held_in c.table (block_of op))) B3 None)))
+    first_if (breaks_b4 c.config.level op) B4
+    (first_if (nat_le c.blocks (op_block op) || not (is_formed c.config.level op)) B5
+    (first_if (is_transfer op && is_transferring c (op_block op)) B2
+    (first_if (breaks_b3 op (held_in c.table (op_block op))) B3 None)))
 
 -- the least source with which nothing is open
 abbrev pub free_in : {T : Type 0} → Sources T → ℕ → Option ℕ
@@ -65,7 +66,8 @@ abbrev pub answer_by : {w : ℕ} → Caching w → Op w → Reply × Option (Mes
 answer_by c (Load address size) = (load_reply c address size, None)
 answer_by c (Store address size value) = (store_reply c address, None)
 answer_by c (Acquire block grow) = start_with (free_in c.requests c.config.sources) (acquisition a.AcquireBlock grow 0 block)
-answer_by c (AcquireWhole block bytes) = start_with (free_in c.requests c.config.sources) (acquisition a.AcquirePerm (whole_grow (held_in c.table block)) 0 block)
+answer_by c (AcquireWhole block bytes) =
+    start_with (free_in c.requests c.config.sources) (acquisition a.AcquirePerm (whole_grow (held_in c.table block)) 0 block)
 answer_by c (Release block prune) = release_with (free_in c.releases c.config.sources) prune block (bytes_in c block)
 answer_by c (Access (message.A m)) = start_with (free_in c.requests c.config.sources) m
 answer_by c (Access _) = (reply.Busy B4, None)

@@ -1,3 +1,4 @@
+-- A client's end of its link.
 use Rattle.std.specs.Prelude.{ℕ, Bool, true, false, List, [], ◌==◌, if◌then◌else◌, replicate, unwrap_or, Option, None}
 use Rattle.tl_burst.specs.declared.message.Message.{Message}
 use Rattle.tl_burst.specs.Messages.{History}

@@ -1,5 +1,5 @@
 -- What a client's calls keep.
-use Rattle.std.specs.Prelude.{ℕ, Bool, true, false, List, [], ◌∷◌, ◌≡◌, ◌==◌, ◌&&◌, Option, Some, None, is_some}
+use Rattle.std.specs.Prelude.{ℕ, Bool, true, false, List, [], ◌∷◌, ◌≡◌, ◌==◌, ◌&&◌, Option, Some, None, is_some, ⊤}
 use Rattle.tl_beat.specs.declared.beat.Beat.{Beat}
 use Rattle.tl_beat.specs.declared.beat.Beat.TheVariants as beat
 use Rattle.tl_beat.specs.declared.beat.BeatA.{BeatA}
@@ -42,7 +42,7 @@ is_acquire_beat (Some r) = is_acquire r.opcode
 abbrev pub IsGranting : {w : ℕ} → List (Beat w) → History w → Type 0
 IsGranting (beat.D x ∷ burst) t =
     is_grant x.opcode ≡ true → (is_grant_without_data x.opcode ≡ false) × (holds (capped x.param) ≡ true) × (is_acquire_beat (open_beat x.source t) ≡ true)
-IsGranting _ t = Unit {0}
+IsGranting _ t = ⊤
 
 pub record IsKept {w : ℕ} (e : End w) : Type 0 where
   -- messages are handed out whole, and a Probe has one beat

@@ -1,5 +1,6 @@
 -- What a client answers to a beat.
-use Rattle.std.specs.Prelude.{ℕ, Bool, true, false, List, ◌∷◌, ◌++◌, ◌&&◌, ◌-◌, ◌%◌, ◌^◌, if◌then◌else◌, length, take, drop, replicate, Option, Some, None, is_none, Result, Ok, Err}
+use Rattle.std.specs.Prelude.{ℕ, Bool, true, false, List, ◌∷◌, ◌++◌, ◌&&◌, ◌-◌, ◌%◌, ◌^◌, if◌then◌else◌, length, take, drop, replicate, Option, Some, None, is_none, unwrap_or, Result, Ok, Err}
+use Rattle.std.specs.Option.{option_or}
 use Rattle.tl_beat.specs.declared.beat.Beat.{Beat}
 use Rattle.tl_beat.specs.declared.beat.Beat.TheVariants as beat
 use Rattle.tl_beat.specs.declared.beat.BeatA.{BeatA}
@@ -11,10 +12,10 @@ use Rattle.tl_beat.specs.declared.opcode.OpA.{OpA}
 use Rattle.tl_beat.specs.declared.opcode.OpA.TheVariants as a
 use Rattle.tl_beat.specs.declared.opcode.OpD.{OpD}
 use Rattle.tl_beat.specs.declared.opcode.OpD.TheVariants as d
+use Rattle.tl_beat.specs.First.{first_if}
 use Rattle.tl_burst.specs.declared.message.Message.{Message}
 use Rattle.tl_burst.specs.Messages.{History, unfinished}
 use Rattle.tl_params.specs.declared.key.Key.TheVariants.{ReleaseOf}
-use Rattle.tl_params.specs.declared.param.Cap.{Cap}
 use Rattle.tl_params.specs.declared.param.Cap.TheVariants as cap
 use Rattle.tl_params.specs.declared.param.Report.{Report}
 use Rattle.tl_params.specs.declared.perm.Perm.{Perm}
@@ -23,7 +24,7 @@ use Rattle.tl_params.specs.declared.rule.Rule.TheVariants.{L1, A1, A2, A3}
 use Rattle.tl_rules.specs.Agent.{is_outside, is_spoiled, payload_of}
 use Rattle.tl_rules.specs.Conformance.{broken_in_order}
 use Rattle.tl_rules.specs.History.{block_at, ends, is_probe, capped, pending, request_of}
-use Rattle.tl_rules.specs.Legality.{illegal, or_else, rule_if}
+use Rattle.tl_rules.specs.Legality.{illegal}
 use Rattle.tl_params.specs.Param.{cap_of, report_at, report_right}
 use Rattle.tl_client.specs.declared.verdict.Finish.{Finish}
 use Rattle.tl_client.specs.declared.verdict.Finish.TheVariants as finish
@@ -42,14 +43,14 @@ is_sent_on _ = true
 
 -- before a stall: A3, and the L rules
 abbrev pub broken_before : {w : ℕ} → Terms → Channel → Beat w → End w → Option Rule
-broken_before terms ch x e = rule_if e.closed A3 (rule_if (is_sent_on ch) L1 (illegal terms.level ch x))
+broken_before terms ch x e = first_if e.closed A3 (first_if (is_sent_on ch) L1 (illegal terms.level ch x))
 
 -- after it: S1, the H rules, A1 and A2
 abbrev pub broken_later : {w : ℕ} → Terms → Beat w → End w → Option Rule
 broken_later terms x e =
-    or_else (broken_in_order terms.profile x e.past)
-    (rule_if (is_outside terms.blocks x) A1
-    (rule_if (is_spoiled x) A2 None))
+    option_or (broken_in_order terms.profile x e.past)
+    (first_if (is_outside terms.blocks x) A1
+    (first_if (is_spoiled x) A2 None))
 
 -- a Probe waits while a Release of its block is pending
 abbrev pub waits : {w : ℕ} → Beat w → History w → Bool
@@ -80,13 +81,9 @@ answered v m e = record { answer = Ok (v, Some m); after = sending m e }
 
 -- ---- Probes
 
-abbrev pub cap_or_none : Option Cap → Cap
-cap_or_none None = cap.ToN
-cap_or_none (Some cap) = cap
-
 -- the report with which the Probe is answered
 abbrev pub report_for : {w : ℕ} → BeatB w → Perm → Report
-report_for x p = report_at (cap_or_none (cap_of x.param)) p
+report_for x p = report_at (unwrap_or (cap_of x.param) cap.ToN) p
 
 -- the Probe of a block of which this is held
 abbrev pub probed : {w : ℕ} → BeatB w → ℕ → Perm → End w → Offered w

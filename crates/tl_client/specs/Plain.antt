@@ -1,10 +1,12 @@
 -- What a plain client makes of what it keeps.
 use Rattle.std.specs.Prelude.{ℕ, Bool, true, false, not, List, ◌∷◌, ◌==◌, ◌&&◌, ◌||◌, if◌then◌else◌, Option, Some, None}
+use Rattle.std.specs.Option.{option_or}
 use Rattle.tl_beat.specs.declared.beat.Beat.{Beat}
 use Rattle.tl_beat.specs.declared.beat.Beat.TheVariants as beat
 use Rattle.tl_beat.specs.declared.beat.BeatD.{BeatD}
 use Rattle.tl_beat.specs.declared.opcode.Channel.{Channel}
 use Rattle.tl_beat.specs.declared.opcode.Channel.TheVariants as channel
+use Rattle.tl_beat.specs.First.{first_if}
 use Rattle.tl_burst.specs.declared.message.Message.TheVariants as message
 use Rattle.tl_burst.specs.declared.message.MessageA.{MessageA}
 use Rattle.tl_burst.specs.Messages.{breaks_burst}
@@ -14,7 +16,7 @@ use Rattle.tl_params.specs.declared.rule.Rule.{Rule}
 use Rattle.tl_params.specs.declared.rule.Rule.TheVariants.{L1, S1, H2, H3, A2, A3}
 use Rattle.tl_rules.specs.Agent.{payload_of}
 use Rattle.tl_rules.specs.Conformance.{answers}
-use Rattle.tl_rules.specs.Legality.{illegal, or_else, rule_if}
+use Rattle.tl_rules.specs.Legality.{illegal}
 use Rattle.tl_client.specs.declared.operation.Op.{Op}
 use Rattle.tl_client.specs.declared.operation.Op.TheVariants.{Access}
 use Rattle.tl_client.specs.declared.request.Request.{Request}
@@ -34,18 +36,18 @@ access_in _ = None
 -- the H rule that the first beat of a response to this request breaks
 abbrev pub response_rule : {w : ℕ} → BeatD w → Option Request → Option Rule
 response_rule x None = Some H2
-response_rule x (Some r) = rule_if (not (answers x.opcode r.opcode)) H2 (rule_if (not (x.size == r.size)) H3 None)
+response_rule x (Some r) = first_if (not (answers x.opcode r.opcode)) H2 (first_if (not (x.size == r.size)) H3 None)
 
 -- the rule that a beat breaks which breaks no L rule
 abbrev pub order_rule : {w : ℕ} → BeatD w → Option Request → List (Beat w) → Option Rule
 order_rule x request burst =
-    or_else (if is_empty burst then response_rule x request else rule_if (breaks_burst (beat.D x) burst) S1 None)
-    (rule_if (x.corrupt || x.denied) A2 None)
+    option_or (if is_empty burst then response_rule x request else first_if (breaks_burst (beat.D x) burst) S1 None)
+    (first_if (x.corrupt || x.denied) A2 None)
 
 -- the first rule that a beat breaks at a client that has no channel B and sends on A, C and E itself
 abbrev pub plain_rule : {w : ℕ} → Level → (ℕ → Option Request) → List (Beat w) → Bool → Channel → Beat w → Option Rule
 plain_rule l asked burst true ch x = Some A3
-plain_rule l asked burst false channel.D (beat.D x) = or_else (illegal l channel.D (beat.D x)) (order_rule x (asked x.source) burst)
+plain_rule l asked burst false channel.D (beat.D x) = option_or (illegal l channel.D (beat.D x)) (order_rule x (asked x.source) burst)
 plain_rule l asked burst false _ _ = Some L1
 
 abbrev pub address_in : Option Request → ℕ

@@ -1,5 +1,5 @@
 -- A response as its message and as its beats say it.
-use Rattle.std.specs.Prelude.{ℕ, true, false, List, ◌∷◌, ◌≡◌, Option, Some, None}
+use Rattle.std.specs.Prelude.{ℕ, true, false, List, ◌∷◌, ◌≡◌, Option, Some, None, ⊤}
 use Rattle.tl_beat.specs.declared.beat.Beat.{Beat}
 use Rattle.tl_beat.specs.declared.beat.Beat.TheVariants as beat
 use Rattle.tl_beat.specs.declared.beat.BeatD.{BeatD}
@@ -39,7 +39,7 @@ in_beats x burst = record { opcode = x.opcode; param = x.param; size = x.size; s
 abbrev pub Completes : {w : ℕ} → Option (MessageD w) → Beat w → List (Beat w) → Type 0
 Completes None (beat.D x) burst = completes (beat.D x) burst ≡ false
 Completes (Some m) (beat.D x) burst = (completes (beat.D x) burst ≡ true) × (in_message m ≡ in_beats x burst)
-Completes None _ burst = Unit {0}
+Completes None _ burst = ⊤
 Completes (Some m) _ burst = ⊥
 
 -- the answer to a response that is complete, to this request

@@ -1,5 +1,5 @@
 -- What a client keeps of a block: nothing outside its table.
-use Rattle.std.specs.Prelude.{ℕ, List, slice_get, Option, Some, None}
+use Rattle.std.specs.Prelude.{ℕ, List, length, slice_get, Option, Some, None}
 use Rattle.tl_params.specs.declared.perm.Perm.{Perm}
 use Rattle.tl_params.specs.declared.perm.Perm.TheVariants as perm
 use Rattle.tl_client.specs.declared.caching.table.Block.{Block}
@@ -25,3 +25,7 @@ copy_in t k = copy_of (slice_get t.blocks.items k)
 
 abbrev pub waiting_in : Table → ℕ → Option (List ℕ)
 waiting_in t k = waiting_of (slice_get t.blocks.items k)
+
+-- how many blocks it has
+abbrev pub block_count : Table → ℕ
+block_count t = length t.blocks.items

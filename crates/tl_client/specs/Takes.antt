@@ -1,5 +1,5 @@
 -- What a caching client makes of a beat that it takes, by what it keeps.
-use Rattle.std.specs.Prelude.{ℕ, Bool, true, false, not, List, [], ◌∷◌, ◌≡◌, ◌<◌, ◌==◌, ◌&&◌, if◌then◌else◌, IfSome, Option, Some, None, Result, Ok, Err}
+use Rattle.std.specs.Prelude.{ℕ, Bool, true, false, not, List, [], ◌∷◌, ◌≡◌, ◌<◌, ◌==◌, ◌&&◌, if◌then◌else◌, IfSome, Option, Some, None, Result, Ok, Err, ⊤}
 use Rattle.tl_beat.specs.declared.beat.Beat.{Beat}
 use Rattle.tl_beat.specs.declared.beat.Beat.TheVariants as beat
 use Rattle.tl_beat.specs.declared.beat.BeatB.{BeatB}
@@ -130,7 +130,7 @@ Takes c d (beat.B x) r = Probes c d x r
 Takes c d (beat.D x) r =
     (completes (beat.D x) c.responses ≡ false → Goes c d x r)
     × (completes (beat.D x) c.responses ≡ true → GrantsInside c (in_beats x c.responses) → Ends c d x r)
-Takes c d _ r = Unit {0}
+Takes c d _ r = ⊤
 
 -- what is judged of a beat: the rule that it breaks, that it has to wait, or that it is taken
 abbrev pub IsJudged : {w : ℕ} → Terms → Channel → Beat w → End w → Result Bool Rule → Type 0

@@ -2,8 +2,9 @@
 
 ghost use Rattle.std.specs.Prelude.{◌≡◌, ◌||◌, None, not, nat_le};
 ghost use Rattle.tl_beat.specs.Width.{IsWidth};
+ghost use Rattle.tl_beat.specs.First.{first_if};
 ghost use Rattle.tl_client.specs.Ask;
-ghost use Rattle.tl_client.specs.Ask.{busy_if, breaks_b4, block_of};
+ghost use Rattle.tl_client.specs.Ask.{breaks_b4, op_block};
 ghost use Rattle.tl_client.specs.declared.busy.Busy.TheVariants.{B4, B5};
 
 use crate::access::{is_access, is_sound};
@@ -42,8 +43,8 @@ fn is_formed<const W: usize>(level: Level, operation: &Op<W>) -> bool
 }
 
 /// The block of an operation.
-pub fn block_of<const W: usize>(operation: &Op<W>) -> u32
-    ensures { result ≡ Ask.block_of operation.now }
+pub fn op_block<const W: usize>(operation: &Op<W>) -> u32
+    ensures { result ≡ Ask.op_block operation.now }
 {
     match operation {
         Op::Load { address, .. } | Op::Store { address, .. } => *address / 64,
@@ -59,13 +60,13 @@ pub fn block_of<const W: usize>(operation: &Op<W>) -> u32
 /// B5 where it is outside the map or isn't well formed.
 pub fn check<const W: usize>(level: Level, blocks: u16, operation: &Op<W>) -> Option<Busy>
     requires { IsWidth W }
-    ensures { result ≡ busy_if (breaks_b4 level operation.now) B4
-        (busy_if (nat_le blocks (block_of operation.now) || not (Ask.is_formed level operation.now)) B5 None) }
+    ensures { result ≡ first_if (breaks_b4 level operation.now) B4
+        (first_if (nat_le blocks (op_block operation.now) || not (Ask.is_formed level operation.now)) B5 None) }
 {
     if !is_of_level(level, operation) {
         return Some(Busy::B4);
     }
-    if block_of(operation) >= u32::from(blocks) || !is_formed(level, operation) {
+    if op_block(operation) >= u32::from(blocks) || !is_formed(level, operation) {
         return Some(Busy::B5);
     }
     None

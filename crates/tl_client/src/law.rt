@@ -24,7 +24,7 @@ ghost use Rattle.tl_client.specs.declared.reply.Reply.TheVariants as reply;
 ghost use Rattle.tl_client.specs.declared.verdict.Verdict.TheVariants as verdict;
 ghost use Rattle.tl_client.specs.Accounted.{IsAccounted};
 ghost use Rattle.tl_client.specs.After.{heard, handed, is_refused, copy_left, copy_by, waiting_left, waiting_by, open_by, release_by, IsStarted};
-ghost use Rattle.tl_client.specs.Ask.{asked, busy, is_word, loaded, stored};
+ghost use Rattle.tl_client.specs.Ask.{asked, busy, is_word, loaded, copy_stored};
 ghost use Rattle.tl_client.specs.Bytes.{IsTypedOp, HasBytes};
 ghost use Rattle.tl_client.specs.End.{Terms, End, copy_at, fresh, shut};
 ghost use Rattle.tl_client.specs.Inside.{IsInside};
@@ -226,11 +226,11 @@ pub fn reads_its_copy<const W: usize>()
 /// A Store writes the bytes of its value, the lowest first, and leaves the others of the block.
 pub fn stores_its_bytes()
     ensures long { (address size value : ℕ) (copy : List ℕ) → is_word address size ≡ true → length copy ≡ 64 →
-        length (stored address size value copy) ≡ 64 }
+        length (copy_stored address size value copy) ≡ 64 }
     ensures inside { (address size value j : ℕ) (copy : List ℕ) → is_word address size ≡ true → length copy ≡ 64 → j < 2 ^ size →
-        slice_index_or (stored address size value copy) (address % 64 + j) 0 ≡ byte_of value j }
+        slice_index_or (copy_stored address size value copy) (address % 64 + j) 0 ≡ byte_of value j }
     ensures below { (address size value i : ℕ) (copy : List ℕ) → is_word address size ≡ true → length copy ≡ 64 → i < address % 64 →
-        slice_index_or (stored address size value copy) i 0 ≡ slice_index_or copy i 0 }
+        slice_index_or (copy_stored address size value copy) i 0 ≡ slice_index_or copy i 0 }
     ensures above { (address size value i : ℕ) (copy : List ℕ) → is_word address size ≡ true → length copy ≡ 64 → address % 64 + 2 ^ size ≤ i →
-        slice_index_or (stored address size value copy) i 0 ≡ slice_index_or copy i 0 }
+        slice_index_or (copy_stored address size value copy) i 0 ≡ slice_index_or copy i 0 }
 {}

@@ -2,12 +2,14 @@
 
 ghost use Rattle.std.specs.Prelude.{◌≡◌, false, is_err, None, OnOk, if◌then◌else◌};
 ghost use Rattle.tl_beat.specs.Width.{IsWidth};
+ghost use Rattle.tl_beat.specs.First.{first_if};
 ghost use Rattle.tl_burst.specs.Messages.{History, channel_of, unfinished};
 ghost use Rattle.tl_burst.specs.Part.{IsTakeable, part_of};
 ghost use Rattle.tl_client.specs.Offer.{is_sent_on};
 ghost use Rattle.tl_params.specs.declared.rule.Rule.TheVariants.{A3, L1};
+ghost use Rattle.tl_params.specs.Refusal.{ok_unless};
 ghost use Rattle.tl_rules.specs.Conformance;
-ghost use Rattle.tl_rules.specs.Legality.{illegal, rule_if, verdict};
+ghost use Rattle.tl_rules.specs.Legality.{illegal};
 
 use tl_beat::beat::Beat;
 use tl_beat::opcode::Channel;
@@ -27,7 +29,7 @@ pub fn check_alone<const W: usize>(
     beat: &Beat<W>,
 ) -> Result<(), Rule>
     requires { IsWidth W }
-    ensures rule { result ≡ verdict (rule_if closed A3 (rule_if (is_sent_on channel) L1 (illegal level channel beat.now))) }
+    ensures rule { result ≡ ok_unless (first_if closed A3 (first_if (is_sent_on channel) L1 (illegal level channel beat.now))) }
     ensures takeable { OnOk result (IsTakeable beat.now) }
 {
     if closed {

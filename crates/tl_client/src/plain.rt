@@ -1,10 +1,11 @@
 //! The client that keeps no copies.
 
 ghost use Rattle.std.specs.Prelude.{ℕ, ◌≡◌, ◌==◌, ◌≤◌, ◌<◌, false, is_some, None, IfOk, OnOk, if◌then◌else◌};
+ghost use Rattle.tl_params.specs.Refusal.{ok_unless};
 ghost use Rattle.tl_beat.specs.Width.{IsWidth, IsWidth-prop};
 ghost use Rattle.tl_burst.specs.Messages.{breaks_burst, grown};
 ghost use Rattle.tl_burst.specs.Part.{IsTakeable};
-ghost use Rattle.tl_rules.specs.Legality.{illegal, verdict, has_transfers};
+ghost use Rattle.tl_rules.specs.Legality.{illegal, has_transfers};
 ghost use Rattle.tl_client.specs.Plain.{order_rule, plain_rule, plain_verdict, ends_request};
 ghost use Rattle.tl_client.specs.Sources.{open_at};
 
@@ -83,7 +84,7 @@ impl<const W: usize> Plain<W> {
         requires takeable { IsTakeable beat.now }
         requires legal { illegal self.now.config.level Channel.D beat.now ≡ None }
         ensures rule { (e : End W) → KnowsPlain self.now e →
-            result ≡ verdict (order_rule response.entry (open_at self.now.requests response.entry.source) self.now.responses) }
+            result ≡ ok_unless (order_rule response.entry (open_at self.now.requests response.entry.source) self.now.responses) }
         ensures continues { OnOk result (breaks_burst beat.now self.now.responses ≡ false) }
     {
         let part = self.responses.peek(beat);
@@ -99,7 +100,7 @@ impl<const W: usize> Plain<W> {
     /// The first rule that a beat breaks. Only channel D comes to this client.
     fn judge(&self, channel: Channel, beat: &Beat<W>) -> Result<(), Rule>
         ensures rule { (e : End W) → KnowsPlain self.now e →
-            result ≡ verdict (plain_rule self.now.config.level (open_at self.now.requests) self.now.responses self.now.closed channel beat.now) }
+            result ≡ ok_unless (plain_rule self.now.config.level (open_at self.now.requests) self.now.responses self.now.closed channel beat.now) }
         ensures takeable { OnOk result (IsTakeable beat.now) }
         ensures continues { OnOk result (breaks_burst beat.now self.now.responses ≡ false) }
     {

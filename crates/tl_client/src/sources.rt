@@ -10,7 +10,7 @@ pub struct Sources<T: Copy> {
 }
 
 impl<T: Copy> Sources<T> {
-    ghost use Rattle.tl_client.specs.Sources.{open_at};
+    ghost use Rattle.tl_client.specs.Sources.{open_at, with_each};
 
     /// Nothing is open.
     pub fn new() -> Self
@@ -33,7 +33,7 @@ impl<T: Copy> Sources<T> {
 
     /// What is open with each source.
     pub fn all(&self) -> &[Option<T>; 8]
-        ensures { result.now ≡ self.now.with_source }
+        ensures { result.now ≡ with_each self.now }
     {
         &self.with_source
     }

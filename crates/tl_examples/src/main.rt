@@ -1,4 +1,4 @@
-//! Judges each trace of examples/, and writes what it is judged.
+//! Judges each trace of data/ and plays each schedule, and writes what comes of it.
 #![tactic(auto)]
 
 ghost use Rattle.std.specs.Prelude.{IfOk};
@@ -13,7 +13,7 @@ use tl_tool::put::put;
 use tl_tool::status::{Status, ToolFault};
 use tl_tool::tool::run_tool;
 
-/// The traces, by their names in examples/.
+/// The traces, by their names in data/.
 const TRACES: [&str; 44] = [
     "two_caches.trace",
     "wrong_report.trace",
@@ -61,34 +61,86 @@ const TRACES: [&str; 44] = [
     "rules/H13_right.trace",
 ];
 
-/// Writes the name of a trace, a colon and a space, and what the trace is judged. Its faults are those
+/// The schedules that are played.
+const SCHEDULES: [&str; 20] = [
+    "schedules/empty.schedule",
+    "schedules/nothing_happens.schedule",
+    "schedules/a_part_of_a_word.schedule",
+    "schedules/a_put_without_its_last_beat.schedule",
+    "schedules/signed_and_unsigned_minimum.schedule",
+    "schedules/a_sum_that_wraps.schedule",
+    "schedules/a_writer_becomes_a_reader.schedule",
+    "schedules/a_release_races_with_a_probe.schedule",
+    "schedules/a_bridge_with_a_plain_client.schedule",
+    "schedules/two_readers_want_to_write.schedule",
+    "schedules/a_whole_block_beside_an_upgrade.schedule",
+    "schedules/acquired_again_before_the_ack.schedule",
+    "schedules/sixteen_readers_and_a_put.schedule",
+    "schedules/busy_clients.schedule",
+    "schedules/all_channels_at_once.schedule",
+    "schedules/four_bytes_a_beat.schedule",
+    "schedules/sixteen_bytes_a_beat.schedule",
+    "schedules/a_sum_of_two_beats.schedule",
+    "schedules/the_only_reader_may_write.schedule",
+    "schedules/the_only_reader_releases.schedule",
+];
+
+/// The schedules that are played with a trace of their beats.
+const TRACED: [&str; 4] = [
+    "schedules/nothing_happens.schedule",
+    "schedules/no_event.schedule",
+    "schedules/third_version.schedule",
+    "schedules/a_writer_becomes_a_reader.schedule",
+];
+
+/// Writes the name of a file, a separator, and what the command tells of the file. Its faults are those
 /// of `run_tool`.
-fn judge<R: Read, W: Write>(
+fn tell<R: Read, W: Write>(
     alloc: Global,
+    command: Command,
     name: &str,
-    trace: &mut R,
+    separator: &[u8],
+    input: &mut R,
     output: &mut W,
 ) -> Result<Status, ToolFault>
-    ensures { IfOk result (Tells name.now (R.remaining trace.old) (R.remaining trace.new) (W.contents output.old) (W.contents output.new)) }
+    ensures { IfOk result (Tells command name.now separator.now (R.remaining input.old) (R.remaining input.new) (W.contents output.old) (W.contents output.new)) }
 {
     put(output, name.as_bytes())?;
-    put(output, b": ")?;
-    run_tool(alloc, Command::Monitor, trace, output)
+    put(output, separator)?;
+    run_tool(alloc, command, input, output)
 }
 
-/// Judges the trace with this name. Answers whether it could be read and told.
-fn judge_file(rt: &HostRuntime, name: &str) -> bool {
-    let Ok(mut trace) = fs::open(rt, name) else {
-        return false;
-    };
-    judge(rt.alloc(), name, &mut trace, &mut io::writer(rt)).is_ok()
+/// Tells of each of the files with these names. Answers whether all could be read and told of.
+fn tell_all(rt: &HostRuntime, command: Command, names: &[&str], separator: &[u8]) -> bool {
+    for name in names {
+        let Ok(mut file) = fs::open(rt, *name) else {
+            return false;
+        };
+        if tell(
+            rt.alloc(),
+            command,
+            name,
+            separator,
+            &mut file,
+            &mut io::writer(rt),
+        )
+        .is_err()
+        {
+            return false;
+        }
+    }
+    true
 }
 
 fn main(rt: HostRuntime) -> ExitCode {
-    for name in TRACES {
-        if !judge_file(&rt, name) {
-            return ExitCode::FAILURE;
-        }
+    let run = Command::Run { trace: false };
+    let trace = Command::Run { trace: true };
+    if tell_all(&rt, Command::Monitor, &TRACES, b": ")
+        && tell_all(&rt, run, &SCHEDULES, b":\n")
+        && tell_all(&rt, trace, &TRACED, b" --trace:\n")
+    {
+        ExitCode::SUCCESS
+    } else {
+        ExitCode::FAILURE
     }
-    ExitCode::SUCCESS
 }

@@ -14,6 +14,7 @@ use Rattle.tl_burst.specs.Messages.{unfinished}
 use Rattle.tl_params.specs.declared.key.Key.TheVariants.{RequestSource, AcquireOf, GrantSink, GrantAckOf, ProbeOf}
 use Rattle.tl_rules.specs.Conformance.{Trace, on_link}
 use Rattle.tl_rules.specs.History.{block_at, is_grant, is_acquire, is_release_ack, pending}
+use Rattle.tl_rules.proofs.Open.{never}
 use Rattle.tl_manager.specs.Pending.{count_where, is_granted, is_asking, is_acquiring, is_granted_to, IsNamed, IsHandled, IsAccounted}
 use Rattle.tl_manager.specs.Service.{Service, services, serving, is_access_answer, is_ended_by}
 use Rattle.tl_manager.proofs.Counts.{count-filter, counted-kept, filter-same, each_both, same_block, serving-without}
@@ -23,7 +24,6 @@ use Rattle.tl_manager.proofs.Probes.{filter-all}
 use Rattle.tl_manager.proofs.Replied.{IsReply, asks-alone, asks_else, block_served, sources-reply}
 use Rattle.tl_manager.proofs.Replies.{reply-quiet, burst-reply, reports-reply, request-reply, probe-reply, sink-reply}
 use Rattle.tl_manager.proofs.Unmoved.{IsSame, handled-same, begun-kept, accounted-kept}
-use Rattle.tl_manager.proofs.Lists.{never}
 
 pub answer_kind : (opcode : OpD) → is_access_answer opcode ≡ true → is_grant opcode ≡ false
 answer_kind d.AccessAck e = refl
@@ -47,11 +47,13 @@ both_ways false true f g = g refl
 both_ways false false f g = refl
 
 -- what a message of channel D that is no Grant leaves
-pub granted-still : {w : ℕ} (link : Link) (m : MessageD w) (t : Trace w) (v : Service w) → IsWidth w → unfinished channel.D (on_link link.0 t) ≡ [] → is_grant m.opcode ≡ false → is_granted (after_sent link (D m) t) v ≡ is_granted t v
+pub granted-still : {w : ℕ} (link : Link) (m : MessageD w) (t : Trace w) (v : Service w) → IsWidth w → unfinished channel.D (on_link link.0 t) ≡ [] → is_grant m.opcode ≡ false
+    → is_granted (after_sent link (D m) t) v ≡ is_granted t v
 granted-still link m t v width none other =
     ap (λ b. is_acquire v.request.opcode && b) (reply-quiet (GrantSink v.tracker) link m t v.link.0 width none (λ e. (rw other refl, refl)))
 
-same-still : {w : ℕ} (link : Link) (m : MessageD w) (t : Trace w) (k : ℕ) → IsWidth w → unfinished channel.D (on_link link.0 t) ≡ [] → is_grant m.opcode ≡ false → serving k (services (after_sent link (D m) t)) ≡ serving k (services t) → IsSame k t (after_sent link (D m) t)
+same-still : {w : ℕ} (link : Link) (m : MessageD w) (t : Trace w) (k : ℕ) → IsWidth w → unfinished channel.D (on_link link.0 t) ≡ [] → is_grant m.opcode ≡ false
+    → serving k (services (after_sent link (D m) t)) ≡ serving k (services t) → IsSame k t (after_sent link (D m) t)
 same-still link m t k width none other serves = record {
   serves = serves;
   granted = λ v e. granted-still link m t v width none other;
@@ -65,12 +67,14 @@ same-still link m t k width none other serves = record {
 
 -- ---- a ReleaseAck
 
-pub services-release_ack : {w : ℕ} (link : Link) (m : MessageD w) (t : Trace w) → IsWidth w → unfinished channel.D (on_link link.0 t) ≡ [] → is_release_ack m.opcode ≡ true → services (after_sent link (D m) t) ≡ services t
+pub services-release_ack : {w : ℕ} (link : Link) (m : MessageD w) (t : Trace w) → IsWidth w → unfinished channel.D (on_link link.0 t) ≡ [] → is_release_ack m.opcode ≡ true
+    → services (after_sent link (D m) t) ≡ services t
 services-release_ack {w} link m t width none ack =
     services-sent link (D m) t width refl none
     ∙ filter-all (λ v. not (is_ended_by (link, beat_of (D m) 0) v)) (services t) (λ v. rw ((ack_kind m.opcode ack).1) (ap not (never (v.link.0 == link.0))))
 
-pub accounted-release_ack : {w : ℕ} (link : Link) (m : MessageD w) (t : Trace w) → IsWidth w → unfinished channel.D (on_link link.0 t) ≡ [] → is_release_ack m.opcode ≡ true → IsAccounted t → IsAccounted (after_sent link (D m) t)
+pub accounted-release_ack : {w : ℕ} (link : Link) (m : MessageD w) (t : Trace w) → IsWidth w → unfinished channel.D (on_link link.0 t) ≡ [] → is_release_ack m.opcode ≡ true → IsAccounted t
+    → IsAccounted (after_sent link (D m) t)
 accounted-release_ack {w} link m t width none ack ok =
     let other = (ack_kind m.opcode ack).0 in
     accounted-kept t (after_sent link (D m) t)
@@ -116,7 +120,8 @@ services-answer {w} n s m t is answer access ok =
         ungranted true b f = absurd cc
         ungranted false b f = refl
 
-pub accounted-answer : {w : ℕ} (n : ℕ) (s : Service w) (m : MessageD w) (t : Trace w) → IsReply n s m t → is_access_answer m.opcode ≡ true → is_acquire s.request.opcode ≡ false → IsAccounted t → IsAccounted (after_sent s.link (D m) t)
+pub accounted-answer : {w : ℕ} (n : ℕ) (s : Service w) (m : MessageD w) (t : Trace w) → IsReply n s m t → is_access_answer m.opcode ≡ true → is_acquire s.request.opcode ≡ false
+    → IsAccounted t → IsAccounted (after_sent s.link (D m) t)
 accounted-answer {w} n s m t is answer access ok = record {
   sources = λ c q. sources-reply n c q s m t is ok (counted c q);
   begun = λ c. begun-kept t u c (burst-reply s.link m t c) (λ q. request-reply s.link m t c q) ok;

@@ -13,14 +13,15 @@ use Rattle.tl_params.specs.declared.rule.Rule.TheVariants.{H8}
 use Rattle.tl_rules.specs.Conformance.{Trace, on_link, broken_in_order, broken_order, comes_in_grant}
 use Rattle.tl_rules.specs.History.{ends, is_acquire, is_sink, pending, request_of, probe_of, grant_sink}
 use Rattle.tl_rules.proofs.Bursts.{next_rule}
+use Rattle.tl_rules.proofs.Sent.{pending-quiet}
+use Rattle.tl_rules.proofs.Open.{never}
 use Rattle.tl_manager.specs.Kept.{AreApart, blocks_of}
 use Rattle.tl_manager.specs.Pending.{count_where, is_granted, is_asking, is_acquiring, is_granted_to, IsNamed, IsHandled, IsAccounted}
 use Rattle.tl_manager.specs.Service.{Service, services, serving, is_ended_by}
 use Rattle.tl_manager.proofs.Counts.{count-same, count-filter, all-each}
-use Rattle.tl_manager.proofs.Links.{own_beat, other_beat, beat-keeps, pending-quiet, pending-closed, whole-e}
+use Rattle.tl_manager.proofs.Links.{own_beat, other_beat, beat-keeps, pending-closed, whole-e}
 use Rattle.tl_manager.proofs.Serving.{if_passes, serving-filter, some_is}
 use Rattle.tl_manager.proofs.Unmoved.{IsSame, handled-same, begun-kept, reports-kept}
-use Rattle.tl_manager.proofs.Lists.{never}
 
 request_of-e : {w : ℕ} (q : ℕ) (x : BeatE) (t : History w) → request_of q (beat.E x ∷ t) ≡ request_of q t
 unfolding request_of
@@ -80,7 +81,8 @@ granted-left {w} link x t s e = go (is_acquire s.request.opcode) (link.0 == s.li
     closes_none true d = refl
     closes_none false d = refl
 
-    go : (acquires here : Bool) → is_acquire s.request.opcode ≡ acquires → (link.0 == s.link.0) ≡ here → (acquires && pending (GrantSink s.tracker) (on_link s.link.0 u)) ≡ (acquires && pending (GrantSink s.tracker) (on_link s.link.0 t))
+    go : (acquires here : Bool) → is_acquire s.request.opcode ≡ acquires → (link.0 == s.link.0) ≡ here
+        → (acquires && pending (GrantSink s.tracker) (on_link s.link.0 u)) ≡ (acquires && pending (GrantSink s.tracker) (on_link s.link.0 t))
     go false here f g = refl
     go true false f g = ap (pending (GrantSink s.tracker)) (other_beat s.link.0 link (beat.E x) t g)
     go true true f g =
@@ -91,7 +93,9 @@ granted-left {w} link x t s e = go (is_acquire s.request.opcode) (link.0 == s.li
 -- ---- a block
 
 -- its GrantAck is missing as before, where this isn't it
-ack-kept : {w : ℕ} (link : Link) (x : BeatE) (t : Trace w) (k c : ℕ) → ((link.0 == c) ≡ true → pending (GrantAckOf k) (on_link c t) ≡ true → is_sink x.sink (grant_sink k (on_link c t)) ≡ false) → pending (GrantAckOf k) (on_link c ((link, beat.E x) ∷ t)) ≡ pending (GrantAckOf k) (on_link c t)
+ack-kept : {w : ℕ} (link : Link) (x : BeatE) (t : Trace w) (k c : ℕ)
+    → ((link.0 == c) ≡ true → pending (GrantAckOf k) (on_link c t) ≡ true → is_sink x.sink (grant_sink k (on_link c t)) ≡ false)
+    → pending (GrantAckOf k) (on_link c ((link, beat.E x) ∷ t)) ≡ pending (GrantAckOf k) (on_link c t)
 ack-kept {w} link x t k c other = go (link.0 == c) refl
   where
     left : (last closed before : Bool) → (before ≡ true → closed ≡ false) → (if last && closed then false else before) ≡ before
@@ -106,7 +110,8 @@ ack-kept {w} link x t k c other = go (link.0 == c) refl
         ∙ left (ends {w = w} (beat.E x) (on_link c t)) (is_sink x.sink (grant_sink k (on_link c t))) (pending (GrantAckOf k) (on_link c t)) (other e)
     go false e = ap (pending (GrantAckOf k)) (other_beat c link (beat.E x) t e)
 
-same-e : {w : ℕ} (link : Link) (x : BeatE) (t : Trace w) (k : ℕ) → serving k (services ((link, beat.E x) ∷ t)) ≡ serving k (services t) → ((s : Service w) → serving k (services t) ≡ Some s → is_ended_by (link, beat.E x) s ≡ false)
+same-e : {w : ℕ} (link : Link) (x : BeatE) (t : Trace w) (k : ℕ) → serving k (services ((link, beat.E x) ∷ t)) ≡ serving k (services t)
+    → ((s : Service w) → serving k (services t) ≡ Some s → is_ended_by (link, beat.E x) s ≡ false)
     → ((c : ℕ) → pending (GrantAckOf k) (on_link c ((link, beat.E x) ∷ t)) ≡ pending (GrantAckOf k) (on_link c t)) → IsSame k t ((link, beat.E x) ∷ t)
 same-e link x t k serves kept grants = record {
   serves = serves;
@@ -119,7 +124,8 @@ same-e link x t k serves kept grants = record {
   probe = λ c. beat-keeps (probe_of k) c link (beat.E x) t (probe_of-e k x);
 }
 
-handled-e : {w : ℕ} (link : Link) (x : BeatE) (t : Trace w) (k : ℕ) (o : Option (Service w)) → serving k (services t) ≡ o → pending (GrantSink x.sink) (on_link link.0 t) ≡ true → AreApart (blocks_of (services t)) → IsHandled k t → IsHandled k ((link, beat.E x) ∷ t)
+handled-e : {w : ℕ} (link : Link) (x : BeatE) (t : Trace w) (k : ℕ) (o : Option (Service w)) → serving k (services t) ≡ o → pending (GrantSink x.sink) (on_link link.0 t) ≡ true
+    → AreApart (blocks_of (services t)) → IsHandled k t → IsHandled k ((link, beat.E x) ∷ t)
 handled-e {w} link x t k o is pends apart ok = go o is (serving_after ∙ ap (if_passes keeps) is)
   where
     u : Trace w
@@ -135,14 +141,16 @@ handled-e {w} link x t k o is pends apart ok = go o is (serving_after ∙ ap (if
     missing c = beat-keeps (pending (ProbeOf k)) c link (beat.E x) t (λ h. pending-quiet (ProbeOf k) (beat.E x) h refl refl)
 
     -- the sink of a Grant of the block that isn't acknowledged
-    its_sink : (c : ℕ) (s : Service w) → serving k (services t) ≡ Some s → pending (GrantAckOf k) (on_link c t) ≡ true → (s.link.0 ≡ c) × (is_granted t s ≡ true) × (grant_sink k (on_link c t) ≡ Some s.tracker)
+    its_sink : (c : ℕ) (s : Service w) → serving k (services t) ≡ Some s → pending (GrantAckOf k) (on_link c t) ≡ true
+        → (s.link.0 ≡ c) × (is_granted t s ≡ true) × (grant_sink k (on_link c t) ≡ Some s.tracker)
     its_sink c s e f =
         let p = and_parts (s.link.0 == c) (is_granted t s) (sym (ok.grants c ∙ ap (is_granted_to c t) e) ∙ f) in
         let here = eqb-true s.link.0 c p.0 in
         let named = subst (IsNamed k t) e ok.named in
         (here, p.1, ap (λ i. grant_sink k (on_link i t)) (sym here) ∙ named.1 p.1)
 
-    sink_apart : (c : ℕ) (s : Service w) → serving k (services t) ≡ Some s → is_ended_by (link, beat.E x) s ≡ false → (link.0 == c) ≡ true → pending (GrantAckOf k) (on_link c t) ≡ true → is_sink x.sink (grant_sink k (on_link c t)) ≡ false
+    sink_apart : (c : ℕ) (s : Service w) → serving k (services t) ≡ Some s → is_ended_by (link, beat.E x) s ≡ false → (link.0 == c) ≡ true → pending (GrantAckOf k) (on_link c t) ≡ true
+        → is_sink x.sink (grant_sink k (on_link c t)) ≡ false
     sink_apart c s e kept here f =
         let its = its_sink c s e f in
         rw its.2 (away (s.tracker == x.sink) refl its.0 (and_parts (is_acquire s.request.opcode) _ its.1).0)
@@ -214,7 +222,8 @@ handled-e {w} link x t k o is pends apart ok = go o is (serving_after ∙ ap (if
 
 -- ---- all links
 
-pub accounted-e : {w : ℕ} (link : Link) (x : BeatE) (t : Trace w) → pending (GrantSink x.sink) (on_link link.0 t) ≡ true → AreApart (blocks_of (services t)) → IsAccounted t → IsAccounted ((link, beat.E x) ∷ t)
+pub accounted-e : {w : ℕ} (link : Link) (x : BeatE) (t : Trace w) → pending (GrantSink x.sink) (on_link link.0 t) ≡ true → AreApart (blocks_of (services t)) → IsAccounted t
+    → IsAccounted ((link, beat.E x) ∷ t)
 accounted-e {w} link x t pends apart ok = record {
   sources = λ c q.
       rw (beat-keeps (unfinished channel.A) c link (beat.E x) t (burst-e x), beat-keeps (pending (RequestSource q)) c link (beat.E x) t (λ h. pending-quiet (RequestSource q) (beat.E x) h refl refl), counted c q) (ok.sources c q);

@@ -18,7 +18,7 @@ use Rattle.tl_rules.specs.Agent.{sent}
 use Rattle.tl_rules.specs.Conformance.{Trace, on_link}
 use Rattle.tl_rules.specs.History.{ends, block_at, is_probe, is_probe_ack, pending}
 use Rattle.tl_rules.proofs.Handed.{pending-sent_b}
-use Rattle.tl_rules.proofs.Sent.{unfinished-sent_other}
+use Rattle.tl_rules.proofs.Sent.{unfinished-sent_other, pending-quiet}
 use Rattle.tl_manager.specs.After.{with_sent, history_after, taken_after, is_of_clients, is_probe_to, missing_with, is_report_of, missing_after}
 use Rattle.tl_manager.specs.Handing.{Handed, with_handed}
 use Rattle.tl_manager.specs.Holders.{is_missing}
@@ -28,7 +28,7 @@ use Rattle.tl_manager.proofs.Deeds.{deed_handable}
 use Rattle.tl_manager.proofs.Handed.{after_sent, own_link, other_link, whole-after_sent, whole-taken}
 use Rattle.tl_manager.proofs.Judged.{passed}
 use Rattle.tl_manager.proofs.Lawful.{IsHandable}
-use Rattle.tl_manager.proofs.Links.{beat-keeps, sent-keeps, pending-quiet, pending-closed}
+use Rattle.tl_manager.proofs.Links.{beat-keeps, sent-keeps, pending-closed}
 use Rattle.tl_manager.proofs.Replies.{reply-quiet}
 use Rattle.tl_manager.specs.Ready.{IsWhole}
 
@@ -50,12 +50,14 @@ link-taken : {w : ℕ} (c : ℕ) (link : Link) (x : Beat w) (t : Trace w) → on
 unfolding on_link
 link-taken c link x t = refl
 
-history_as : {w : ℕ} (j : Judgement) (config : Config) (link : Link) (x : Beat w) (e : End w) (c : ℕ) → on_link c (offered_as j config link x e).1.trace ≡ history_after (offered_as j config link x e).0 (link, x) c (on_link c e.trace)
+history_as : {w : ℕ} (j : Judgement) (config : Config) (link : Link) (x : Beat w) (e : End w) (c : ℕ)
+    → on_link c (offered_as j config link x e).1.trace ≡ history_after (offered_as j config link x e).0 (link, x) c (on_link c e.trace)
 history_as (Breaks r) config link x e c = refl
 history_as Waits config link x e c = refl
 history_as Passes config link x e c = link-handed c (deed config link x e).handed ((link, x) ∷ e.trace) ∙ ap (with_sent c (deed config link x e).handed) (link-taken c link x e.trace)
 
-pub history-offered : {w : ℕ} (config : Config) (link : Link) (ch : Channel) (x : Beat w) (e : End w) (c : ℕ) → on_link c (offered config link ch x e).1.trace ≡ history_after (offered config link ch x e).0 (link, x) c (on_link c e.trace)
+pub history-offered : {w : ℕ} (config : Config) (link : Link) (ch : Channel) (x : Beat w) (e : End w) (c : ℕ)
+    → on_link c (offered config link ch x e).1.trace ≡ history_after (offered config link ch x e).0 (link, x) c (on_link c e.trace)
 unfolding offered
 history-offered config link ch x e c = history_as (judged config link ch x e) config link x e c
 
@@ -74,14 +76,16 @@ ours_off ch (A m) theirs ours = absurd cc
 ours_off ch (C m) theirs ours = absurd cc
 ours_off ch (E m) theirs ours = absurd cc
 
-unfinished-handed : {w : ℕ} (config : Config) (c : ℕ) (ch : Channel) (handed : Handed w) (t : Trace w) → is_of_clients ch ≡ true → Each (IsHandable config) handed → unfinished ch (on_link c (with_handed handed t)) ≡ unfinished ch (on_link c t)
+unfinished-handed : {w : ℕ} (config : Config) (c : ℕ) (ch : Channel) (handed : Handed w) (t : Trace w) → is_of_clients ch ≡ true → Each (IsHandable config) handed
+    → unfinished ch (on_link c (with_handed handed t)) ≡ unfinished ch (on_link c t)
 unfolding with_handed
 unfinished-handed config c ch [] t theirs each = refl
 unfinished-handed config c ch (x ∷ handed) t theirs each =
     unfinished-handed config c ch handed (after_sent x.0 x.1 t) theirs each.1
     ∙ sent-keeps (unfinished ch) c x.0 x.1 t (λ h e. unfinished-sent_other ch x.1 h (ours_off ch x.1 theirs each.0.ours))
 
-unfinished_as : {w : ℕ} (j : Judgement) (config : Config) (link : Link) (ch : Channel) (x : Beat w) (e : End w) (c : ℕ) (on_ch : Channel) → IsWidth w → IsTyped x → judged config link ch x e ≡ j → IsKept config e → is_of_clients on_ch ≡ true
+unfinished_as : {w : ℕ} (j : Judgement) (config : Config) (link : Link) (ch : Channel) (x : Beat w) (e : End w) (c : ℕ) (on_ch : Channel) → IsWidth w → IsTyped x
+    → judged config link ch x e ≡ j → IsKept config e → is_of_clients on_ch ≡ true
     → unfinished on_ch (on_link c (offered_as j config link x e).1.trace) ≡ unfinished on_ch (taken_after (offered_as j config link x e).0 (link, x) c (on_link c e.trace))
 unfinished_as (Breaks r) config link ch x e c on_ch width typed is before theirs = refl
 unfinished_as Waits config link ch x e c on_ch width typed is before theirs = refl
@@ -89,32 +93,37 @@ unfinished_as Passes config link ch x e c on_ch width typed is before theirs =
     let ok = passed config link ch x e typed is in
     unfinished-handed config c on_ch (deed config link x e).handed ((link, x) ∷ e.trace) theirs (deed_handable config link x e width ok.sound before.sound) ∙ ap (unfinished on_ch) (link-taken c link x e.trace)
 
-pub unfinished-offered : {w : ℕ} (config : Config) (link : Link) (ch : Channel) (x : Beat w) (e : End w) (c : ℕ) (on_ch : Channel) → IsWidth w → IsTyped x → IsKept config e → is_of_clients on_ch ≡ true
+pub unfinished-offered : {w : ℕ} (config : Config) (link : Link) (ch : Channel) (x : Beat w) (e : End w) (c : ℕ) (on_ch : Channel) → IsWidth w → IsTyped x → IsKept config e
+    → is_of_clients on_ch ≡ true
     → unfinished on_ch (on_link c (offered config link ch x e).1.trace) ≡ unfinished on_ch (taken_after (offered config link ch x e).0 (link, x) c (on_link c e.trace))
 unfolding offered
 unfinished-offered config link ch x e c on_ch width typed before theirs = unfinished_as (judged config link ch x e) config link ch x e c on_ch width typed refl before theirs
 
 -- ---- ProbeAcks
 
-pub missing-sent : {w : ℕ} (c k : ℕ) (link : Link) (m : Message w) (t : Trace w) → IsWidth w → is_from_client (beat_of m 0) ≡ false → ((d : ℕ) → IsWhole (on_link d t)) → is_missing c k (after_sent link m t) ≡ (if is_probe_to c k (link, m) then true else is_missing c k t)
+pub missing-sent : {w : ℕ} (c k : ℕ) (link : Link) (m : Message w) (t : Trace w) → IsWidth w → is_from_client (beat_of m 0) ≡ false → ((d : ℕ) → IsWhole (on_link d t))
+    → is_missing c k (after_sent link m t) ≡ (if is_probe_to c k (link, m) then true else is_missing c k t)
 missing-sent c k link (A m) t width ours whole = absurd cc
 missing-sent {w} c k link (B m) t width ours whole = ap (pending (ProbeOf k)) (link-sent c link (B m) t) ∙ go (link.0 == c)
   where
-    go : (b : Bool) → pending (ProbeOf k) (if b then sent (B m) (on_link c t) else on_link c t) ≡ (if b && (is_probe m.opcode && (block_at m.address == k)) then true else pending (ProbeOf k) (on_link c t))
+    go : (b : Bool)
+        → pending (ProbeOf k) (if b then sent (B m) (on_link c t) else on_link c t) ≡ (if b && (is_probe m.opcode && (block_at m.address == k)) then true else pending (ProbeOf k) (on_link c t))
     go true = pending-sent_b (ProbeOf k) m (on_link c t) (whole c).0 (beats-positive (B m) width)
     go false = refl
 missing-sent c k link (C m) t width ours whole = absurd cc
 missing-sent c k link (D m) t width ours whole = reply-quiet (ProbeOf k) link m t c width (whole link.0).1 (λ e. (refl, refl))
 missing-sent c k link (E m) t width ours whole = absurd cc
 
-pub missing-handed : {w : ℕ} (config : Config) (c k : ℕ) (handed : Handed w) (t : Trace w) → IsWidth w → Each (IsHandable config) handed → ((d : ℕ) → IsWhole (on_link d t)) → is_missing c k (with_handed handed t) ≡ missing_with c k handed (is_missing c k t)
+pub missing-handed : {w : ℕ} (config : Config) (c k : ℕ) (handed : Handed w) (t : Trace w) → IsWidth w → Each (IsHandable config) handed → ((d : ℕ) → IsWhole (on_link d t))
+    → is_missing c k (with_handed handed t) ≡ missing_with c k handed (is_missing c k t)
 unfolding with_handed
 missing-handed config c k [] t width each whole = refl
 missing-handed config c k (x ∷ handed) t width each whole =
     missing-handed config c k handed (after_sent x.0 x.1 t) width each.1 (λ d. whole-after_sent d x.0 x.1 t width each.0.ours (whole d))
     ∙ ap (missing_with c k handed) (missing-sent c k x.0 x.1 t width each.0.ours whole)
 
-pub missing-taken : {w : ℕ} (c k : ℕ) (link : Link) (x : Beat w) (t : Trace w) → is_from_client x ≡ true → is_missing c k ((link, x) ∷ t) ≡ (if is_report_of c k (link, x) t then false else is_missing c k t)
+pub missing-taken : {w : ℕ} (c k : ℕ) (link : Link) (x : Beat w) (t : Trace w) → is_from_client x ≡ true
+    → is_missing c k ((link, x) ∷ t) ≡ (if is_report_of c k (link, x) t then false else is_missing c k t)
 missing-taken c k link (beat.A x) t theirs = beat-keeps (pending (ProbeOf k)) c link (beat.A x) t (λ h. pending-quiet (ProbeOf k) (beat.A x) h refl refl)
 missing-taken c k link (beat.B x) t theirs = absurd cc
 missing-taken {w} c k link (beat.C x) t theirs = ap (pending (ProbeOf k)) (link-taken c link (beat.C x) t) ∙ go (link.0 == c)

@@ -95,14 +95,16 @@ answered-ours (C m) t width ours none whole ok = absurd cc
 answered-ours (D m) t width ours none whole ok = answered-d m t width whole.1 none ok
 answered-ours (E m) t width ours none whole ok = absurd cc
 
-answered-sent : {w : ℕ} (client : ℕ) (link : Link) (m : Message w) (t : Trace w) → IsWidth w → is_from_client (beat_of m 0) ≡ false → IsNoAck m → IsWhole (on_link client t) → IsAnswered (on_link client t) → IsAnswered (on_link client (after_sent link m t))
+answered-sent : {w : ℕ} (client : ℕ) (link : Link) (m : Message w) (t : Trace w) → IsWidth w → is_from_client (beat_of m 0) ≡ false → IsNoAck m → IsWhole (on_link client t)
+    → IsAnswered (on_link client t) → IsAnswered (on_link client (after_sent link m t))
 answered-sent {w} client link m t width ours none whole ok = go (link.0 == client) refl
   where
     go : (b : Bool) → (link.0 == client) ≡ b → IsAnswered (on_link client (after_sent link m t))
     go true e = subst IsAnswered (sym (own_link client link m t e)) (answered-ours m (on_link client t) width ours none whole ok)
     go false e = subst IsAnswered (sym (other_link client link m t e)) ok
 
-answered-handed : {w : ℕ} (config : Config) (client : ℕ) (handed : Handed w) (t : Trace w) → IsWidth w → Each (IsHandable config) handed → Each (λ y. IsNoAck y.1) handed → IsWhole (on_link client t) → IsAnswered (on_link client t) → IsAnswered (on_link client (with_handed handed t))
+answered-handed : {w : ℕ} (config : Config) (client : ℕ) (handed : Handed w) (t : Trace w) → IsWidth w → Each (IsHandable config) handed → Each (λ y. IsNoAck y.1) handed
+    → IsWhole (on_link client t) → IsAnswered (on_link client t) → IsAnswered (on_link client (with_handed handed t))
 unfolding with_handed
 answered-handed config client [] t width each none whole ok = ok
 answered-handed config client (x ∷ handed) t width each none whole ok =
@@ -110,7 +112,8 @@ answered-handed config client (x ∷ handed) t width each none whole ok =
     (answered-sent client x.0 x.1 t width each.0.ours none.0 whole ok)
 
 -- a beat on another link
-answered-beat : {w : ℕ} (client : ℕ) (link : Link) (x : Beat w) (t : Trace w) → ((link.0 == client) ≡ true → IsAnswered (on_link client t) → IsAnswered (x ∷ on_link client t)) → IsAnswered (on_link client t) → IsAnswered (on_link client ((link, x) ∷ t))
+answered-beat : {w : ℕ} (client : ℕ) (link : Link) (x : Beat w) (t : Trace w) → ((link.0 == client) ≡ true → IsAnswered (on_link client t) → IsAnswered (x ∷ on_link client t))
+    → IsAnswered (on_link client t) → IsAnswered (on_link client ((link, x) ∷ t))
 unfolding on_link
 answered-beat {w} client link x t here ok = go (link.0 == client) refl
   where
@@ -120,8 +123,10 @@ answered-beat {w} client link x t here ok = go (link.0 == client) refl
 
 -- ---- a beat of channel C
 
-on_this_link : {w : ℕ} (config : Config) (client : ℕ) (link : Link) (x : BeatC w) (t : Trace w) → (link.0 == client) ≡ true → broken_in_order config.profile (beat.C x) (on_link link.0 t) ≡ None → IsAnswered (on_link client t) → IsCarried x (on_link client t)
-on_this_link config client link x t e order ok = carried config.profile x (on_link client t) ok (ap (λ n. broken_in_order config.profile (beat.C x) (on_link n t)) (sym (eqb-true link.0 client e)) ∙ order)
+on_this_link : {w : ℕ} (config : Config) (client : ℕ) (link : Link) (x : BeatC w) (t : Trace w) → (link.0 == client) ≡ true
+    → broken_in_order config.profile (beat.C x) (on_link link.0 t) ≡ None → IsAnswered (on_link client t) → IsCarried x (on_link client t)
+on_this_link config client link x t e order ok =
+    carried config.profile x (on_link client t) ok (ap (λ n. broken_in_order config.profile (beat.C x) (on_link n t)) (sym (eqb-true link.0 client e)) ∙ order)
 
 grows : {w : ℕ} (x : BeatC w) (t : History w) → (length (unfinished channel.C t) + 1 == burst_length (beat.C x)) ≡ false → unfinished channel.C (beat.C x ∷ t) ≡ beat.C x ∷ unfinished channel.C t
 unfolding unfinished
@@ -132,14 +137,17 @@ unfolding unfinished
 closes x t e = rw e refl
 
 -- the same at the link's own number
-ends_here : {w : ℕ} (client : ℕ) (link : Link) (x : BeatC w) (t : Trace w) (last : Bool) → (link.0 == client) ≡ true → ends (beat.C x) (on_link link.0 t) ≡ last → (length (unfinished channel.C (on_link client t)) + 1 == burst_length (beat.C x)) ≡ last
+ends_here : {w : ℕ} (client : ℕ) (link : Link) (x : BeatC w) (t : Trace w) (last : Bool) → (link.0 == client) ≡ true → ends (beat.C x) (on_link link.0 t) ≡ last
+    → (length (unfinished channel.C (on_link client t)) + 1 == burst_length (beat.C x)) ≡ last
 ends_here client link x t last e f = ap (λ n. length (unfinished channel.C (on_link n t)) + 1 == burst_length (beat.C x)) (sym (eqb-true link.0 client e)) ∙ f
 
-after_part : {w : ℕ} (config : Config) (client : ℕ) (link : Link) (x : BeatC w) (t : Trace w) → broken_in_order config.profile (beat.C x) (on_link link.0 t) ≡ None → ends (beat.C x) (on_link link.0 t) ≡ false → IsAnswered (on_link client t) → IsAnswered (on_link client ((link, beat.C x) ∷ t))
+after_part : {w : ℕ} (config : Config) (client : ℕ) (link : Link) (x : BeatC w) (t : Trace w) → broken_in_order config.profile (beat.C x) (on_link link.0 t) ≡ None
+    → ends (beat.C x) (on_link link.0 t) ≡ false → IsAnswered (on_link client t) → IsAnswered (on_link client ((link, beat.C x) ∷ t))
 after_part config client link x t order last ok =
     answered-beat client link (beat.C x) t (λ e before. not_last x (on_link client t) (on_this_link config client link x t e order before) (grows x (on_link client t) (ends_here client link x t false e last))) ok
 
-after_report : {w : ℕ} (config : Config) (client : ℕ) (link : Link) (x : BeatC w) (t : Trace w) → broken_in_order config.profile (beat.C x) (on_link link.0 t) ≡ None → ends (beat.C x) (on_link link.0 t) ≡ true → is_release x.opcode ≡ false → IsAnswered (on_link client t) → IsAnswered (on_link client ((link, beat.C x) ∷ t))
+after_report : {w : ℕ} (config : Config) (client : ℕ) (link : Link) (x : BeatC w) (t : Trace w) → broken_in_order config.profile (beat.C x) (on_link link.0 t) ≡ None
+    → ends (beat.C x) (on_link link.0 t) ≡ true → is_release x.opcode ≡ false → IsAnswered (on_link client t) → IsAnswered (on_link client ((link, beat.C x) ∷ t))
 after_report config client link x t order last other ok =
     answered-beat client link (beat.C x) t (λ e before. no_release x (on_link client t) (on_this_link config client link x t e order before) (closes x (on_link client t) (ends_here client link x t true e last)) other) ok
 
@@ -147,7 +155,8 @@ after_report config client link x t order last other ok =
 abbrev ack_of : {w : ℕ} → ℕ → MessageD w
 ack_of source = record { opcode = d.ReleaseAck; param = 0; size = 6; source = source; sink = 0; denied = false; payload = no_payload; corrupt = 0; small = lit≤ tt }
 
-after_release : {w : ℕ} (config : Config) (client : ℕ) (link : Link) (x : BeatC w) (t : Trace w) → IsWidth w → broken_in_order config.profile (beat.C x) (on_link link.0 t) ≡ None → ends (beat.C x) (on_link link.0 t) ≡ true → is_release x.opcode ≡ true
+after_release : {w : ℕ} (config : Config) (client : ℕ) (link : Link) (x : BeatC w) (t : Trace w) → IsWidth w → broken_in_order config.profile (beat.C x) (on_link link.0 t) ≡ None
+    → ends (beat.C x) (on_link link.0 t) ≡ true → is_release x.opcode ≡ true
     → IsWhole (on_link client ((link, beat.C x) ∷ t)) → IsAnswered (on_link client t) → IsAnswered (on_link client (after_sent link (release_ack x.source) ((link, beat.C x) ∷ t)))
 after_release {w} config client link x t width order last release whole ok = go (link.0 == client) refl
   where
@@ -156,9 +165,11 @@ after_release {w} config client link x t width order last release whole ok = go 
         let here = own_beat client link (beat.C x) t e in
         subst IsAnswered (sym (own_link client link (release_ack x.source) ((link, beat.C x) ∷ t) e ∙ ap (sent (release_ack x.source)) here))
         (released x (ack_of x.source) (on_link client t) width (on_this_link config client link x t e order ok) release (closes x (on_link client t) (ends_here client link x t true e last)) (subst IsWhole here whole).1 refl refl)
-    go false e = subst IsAnswered (sym (other_link client link (release_ack x.source) ((link, beat.C x) ∷ t) e)) (answered-beat client link (beat.C x) t (λ f before. absurd (true≢false (sym f ∙ e))) ok)
+    go false e =
+        subst IsAnswered (sym (other_link client link (release_ack x.source) ((link, beat.C x) ∷ t) e)) (answered-beat client link (beat.C x) t (λ f before. absurd (true≢false (sym f ∙ e))) ok)
 
-done_c_answered : {w : ℕ} (config : Config) (client : ℕ) (link : Link) (x : BeatC w) (t : Trace w) (memory : Memory) → IsWidth w → broken_in_order config.profile (beat.C x) (on_link link.0 t) ≡ None → ends (beat.C x) (on_link link.0 t) ≡ true
+done_c_answered : {w : ℕ} (config : Config) (client : ℕ) (link : Link) (x : BeatC w) (t : Trace w) (memory : Memory) → IsWidth w
+    → broken_in_order config.profile (beat.C x) (on_link link.0 t) ≡ None → ends (beat.C x) (on_link link.0 t) ≡ true
     → Each (IsHandable config) (done_c config link x ((link, beat.C x) ∷ t) memory).handed → IsWhole (on_link client ((link, beat.C x) ∷ t)) → IsAnswered (on_link client t)
     → IsAnswered (on_link client (with_handed (done_c config link x ((link, beat.C x) ∷ t) memory).handed ((link, beat.C x) ∷ t)))
 unfolding with_handed
@@ -169,7 +180,8 @@ done_c_answered {w} config client link x t memory width order last handable whol
 
     go : (r p : Bool) → is_release x.opcode ≡ r → Each (IsHandable config) (deed_by r p).handed → IsAnswered (on_link client (with_handed (deed_by r p).handed ((link, beat.C x) ∷ t)))
     go true p release each = after_release config client link x t width order last release whole ok
-    go false true other each = answered-handed config client (settled config (block_at x.address) ((link, beat.C x) ∷ t) memory).handed ((link, beat.C x) ∷ t) width each (no_ack_settled config (block_at x.address) ((link, beat.C x) ∷ t) memory) whole (after_report config client link x t order last other ok)
+    go false true other each =
+        answered-handed config client (settled config (block_at x.address) ((link, beat.C x) ∷ t) memory).handed ((link, beat.C x) ∷ t) width each (no_ack_settled config (block_at x.address) ((link, beat.C x) ∷ t) memory) whole (after_report config client link x t order last other ok)
     go false false other each = after_report config client link x t order last other ok
 
 -- ---- any beat that is taken
@@ -178,21 +190,26 @@ done_c_answered {w} config client link x t memory width order last handable whol
 abbrev done_if : {w : ℕ} → Bool → Config → Link → Beat w → End w → Deed w
 done_if last config link x e = if last then done config link x (unfinished (channel_of x) (on_link link.0 e.trace)) e.trace e.memory else nothing e.memory
 
-done_answered : {w : ℕ} (config : Config) (client : ℕ) (link : Link) (x : Beat w) (e : End w) (last : Bool) → IsWidth w → is_from_client x ≡ true → broken_in_order config.profile x (on_link link.0 e.trace) ≡ None → ends x (on_link link.0 e.trace) ≡ last
+done_answered : {w : ℕ} (config : Config) (client : ℕ) (link : Link) (x : Beat w) (e : End w) (last : Bool) → IsWidth w → is_from_client x ≡ true
+    → broken_in_order config.profile x (on_link link.0 e.trace) ≡ None → ends x (on_link link.0 e.trace) ≡ last
     → Each (IsHandable config) (done_if last config link x e).handed → IsWhole (on_link client ((link, x) ∷ e.trace)) → IsAnswered (on_link client e.trace)
     → IsAnswered (on_link client (with_handed (done_if last config link x e).handed ((link, x) ∷ e.trace)))
 unfolding with_handed
 done_answered config client link (beat.A x) e true width theirs order last each whole ok =
     answered-handed config client _ ((link, beat.A x) ∷ e.trace) width each (no_ack_new config _ ((link, beat.A x) ∷ e.trace) e.memory) whole (answered-beat client link (beat.A x) e.trace (λ here before. answered-a x (on_link client e.trace) before) ok)
-done_answered config client link (beat.A x) e false width theirs order last each whole ok = answered-beat client link (beat.A x) e.trace (λ here before. answered-a x (on_link client e.trace) before) ok
+done_answered config client link (beat.A x) e false width theirs order last each whole ok =
+    answered-beat client link (beat.A x) e.trace (λ here before. answered-a x (on_link client e.trace) before) ok
 done_answered config client link (beat.B x) e last width theirs order is each whole ok = absurd cc
 done_answered config client link (beat.C x) e true width theirs order last each whole ok = done_c_answered config client link x e.trace _ width order last each whole ok
 done_answered config client link (beat.C x) e false width theirs order last each whole ok = after_part config client link x e.trace order last ok
 done_answered config client link (beat.D x) e last width theirs order is each whole ok = absurd cc
 done_answered config client link (beat.E x) e true width theirs order last each whole ok = answered-beat client link (beat.E x) e.trace (λ here before. answered-e x (on_link client e.trace) before) ok
-done_answered config client link (beat.E x) e false width theirs order last each whole ok = answered-beat client link (beat.E x) e.trace (λ here before. answered-e x (on_link client e.trace) before) ok
+done_answered config client link (beat.E x) e false width theirs order last each whole ok =
+    answered-beat client link (beat.E x) e.trace (λ here before. answered-e x (on_link client e.trace) before) ok
 
-pub answered-deed : {w : ℕ} (config : Config) (client : ℕ) (link : Link) (x : Beat w) (e : End w) → IsWidth w → is_from_client x ≡ true → broken_in_order config.profile x (on_link link.0 e.trace) ≡ None
-    → Each (IsHandable config) (deed config link x e).handed → IsWhole (on_link client ((link, x) ∷ e.trace)) → IsAnswered (on_link client e.trace) → IsAnswered (on_link client (with_handed (deed config link x e).handed ((link, x) ∷ e.trace)))
+pub answered-deed : {w : ℕ} (config : Config) (client : ℕ) (link : Link) (x : Beat w) (e : End w) → IsWidth w → is_from_client x ≡ true
+    → broken_in_order config.profile x (on_link link.0 e.trace) ≡ None
+    → Each (IsHandable config) (deed config link x e).handed → IsWhole (on_link client ((link, x) ∷ e.trace)) → IsAnswered (on_link client e.trace)
+    → IsAnswered (on_link client (with_handed (deed config link x e).handed ((link, x) ∷ e.trace)))
 unfolding deed
 answered-deed config client link x e width theirs order each whole ok = done_answered config client link x e (ends x (on_link link.0 e.trace)) width theirs order refl each whole ok

@@ -1,6 +1,6 @@
 -- What is kept of the blocks after a request was performed and answered.
 use Rattle.std.proofs.Common.{◌≡◌, ◌≢◌, ℕ, ◌==◌, ◌⊎◌, Bool, true, false, not, ◌&&◌, List, [], ◌∷◌, Some, None, refl, sym, ap, subst, ◌∙◌, inl, inr}
-use Rattle.std.specs.Prelude.{filter, if◌then◌else◌}
+use Rattle.std.specs.Prelude.{filter, if◌then◌else◌, unwrap_or}
 use Rattle.std.proofs.lemmas.Bool.{cases_eq, eq-eqb, ne_eqb}
 use Rattle.tl_beat.specs.Width.{IsWidth}
 use Rattle.tl_beat.specs.declared.beat.Link.{Link}
@@ -14,7 +14,7 @@ use Rattle.tl_params.specs.declared.perm.Perm.{Perm}
 use Rattle.tl_rules.specs.declared.answer.Answer.{Answer}
 use Rattle.tl_rules.specs.Conformance.{Trace, on_link}
 use Rattle.tl_rules.specs.Effect.{Memory, effect, answer_of}
-use Rattle.tl_rules.specs.History.{block_at, is_acquire, is_grant, or_perm, capped}
+use Rattle.tl_rules.specs.History.{block_at, is_acquire, is_grant, capped}
 use Rattle.tl_rules.specs.Legality.{is_one_of}
 use Rattle.tl_manager.specs.Blocks.{AreBlocks}
 use Rattle.tl_manager.specs.Handing.{Deed, with_handed, performed, grant, access_answer}
@@ -46,7 +46,8 @@ deed_by b config s t memory = if b
     then record { handed = (s.link, grant config s t memory) ∷ []; memory = memory }
     else record { handed = (s.link, access_answer s.request (answer_of (A s.request) (effect (A s.request) memory).1)) ∷ []; memory = (effect (A s.request) memory).0 }
 
-pub performed-still : {w : ℕ} (config : Config) (n k : ℕ) (s v : Service w) (t : Trace w) (memory : Memory) → IsReady config n s t → (n == k) ≡ false → serving k (services t) ≡ Some v → IsStill k v t (with_handed (performed config s t memory).handed t)
+pub performed-still : {w : ℕ} (config : Config) (n k : ℕ) (s v : Service w) (t : Trace w) (memory : Memory) → IsReady config n s t → (n == k) ≡ false → serving k (services t) ≡ Some v
+    → IsStill k v t (with_handed (performed config s t memory).handed t)
 unfolding with_handed deed_by
 performed-still {w} config n k s v t memory is other e = go (is_acquire s.request.opcode) refl (performed-serving config n k s t memory is)
   where
@@ -76,25 +77,29 @@ performed-still {w} config n k s v t memory is other e = go (is_acquire s.reques
         }
 
 -- trackers of others
-pub tracked-performed : {w : ℕ} (config : Config) (n i : ℕ) (s : Service w) (tracker : Tracker w) (t : Trace w) (memory : Memory) → IsReady config n s t → i ≢ s.tracker → IsTracked i tracker t → IsTracked i tracker (with_handed (performed config s t memory).handed t)
+pub tracked-performed : {w : ℕ} (config : Config) (n i : ℕ) (s : Service w) (tracker : Tracker w) (t : Trace w) (memory : Memory) → IsReady config n s t → i ≢ s.tracker
+    → IsTracked i tracker t → IsTracked i tracker (with_handed (performed config s t memory).handed t)
 tracked-performed {w} config n i s tracker t memory is other ok =
     tracked-still i tracker t (with_handed (performed config s t memory).handed t)
     (λ free. ap (λ (ss : List (Service w)). is_one_of i (trackers_of ss)) (performed-services config n s t memory is) ∙ still_free (is_acquire s.request.opcode) free)
     (λ k v e at. performed-still config n k s v t memory is (other_block n k s v (services t) is.serves e (λ f. other (sym at ∙ f))) e) ok
   where
-    still_free : (b : Bool) → is_one_of i (trackers_of (services t)) ≡ false → is_one_of i (trackers_of (if b then services t else filter (λ v. not (block_at v.request.address == n)) (services t))) ≡ false
+    still_free : (b : Bool) → is_one_of i (trackers_of (services t)) ≡ false
+        → is_one_of i (trackers_of (if b then services t else filter (λ v. not (block_at v.request.address == n)) (services t))) ≡ false
     still_free true free = free
     still_free false free = missing_filter (λ (v : Service w). v.tracker) (λ v. not (block_at v.request.address == n)) i (services t) free
 
 -- the tracker of an access is free then
-pub freed-performed : {w : ℕ} (config : Config) (n : ℕ) (s : Service w) (t : Trace w) (memory : Memory) → IsReady config n s t → is_acquire s.request.opcode ≡ false → is_one_of s.tracker (trackers_of (services (with_handed (performed config s t memory).handed t))) ≡ false
+pub freed-performed : {w : ℕ} (config : Config) (n : ℕ) (s : Service w) (t : Trace w) (memory : Memory) → IsReady config n s t → is_acquire s.request.opcode ≡ false
+    → is_one_of s.tracker (trackers_of (services (with_handed (performed config s t memory).handed t))) ≡ false
 freed-performed {w} config n s t memory is access =
     ap (λ (ss : List (Service w)). is_one_of s.tracker (trackers_of ss)) (performed-services config n s t memory is ∙ rw access refl)
     ∙ tracker-ended n s (services t) is.trackers_apart is.serves
 
 -- ---- one tracker changes
 
-pub tracker-changed : {w : ℕ} (number i : ℕ) (tracker : Tracker w) (at before : ℕ → Tracker w) (t u : Trace w) → ((n : ℕ) → at n ≡ (if number == n then tracker else before n)) → IsTracked number tracker u
+pub tracker-changed : {w : ℕ} (number i : ℕ) (tracker : Tracker w) (at before : ℕ → Tracker w) (t u : Trace w) → ((n : ℕ) → at n ≡ (if number == n then tracker else before n))
+    → IsTracked number tracker u
     → ((n : ℕ) → n ≢ number → IsTracked n (before n) t → IsTracked n (before n) u) → ((n : ℕ) → n ≢ number → IsTracked n (before n) t) → IsTracked i (at i) u
 tracker-changed {w} number i tracker at before t u set here still others = subst (λ (x : Tracker w). IsTracked i x u) (sym (set i)) (go (cases_eq i number))
   where
@@ -105,7 +110,8 @@ tracker-changed {w} number i tracker at before t u set here still others = subst
 -- ---- an access
 
 -- its answer says nothing of what is held
-pub recorded-answer : {w : ℕ} (link : Link) (request : MessageA w) (kind : Answer) (t : Trace w) (c b : ℕ) → IsWidth w → IsWhole (on_link c t) → recorded c b (after_sent link (access_answer request kind) t) ≡ recorded c b t
+pub recorded-answer : {w : ℕ} (link : Link) (request : MessageA w) (kind : Answer) (t : Trace w) (c b : ℕ) → IsWidth w → IsWhole (on_link c t)
+    → recorded c b (after_sent link (access_answer request kind) t) ≡ recorded c b t
 recorded-answer {w} link request kind t c b width whole =
     let m = answer_is request kind in
     subst (λ (i : Message w). recorded c b (after_sent link i t) ≡ recorded c b t) (sym m.1) (quiet m.0 (answer_kind m.0.opcode m.2))
@@ -113,10 +119,10 @@ recorded-answer {w} link request kind t c b width whole =
     quiet : (m : MessageD w) → is_grant m.opcode ≡ false → recorded c b (after_sent link (D m) t) ≡ recorded c b t
     quiet m other = recorded-sent c b link (D m) t width refl whole ∙ ungranted m other
       where
-        ungranted : (m : MessageD w) → is_grant m.opcode ≡ false → or_perm (granted_by (link, D m) t c b) (recorded c b t) ≡ recorded c b t
+        ungranted : (m : MessageD w) → is_grant m.opcode ≡ false → unwrap_or (granted_by (link, D m) t c b) (recorded c b t) ≡ recorded c b t
         ungranted m other = rw other (go (link.0 == c))
           where
-            go : (here : Bool) → or_perm (if here && false then Some (capped m.param) else None) (recorded c b t) ≡ recorded c b t
+            go : (here : Bool) → unwrap_or (if here && false then Some (capped m.param) else None) (recorded c b t) ≡ recorded c b t
             go true = refl
             go false = refl
 

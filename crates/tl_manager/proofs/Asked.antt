@@ -9,6 +9,7 @@ use Rattle.tl_beat.specs.declared.beat.BeatA.{BeatA}
 use Rattle.tl_beat.specs.declared.opcode.OpA.{OpA}
 use Rattle.tl_beat.specs.declared.opcode.OpA.TheVariants as a
 use Rattle.tl_beat.specs.declared.opcode.Channel.TheVariants as channel
+use Rattle.tl_beat.specs.First.{first_if}
 use Rattle.tl_burst.specs.Messages.{History, unfinished, breaks_burst, same_control}
 use Rattle.tl_burst.specs.Part.{is_empty}
 use Rattle.tl_burst.proofs.ControlFields.{control_a}
@@ -17,7 +18,6 @@ use Rattle.tl_params.specs.declared.profile.Profile.{Profile}
 use Rattle.tl_params.specs.declared.rule.Rule.TheVariants.{S1, H1}
 use Rattle.tl_rules.specs.Conformance.{broken_in_order, broken_order, comes_in_request}
 use Rattle.tl_rules.specs.History.{begins, ends, is_acquire, pending, request_of}
-use Rattle.tl_rules.specs.Legality.{rule_if}
 use Rattle.tl_rules.proofs.Bursts.{next_rule}
 use Rattle.tl_manager.specs.Pending.{one_if, HasFields, IsBegun}
 use Rattle.tl_manager.proofs.Links.{pending-opened}
@@ -35,7 +35,8 @@ pub placed : {w : ℕ} (p : Profile) (x : BeatA w) (t : History w) → broken_in
 unfolding broken_order
 placed {w} p x t order begun = go (unfinished channel.A t) refl order begun
   where
-    go : (burst : List (Beat w)) → unfinished channel.A t ≡ burst → (if is_empty burst then broken_order p (beat.A x) t else rule_if (breaks_burst (beat.A x) burst) S1 None) ≡ None → IsBegun t burst → Place x t
+    go : (burst : List (Beat w)) → unfinished channel.A t ≡ burst → (if is_empty burst then broken_order p (beat.A x) t else first_if (breaks_burst (beat.A x) burst) S1 None) ≡ None
+        → IsBegun t burst → Place x t
     go [] e f ok = First e (next_rule (pending (RequestSource x.source) t) H1 _ f).0
     go (beat.A y ∷ burst) e f ok =
         let same = not-false (same_control (beat.A x) (beat.A y)) (next_rule (not (same_control (beat.A x) (beat.A y))) S1 None f).0 in

@@ -50,7 +50,8 @@ made w x h = record { opcode = x.0; param = x.1; size = x.2; source = x.3; addre
 same_made : (w : ℕ) (x y : Fields) (h : x.2 ≤ 6) (k : y.2 ≤ 6) → x ≡ y → made w x h ≡ made w y k
 same_made w x y h k e = subst (λ (z : Fields). (l : z.2 ≤ 6) → made w x h ≡ made w z l) e (λ l. ap (made w x) (le_prop h l)) k
 
-request_whole : {w : ℕ} (m : MessageA w) (x : BeatA w) (beats : List (Beat w)) (k : ℕ) (fits : Bool) (e : nat_le m.size 6 ≡ fits) → fits ≡ true → payload_of beats ≡ m.payload → masks_carried beats ≡ m.mask → corrupt_carried beats ≡ m.corrupt
+request_whole : {w : ℕ} (m : MessageA w) (x : BeatA w) (beats : List (Beat w)) (k : ℕ) (fits : Bool) (e : nat_le m.size 6 ≡ fits) → fits ≡ true → payload_of beats ≡ m.payload
+    → masks_carried beats ≡ m.mask → corrupt_carried beats ≡ m.corrupt
     → request_if (a_beat_of m k) beats fits e ≡ Some m
 request_whole m x beats k false e some payload masks corrupt = absurd cc
 request_whole {w} m x beats k true e some payload masks corrupt =
@@ -59,7 +60,8 @@ request_whole {w} m x beats k true e some payload masks corrupt =
     let same : mine ≡ theirs = rw (payload, masks, corrupt) refl in
     ap Some (same_made w mine theirs (leb-true m.size 6 e) m.small same)
 
-request_of_beats : {w : ℕ} (m : MessageA w) (n : ℕ) → 0 < n → payload_of (begun (A m) n) ≡ m.payload → masks_carried (begun (A m) n) ≡ m.mask → corrupt_carried (begun (A m) n) ≡ m.corrupt → request_carried (begun (A m) n) ≡ Some m
+request_of_beats : {w : ℕ} (m : MessageA w) (n : ℕ) → 0 < n → payload_of (begun (A m) n) ≡ m.payload → masks_carried (begun (A m) n) ≡ m.mask → corrupt_carried (begun (A m) n) ≡ m.corrupt
+    → request_carried (begun (A m) n) ≡ Some m
 unfolding request_carried
 request_of_beats m zero some payload masks corrupt = absurd (omega arith)
 request_of_beats m (suc k) some payload masks corrupt = request_whole m (a_beat_of m k) (begun (A m) (suc k)) k (nat_le m.size 6) refl (le-leb m.size 6 m.small) payload masks corrupt

@@ -48,7 +48,8 @@ none-above cap.ToB b = refl
 none-above cap.ToN b = refl
 
 pub probed-word : {w : ℕ} (config : Config) (number : ℕ) (link : Link) (request : MessageA w) (c : Cap) (word : ℕ) (perm_at : ℕ → Perm) (t : Trace w) → Each (IsSound config) t
-    → ((client : ℕ) → bit_at word client ≡ bit_if (is_above c (perm_at client) && not (is_acquire request.opcode && (link.0 == client)))) → ((client : ℕ) → perm_at client ≡ recorded client (block_at request.address) t)
+    → ((client : ℕ) → bit_at word client ≡ bit_if (is_above c (perm_at client) && not (is_acquire request.opcode && (link.0 == client))))
+    → ((client : ℕ) → perm_at client ≡ recorded client (block_at request.address) t)
     → IsWord config word (is_probed (service_with number link request) c t)
 probed-word config number link request c word perm_at t sound bits records = record {
   bits = λ client. bits client ∙ ap (λ p. bit_if (is_above c p && not (is_acquire request.opcode && (link.0 == client)))) (records client);
@@ -75,7 +76,8 @@ unheld-b {w} k block c h = go (ends {w = w} (beat.B (probe_beat block c)) h)
     go true = refl
     go false = refl
 
-missing-after : {w : ℕ} (config : Config) (s : Service w) (c : Cap) (t : Trace w) (client : ℕ) → IsReady config (block_at s.request.address) s t → ((d : ℕ) → length config.clients.items ≤ d → is_probed s c t d ≡ false)
+missing-after : {w : ℕ} (config : Config) (s : Service w) (c : Cap) (t : Trace w) (client : ℕ) → IsReady config (block_at s.request.address) s t
+    → ((d : ℕ) → length config.clients.items ≤ d → is_probed s c t d ≡ false)
     → is_missing client (block_at s.request.address) (with_handed (probes (block_at s.request.address) c (probed config s c t)) t) ≡ is_probed s c t client
 missing-after {w} config s c t client is none = elim (cases_lt client (length config.clients.items)) [
   | inl lt ↦ go (is_probed s c t client) refl lt
@@ -147,15 +149,18 @@ home-probed {w} {D} perm_of config old new number link request c word t memory p
 
 -- ---- the deed of a request that probes
 
-begun-some : {w : ℕ} (config : Config) (s : Service w) (o : Option Cap) (c : Cap) (t : Trace w) (memory : Memory) → Some c ≡ o → begun_with config o s t memory ≡ probing_or (performed config s t memory) (block_at s.request.address) c (probed config s c t) memory
+begun-some : {w : ℕ} (config : Config) (s : Service w) (o : Option Cap) (c : Cap) (t : Trace w) (memory : Memory) → Some c ≡ o
+    → begun_with config o s t memory ≡ probing_or (performed config s t memory) (block_at s.request.address) c (probed config s c t) memory
 begun-some config s o c t memory e = rw (← e) refl
 
 pub done-unprobed : {w : ℕ} {D : Type 0} (perm_of : D → ℕ → ℕ → Perm) (config : Config) (home : Home w D) (handed : Handed w) (s : Service w) (o : Option Cap) (c : Cap) (word : ℕ) (t : Trace w) (memory : Memory)
-    → Some c ≡ o → IsWord config word (is_probed s c t) → (word == 0) ≡ true → IsDone perm_of config home handed t (performed config s t memory) → IsDone perm_of config home handed t (begun_with config o s t memory)
+    → Some c ≡ o → IsWord config word (is_probed s c t) → (word == 0) ≡ true → IsDone perm_of config home handed t (performed config s t memory)
+    → IsDone perm_of config home handed t (begun_with config o s t memory)
 done-unprobed {w} perm_of config home handed s o c word t memory e is none done =
     subst (λ (d : Deed w). IsDone perm_of config home handed t d)
     (sym (begun-some config s o c t memory e ∙ probing-none (performed config s t memory) (block_at s.request.address) c (probed config s c t) memory (sym (word-nobody config word (is_probed s c t) is) ∙ none))) done
 
 pub done-probed : {w : ℕ} {D : Type 0} (perm_of : D → ℕ → ℕ → Perm) (config : Config) (home : Home w D) (handed : Handed w) (s : Service w) (o : Option Cap) (c : Cap) (t : Trace w) (memory : Memory)
-    → Some c ≡ o → IsDone perm_of config home handed t (probing_or (performed config s t memory) (block_at s.request.address) c (probed config s c t) memory) → IsDone perm_of config home handed t (begun_with config o s t memory)
+    → Some c ≡ o → IsDone perm_of config home handed t (probing_or (performed config s t memory) (block_at s.request.address) c (probed config s c t) memory)
+    → IsDone perm_of config home handed t (begun_with config o s t memory)
 done-probed {w} perm_of config home handed s o c t memory e done = subst (λ (d : Deed w). IsDone perm_of config home handed t d) (sym (begun-some config s o c t memory e)) done

@@ -3,7 +3,7 @@ use Rattle.std.proofs.Common.{◌≡◌, ◌≢◌, ℕ, zero, suc, ◌-◌, ◌
 use Rattle.std.specs.Prelude.{bit_and, bit_or, min, max, ◌==◌}
 use Rattle.std.specs.Int.{w16, bit_at}
 use Rattle.std.proofs.lemmas.Bool.{cases_lt, cases_eq, eq-eqb, ne_eqb}
-use Rattle.std.proofs.lemmas.Nat.Bits.{bit_at_clear_same, bit_at_clear_other, bit_at_above, bit_at_and, bit_at_or, bit_at-zero, bit_at-lt, same_from_bits}
+use Rattle.std.proofs.lemmas.Nat.Bits.{bit_at_clear_other, bit_at_above, bit_at_and, bit_at_or, bit_at-zero, bit_at-lt, same_from_bits}
 use Rattle.tl_params.specs.declared.perm.Perm.{Perm}
 use Rattle.tl_params.specs.declared.perm.Perm.TheVariants.{None, Branch, Trunk}
 use Rattle.tl_manager.specs.Bit.{bit_if}
@@ -69,13 +69,14 @@ bit_of-small b lt = elim (cases_eq b 0) [
 pub bit-is : (n i : ℕ) → bit_at n i ≡ bit_if (bit_at n i == 1)
 bit-is n i = bit_of-small (bit_at n i) (bit_at-lt n i)
 
--- a word without the bit of a client
-pub without-bit : (word client i : ℕ) → word < 2 ^ 16 → client < 16 → bit_at (bit_and word (65535 - 1 * 2 ^ client % 65536)) i ≡ bit_if (bit_at word i == 1 && not (client == i))
-without-bit word client i small within = elim (cases_eq i client) [
-  | inl same ↦ rw (same, eq-eqb client client refl) (bit_at_clear_same w16 word client within ∙ never (bit_at word client == 1))
+-- where one bit is cleared and the others are as they were, the word is that without the bit
+pub without-bit : (word result client : ℕ) → bit_at result client ≡ 0 → ((k : ℕ) → k ≢ client → bit_at result k ≡ bit_at word k)
+    → (i : ℕ) → bit_at result i ≡ bit_if (bit_at word i == 1 && not (client == i))
+without-bit word result client cleared others i = elim (cases_eq i client) [
+  | inl same ↦ rw (same, eq-eqb client client refl) (cleared ∙ never (bit_at word client == 1))
   | inr other ↦
       let away : (client == i) ≡ false = ne_eqb client i (λ e. other (sym e)) in
-      rw away (clear_other word client i small within other ∙ bit-is word i ∙ ap bit_if (sym (always (bit_at word i == 1))))
+      rw away (others i other ∙ bit-is word i ∙ ap bit_if (sym (always (bit_at word i == 1))))
 ]
   where
     never : (b : Bool) → 0 ≡ bit_if (b && false)

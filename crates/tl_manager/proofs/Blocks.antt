@@ -18,7 +18,8 @@ pub block-same : (f g : Memory) (n : ℕ) (bytes : List ℕ) → ((address : ℕ
 block-same f g n bytes same is = λ i lt. same (64 * n + i) (omega (arith, lt)) ∙ is i lt
 
 -- where one block is replaced and the memory changes in no other
-pub blocks-set : (blocks : List (List ℕ)) (n : ℕ) (bytes : List ℕ) (f g : Memory) → n < length blocks → length bytes ≡ 64 → IsBlock g n bytes → ((address : ℕ) → address / 64 ≢ n → g address ≡ f address) → AreBlocks blocks f → AreBlocks (slice_set blocks n bytes) g
+pub blocks-set : (blocks : List (List ℕ)) (n : ℕ) (bytes : List ℕ) (f g : Memory) → n < length blocks → length bytes ≡ 64 → IsBlock g n bytes
+    → ((address : ℕ) → address / 64 ≢ n → g address ≡ f address) → AreBlocks blocks f → AreBlocks (slice_set blocks n bytes) g
 blocks-set blocks n bytes f g inside long here elsewhere are = λ k past lt. elim (cases_eq k n) [
   | inl same ↦ rw (same, get_or-set_same blocks n bytes past inside) (long, here)
   | inr other ↦
@@ -51,7 +52,8 @@ zero-blocks blocks count zeros are is = λ k past lt.
     zero = 0
 
 -- a memory that has these bytes in the block, and the others as before
-pub blocks-as : (blocks : List (List ℕ)) (n : ℕ) (bytes : List ℕ) (f g : Memory) → IsBlock g n bytes → ((address : ℕ) → address / 64 ≢ n → g address ≡ f address) → AreBlocks blocks (with_block n bytes f) → AreBlocks blocks g
+pub blocks-as : (blocks : List (List ℕ)) (n : ℕ) (bytes : List ℕ) (f g : Memory) → IsBlock g n bytes → ((address : ℕ) → address / 64 ≢ n → g address ≡ f address)
+    → AreBlocks blocks (with_block n bytes f) → AreBlocks blocks g
 blocks-as blocks n bytes f g here elsewhere are = λ k past lt.
     ((are k past lt).0, λ i within. at k i within (cases_eq k n) ∙ (are k past lt).1 i within)
   where

@@ -7,7 +7,7 @@ use Rattle.tl_rules.specs.Conformance.{Trace}
 use Rattle.tl_rules.specs.History.{block_at}
 use Rattle.tl_rules.specs.Legality.{is_one_of}
 use Rattle.tl_manager.specs.Kept.{Each, AreApart}
-use Rattle.tl_manager.specs.Service.{Service, services, is_in_service, trackers_of, free_from, least_free}
+use Rattle.tl_manager.specs.Service.{Service, services, is_in_service, trackers_of, free_from, least_untaken}
 use Rattle.tl_manager.specs.Tracked.{service_with, IsTracked}
 use Rattle.tl_manager.specs.Tracking.{is_of, is_free}
 use Rattle.tl_manager.specs.declared.manager.tracker.Tracker.{Tracker}
@@ -106,7 +106,8 @@ free-among n Free t is e = is
 free-among n (Probing link request missing) t is e = absurd cc
 free-among n (Granted link block) t is e = absurd cc
 
-pub unserved-among : {w : ℕ} (block : ℕ) (at : ℕ → Tracker w) (t : Trace w) → AreApart (trackers_of (services t)) → ((n : ℕ) → IsTracked n (at n) t) → ((n : ℕ) → is_of block (at n) ≡ false) → is_in_service block (services t) ≡ false
+pub unserved-among : {w : ℕ} (block : ℕ) (at : ℕ → Tracker w) (t : Trace w) → AreApart (trackers_of (services t)) → ((n : ℕ) → IsTracked n (at n) t) → ((n : ℕ) → is_of block (at n) ≡ false)
+    → is_in_service block (services t) ≡ false
 unserved-among block at t apart tracked none = ap is_some (unserved-block block at t apart tracked none)
 
 -- none is free
@@ -116,14 +117,16 @@ all-taken {w} count at t tracked taken =
     le-leb count (length (services t)) (subst (λ k. count ≤ k) (length-map (services t) (λ (s : Service w). s.tracker)) le)
 
 -- one is, which is the least
-pub one-free : {w : ℕ} (count n : ℕ) (at : ℕ → Tracker w) (t : Trace w) → AreApart (trackers_of (services t)) → Each (λ i. i < count) (trackers_of (services t)) → ((i : ℕ) → IsTracked i (at i) t) → n < count → is_free (at n) ≡ true → nat_le count (length (services t)) ≡ false
+pub one-free : {w : ℕ} (count n : ℕ) (at : ℕ → Tracker w) (t : Trace w) → AreApart (trackers_of (services t)) → Each (λ i. i < count) (trackers_of (services t))
+    → ((i : ℕ) → IsTracked i (at i) t) → n < count → is_free (at n) ≡ true → nat_le count (length (services t)) ≡ false
 one-free {w} count n at t apart below tracked lt free =
     let le = few_apart count (n ∷ trackers_of (services t)) (free-among n (at n) t (tracked n) free, apart) (lt, below) in
     let few : suc (length (services t)) ≤ count = subst (λ k. suc k ≤ count) (length-map (services t) (λ (s : Service w). s.tracker)) le in
     lt-leb count (length (services t)) (omega (arith, few))
 
-pub least-tracker : {w : ℕ} (n : ℕ) (at : ℕ → Tracker w) (t : Trace w) → ((i : ℕ) → IsTracked i (at i) t) → is_free (at n) ≡ true → ((i : ℕ) → i < n → is_free (at i) ≡ false) → n ≡ least_free (trackers_of (services t))
-unfolding least_free
+pub least-tracker : {w : ℕ} (n : ℕ) (at : ℕ → Tracker w) (t : Trace w) → ((i : ℕ) → IsTracked i (at i) t) → is_free (at n) ≡ true → ((i : ℕ) → i < n → is_free (at i) ≡ false)
+    → n ≡ least_untaken (trackers_of (services t))
+unfolding least_untaken
 least-tracker {w} n at t tracked free taken =
     let le = as_many n (trackers_of (services t)) (λ i lt. taken-among i (at i) t (tracked i) (taken i lt)) in
     least_is 0 n (length (trackers_of (services t))) (trackers_of (services t)) (omega arith) (omega (arith, le)) (free-among n (at n) t (tracked n) free) (λ i low lt. taken-among i (at i) t (tracked i) (taken i lt))

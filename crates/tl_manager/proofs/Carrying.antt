@@ -8,6 +8,7 @@ use Rattle.tl_beat.specs.declared.beat.Beat.{Beat}
 use Rattle.tl_beat.specs.declared.beat.Link.{Link}
 use Rattle.tl_beat.specs.declared.opcode.Channel.{Channel}
 use Rattle.tl_beat.specs.declared.opcode.Channel.TheVariants as channel
+use Rattle.tl_beat.specs.First.{first_if}
 use Rattle.tl_burst.specs.declared.message.Message.{Message}
 use Rattle.tl_burst.specs.Burst.{IsBurst}
 use Rattle.tl_burst.specs.Messages.{History, channel_of, breaks_burst, unfinished}
@@ -18,7 +19,6 @@ use Rattle.tl_params.specs.declared.profile.Profile.{Profile}
 use Rattle.tl_params.specs.declared.rule.Rule.TheVariants.{S1}
 use Rattle.tl_rules.specs.Conformance.{on_link, broken_in_order, broken_order}
 use Rattle.tl_rules.specs.History.{ends}
-use Rattle.tl_rules.specs.Legality.{rule_if}
 use Rattle.tl_rules.proofs.Bursts.{next_rule}
 use Rattle.tl_manager.specs.After.{is_of_clients}
 use Rattle.tl_manager.specs.BurstFor.{burst_for, burst_with}
@@ -44,19 +44,24 @@ unfolding unfinished
 burst-with ch x h = refl
 
 -- the burst that is unfinished on a channel of clients
-burst-own : {w : ℕ} (config : Config) (ch : Channel) (link : Link) (x : Beat w) (e : End w) → is_of_clients ch ≡ true → IsWidth w → IsPassed config link x e.trace → Each (IsSound config) e.trace → burst_with ch x (unfinished ch (on_link link.0 e.trace)) ≡ unfinished ch (on_link link.0 (taken link x (deed config link x e) e).trace)
+burst-own : {w : ℕ} (config : Config) (ch : Channel) (link : Link) (x : Beat w) (e : End w) → is_of_clients ch ≡ true → IsWidth w → IsPassed config link x e.trace
+    → Each (IsSound config) e.trace → burst_with ch x (unfinished ch (on_link link.0 e.trace)) ≡ unfinished ch (on_link link.0 (taken link x (deed config link x e) e).trace)
 burst-own config ch link x e theirs width ok sound =
     burst-with ch x (on_link link.0 e.trace) ∙ ap (unfinished ch) (sym (own_beat link.0 link x e.trace (eq-eqb link.0 link.0 refl)))
     ∙ sym (bursts-handed config ch link.0 (deed config link x e).handed ((link, x) ∷ e.trace) theirs (deed_handable config link x e width ok.sound sound))
 
-burst-other : {w : ℕ} (config : Config) (ch : Channel) (client : ℕ) (link : Link) (x : Beat w) (e : End w) → (link.0 == client) ≡ false → is_of_clients ch ≡ true → IsWidth w → IsPassed config link x e.trace → Each (IsSound config) e.trace → unfinished ch (on_link client e.trace) ≡ unfinished ch (on_link client (taken link x (deed config link x e) e).trace)
+burst-other : {w : ℕ} (config : Config) (ch : Channel) (client : ℕ) (link : Link) (x : Beat w) (e : End w) → (link.0 == client) ≡ false → is_of_clients ch ≡ true → IsWidth w
+    → IsPassed config link x e.trace → Each (IsSound config) e.trace → unfinished ch (on_link client e.trace) ≡ unfinished ch (on_link client (taken link x (deed config link x e) e).trace)
 burst-other config ch client link x e other theirs width ok sound =
     ap (unfinished ch) (sym (other_beat client link x e.trace other))
     ∙ sym (bursts-handed config ch client (deed config link x e).handed ((link, x) ∷ e.trace) theirs (deed_handable config link x e width ok.sound sound))
 
-pub knows-taken : {w : ℕ} {M : Type 0} (perm_of : M → ℕ → ℕ → Perm) (old new : Links w M) (config : Config) (link : Link) (before after : Wire w) (x : Beat w) (e : End w) → IsWidth w → IsPassed config link x e.trace → new.wires.items ≡ slice_set old.wires.items link.0 after → slice_get old.wires.items link.0 ≡ Some before
-    → after.level ≡ before.level → after.closed ≡ before.closed → after.requests ≡ burst_with channel.A x before.requests → after.reports ≡ burst_with channel.C x before.reports → length new.home.blocks.bytes.items ≡ length old.home.blocks.bytes.items
-    → IsHome perm_of config new.home (with_handed (deed config link x e).handed ((link, x) ∷ e.trace)) (deed config link x e).memory → Knows perm_of old config e → Knows perm_of new config (taken link x (deed config link x e) e)
+pub knows-taken : {w : ℕ} {M : Type 0} (perm_of : M → ℕ → ℕ → Perm) (old new : Links w M) (config : Config) (link : Link) (before after : Wire w) (x : Beat w) (e : End w) → IsWidth w
+    → IsPassed config link x e.trace → new.wires.items ≡ slice_set old.wires.items link.0 after → slice_get old.wires.items link.0 ≡ Some before
+    → after.level ≡ before.level → after.closed ≡ before.closed → after.requests ≡ burst_with channel.A x before.requests → after.reports ≡ burst_with channel.C x before.reports
+    → length new.home.blocks.bytes.items ≡ length old.home.blocks.bytes.items
+    → IsHome perm_of config new.home (with_handed (deed config link x e).handed ((link, x) ∷ e.trace)) (deed config link x e).memory → Knows perm_of old config e
+    → Knows perm_of new config (taken link x (deed config link x e) e)
 knows-taken {w} perm_of old new config link before after x e width ok wires found level closed requests reports size home k = record {
   fits = k.fits;
   kept = kept-taken config link x e width ok k.kept;
@@ -94,17 +99,20 @@ knows-taken {w} perm_of old new config link before after x e width ok wires foun
 unbroken : {w : ℕ} (p : Profile) (x : Beat w) (t : History w) → broken_in_order p x t ≡ None → breaks_burst x (unfinished (channel_of x) t) ≡ false
 unbroken {w} p x t e = go (unfinished (channel_of x) t) e
   where
-    go : (burst : List (Beat w)) → (if is_empty burst then broken_order p x t else rule_if (breaks_burst x burst) S1 None) ≡ None → breaks_burst x burst ≡ false
+    go : (burst : List (Beat w)) → (if is_empty burst then broken_order p x t else first_if (breaks_burst x burst) S1 None) ≡ None → breaks_burst x burst ≡ false
     go [] f = refl
     go (y ∷ ys) f = (next_rule (breaks_burst x (y ∷ ys)) S1 None f).0
 
-pub goes-on : {w : ℕ} (config : Config) (link : Link) (wire : Wire w) (x : Beat w) (e : End w) → IsPassed config link x e.trace → IsWire config wire link.0 e → breaks_burst x (burst_for wire.requests wire.reports x) ≡ false
+pub goes-on : {w : ℕ} (config : Config) (link : Link) (wire : Wire w) (x : Beat w) (e : End w) → IsPassed config link x e.trace → IsWire config wire link.0 e
+    → breaks_burst x (burst_for wire.requests wire.reports x) ≡ false
 goes-on config link wire x e ok is = rw (burst-is wire link.0 x e.trace ok.theirs is.carried) (unbroken config.profile x (on_link link.0 e.trace) ok.order)
 
-pub last-is : {w : ℕ} (config : Config) (link : Link) (wire : Wire w) (x : Beat w) (e : End w) (last : Bool) → IsPassed config link x e.trace → IsWire config wire link.0 e → last ≡ completes x (burst_for wire.requests wire.reports x) → ends x (on_link link.0 e.trace) ≡ last
+pub last-is : {w : ℕ} (config : Config) (link : Link) (wire : Wire w) (x : Beat w) (e : End w) (last : Bool) → IsPassed config link x e.trace → IsWire config wire link.0 e
+    → last ≡ completes x (burst_for wire.requests wire.reports x) → ends x (on_link link.0 e.trace) ≡ last
 last-is config link wire x e last ok is at = sym (rw (burst-is wire link.0 x e.trace ok.theirs is.carried) at at)
 
-pub is-complete : {w : ℕ} (config : Config) (link : Link) (wire : Wire w) (x : Beat w) (m : Message w) (e : End w) → IsWidth w → IsPassed config link x e.trace → IsKept config e → IsWire config wire link.0 e → true ≡ completes x (burst_for wire.requests wire.reports x)
+pub is-complete : {w : ℕ} (config : Config) (link : Link) (wire : Wire w) (x : Beat w) (m : Message w) (e : End w) → IsWidth w → IsPassed config link x e.trace → IsKept config e
+    → IsWire config wire link.0 e → true ≡ completes x (burst_for wire.requests wire.reports x)
     → IsBurst m (x ∷ burst_for wire.requests wire.reports x) → IsFilled m → IsComplete config link x m e
 is-complete config link wire x m e width ok kept is last burst filled = record {
   taken = is_taken config link x e width ok kept;

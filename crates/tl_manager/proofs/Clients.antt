@@ -42,7 +42,8 @@ among-within c first (suc n) test le lt = go (cases_eq first c) (λ ne. among-wi
     at_first true = rw (eq-eqb c c refl) refl
     at_first false = among-before c (c + 1) n test (omega arith)
 
-    later : (first ≡ c → ⊥) → (b : Bool) → is_one_of c (clients_from (first + 1) n test) ≡ test c → is_one_of c (if b then first ∷ clients_from (first + 1) n test else clients_from (first + 1) n test) ≡ test c
+    later : (first ≡ c → ⊥) → (b : Bool) → is_one_of c (clients_from (first + 1) n test) ≡ test c
+        → is_one_of c (if b then first ∷ clients_from (first + 1) n test else clients_from (first + 1) n test) ≡ test c
     later ne true rest = let away : (c == first) ≡ false = ne_eqb c first (λ e. ne (sym e)) in rw away rest
     later ne false rest = rest
 

@@ -1,6 +1,6 @@
 -- The message of a client that is complete with a beat, and what is kept of the blocks after the beat.
 use Rattle.std.proofs.Common.{◌≡◌, ℕ, zero, suc, ◌<◌, ◌==◌, Bool, true, false, List, [], ◌∷◌, length, Some, None, refl, sym, ap, subst, ◌∙◌}
-use Rattle.std.specs.Prelude.{nat_le}
+use Rattle.std.specs.Prelude.{nat_le, unwrap_or}
 use Rattle.std.proofs.lemmas.Bool.{eqb-true, ne_eqb, le-leb, or_parts}
 use Rattle.tl_beat.specs.Width.{IsWidth}
 use Rattle.tl_beat.specs.declared.beat.Beat.{Beat}
@@ -21,7 +21,7 @@ use Rattle.tl_params.specs.declared.key.Key.TheVariants.{ProbeOf}
 use Rattle.tl_params.specs.declared.perm.Perm.{Perm}
 use Rattle.tl_rules.specs.Conformance.{Trace, on_link}
 use Rattle.tl_rules.specs.Effect.{Memory}
-use Rattle.tl_rules.specs.History.{ends, block_at, pending, or_perm}
+use Rattle.tl_rules.specs.History.{ends, block_at, pending}
 use Rattle.tl_rules.specs.Legality.{is_one_of}
 use Rattle.tl_rules.proofs.Payload.{payload-c}
 use Rattle.tl_manager.specs.Complete.{IsComplete}
@@ -31,7 +31,7 @@ use Rattle.tl_manager.specs.Home.{IsHome, IsHomeWithout, IsDone, IsReadyAt, IsMe
 use Rattle.tl_manager.specs.Pending.{is_granted}
 use Rattle.tl_manager.specs.Ready.{IsReady, IsServed, IsTaken}
 use Rattle.tl_manager.specs.Record.{reported_by}
-use Rattle.tl_manager.specs.Service.{Service, services, serving, is_in_service, trackers_of, least_free}
+use Rattle.tl_manager.specs.Service.{Service, services, serving, is_in_service, trackers_of, least_untaken}
 use Rattle.tl_manager.specs.Slave.{End, deed, begun_with, is_from_client}
 use Rattle.tl_manager.specs.Tracked.{service_with, IsTracked}
 use Rattle.tl_manager.specs.Trackers.{tracker_at}
@@ -44,11 +44,11 @@ use Rattle.tl_manager.proofs.Busy.{least-tracker, all-taken}
 use Rattle.tl_manager.proofs.Ended.{services-part}
 use Rattle.tl_manager.proofs.Events.{services-request, deed-ack}
 use Rattle.tl_manager.proofs.Handed.{recorded-taken}
-use Rattle.tl_manager.proofs.Links.{own_beat, other_beat, beat-keeps, pending-quiet, whole-e}
+use Rattle.tl_manager.proofs.Links.{own_beat, other_beat, whole-e}
 use Rattle.tl_manager.proofs.Probing.{missing-part}
 use Rattle.tl_manager.proofs.Requested.{service_made, made}
 use Rattle.tl_manager.proofs.Serving.{none_of_block, some_is}
-use Rattle.tl_manager.proofs.Steady.{request-ready}
+use Rattle.tl_manager.proofs.Steady.{request-ready, missing_a}
 use Rattle.tl_manager.proofs.SteadyReports.{granted_c}
 use Rattle.tl_manager.proofs.Trackers.{tracked-still}
 
@@ -76,7 +76,8 @@ newest-c m x burst (suc k) e = (k, cc)
 -- ---- a request
 
 -- it is what its beats make up
-pub is_served : {w : ℕ} (number : ℕ) (link : Link) (x : BeatA w) (m : MessageA w) (t : Trace w) → IsWidth w → length m.payload ≡ 64 → ends (beat.A x) (on_link link.0 t) ≡ true → IsBurst (A m) (beat.A x ∷ unfinished channel.A (on_link link.0 t)) → number ≡ least_free (trackers_of (services t))
+pub is_served : {w : ℕ} (number : ℕ) (link : Link) (x : BeatA w) (m : MessageA w) (t : Trace w) → IsWidth w → length m.payload ≡ 64 → ends (beat.A x) (on_link link.0 t) ≡ true
+    → IsBurst (A m) (beat.A x ∷ unfinished channel.A (on_link link.0 t)) → number ≡ least_untaken (trackers_of (services t))
     → IsServed link x (service_with number link m) t
 is_served number link x m t width long last burst same = record {
   last = last;
@@ -84,7 +85,8 @@ is_served number link x m t width long last burst same = record {
 }
 
 -- and may be performed, where it probes nobody
-pub ready-at : {w : ℕ} (config : Config) (number : ℕ) (link : Link) (x : BeatA w) (m : MessageA w) (e : End w) → nat_le x.size 6 ≡ true → IsTaken config link (beat.A x) e → IsServed link x (service_with number link m) e.trace
+pub ready-at : {w : ℕ} (config : Config) (number : ℕ) (link : Link) (x : BeatA w) (m : MessageA w) (e : End w) → nat_le x.size 6 ≡ true → IsTaken config link (beat.A x) e
+    → IsServed link x (service_with number link m) e.trace
     → IsReadyAt config number link m ((link, beat.A x) ∷ e.trace)
 ready-at {w} config number link x m e small is served =
     let found = made link x e.trace served.last small in
@@ -94,10 +96,8 @@ ready-at {w} config number link x m e small is served =
       sound = (is.passes.sound, is.before.sound);
     }
 
-missing_a : {w : ℕ} (link : Link) (x : BeatA w) (t : Trace w) (k c : ℕ) → pending (ProbeOf k) (on_link c ((link, beat.A x) ∷ t)) ≡ pending (ProbeOf k) (on_link c t)
-missing_a link x t k c = beat-keeps (pending (ProbeOf k)) c link (beat.A x) t (λ h. pending-quiet (ProbeOf k) (beat.A x) h refl refl)
-
-pub home-requested : {w : ℕ} {D : Type 0} (perm_of : D → ℕ → ℕ → Perm) (config : Config) (home : Home w D) (number : ℕ) (link : Link) (x : BeatA w) (m : MessageA w) (e : End w) → IsTaken config link (beat.A x) e → IsServed link x (service_with number link m) e.trace
+pub home-requested : {w : ℕ} {D : Type 0} (perm_of : D → ℕ → ℕ → Perm) (config : Config) (home : Home w D) (number : ℕ) (link : Link) (x : BeatA w) (m : MessageA w) (e : End w)
+    → IsTaken config link (beat.A x) e → IsServed link x (service_with number link m) e.trace
     → IsHome perm_of config home e.trace e.memory → IsHomeWithout number perm_of config home ((link, beat.A x) ∷ e.trace) e.memory
 home-requested {w} perm_of config home number link x m e is served home_is = record {
   profile = home_is.profile;
@@ -127,14 +127,16 @@ home-requested {w} perm_of config home number link x m e is served home_is = rec
     away : (k : ℕ) (v : Service w) → serving k (services e.trace) ≡ Some v → (block_at m.address == k) ≡ false
     away k v f = ne_eqb (block_at m.address) k (λ same. absurd (let no : serving k (services e.trace) ≡ None = rw same at none in cc))
 
-pub done-requested : {w : ℕ} {M : Type 0} (perm_of : M → ℕ → ℕ → Perm) (config : Config) (home : Home w M) (handed : Handed w) (number : ℕ) (link : Link) (x : BeatA w) (m : MessageA w) (e : End w) → IsServed link x (service_with number link m) e.trace
+pub done-requested : {w : ℕ} {M : Type 0} (perm_of : M → ℕ → ℕ → Perm) (config : Config) (home : Home w M) (handed : Handed w) (number : ℕ) (link : Link) (x : BeatA w) (m : MessageA w) (e : End w)
+    → IsServed link x (service_with number link m) e.trace
     → IsDone perm_of config home handed ((link, beat.A x) ∷ e.trace) (begun_with config (cap_probed m.opcode m.param) (service_with number link m) ((link, beat.A x) ∷ e.trace) e.memory)
     → IsDone perm_of config home handed ((link, beat.A x) ∷ e.trace) (deed config link (beat.A x) e)
 unfolding deed
 done-requested perm_of config home handed number link x m e served done = rw (served.last, served.made) done
 
 -- so its service is begun with the least free tracker
-pub done-served : {w : ℕ} {M : Type 0} (perm_of : M → ℕ → ℕ → Perm) (config : Config) (old new : Home w M) (handed : Handed w) (number : ℕ) (link : Link) (x : Beat w) (m : MessageA w) (e : End w) → length m.payload ≡ 64
+pub done-served : {w : ℕ} {M : Type 0} (perm_of : M → ℕ → ℕ → Perm) (config : Config) (old new : Home w M) (handed : Handed w) (number : ℕ) (link : Link) (x : Beat w) (m : MessageA w) (e : End w)
+    → length m.payload ≡ 64
     → is_free (tracker_at old.trackers number) ≡ true → ((i : ℕ) → i < number → is_free (tracker_at old.trackers i) ≡ false)
     → ((t : Trace w) (memory : Memory) → IsReadyAt config number link m t → IsHomeWithout number perm_of config old t memory → IsDone perm_of config new handed t (begun_with config (cap_probed m.opcode m.param) (service_with number link m) t memory))
     → IsComplete config link x (A m) e → IsHome perm_of config old e.trace e.memory → IsDone perm_of config new handed ((link, x) ∷ e.trace) (deed config link x e)
@@ -145,12 +147,15 @@ done-served perm_of config old new handed number link (beat.A x) m e long free t
     let small : nat_le x.size 6 ≡ true = ap (λ (y : BeatA _). nat_le y.size 6) newest.1 ∙ le-leb m.size 6 m.small in
     done-requested perm_of config new handed number link x m e served (begins ((link, beat.A x) ∷ e.trace) e.memory (ready-at config number link x m e small is.taken served) (home-requested perm_of config old number link x m e is.taken served home))
 done-served perm_of config old new handed number link (beat.B x) m e long free taken begins is home = absurd (let no = is.taken.passes.theirs in cc)
-done-served perm_of config old new handed number link (beat.C x) m e long free taken begins is home = absurd (let no = on-a m (beat.C x) (unfinished channel.C (on_link link.0 e.trace)) (beats_of (A m)) is.burst.0 in cc)
+done-served perm_of config old new handed number link (beat.C x) m e long free taken begins is home =
+    absurd (let no = on-a m (beat.C x) (unfinished channel.C (on_link link.0 e.trace)) (beats_of (A m)) is.burst.0 in cc)
 done-served perm_of config old new handed number link (beat.D x) m e long free taken begins is home = absurd (let no = is.taken.passes.theirs in cc)
-done-served perm_of config old new handed number link (beat.E x) m e long free taken begins is home = absurd (let no = on-a m (beat.E x) (unfinished channel.E (on_link link.0 e.trace)) (beats_of (A m)) is.burst.0 in cc)
+done-served perm_of config old new handed number link (beat.E x) m e long free taken begins is home =
+    absurd (let no = on-a m (beat.E x) (unfinished channel.E (on_link link.0 e.trace)) (beats_of (A m)) is.burst.0 in cc)
 
 -- there is one
-pub has-room : {w : ℕ} (config : Config) (at : ℕ → Tracker w) (link : Link) (x : Beat w) (m : MessageA w) (e : End w) → ((n : ℕ) → IsTracked n (at n) e.trace) → ((i : ℕ) → i < config.trackers → is_free (at i) ≡ false) → IsComplete config link x (A m) e → ⊥
+pub has-room : {w : ℕ} (config : Config) (at : ℕ → Tracker w) (link : Link) (x : Beat w) (m : MessageA w) (e : End w) → ((n : ℕ) → IsTracked n (at n) e.trace)
+    → ((i : ℕ) → i < config.trackers → is_free (at i) ≡ false) → IsComplete config link x (A m) e → ⊥
 has-room config at link (beat.A x) m e tracked taken is =
     let full = all-taken config.trackers at e.trace tracked taken in
     let room = (or_parts (is_in_service (block_at x.address) (services e.trace)) (nat_le config.trackers (length (services e.trace))) (rw is.last at is.taken.passes.waits)).1 in
@@ -162,7 +167,8 @@ has-room config at link (beat.E x) m e tracked taken is = absurd (let no = on-a 
 
 -- ---- a message of channel C
 
-pub is_message : {w : ℕ} (config : Config) (link : Link) (x : BeatC w) (m : MessageC w) (e : End w) → length m.payload ≡ 64 → IsTaken config link (beat.C x) e → ends (beat.C x) (on_link link.0 e.trace) ≡ true
+pub is_message : {w : ℕ} (config : Config) (link : Link) (x : BeatC w) (m : MessageC w) (e : End w) → length m.payload ≡ 64 → IsTaken config link (beat.C x) e
+    → ends (beat.C x) (on_link link.0 e.trace) ≡ true
     → IsBurst (C m) (beat.C x ∷ unfinished channel.C (on_link link.0 e.trace)) → IsMessage config link x m e
 is_message {w} config link x m e long is last burst =
     let newest = newest-c m x (unfinished channel.C (on_link link.0 e.trace)) (beats_of (C m)) burst.0 in
@@ -207,7 +213,8 @@ part-granted link (beat.C x) t s theirs part = granted_c link x t s
 part-granted link (beat.D x) t s theirs part = absurd cc
 part-granted {w} link (beat.E x) t s theirs part = absurd (let whole : ends {w = w} (beat.E x) (on_link link.0 t) ≡ true = (whole-e x (on_link link.0 t)).1 in cc)
 
-part-missing : {w : ℕ} (link : Link) (x : Beat w) (t : Trace w) (k c : ℕ) → is_from_client x ≡ true → ends x (on_link link.0 t) ≡ false → pending (ProbeOf k) (on_link c ((link, x) ∷ t)) ≡ pending (ProbeOf k) (on_link c t)
+part-missing : {w : ℕ} (link : Link) (x : Beat w) (t : Trace w) (k c : ℕ) → is_from_client x ≡ true → ends x (on_link link.0 t) ≡ false
+    → pending (ProbeOf k) (on_link c ((link, x) ∷ t)) ≡ pending (ProbeOf k) (on_link c t)
 part-missing link (beat.A x) t k c theirs part = missing_a link x t k c
 part-missing link (beat.B x) t k c theirs part = absurd cc
 part-missing link (beat.C x) t k c theirs part = go (link.0 == c) refl
@@ -229,7 +236,8 @@ part-reports {w} link (beat.C x) t c b theirs part = go (link.0 == c) refl
 part-reports link (beat.D x) t c b theirs part = refl
 part-reports link (beat.E x) t c b theirs part = refl
 
-pub done-part : {w : ℕ} {M : Type 0} (perm_of : M → ℕ → ℕ → Perm) (config : Config) (home : Home w M) (link : Link) (x : Beat w) (e : End w) → is_from_client x ≡ true → ends x (on_link link.0 e.trace) ≡ false → IsHome perm_of config home e.trace e.memory
+pub done-part : {w : ℕ} {M : Type 0} (perm_of : M → ℕ → ℕ → Perm) (config : Config) (home : Home w M) (link : Link) (x : Beat w) (e : End w) → is_from_client x ≡ true
+    → ends x (on_link link.0 e.trace) ≡ false → IsHome perm_of config home e.trace e.memory
     → IsDone perm_of config home [] ((link, x) ∷ e.trace) (deed config link x e)
 unfolding deed with_handed
 done-part {w} perm_of config home link x e theirs part is = rw part (
@@ -244,7 +252,7 @@ done-part {w} perm_of config home link x e theirs part is = rw part (
           granted = part-granted link x e.trace v theirs part;
           missing = λ c. part-missing link x e.trace k c theirs part;
         }) (is.tracked n tt);
-    records = λ b c. is.records b c ∙ sym (recorded-taken c link b x e.trace theirs ∙ ap (λ o. or_perm o (recorded c b e.trace)) (part-reports link x e.trace c b theirs part));
+    records = λ b c. is.records b c ∙ sym (recorded-taken c link b x e.trace theirs ∙ ap (λ o. unwrap_or o (recorded c b e.trace)) (part-reports link x e.trace c b theirs part));
     bytes = is.bytes;
   },
 )

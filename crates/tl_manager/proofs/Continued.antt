@@ -8,6 +8,7 @@ use Rattle.tl_beat.specs.declared.beat.BeatA.{BeatA}
 use Rattle.tl_beat.specs.declared.beat.Link.{Link}
 use Rattle.tl_beat.specs.declared.opcode.Channel.{Channel}
 use Rattle.tl_beat.specs.declared.opcode.Channel.TheVariants as channel
+use Rattle.tl_beat.specs.First.{first_if}
 use Rattle.tl_burst.specs.declared.message.Message.{Message}
 use Rattle.tl_burst.specs.declared.message.Message.TheVariants.{A, B, C, D, E}
 use Rattle.tl_burst.specs.Burst.{beat_of}
@@ -19,7 +20,6 @@ use Rattle.tl_params.specs.declared.profile.Profile.{Profile}
 use Rattle.tl_params.specs.declared.rule.Rule.TheVariants.{S1}
 use Rattle.tl_rules.specs.Agent.{sent}
 use Rattle.tl_rules.specs.Conformance.{Trace, on_link, broken_in_order, broken_order}
-use Rattle.tl_rules.specs.Legality.{rule_if}
 use Rattle.tl_rules.proofs.Bursts.{next_rule}
 use Rattle.tl_manager.specs.After.{is_of_clients}
 use Rattle.tl_manager.specs.Handing.{Handed, with_handed}
@@ -41,7 +41,7 @@ like_too x y (beat.D z) first like = absurd like
 like_too x y (beat.E z) first like = absurd like
 
 continues : {w : ℕ} (p : Profile) (x : BeatA w) (t : History w) (burst : List (Beat w)) → AreOfOne burst
-    → (if is_empty burst then broken_order p (beat.A x) t else rule_if (breaks_burst (beat.A x) burst) S1 None) ≡ None → Each (IsLike x) burst
+    → (if is_empty burst then broken_order p (beat.A x) t else first_if (breaks_burst (beat.A x) burst) S1 None) ≡ None → Each (IsLike x) burst
 continues p x t [] ok e = tt
 continues p x t (beat.A y ∷ burst) ok e =
     let same = not-false (same_control (beat.A x) (beat.A y)) (next_rule (not (same_control (beat.A x) (beat.A y))) S1 None e).0 in
@@ -58,7 +58,8 @@ pub continued : {w : ℕ} (p : Profile) (x : BeatA w) (t : History w) → AreOfO
 continued p x t ok e = continues p x t (unfinished channel.A t) ok e
 
 -- the beats of a request, up to one that is taken
-pub whole_request : {w : ℕ} (config : Config) (link : Link) (x : BeatA w) (t : Trace w) → IsSound config (link, beat.A x) → Each (IsSound config) t → AreOfOne (unfinished channel.A (on_link link.0 t)) → broken_in_order config.profile (beat.A x) (on_link link.0 t) ≡ None
+pub whole_request : {w : ℕ} (config : Config) (link : Link) (x : BeatA w) (t : Trace w) → IsSound config (link, beat.A x) → Each (IsSound config) t
+    → AreOfOne (unfinished channel.A (on_link link.0 t)) → broken_in_order config.profile (beat.A x) (on_link link.0 t) ≡ None
     → Each (IsWhole config link x) (beat.A x ∷ unfinished channel.A (on_link link.0 t))
 whole_request {w} config link x t ok sound bursts order = (
   record { sound = ok; like = (refl, refl, refl) },
@@ -83,7 +84,8 @@ more_of_one p (beat.C x) t theirs order ok = ok
 more_of_one p (beat.D x) t theirs order ok = absurd cc
 more_of_one p (beat.E x) t theirs order ok = ok
 
-pub of_one-taken : {w : ℕ} (config : Config) (client : ℕ) (link : Link) (x : Beat w) (t : Trace w) → is_from_client x ≡ true → broken_in_order config.profile x (on_link link.0 t) ≡ None → ((n : ℕ) → AreOfOne (unfinished channel.A (on_link n t))) → AreOfOne (unfinished channel.A (on_link client ((link, x) ∷ t)))
+pub of_one-taken : {w : ℕ} (config : Config) (client : ℕ) (link : Link) (x : Beat w) (t : Trace w) → is_from_client x ≡ true → broken_in_order config.profile x (on_link link.0 t) ≡ None
+    → ((n : ℕ) → AreOfOne (unfinished channel.A (on_link n t))) → AreOfOne (unfinished channel.A (on_link client ((link, x) ∷ t)))
 unfolding on_link
 of_one-taken {w} config client link x t theirs order ok = go (link.0 == client) refl
   where
@@ -109,7 +111,8 @@ ours_elsewhere {w} ch m t theirs ours = unfinished-sent_other ch m t (off ch m t
     off channel.E (D m) theirs ours = refl
     off ch (E m) theirs ours = absurd cc
 
-one_handed : {w : ℕ} (ch : Channel) (client : ℕ) (link : Link) (m : Message w) (t : Trace w) → is_of_clients ch ≡ true → is_from_client (beat_of m 0) ≡ false → unfinished ch (on_link client (after_sent link m t)) ≡ unfinished ch (on_link client t)
+one_handed : {w : ℕ} (ch : Channel) (client : ℕ) (link : Link) (m : Message w) (t : Trace w) → is_of_clients ch ≡ true → is_from_client (beat_of m 0) ≡ false
+    → unfinished ch (on_link client (after_sent link m t)) ≡ unfinished ch (on_link client t)
 one_handed {w} ch client link m t theirs ours = go (link.0 == client) refl
   where
     go : (b : Bool) → (link.0 == client) ≡ b → unfinished ch (on_link client (after_sent link m t)) ≡ unfinished ch (on_link client t)
@@ -117,7 +120,8 @@ one_handed {w} ch client link m t theirs ours = go (link.0 == client) refl
     go false e = rw (other_link client link m t e) refl
 
 -- messages that are handed out leave the bursts of clients that are unfinished
-pub bursts-handed : {w : ℕ} (config : Config) (ch : Channel) (client : ℕ) (handed : Handed w) (t : Trace w) → is_of_clients ch ≡ true → Each (IsHandable config) handed → unfinished ch (on_link client (with_handed handed t)) ≡ unfinished ch (on_link client t)
+pub bursts-handed : {w : ℕ} (config : Config) (ch : Channel) (client : ℕ) (handed : Handed w) (t : Trace w) → is_of_clients ch ≡ true → Each (IsHandable config) handed
+    → unfinished ch (on_link client (with_handed handed t)) ≡ unfinished ch (on_link client t)
 unfolding with_handed
 bursts-handed config ch client [] t theirs each = refl
 bursts-handed config ch client (x ∷ handed) t theirs each = bursts-handed config ch client handed (after_sent x.0 x.1 t) theirs each.1 ∙ one_handed ch client x.0 x.1 t theirs each.0.ours

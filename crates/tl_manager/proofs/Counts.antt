@@ -25,7 +25,8 @@ pub count-filter : {X : Type 0} (keep test : X → Bool) (xs : List X) → count
 count-filter keep test [] = refl
 count-filter {X} keep test (x ∷ xs) = go (keep x) (count-filter keep test xs)
   where
-    go : (b : Bool) → count_where test (filter keep xs) ≡ count_where (λ y. keep y && test y) xs → count_where test (cond b (x ∷ filter keep xs) (filter keep xs)) ≡ one_if (b && test x) + count_where (λ y. keep y && test y) xs
+    go : (b : Bool) → count_where test (filter keep xs) ≡ count_where (λ y. keep y && test y) xs
+        → count_where test (cond b (x ∷ filter keep xs) (filter keep xs)) ≡ one_if (b && test x) + count_where (λ y. keep y && test y) xs
     go true rest = rw rest refl
     go false rest = omega (arith, rest)
 
@@ -76,7 +77,8 @@ same_block {w} n (u ∷ ss) s apart e = go (block_at u.request.address == n) ref
         let p = or_parts (n == block_at v.request.address) (is_one_of n (blocks_of vs)) f in
         (λ here. absurd (let yes : (n == block_at v.request.address) ≡ true = eq-eqb n (block_at v.request.address) (sym (eqb-true (block_at v.request.address) n here)) in let no : (n == block_at v.request.address) ≡ false = p.0 in cc), none vs p.1)
 
-    go : (b : Bool) → (block_at u.request.address == n) ≡ b → (if b then Some u else serving n ss) ≡ Some s → (serving n ss ≡ Some s → Each (λ v. (block_at v.request.address == n) ≡ true → v ≡ s) ss) → Each (λ v. (block_at v.request.address == n) ≡ true → v ≡ s) (u ∷ ss)
+    go : (b : Bool) → (block_at u.request.address == n) ≡ b → (if b then Some u else serving n ss) ≡ Some s
+        → (serving n ss ≡ Some s → Each (λ v. (block_at v.request.address == n) ≡ true → v ≡ s) ss) → Each (λ v. (block_at v.request.address == n) ≡ true → v ≡ s) (u ∷ ss)
     go true here f rest =
         let block : block_at u.request.address ≡ n = eqb-true (block_at u.request.address) n here in
         (λ g. some_is u s f, none ss (rw block at apart.0))
@@ -93,7 +95,8 @@ same_tracker {w} n (u ∷ ss) s apart e = go (block_at u.request.address == n) e
         let p = or_parts (i == v.tracker) (is_one_of i (trackers_of vs)) f in
         (λ here. absurd (let yes : (i == v.tracker) ≡ true = eq-eqb i v.tracker (sym (eqb-true v.tracker i here)) in let no : (i == v.tracker) ≡ false = p.0 in cc), none i vs p.1)
 
-    go : (b : Bool) → (if b then Some u else serving n ss) ≡ Some s → (serving n ss ≡ Some s → Each (λ v. (v.tracker == s.tracker) ≡ true → v ≡ s) ss) → Each (λ v. (v.tracker == s.tracker) ≡ true → v ≡ s) (u ∷ ss)
+    go : (b : Bool) → (if b then Some u else serving n ss) ≡ Some s → (serving n ss ≡ Some s → Each (λ v. (v.tracker == s.tracker) ≡ true → v ≡ s) ss)
+        → Each (λ v. (v.tracker == s.tracker) ≡ true → v ≡ s) (u ∷ ss)
     go true f rest =
         let same : u ≡ s = some_is u s f in
         let mine : u.tracker ≡ s.tracker = ap (λ (v : Service w). v.tracker) same in
@@ -107,7 +110,8 @@ same_tracker {w} n (u ∷ ss) s apart e = go (block_at u.request.address == n) e
     )
 
 -- where one passes at most, and the block's service does, it is the only one
-pub only_one : {w : ℕ} (n : ℕ) (test : Service w → Bool) (ss : List (Service w)) (s : Service w) → count_where test ss ≤ 1 → serving n ss ≡ Some s → test s ≡ true → Each (λ u. test u ≡ true → u ≡ s) ss
+pub only_one : {w : ℕ} (n : ℕ) (test : Service w → Bool) (ss : List (Service w)) (s : Service w) → count_where test ss ≤ 1 → serving n ss ≡ Some s → test s ≡ true
+    → Each (λ u. test u ≡ true → u ≡ s) ss
 only_one n test [] s few e passes = tt
 only_one {w} n test (u ∷ ss) s few e passes = go (block_at u.request.address == n) e (λ f g. only_one n test ss s g f passes)
   where
@@ -115,7 +119,8 @@ only_one {w} n test (u ∷ ss) s few e passes = go (block_at u.request.address =
     none [] le = tt
     none (v ∷ vs) le = (λ here. absurd (let one = count_some (test v) here in omega (arith, one, le)), none vs (omega (arith, le)))
 
-    go : (b : Bool) → (if b then Some u else serving n ss) ≡ Some s → (serving n ss ≡ Some s → count_where test ss ≤ 1 → Each (λ v. test v ≡ true → v ≡ s) ss) → Each (λ v. test v ≡ true → v ≡ s) (u ∷ ss)
+    go : (b : Bool) → (if b then Some u else serving n ss) ≡ Some s → (serving n ss ≡ Some s → count_where test ss ≤ 1 → Each (λ v. test v ≡ true → v ≡ s) ss)
+        → Each (λ v. test v ≡ true → v ≡ s) (u ∷ ss)
     go true f rest =
         let same : u ≡ s = some_is u s f in
         let one = count_some (test u) (rw same passes) in
@@ -133,13 +138,15 @@ pub serving-without : {w : ℕ} (n k : ℕ) (ss : List (Service w)) → serving 
 serving-without n k [] = none_either (n == k) (serving k []) refl
 serving-without {w} n k (u ∷ ss) = go (block_at u.request.address == n) refl (serving-without n k ss)
   where
-    other : (b : Bool) → (n == k) ≡ b → (block_at u.request.address == n) ≡ true → (if b then None else serving k ss) ≡ (if b then None else if block_at u.request.address == k then Some u else serving k ss)
+    other : (b : Bool) → (n == k) ≡ b → (block_at u.request.address == n) ≡ true
+        → (if b then None else serving k ss) ≡ (if b then None else if block_at u.request.address == k then Some u else serving k ss)
     other true e here = refl
     other false e here =
         let block : block_at u.request.address ≡ n = eqb-true (block_at u.request.address) n here in
         rw (block, e) refl
 
-    mine : (b : Bool) → (n == k) ≡ b → (block_at u.request.address == n) ≡ false → (if block_at u.request.address == k then Some u else if b then None else serving k ss) ≡ (if b then None else if block_at u.request.address == k then Some u else serving k ss)
+    mine : (b : Bool) → (n == k) ≡ b → (block_at u.request.address == n) ≡ false
+        → (if block_at u.request.address == k then Some u else if b then None else serving k ss) ≡ (if b then None else if block_at u.request.address == k then Some u else serving k ss)
     mine true e away = let same : n ≡ k = eqb-true n k e in rw (← same, away) refl
     mine false e away = refl
 

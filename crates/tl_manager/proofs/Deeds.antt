@@ -28,7 +28,7 @@ use Rattle.tl_manager.specs.Handing.{Handed, with_handed, nothing, release_ack, 
 use Rattle.tl_manager.specs.Holders.{recorded, has_copy, is_above, is_spared, probed, is_settled}
 use Rattle.tl_manager.specs.Kept.{Each, IsSound}
 use Rattle.tl_manager.specs.Request.{request_if, request_carried}
-use Rattle.tl_manager.specs.Service.{Service, services, serving, least_free, trackers_of}
+use Rattle.tl_manager.specs.Service.{Service, services, serving, least_untaken, trackers_of}
 use Rattle.tl_manager.specs.Slave.{End, level_of, probing_or, begun_with, begun_if_any, performed_if_any, settled, written, done_c, done, deed}
 use Rattle.tl_manager.proofs.Lawful.{IsHandable, access_handable, acquire_level, grant_handable, release_handable, probe_handable}
 use Rattle.tl_manager.proofs.Lists.{each_append, each_map, each_client, each_weaker}
@@ -49,14 +49,16 @@ performed_handable {w} config s t memory width ok =
     let four = next_rule (not (is_aligned s.request.address s.request.size)) L4 None three.1 in
     go (is_acquire s.request.opcode) refl (not-false _ one.0) (not-false _ three.0) (eqb-true (s.request.address % 2 ^ s.request.size) 0 (not-false _ four.0))
   where
-    go : (b : Bool) → is_acquire s.request.opcode ≡ b → a_of_level ok.level s.request.opcode ≡ true → a_has_size w ok.level s.request.opcode s.request.size ≡ true → s.request.address % 2 ^ s.request.size ≡ 0
+    go : (b : Bool) → is_acquire s.request.opcode ≡ b → a_of_level ok.level s.request.opcode ≡ true → a_has_size w ok.level s.request.opcode s.request.size ≡ true
+        → s.request.address % 2 ^ s.request.size ≡ 0
         → AllHandable config (if b
         then record { handed = (s.link, grant config s t memory) ∷ []; memory = memory }
         else record { handed = (s.link, access_answer s.request (answer_of (A s.request) (effect (A s.request) memory).1)) ∷ []; memory = (effect (A s.request) memory).0 })
     go true e of_level sized aligned = (grant_handable config s _ _ memory width (ok.has_level ∙ ap Some (acquire_level ok.level s.request.opcode e of_level)), tt)
     go false e of_level sized aligned = (access_handable config s.link ok.level s.request.opcode s.request memory width aligned ok.has_level e of_level sized, tt)
 
-performed_found : {w : ℕ} (config : Config) (block : ℕ) (ss : List (Service w)) (t : Trace w) (memory : Memory) → IsWidth w → Each (IsServable config) ss → AllHandable config (performed_if_any config (serving block ss) t memory)
+performed_found : {w : ℕ} (config : Config) (block : ℕ) (ss : List (Service w)) (t : Trace w) (memory : Memory) → IsWidth w → Each (IsServable config) ss
+    → AllHandable config (performed_if_any config (serving block ss) t memory)
 performed_found config block [] t memory width each = tt
 performed_found config block (s ∷ ss) t memory width each = go (block_at s.request.address == block) (performed_found config block ss t memory width each.1)
   where
@@ -81,14 +83,16 @@ probed_level {w} config s c t sound =
     (above_none c (recorded client (block_at s.request.address) t) (and_parts (is_above c (recorded client (block_at s.request.address) t)) (not (is_spared s client)) e).0))
     (each_client (length config.clients.items) 0 (λ client. is_above c (recorded client (block_at s.request.address) t) && not (is_spared s client)))
 
-probing_handable : {w : ℕ} (config : Config) (d : Deed w) (block : ℕ) (c : Cap) (clients : List ℕ) (memory : Memory) → IsWidth w → nat_le config.blocks block ≡ false → AllHandable config d → Each (λ client. level_of config client ≡ Some level.C) clients
+probing_handable : {w : ℕ} (config : Config) (d : Deed w) (block : ℕ) (c : Cap) (clients : List ℕ) (memory : Memory) → IsWidth w → nat_le config.blocks block ≡ false → AllHandable config d
+    → Each (λ client. level_of config client ≡ Some level.C) clients
     → AllHandable config (probing_or d block c clients memory)
 probing_handable config d block c [] memory width inside at_once each = at_once
 probing_handable {w} config d block c (client ∷ clients) memory width inside at_once each =
     each_map (λ n. level_of config n ≡ Some level.C) (IsHandable config) (λ n. (record { 0 = n }, probe_of_block block c)) (client ∷ clients)
     (λ n e. probe_handable config n block c width e inside) each
 
-begun_handable : {w : ℕ} (config : Config) (o : Option Cap) (s : Service w) (t : Trace w) (memory : Memory) → IsWidth w → IsServable config s → Each (IsSound config) t → AllHandable config (begun_with config o s t memory)
+begun_handable : {w : ℕ} (config : Config) (o : Option Cap) (s : Service w) (t : Trace w) (memory : Memory) → IsWidth w → IsServable config s → Each (IsSound config) t
+    → AllHandable config (begun_with config o s t memory)
 begun_handable config None s t memory width ok sound = performed_handable config s t memory width ok
 begun_handable config (Some c) s t memory width ok sound =
     probing_handable config (performed config s t memory) (block_at s.request.address) c (probed config s c t) memory width ok.inside
@@ -96,7 +100,8 @@ begun_handable config (Some c) s t memory width ok sound =
 
 -- ---- a message that is complete
 
-begun_new : {w : ℕ} (config : Config) (link : Link) (x : BeatA w) (beats : List (Beat w)) (tracker : ℕ) (t : Trace w) (memory : Memory) (fits : Bool) (e : nat_le x.size 6 ≡ fits) → IsWidth w → IsSound config (link, beat.A x) → Each (IsSound config) t
+begun_new : {w : ℕ} (config : Config) (link : Link) (x : BeatA w) (beats : List (Beat w)) (tracker : ℕ) (t : Trace w) (memory : Memory) (fits : Bool) (e : nat_le x.size 6 ≡ fits) → IsWidth w
+    → IsSound config (link, beat.A x) → Each (IsSound config) t
     → AllHandable config (begun_if_any config (option_map (λ m. record { tracker = tracker; link = link; request = m }) (request_if x beats fits e)) t memory)
 begun_new config link x beats tracker t memory false e width ok sound = tt
 begun_new config link x beats tracker t memory true e width ok sound =
@@ -109,7 +114,8 @@ settled_handable {w} config block t memory width sound = go (is_settled config b
     go true = performed_found config block (services t) t memory width (servable config t sound)
     go false = tt
 
-done_c_handable : {w : ℕ} (config : Config) (link : Link) (x : BeatC w) (t : Trace w) (memory : Memory) → IsWidth w → IsSound config (link, beat.C x) → Each (IsSound config) t → AllHandable config (done_c config link x t memory)
+done_c_handable : {w : ℕ} (config : Config) (link : Link) (x : BeatC w) (t : Trace w) (memory : Memory) → IsWidth w → IsSound config (link, beat.C x) → Each (IsSound config) t
+    → AllHandable config (done_c config link x t memory)
 done_c_handable {w} config link x t memory width ok sound =
     let l = leveled (level_of config link.0) (beat.C x) ok.lawful in
     go (is_release x.opcode) (is_probe_ack x.opcode) (l.1 ∙ ap Some (transfers_level l.0 (past_l1 l.0 (beat.C x) l.2)))
@@ -119,10 +125,11 @@ done_c_handable {w} config link x t memory width ok sound =
     go false true has_level = settled_handable config (block_at x.address) t memory width sound
     go false false has_level = tt
 
-done_handable : {w : ℕ} (config : Config) (link : Link) (x : Beat w) (burst : List (Beat w)) (t : Trace w) (memory : Memory) → IsWidth w → IsSound config (link, x) → Each (IsSound config) t → AllHandable config (done config link x burst t memory)
+done_handable : {w : ℕ} (config : Config) (link : Link) (x : Beat w) (burst : List (Beat w)) (t : Trace w) (memory : Memory) → IsWidth w → IsSound config (link, x) → Each (IsSound config) t
+    → AllHandable config (done config link x burst t memory)
 unfolding request_carried
 done_handable config link (beat.A x) burst t memory width ok sound =
-    begun_new config link x (beat.A x ∷ burst) (least_free (trackers_of (services t))) ((link, beat.A x) ∷ t) memory (nat_le x.size 6) refl width ok (ok, sound)
+    begun_new config link x (beat.A x ∷ burst) (least_untaken (trackers_of (services t))) ((link, beat.A x) ∷ t) memory (nat_le x.size 6) refl width ok (ok, sound)
 done_handable config link (beat.B x) burst t memory width ok sound = tt
 done_handable config link (beat.C x) burst t memory width ok sound = done_c_handable config link x ((link, beat.C x) ∷ t) (written x (beat.C x ∷ burst) memory) width ok (ok, sound)
 done_handable config link (beat.D x) burst t memory width ok sound = tt
@@ -139,7 +146,8 @@ deed_handable {w} config link x e width ok sound = go (ends x (on_link link.0 e.
 
 -- ---- the trace afterwards
 
-burst_sound : {w : ℕ} (config : Config) (link : Link) (m : Message w) (n : ℕ) → n ≤ beats_of m → ((i : ℕ) → i < beats_of m → IsSound config (link, beat_of m i)) → Each (λ x. IsSound config (link, x)) (begun m n)
+burst_sound : {w : ℕ} (config : Config) (link : Link) (m : Message w) (n : ℕ) → n ≤ beats_of m → ((i : ℕ) → i < beats_of m → IsSound config (link, beat_of m i))
+    → Each (λ x. IsSound config (link, x)) (begun m n)
 burst_sound config link m zero le each = tt
 burst_sound config link m (suc n) le each = (each n (omega arith), burst_sound config link m n (omega arith) each)
 

@@ -40,18 +40,21 @@ pub services-part : {w : ℕ} (x : Link × Beat w) (t : Trace w) → ends x.1 (o
 unfolding services
 services-part x t e = rw e refl
 
-services-last_d : {w : ℕ} (link : Link) (m : MessageD w) (i : ℕ) (t : Trace w) → ends (beat_of (D m) i) (on_link link.0 t) ≡ true → services ((link, beat_of (D m) i) ∷ t) ≡ without_answered (link, D m) (services t)
+services-last_d : {w : ℕ} (link : Link) (m : MessageD w) (i : ℕ) (t : Trace w) → ends (beat_of (D m) i) (on_link link.0 t) ≡ true
+    → services ((link, beat_of (D m) i) ∷ t) ≡ without_answered (link, D m) (services t)
 unfolding services
 services-last_d link m i t e = rw e refl
 
-before_last : {w : ℕ} (link : Link) (m : MessageD w) (n : ℕ) (t : Trace w) → unfinished channel.D (on_link link.0 t) ≡ [] → n < beats_of (D m) → services (map (λ b. (link, b)) (begun (D m) n) ++ t) ≡ services t
+before_last : {w : ℕ} (link : Link) (m : MessageD w) (n : ℕ) (t : Trace w) → unfinished channel.D (on_link link.0 t) ≡ [] → n < beats_of (D m)
+    → services (map (λ b. (link, b)) (begun (D m) n) ++ t) ≡ services t
 before_last link m zero t none lt = refl
 before_last {w} link m (suc n) t none lt =
     services-part (link, beat_of (D m) n) (map (λ b. (link, b)) (begun (D m) n) ++ t)
     (ap (λ h. ends (beat_of (D m) n) h) (own_beats link (D m) n t) ∙ ends-at (D m) (on_link link.0 t) n none (omega (arith, lt)) ∙ not_last n (beats_of (D m)) (omega (arith, lt)))
     ∙ before_last link m n t none (omega (arith, lt))
 
-at_last : {w : ℕ} (link : Link) (m : MessageD w) (n : ℕ) (t : Trace w) → unfinished channel.D (on_link link.0 t) ≡ [] → 0 < n → n ≡ beats_of (D m) → services (map (λ b. (link, b)) (begun (D m) n) ++ t) ≡ without_answered (link, D m) (services t)
+at_last : {w : ℕ} (link : Link) (m : MessageD w) (n : ℕ) (t : Trace w) → unfinished channel.D (on_link link.0 t) ≡ [] → 0 < n → n ≡ beats_of (D m)
+    → services (map (λ b. (link, b)) (begun (D m) n) ++ t) ≡ without_answered (link, D m) (services t)
 at_last link m zero t none pos e = absurd (omega (arith, pos))
 at_last {w} link m (suc n) t none pos e =
     services-last_d link m n (map (λ b. (link, b)) (begun (D m) n) ++ t)
@@ -61,7 +64,8 @@ at_last {w} link m (suc n) t none pos e =
 -- ---- messages that are handed out
 
 -- the services after one
-pub services-sent : {w : ℕ} (link : Link) (m : Message w) (t : Trace w) → IsWidth w → is_from_client (beat_of m 0) ≡ false → unfinished channel.D (on_link link.0 t) ≡ [] → services (after_sent link m t) ≡ without_answered (link, m) (services t)
+pub services-sent : {w : ℕ} (link : Link) (m : Message w) (t : Trace w) → IsWidth w → is_from_client (beat_of m 0) ≡ false → unfinished channel.D (on_link link.0 t) ≡ []
+    → services (after_sent link m t) ≡ without_answered (link, m) (services t)
 services-sent link (A m) t width ours none = absurd cc
 services-sent {w} link (B m) t width ours none = services-sent_b link m t ∙ sym (filter-all (λ (s : Service w). not (is_ended_by (link, beat_of (B m) 0) s)) (services t) (λ s. refl))
 services-sent link (C m) t width ours none = absurd cc
@@ -69,7 +73,8 @@ services-sent link (D m) t width ours none = at_last link m (beats_of (D m)) t n
 services-sent link (E m) t width ours none = absurd cc
 
 -- and after several
-pub services-handed : {w : ℕ} (config : Config) (handed : Handed w) (t : Trace w) → IsWidth w → Each (IsHandable config) handed → ((client : ℕ) → IsWhole (on_link client t)) → services (with_handed handed t) ≡ without_all handed (services t)
+pub services-handed : {w : ℕ} (config : Config) (handed : Handed w) (t : Trace w) → IsWidth w → Each (IsHandable config) handed → ((client : ℕ) → IsWhole (on_link client t))
+    → services (with_handed handed t) ≡ without_all handed (services t)
 unfolding with_handed
 services-handed config [] t width each whole = refl
 services-handed config (x ∷ handed) t width each whole =

@@ -34,7 +34,8 @@ unfolding services
 services-request link x s t is = rw (is.last, is.made) refl
 
 -- others are probed
-pub deed-probes : {w : ℕ} (config : Config) (link : Link) (x : BeatA w) (s : Service w) (k : Cap) (d : ℕ) (ds : List ℕ) (e : End w) → IsServed link x s e.trace → cap_probed s.request.opcode s.request.param ≡ Some k
+pub deed-probes : {w : ℕ} (config : Config) (link : Link) (x : BeatA w) (s : Service w) (k : Cap) (d : ℕ) (ds : List ℕ) (e : End w) → IsServed link x s e.trace
+    → cap_probed s.request.opcode s.request.param ≡ Some k
     → probed config s k ((link, beat.A x) ∷ e.trace) ≡ d ∷ ds
     → deed config link (beat.A x) e ≡ record { handed = probes (block_at s.request.address) k (d ∷ ds); memory = e.memory }
 unfolding deed
@@ -72,7 +73,8 @@ unfolding deed
 deed-report config link x e last other report more = rw (last, other, report, more) refl
 
 -- it was the last one
-pub deed-settled : {w : ℕ} (config : Config) (link : Link) (x : BeatC w) (s : Service w) (e : End w) → ends (beat.C x) (on_link link.0 e.trace) ≡ true → is_release x.opcode ≡ false → is_probe_ack x.opcode ≡ true
+pub deed-settled : {w : ℕ} (config : Config) (link : Link) (x : BeatC w) (s : Service w) (e : End w) → ends (beat.C x) (on_link link.0 e.trace) ≡ true → is_release x.opcode ≡ false
+    → is_probe_ack x.opcode ≡ true
     → is_settled config (block_at x.address) ((link, beat.C x) ∷ e.trace) ≡ true → serving (block_at x.address) (services ((link, beat.C x) ∷ e.trace)) ≡ Some s
     → deed config link (beat.C x) e ≡ performed config s ((link, beat.C x) ∷ e.trace) (memory_with link x e)
 unfolding deed

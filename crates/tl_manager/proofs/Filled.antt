@@ -15,11 +15,16 @@ length-bytes memory from (suc n) = ap suc (length-bytes memory (from + 1) n)
 pub room_in_beats : (w size address : ℕ) → IsWidth w → size ≤ 6 → address % 2 ^ size ≡ 0 → address % w + 2 ^ size ≤ w * data_beats w size
 room_in_beats w zero address is le e = elim is [ inl w_is ↦ rw w_is (omega (arith, e)) | inr more ↦ elim more [ inl w_is ↦ rw w_is (omega (arith, e)) | inr w_is ↦ rw w_is (omega (arith, e)) ] ]
 room_in_beats w (suc zero) address is le e = elim is [ inl w_is ↦ rw w_is (omega (arith, e)) | inr more ↦ elim more [ inl w_is ↦ rw w_is (omega (arith, e)) | inr w_is ↦ rw w_is (omega (arith, e)) ] ]
-room_in_beats w (suc (suc zero)) address is le e = elim is [ inl w_is ↦ rw w_is (omega (arith, e)) | inr more ↦ elim more [ inl w_is ↦ rw w_is (omega (arith, e)) | inr w_is ↦ rw w_is (omega (arith, e)) ] ]
-room_in_beats w (suc (suc (suc zero))) address is le e = elim is [ inl w_is ↦ rw w_is (omega (arith, e)) | inr more ↦ elim more [ inl w_is ↦ rw w_is (omega (arith, e)) | inr w_is ↦ rw w_is (omega (arith, e)) ] ]
-room_in_beats w (suc (suc (suc (suc zero)))) address is le e = elim is [ inl w_is ↦ rw w_is (omega (arith, e)) | inr more ↦ elim more [ inl w_is ↦ rw w_is (omega (arith, e)) | inr w_is ↦ rw w_is (omega (arith, e)) ] ]
-room_in_beats w (suc (suc (suc (suc (suc zero))))) address is le e = elim is [ inl w_is ↦ rw w_is (omega (arith, e)) | inr more ↦ elim more [ inl w_is ↦ rw w_is (omega (arith, e)) | inr w_is ↦ rw w_is (omega (arith, e)) ] ]
-room_in_beats w (suc (suc (suc (suc (suc (suc zero)))))) address is le e = elim is [ inl w_is ↦ rw w_is (omega (arith, e)) | inr more ↦ elim more [ inl w_is ↦ rw w_is (omega (arith, e)) | inr w_is ↦ rw w_is (omega (arith, e)) ] ]
+room_in_beats w (suc (suc zero)) address is le e =
+    elim is [ inl w_is ↦ rw w_is (omega (arith, e)) | inr more ↦ elim more [ inl w_is ↦ rw w_is (omega (arith, e)) | inr w_is ↦ rw w_is (omega (arith, e)) ] ]
+room_in_beats w (suc (suc (suc zero))) address is le e =
+    elim is [ inl w_is ↦ rw w_is (omega (arith, e)) | inr more ↦ elim more [ inl w_is ↦ rw w_is (omega (arith, e)) | inr w_is ↦ rw w_is (omega (arith, e)) ] ]
+room_in_beats w (suc (suc (suc (suc zero)))) address is le e =
+    elim is [ inl w_is ↦ rw w_is (omega (arith, e)) | inr more ↦ elim more [ inl w_is ↦ rw w_is (omega (arith, e)) | inr w_is ↦ rw w_is (omega (arith, e)) ] ]
+room_in_beats w (suc (suc (suc (suc (suc zero))))) address is le e =
+    elim is [ inl w_is ↦ rw w_is (omega (arith, e)) | inr more ↦ elim more [ inl w_is ↦ rw w_is (omega (arith, e)) | inr w_is ↦ rw w_is (omega (arith, e)) ] ]
+room_in_beats w (suc (suc (suc (suc (suc (suc zero)))))) address is le e =
+    elim is [ inl w_is ↦ rw w_is (omega (arith, e)) | inr more ↦ elim more [ inl w_is ↦ rw w_is (omega (arith, e)) | inr w_is ↦ rw w_is (omega (arith, e)) ] ]
 room_in_beats w (suc (suc (suc (suc (suc (suc (suc n))))))) address is le e = absurd (omega (arith, le))
 
 -- and fit into a payload

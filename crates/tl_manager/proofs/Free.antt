@@ -4,7 +4,7 @@ use Rattle.std.specs.Prelude.{filter, if◌then◌else◌}
 use Rattle.std.proofs.lemmas.Bool.{or_parts, cases_eq, eq-eqb, ne_eqb}
 use Rattle.tl_rules.specs.Legality.{is_one_of}
 use Rattle.tl_manager.specs.Kept.{Each, AreApart}
-use Rattle.tl_manager.specs.Service.{free_from, least_free}
+use Rattle.tl_manager.specs.Service.{free_from, least_untaken}
 
 -- ---- lists without some of their elements
 
@@ -98,8 +98,8 @@ found_or_all n (suc more) ns each = go (is_one_of n ns) refl (λ e. found_or_all
       | inr all ↦ inr (omega (arith, all.0), λ i lt. all.1 i (omega arith))
     ]
 
-pub least_free-is_free : (ns : List ℕ) → is_one_of (least_free ns) ns ≡ false
-unfolding least_free
+pub least_free-is_free : (ns : List ℕ) → is_one_of (least_untaken ns) ns ≡ false
+unfolding least_untaken
 least_free-is_free ns = elim (found_or_all 0 (length ns) ns (λ i lt. absurd (omega arith))) [
   | inl found ↦ found
   | inr all ↦ go (is_one_of (free_from 0 (length ns) ns) ns) refl all.0 all.1
@@ -119,6 +119,6 @@ tried n (suc more) ns = go (is_one_of n ns) (tried (n + 1) more ns)
     go true le = omega (arith, le)
     go false le = omega arith
 
-pub least_free-le : (ns : List ℕ) → least_free ns ≤ length ns
-unfolding least_free
+pub least_free-le : (ns : List ℕ) → least_untaken ns ≤ length ns
+unfolding least_untaken
 least_free-le ns = let le = tried 0 (length ns) ns in omega (arith, le)

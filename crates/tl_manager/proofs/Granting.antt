@@ -1,6 +1,6 @@
 -- What is kept of the blocks after a Grant was handed out.
 use Rattle.std.proofs.Common.{◌≡◌, ◌≢◌, ℕ, ◌*◌, ◌==◌, ◌⊎◌, Bool, true, false, ◌&&◌, List, [], ◌∷◌, Option, Some, None, refl, sym, ap, subst, ◌∙◌, inl, inr}
-use Rattle.std.specs.Prelude.{if◌then◌else◌}
+use Rattle.std.specs.Prelude.{if◌then◌else◌, unwrap_or}
 use Rattle.std.proofs.lemmas.Bool.{cases_eq, eqb-true, eq-eqb, ne_eqb}
 use Rattle.tl_beat.specs.declared.beat.Link.{Link}
 use Rattle.tl_burst.specs.declared.message.Message.{Message}
@@ -11,7 +11,7 @@ use Rattle.tl_params.specs.declared.perm.Perm.{Perm}
 use Rattle.tl_params.specs.Param.{cap_right}
 use Rattle.tl_rules.specs.Conformance.{Trace, on_link}
 use Rattle.tl_rules.specs.Effect.{Memory, bytes_from}
-use Rattle.tl_rules.specs.History.{block_at, is_acquire, asks_for, request_of, or_perm}
+use Rattle.tl_rules.specs.History.{block_at, is_acquire, asks_for, request_of}
 use Rattle.tl_manager.specs.Blocks.{AreBlocks}
 use Rattle.tl_manager.specs.Granting.{grant_of}
 use Rattle.tl_manager.specs.Handing.{Deed, with_handed, performed, grant, grant_with, cap_granted, is_granted_data}
@@ -33,7 +33,8 @@ use Rattle.tl_manager.proofs.Recording.{cap-gives}
 use Rattle.tl_manager.proofs.Replies.{asks_for-fields}
 
 -- the Grant by its parts
-grant-parts : {w : ℕ} (s : Service w) (c : Cap) (carries : Bool) (memory : Memory) (bytes : Option (List ℕ)) → bytes ≡ (if carries then Some (bytes_from memory (64 * block_at s.request.address) 64) else None)
+grant-parts : {w : ℕ} (s : Service w) (c : Cap) (carries : Bool) (memory : Memory) (bytes : Option (List ℕ))
+    → bytes ≡ (if carries then Some (bytes_from memory (64 * block_at s.request.address) 64) else None)
     → grant_of s.request.source s.tracker c bytes ≡ grant_with s c carries memory
 grant-parts s c true memory bytes e = rw e refl
 grant-parts s c false memory bytes e = rw e refl
@@ -51,10 +52,10 @@ recorded-grant {w} config number link request t memory c b at =
     given : Cap
     given = cap_granted config.profile request.opcode request.param (is_unheld config (block_at request.address) t)
 
-    says : (carries : Bool) → or_perm (granted_by (link, grant_with s given carries memory) t c b) (recorded c b t)
-        ≡ or_perm (if (link.0 == c) && asks_for b (request_of request.source (on_link c t)) then Some (cap_right given) else None) (recorded c b t)
-    says true = ap (λ p. or_perm (if (link.0 == c) && asks_for b (request_of request.source (on_link c t)) then Some p else None) (recorded c b t)) (cap-gives given)
-    says false = ap (λ p. or_perm (if (link.0 == c) && asks_for b (request_of request.source (on_link c t)) then Some p else None) (recorded c b t)) (cap-gives given)
+    says : (carries : Bool) → unwrap_or (granted_by (link, grant_with s given carries memory) t c b) (recorded c b t)
+        ≡ unwrap_or (if (link.0 == c) && asks_for b (request_of request.source (on_link c t)) then Some (cap_right given) else None) (recorded c b t)
+    says true = ap (λ p. unwrap_or (if (link.0 == c) && asks_for b (request_of request.source (on_link c t)) then Some p else None) (recorded c b t)) (cap-gives given)
+    says false = ap (λ p. unwrap_or (if (link.0 == c) && asks_for b (request_of request.source (on_link c t)) then Some p else None) (recorded c b t)) (cap-gives given)
 
     fields : HasFields request.opcode request.param request.size request.source request.address (request_of request.source (on_link link.0 t))
     fields = (subst (IsNamed (block_at request.address) t) at.ready.serves (at.ready.accounted.blocks (block_at request.address)).named).0 at.ready.unanswered
@@ -64,18 +65,20 @@ recorded-grant {w} config number link request t memory c b at =
         ap (λ i. asks_for b (request_of request.source (on_link i t))) (sym (eqb-true link.0 c e))
         ∙ asks_for-fields request.opcode request.param request.size request.source request.address b (request_of request.source (on_link link.0 t)) fields
 
-    chosen : (d : Bool) (p q : Perm) → or_perm (if d then Some p else None) q ≡ (if d then p else q)
+    chosen : (d : Bool) (p q : Perm) → unwrap_or (if d then Some p else None) q ≡ (if d then p else q)
     chosen true p q = refl
     chosen false p q = refl
 
-    go : (here : Bool) → (link.0 == c) ≡ here → or_perm (if here && asks_for b (request_of request.source (on_link c t)) then Some (cap_right given) else None) (recorded c b t)
+    go : (here : Bool) → (link.0 == c) ≡ here → unwrap_or (if here && asks_for b (request_of request.source (on_link c t)) then Some (cap_right given) else None) (recorded c b t)
         ≡ (if here && (block_at request.address == b) then cap_right given else recorded c b t)
     go true e = rw (asked e) (chosen (block_at request.address == b) (cap_right given) (recorded c b t))
     go false e = refl
 
 -- what the directory says where one entry is the cap's
-pub records-set : (perm_old perm_new recorded_then recorded_now : ℕ → ℕ → Perm) (block client : ℕ) (given : Perm) → perm_new block client ≡ given → ((b c : ℕ) → (b ≢ block) ⊎ (c ≢ client) → perm_new b c ≡ perm_old b c)
-    → ((b c : ℕ) → perm_old b c ≡ recorded_then b c) → ((b c : ℕ) → recorded_now b c ≡ (if (client == c) && (block == b) then given else recorded_then b c)) → (b c : ℕ) → perm_new b c ≡ recorded_now b c
+pub records-set : (perm_old perm_new recorded_then recorded_now : ℕ → ℕ → Perm) (block client : ℕ) (given : Perm) → perm_new block client ≡ given
+    → ((b c : ℕ) → (b ≢ block) ⊎ (c ≢ client) → perm_new b c ≡ perm_old b c)
+    → ((b c : ℕ) → perm_old b c ≡ recorded_then b c) → ((b c : ℕ) → recorded_now b c ≡ (if (client == c) && (block == b) then given else recorded_then b c)) → (b c : ℕ)
+    → perm_new b c ≡ recorded_now b c
 records-set perm_old perm_new recorded_then recorded_now block client given here others before now b c = go (cases_eq c client) (cases_eq b block) ∙ sym (now b c)
   where
     go : (c ≡ client) ⊎ (c ≡ client → ⊥) → (b ≡ block) ⊎ (b ≡ block → ⊥) → perm_new b c ≡ (if (client == c) && (block == b) then given else recorded_then b c)
@@ -100,7 +103,8 @@ home-granted {w} {D} perm_of config old new number link request held unheld give
         count = count ∙ home.count;
         tracked = λ i all. tracker-changed number i (Granted link (block_at request.address)) (tracker_at new.trackers) (tracker_at old.trackers) t u trackers granted
             (λ n other ok. tracked-performed config (block_at request.address) n s (tracker_at old.trackers n) t memory at.ready other ok) home.tracked;
-        records = records-set (perm_of old.directory) (perm_of new.directory) (λ b c. recorded c b t) (λ b c. recorded c b u) (block_at request.address) link.0 (cap_right given) here others home.records
+        records =
+            records-set (perm_of old.directory) (perm_of new.directory) (λ b c. recorded c b t) (λ b c. recorded c b u) (block_at request.address) link.0 (cap_right given) here others home.records
             (λ b c. ap (λ (d : Deed w). recorded c b (with_handed d.handed t)) deed_is ∙ recorded-grant config number link request t memory c b at
             ∙ ap (λ (k : Cap). if (link.0 == c) && (block_at request.address == b) then cap_right k else recorded c b t) (sym cap_is));
         bytes = rw blocks (subst (λ m. AreBlocks old.blocks.bytes.items m) (sym (ap (λ (d : Deed w). d.memory) deed_is)) home.bytes);

@@ -21,7 +21,7 @@ use Rattle.tl_manager.specs.Handing.{probe_of_block, release_ack, access_answer,
 use Rattle.tl_manager.specs.Holders.{cap_probed, probed, is_settled}
 use Rattle.tl_manager.specs.Kept.{Each, is_granting}
 use Rattle.tl_manager.specs.Request.{request_if, request_carried}
-use Rattle.tl_manager.specs.Service.{Service, with_service, least_free, trackers_of, services, serving}
+use Rattle.tl_manager.specs.Service.{Service, with_service, least_untaken, trackers_of, services, serving}
 use Rattle.tl_manager.specs.Slave.{End, probing_or, begun_with, begun_if_any, performed_if_any, settled, written, done_c, done, deed}
 use Rattle.tl_manager.proofs.Lists.{each_weaker}
 use Rattle.tl_manager.proofs.Requests.{made_of}
@@ -75,7 +75,8 @@ probing_granted ss d block c (client ∷ clients) memory granted = probes_grante
 
 begun_granted : {w : ℕ} (config : Config) (o : Option Cap) (s : Service w) (t : Trace w) (memory : Memory) (ss : List (Service w)) → IsAmong ss s → AllGranted ss (begun_with config o s t memory)
 begun_granted config None s t memory ss among = performed_granted config s t memory ss among
-begun_granted config (Some c) s t memory ss among = probing_granted ss (performed config s t memory) (block_at s.request.address) c (probed config s c t) memory (performed_granted config s t memory ss among)
+begun_granted config (Some c) s t memory ss among =
+    probing_granted ss (performed config s t memory) (block_at s.request.address) c (probed config s c t) memory (performed_granted config s t memory ss among)
 
 begun_new : {w : ℕ} (config : Config) (link : Link) (x : BeatA w) (beats : List (Beat w)) (tracker : ℕ) (t : Trace w) (memory : Memory) (before ss : List (Service w)) (fits : Bool) (e : nat_le x.size 6 ≡ fits)
     → ss ≡ with_service (option_map (λ m. record { tracker = tracker; link = link; request = m }) (request_if x beats fits e)) before
@@ -85,7 +86,8 @@ begun_new {w} config link x beats tracker t memory before ss true e is =
     let s : Service w = record { tracker = tracker; link = link; request = made_of x beats e } in
     begun_granted config (cap_probed x.opcode x.param) s t memory ss (rw is (own_tracker s before))
 
-found_granted : {w : ℕ} (config : Config) (block : ℕ) (found ss : List (Service w)) (t : Trace w) (memory : Memory) → Each (IsAmong ss) found → AllGranted ss (performed_if_any config (serving block found) t memory)
+found_granted : {w : ℕ} (config : Config) (block : ℕ) (found ss : List (Service w)) (t : Trace w) (memory : Memory) → Each (IsAmong ss) found
+    → AllGranted ss (performed_if_any config (serving block found) t memory)
 found_granted config block [] ss t memory among = tt
 found_granted {w} config block (s ∷ found) ss t memory among = go (block_at s.request.address == block) (found_granted config block found ss t memory among.1)
   where
@@ -114,9 +116,10 @@ unfolding request_carried services
 done_granted config link x e false last = tt
 done_granted {w} config link (beat.A x) e true last =
     let burst : List (Beat w) = unfinished (channel_of (beat.A x)) (on_link link.0 e.trace) in
-    begun_new config link x (beat.A x ∷ burst) (least_free (trackers_of (services e.trace))) ((link, beat.A x) ∷ e.trace) e.memory (services e.trace) (services ((link, beat.A x) ∷ e.trace)) (nat_le x.size 6) refl (rw last refl)
+    begun_new config link x (beat.A x ∷ burst) (least_untaken (trackers_of (services e.trace))) ((link, beat.A x) ∷ e.trace) e.memory (services e.trace) (services ((link, beat.A x) ∷ e.trace)) (nat_le x.size 6) refl (rw last refl)
 done_granted config link (beat.B x) e true last = tt
-done_granted config link (beat.C x) e true last = done_c_granted config link x ((link, beat.C x) ∷ e.trace) (written x (beat.C x ∷ unfinished (channel_of (beat.C x)) (on_link link.0 e.trace)) e.memory)
+done_granted config link (beat.C x) e true last =
+    done_c_granted config link x ((link, beat.C x) ∷ e.trace) (written x (beat.C x ∷ unfinished (channel_of (beat.C x)) (on_link link.0 e.trace)) e.memory)
 done_granted config link (beat.D x) e true last = tt
 done_granted config link (beat.E x) e true last = tt
 

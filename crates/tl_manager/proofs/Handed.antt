@@ -1,6 +1,6 @@
 -- What the links of a trace say after messages were handed out.
 use Rattle.std.proofs.Common.{◌≡◌, ℕ, ◌==◌, Bool, true, false, ◌&&◌, ◌||◌, List, [], ◌∷◌, ◌++◌, map, Some, None, refl, ap, ◌∙◌}
-use Rattle.std.specs.Prelude.{if◌then◌else◌}
+use Rattle.std.specs.Prelude.{if◌then◌else◌, unwrap_or}
 use Rattle.tl_beat.specs.Width.{IsWidth}
 use Rattle.tl_beat.specs.declared.beat.Beat.{Beat}
 use Rattle.tl_beat.specs.declared.beat.Beat.TheVariants as beat
@@ -15,7 +15,7 @@ use Rattle.tl_params.specs.declared.config.Config.{Config}
 use Rattle.tl_params.specs.declared.perm.Perm.{Perm}
 use Rattle.tl_rules.specs.Agent.{sent}
 use Rattle.tl_rules.specs.Conformance.{Trace, on_link}
-use Rattle.tl_rules.specs.History.{ends, block_at, is_probe_ack, is_release, says_held, held, or_perm, request_of, reported}
+use Rattle.tl_rules.specs.History.{ends, block_at, is_probe_ack, is_release, says_held, held, request_of, reported}
 use Rattle.tl_manager.specs.Handing.{Handed, with_handed}
 use Rattle.tl_manager.specs.Holders.{recorded}
 use Rattle.tl_manager.specs.Kept.{Each}
@@ -32,7 +32,8 @@ abbrev pub after_sent : {w : ℕ} → Link → Message w → Trace w → Trace w
 after_sent link m t = map (λ b. (link, b)) (burst_of m) ++ t
 
 -- the part that a link has of beats before a trace
-pub beats_on_link : {w : ℕ} (client : ℕ) (link : Link) (beats : List (Beat w)) (t : Trace w) → on_link client (map (λ b. (link, b)) beats ++ t) ≡ (if link.0 == client then beats ++ on_link client t else on_link client t)
+pub beats_on_link : {w : ℕ} (client : ℕ) (link : Link) (beats : List (Beat w)) (t : Trace w)
+    → on_link client (map (λ b. (link, b)) beats ++ t) ≡ (if link.0 == client then beats ++ on_link client t else on_link client t)
 unfolding on_link
 beats_on_link client link [] t = go (link.0 == client)
   where
@@ -62,14 +63,16 @@ whole-sent (C m) t width ours ok = absurd cc
 whole-sent (D m) t width ours ok = (unfinished-sent_other channel.B (D m) t refl ∙ ok.0, unfinished-sent (D m) t ok.1 (beats-positive (D m) width))
 whole-sent (E m) t width ours ok = absurd cc
 
-pub whole-after_sent : {w : ℕ} (client : ℕ) (link : Link) (m : Message w) (t : Trace w) → IsWidth w → is_from_client (beat_of m 0) ≡ false → IsWhole (on_link client t) → IsWhole (on_link client (after_sent link m t))
+pub whole-after_sent : {w : ℕ} (client : ℕ) (link : Link) (m : Message w) (t : Trace w) → IsWidth w → is_from_client (beat_of m 0) ≡ false → IsWhole (on_link client t)
+    → IsWhole (on_link client (after_sent link m t))
 whole-after_sent {w} client link m t width ours ok = go (link.0 == client) refl
   where
     go : (b : Bool) → (link.0 == client) ≡ b → IsWhole (on_link client (after_sent link m t))
     go true e = rw (own_link client link m t e) (whole-sent m (on_link client t) width ours ok)
     go false e = rw (other_link client link m t e) ok
 
-pub whole-handed : {w : ℕ} (config : Config) (client : ℕ) (handed : Handed w) (t : Trace w) → IsWidth w → Each (IsHandable config) handed → IsWhole (on_link client t) → IsWhole (on_link client (with_handed handed t))
+pub whole-handed : {w : ℕ} (config : Config) (client : ℕ) (handed : Handed w) (t : Trace w) → IsWidth w → Each (IsHandable config) handed → IsWhole (on_link client t)
+    → IsWhole (on_link client (with_handed handed t))
 unfolding with_handed
 whole-handed config client [] t width each ok = ok
 whole-handed config client (x ∷ handed) t width each ok =
@@ -94,7 +97,7 @@ whole-taken client link x t theirs ok = go (link.0 == client)
 
 -- ---- what is recorded
 
-by_cases : (last about : Bool) (p q : Perm) → (if last then or_perm (if about then Some p else None) q else q) ≡ or_perm (if last && about then Some p else None) q
+by_cases : (last about : Bool) (p q : Perm) → (if last then unwrap_or (if about then Some p else None) q else q) ≡ unwrap_or (if last && about then Some p else None) q
 by_cases true about p q = refl
 by_cases false about p q = refl
 
@@ -107,21 +110,22 @@ unsaid client link block x t none = go (link.0 == client)
     go false = refl
 
 -- what is recorded after a client's beat
-pub recorded-taken : {w : ℕ} (client : ℕ) (link : Link) (block : ℕ) (x : Beat w) (t : Trace w) → is_from_client x ≡ true → recorded client block ((link, x) ∷ t) ≡ or_perm (reported_by (link, x) t client block) (recorded client block t)
+pub recorded-taken : {w : ℕ} (client : ℕ) (link : Link) (block : ℕ) (x : Beat w) (t : Trace w) → is_from_client x ≡ true
+    → recorded client block ((link, x) ∷ t) ≡ unwrap_or (reported_by (link, x) t client block) (recorded client block t)
 unfolding on_link held
 recorded-taken client link block (beat.A x) t theirs = unsaid client link block (beat.A x) t (λ h. refl)
 recorded-taken client link block (beat.B x) t theirs = absurd cc
 recorded-taken client link block (beat.C x) t theirs = go (link.0 == client)
   where
     go : (b : Bool) → held block (if b then beat.C x ∷ on_link client t else on_link client t)
-        ≡ or_perm (if b && (ends (beat.C x) (on_link client t) && ((is_probe_ack x.opcode || is_release x.opcode) && (block_at x.address == block))) then Some (reported x.param) else None) (held block (on_link client t))
+        ≡ unwrap_or (if b && (ends (beat.C x) (on_link client t) && ((is_probe_ack x.opcode || is_release x.opcode) && (block_at x.address == block))) then Some (reported x.param) else None) (held block (on_link client t))
     go true = by_cases (ends (beat.C x) (on_link client t)) ((is_probe_ack x.opcode || is_release x.opcode) && (block_at x.address == block)) (reported x.param) (held block (on_link client t))
     go false = refl
 recorded-taken client link block (beat.D x) t theirs = absurd cc
 recorded-taken client link block (beat.E x) t theirs = unsaid client link block (beat.E x) t (λ h. refl)
 
 held-sent : {w : ℕ} (block : ℕ) (m : Message w) (link : Link) (client : ℕ) (t : Trace w) → IsWidth w → is_from_client (beat_of m 0) ≡ false → IsWhole (on_link client t) → (link.0 == client) ≡ true
-    → held block (sent m (on_link client t)) ≡ or_perm (granted_by (link, m) t client block) (held block (on_link client t))
+    → held block (sent m (on_link client t)) ≡ unwrap_or (granted_by (link, m) t client block) (held block (on_link client t))
 held-sent block (A m) link client t width ours ok e = absurd cc
 held-sent block (B m) link client t width ours ok e = held-sent_unsaid block (B m) (on_link client t) (λ i u. refl)
 held-sent block (C m) link client t width ours ok e = absurd cc
@@ -135,10 +139,11 @@ granted_elsewhere block (C m) link client t e = refl
 granted_elsewhere block (D m) link client t e = rw e refl
 granted_elsewhere block (E m) link client t e = refl
 
-pub recorded-sent : {w : ℕ} (client block : ℕ) (link : Link) (m : Message w) (t : Trace w) → IsWidth w → is_from_client (beat_of m 0) ≡ false → IsWhole (on_link client t) → recorded client block (after_sent link m t) ≡ or_perm (granted_by (link, m) t client block) (recorded client block t)
+pub recorded-sent : {w : ℕ} (client block : ℕ) (link : Link) (m : Message w) (t : Trace w) → IsWidth w → is_from_client (beat_of m 0) ≡ false → IsWhole (on_link client t)
+    → recorded client block (after_sent link m t) ≡ unwrap_or (granted_by (link, m) t client block) (recorded client block t)
 recorded-sent {w} client block link m t width ours ok = go (link.0 == client) refl
   where
-    go : (b : Bool) → (link.0 == client) ≡ b → recorded client block (after_sent link m t) ≡ or_perm (granted_by (link, m) t client block) (recorded client block t)
+    go : (b : Bool) → (link.0 == client) ≡ b → recorded client block (after_sent link m t) ≡ unwrap_or (granted_by (link, m) t client block) (recorded client block t)
     go true e = ap (held block) (own_link client link m t e) ∙ held-sent block m link client t width ours ok e
     go false e = ap (held block) (other_link client link m t e) ∙ rw (granted_elsewhere block m link client t e) refl
 
@@ -150,27 +155,31 @@ request_of-ours s (D m) t ours = request_of-other s (D m) t (beats_of (D m)) ref
 request_of-ours s (E m) t ours = absurd cc
 
 -- what is handed out is no request
-pub request_of-sent : {w : ℕ} (s client : ℕ) (link : Link) (m : Message w) (t : Trace w) → is_from_client (beat_of m 0) ≡ false → request_of s (on_link client (after_sent link m t)) ≡ request_of s (on_link client t)
+pub request_of-sent : {w : ℕ} (s client : ℕ) (link : Link) (m : Message w) (t : Trace w) → is_from_client (beat_of m 0) ≡ false
+    → request_of s (on_link client (after_sent link m t)) ≡ request_of s (on_link client t)
 request_of-sent {w} s client link m t ours = go (link.0 == client) refl
   where
     go : (b : Bool) → (link.0 == client) ≡ b → request_of s (on_link client (after_sent link m t)) ≡ request_of s (on_link client t)
     go true e = ap (request_of s) (own_link client link m t e) ∙ request_of-ours s m (on_link client t) ours
     go false e = ap (request_of s) (other_link client link m t e)
 
-granted_by-sent : {w : ℕ} (x : Link × Message w) (link : Link) (m : Message w) (t : Trace w) (client block : ℕ) → is_from_client (beat_of m 0) ≡ false → granted_by x (after_sent link m t) client block ≡ granted_by x t client block
+granted_by-sent : {w : ℕ} (x : Link × Message w) (link : Link) (m : Message w) (t : Trace w) (client block : ℕ) → is_from_client (beat_of m 0) ≡ false
+    → granted_by x (after_sent link m t) client block ≡ granted_by x t client block
 granted_by-sent (to, A y) link m t client block ours = refl
 granted_by-sent (to, B y) link m t client block ours = refl
 granted_by-sent (to, C y) link m t client block ours = refl
 granted_by-sent (to, D y) link m t client block ours = rw (request_of-sent y.source client link m t ours) refl
 granted_by-sent (to, E y) link m t client block ours = refl
 
-granted_by_all-sent : {w : ℕ} (handed : Handed w) (link : Link) (m : Message w) (t : Trace w) (client block : ℕ) (p : Perm) → is_from_client (beat_of m 0) ≡ false → granted_by_all handed (after_sent link m t) client block p ≡ granted_by_all handed t client block p
+granted_by_all-sent : {w : ℕ} (handed : Handed w) (link : Link) (m : Message w) (t : Trace w) (client block : ℕ) (p : Perm) → is_from_client (beat_of m 0) ≡ false
+    → granted_by_all handed (after_sent link m t) client block p ≡ granted_by_all handed t client block p
 granted_by_all-sent [] link m t client block p ours = refl
 granted_by_all-sent (x ∷ handed) link m t client block p ours =
-    granted_by_all-sent handed link m t client block _ ours ∙ ap (λ said. granted_by_all handed t client block (or_perm said p)) (granted_by-sent x link m t client block ours)
+    granted_by_all-sent handed link m t client block _ ours ∙ ap (λ said. granted_by_all handed t client block (unwrap_or said p)) (granted_by-sent x link m t client block ours)
 
 -- what is recorded after messages were handed out
-pub recorded-handed : {w : ℕ} (config : Config) (client block : ℕ) (handed : Handed w) (t : Trace w) → IsWidth w → Each (IsHandable config) handed → IsWhole (on_link client t) → recorded client block (with_handed handed t) ≡ granted_by_all handed t client block (recorded client block t)
+pub recorded-handed : {w : ℕ} (config : Config) (client block : ℕ) (handed : Handed w) (t : Trace w) → IsWidth w → Each (IsHandable config) handed → IsWhole (on_link client t)
+    → recorded client block (with_handed handed t) ≡ granted_by_all handed t client block (recorded client block t)
 unfolding with_handed
 recorded-handed config client block [] t width each ok = refl
 recorded-handed config client block (x ∷ handed) t width each ok =

@@ -6,6 +6,7 @@ use Rattle.tl_beat.specs.declared.beat.Beat.TheVariants.{A, B, C, D, E}
 use Rattle.tl_beat.specs.declared.beat.Link.{Link}
 use Rattle.tl_beat.specs.declared.opcode.Channel.{Channel}
 use Rattle.tl_beat.specs.declared.opcode.Channel.TheVariants as channel
+use Rattle.tl_beat.specs.First.{first_if}
 use Rattle.tl_burst.specs.Messages.{channel_of}
 use Rattle.tl_params.specs.declared.config.Config.{Config}
 use Rattle.tl_params.specs.declared.level.Level.{Level}
@@ -13,7 +14,7 @@ use Rattle.tl_params.specs.declared.rule.Rule.{Rule}
 use Rattle.tl_params.specs.declared.rule.Rule.TheVariants.{L1, A1, A2}
 use Rattle.tl_rules.specs.Agent.{is_outside, is_spoiled}
 use Rattle.tl_rules.specs.Conformance.{Trace, on_link, broken_in_order}
-use Rattle.tl_rules.specs.Legality.{illegal, breaks_l1, is_one_of, rule_if}
+use Rattle.tl_rules.specs.Legality.{illegal, breaks_l1, is_one_of}
 use Rattle.tl_rules.proofs.Bursts.{next_rule}
 use Rattle.tl_manager.specs.Kept.{IsTyped}
 use Rattle.tl_manager.specs.Slave.{End, Sent, Judgement, Passes, breaks_or, waits_or, unlawful, is_from_client, before_stall, must_wait, judged_at, judged_on, judged, level_of, open_level, deed, taken, offered_as, offered}
@@ -44,7 +45,8 @@ legal_at_own : {w : ℕ} (l : Level) (ch : Channel) (x : Beat w) → illegal l c
 unfolding illegal
 legal_at_own l ch x e = rw (← own_channel l ch x (next_rule (breaks_l1 l ch x) L1 _ e).0) e
 
-passed_at : {w : ℕ} (config : Config) (l : Level) (link : Link) (ch : Channel) (x : Beat w) (t : Trace w) → IsTyped x → level_of config link.0 ≡ Some l → judged_at config l link ch x t ≡ Passes → IsPassed config link x t
+passed_at : {w : ℕ} (config : Config) (l : Level) (link : Link) (ch : Channel) (x : Beat w) (t : Trace w) → IsTyped x → level_of config link.0 ≡ Some l
+    → judged_at config l link ch x t ≡ Passes → IsPassed config link x t
 unfolding judged_at
 passed_at config l link ch x t typed has_level e =
     let lawful = past_rule (unlawful l ch x) _ e in
@@ -52,8 +54,8 @@ passed_at config l link ch x t typed has_level e =
     let early = past_rule (before_stall (broken_in_order config.profile x (on_link link.0 t))) _ lawful.1 in
     let stall = past_stall (must_wait config link x t) _ early.1 in
     let order = past_rule (broken_in_order config.profile x (on_link link.0 t)) _ stall.1 in
-    let mapped = past_rule (rule_if (is_outside config.blocks x) A1 (rule_if (is_spoiled x) A2 None)) _ order.1 in
-    let inside = next_rule (is_outside config.blocks x) A1 (rule_if (is_spoiled x) A2 None) mapped.0 in
+    let mapped = past_rule (first_if (is_outside config.blocks x) A1 (first_if (is_spoiled x) A2 None)) _ order.1 in
+    let inside = next_rule (is_outside config.blocks x) A1 (first_if (is_spoiled x) A2 None) mapped.0 in
     let clean = next_rule (is_spoiled x) A2 None inside.1 in
     record {
       theirs = theirs.0;
@@ -75,17 +77,21 @@ passed config link ch x e typed passes = go (open_level config link e) refl pass
 
 -- ---- the other way: a beat that breaks no rule, and needn't wait, is taken
 
-passes_at : {w : ℕ} (config : Config) (l : Level) (link : Link) (ch : Channel) (x : Beat w) (e : End w) → unlawful l ch x ≡ None → broken_in_order config.profile x (on_link link.0 e.trace) ≡ None → must_wait config link x e.trace ≡ false
+passes_at : {w : ℕ} (config : Config) (l : Level) (link : Link) (ch : Channel) (x : Beat w) (e : End w) → unlawful l ch x ≡ None
+    → broken_in_order config.profile x (on_link link.0 e.trace) ≡ None → must_wait config link x e.trace ≡ false
     → is_outside config.blocks x ≡ false → is_spoiled x ≡ false → judged_at config l link ch x e.trace ≡ Passes
 unfolding judged_at
 passes_at config l link ch x e lawful order free inside clean = rw (lawful, order, free, inside, clean) refl
 
-pub judged-passes : {w : ℕ} (config : Config) (l : Level) (link : Link) (ch : Channel) (x : Beat w) (e : End w) → open_level config link e ≡ Some l → unlawful l ch x ≡ None → broken_in_order config.profile x (on_link link.0 e.trace) ≡ None
+pub judged-passes : {w : ℕ} (config : Config) (l : Level) (link : Link) (ch : Channel) (x : Beat w) (e : End w) → open_level config link e ≡ Some l → unlawful l ch x ≡ None
+    → broken_in_order config.profile x (on_link link.0 e.trace) ≡ None
     → must_wait config link x e.trace ≡ false → is_outside config.blocks x ≡ false → is_spoiled x ≡ false → judged config link ch x e ≡ Passes
 judged-passes config l link ch x e live lawful order free inside clean = rw live (passes_at config l link ch x e lawful order free inside clean)
 
-pub manager-takes : {w : ℕ} (config : Config) (l : Level) (link : Link) (ch : Channel) (x : Beat w) (e : End w) → open_level config link e ≡ Some l → unlawful l ch x ≡ None → broken_in_order config.profile x (on_link link.0 e.trace) ≡ None
-    → must_wait config link x e.trace ≡ false → is_outside config.blocks x ≡ false → is_spoiled x ≡ false → offered config link ch x e ≡ (Sent (deed config link x e).handed, taken link x (deed config link x e) e)
+pub manager-takes : {w : ℕ} (config : Config) (l : Level) (link : Link) (ch : Channel) (x : Beat w) (e : End w) → open_level config link e ≡ Some l → unlawful l ch x ≡ None
+    → broken_in_order config.profile x (on_link link.0 e.trace) ≡ None
+    → must_wait config link x e.trace ≡ false → is_outside config.blocks x ≡ false → is_spoiled x ≡ false
+    → offered config link ch x e ≡ (Sent (deed config link x e).handed, taken link x (deed config link x e) e)
 unfolding offered
 manager-takes config l link ch x e live lawful order free inside clean =
     ap (λ j. offered_as j config link x e) (judged-passes config l link ch x e live lawful order free inside clean)

@@ -16,10 +16,11 @@ use Rattle.tl_params.specs.declared.rule.Rule.{Rule}
 use Rattle.tl_params.specs.declared.rule.Rule.TheVariants.{L1, S1}
 use Rattle.tl_rules.specs.Agent.{is_outside, is_spoiled}
 use Rattle.tl_rules.specs.Conformance.{Trace, on_link, broken_in_order, broken_order}
-use Rattle.tl_rules.specs.Legality.{illegal, verdict}
+use Rattle.tl_rules.specs.Legality.{illegal}
 use Rattle.tl_manager.specs.Admission.{admission_of, judged_by, judged_in_order}
 use Rattle.tl_manager.specs.BurstFor.{burst_for}
 use Rattle.tl_params.specs.declared.perm.Perm.{Perm}
+use Rattle.tl_params.specs.Refusal.{ok_unless}
 use Rattle.tl_manager.specs.Knows.{Knows}
 use Rattle.tl_manager.specs.Service.{services, is_in_service}
 use Rattle.tl_manager.specs.Trackers.{tracker_at}
@@ -33,7 +34,8 @@ use Rattle.tl_manager.specs.declared.manager.wire.Wire.{Wire}
 use Rattle.tl_manager.proofs.Links.{none-on_e}
 
 -- the burst that a client's beat is of
-pub burst-is : {w : ℕ} (wire : Wire w) (client : ℕ) (x : Beat w) (t : Trace w) → is_from_client x ≡ true → IsCarried wire client t → burst_for wire.requests wire.reports x ≡ unfinished (channel_of x) (on_link client t)
+pub burst-is : {w : ℕ} (wire : Wire w) (client : ℕ) (x : Beat w) (t : Trace w) → is_from_client x ≡ true → IsCarried wire client t
+    → burst_for wire.requests wire.reports x ≡ unfinished (channel_of x) (on_link client t)
 burst-is wire client (A x) t theirs is = is.requests
 burst-is wire client (B x) t theirs is = absurd cc
 burst-is wire client (C x) t theirs is = is.reports
@@ -49,14 +51,12 @@ place-parts false true false part e = let is : part ≡ First = cc in rw is (ref
 place-parts false false true part e = let is : part ≡ Last = cc in rw is (refl, refl, refl)
 place-parts false false false part e = let is : part ≡ Middle = cc in rw is (refl, refl, refl)
 
-pub parts : {w : ℕ} (x : Beat w) (part : Part) (t : History w) → IsPartOf x part t → (breaks_burst x (unfinished (channel_of x) t) ≡ false) × (is_first_part part ≡ is_empty (unfinished (channel_of x) t)) × (is_last_part part ≡ completes x (unfinished (channel_of x) t))
+pub parts : {w : ℕ} (x : Beat w) (part : Part) (t : History w) → IsPartOf x part t
+    → (breaks_burst x (unfinished (channel_of x) t) ≡ false) × (is_first_part part ≡ is_empty (unfinished (channel_of x) t)) × (is_last_part part ≡ completes x (unfinished (channel_of x) t))
 parts x part t is = place-parts (breaks_burst x (unfinished (channel_of x) t)) (is_empty (unfinished (channel_of x) t)) (completes x (unfinished (channel_of x) t)) part is
 
--- a beat that goes on with its burst breaks no rule of order
-pub goes-on : {w : ℕ} (config : Config) (x : Beat w) (part : Part) (t : History w) → IsPartOf x part t → is_first_part part ≡ false → None ≡ broken_in_order config.profile x t
-goes-on config x part t is later = let p = parts x part t is in rw (sym p.1, later, p.0) refl
-
-pub begins-so : {w : ℕ} (config : Config) (x : Beat w) (part : Part) (t : History w) → IsPartOf x part t → is_first_part part ≡ true → broken_order config.profile x t ≡ broken_in_order config.profile x t
+pub begins-so : {w : ℕ} (config : Config) (x : Beat w) (part : Part) (t : History w) → IsPartOf x part t → is_first_part part ≡ true
+    → broken_order config.profile x t ≡ broken_in_order config.profile x t
 begins-so config x part t is first = let p = parts x part t is in rw (sym p.1, first) refl
 
 -- one that doesn't breaks S1
@@ -68,7 +68,8 @@ breaks-first {w} x (y ∷ ys) b e = (refl, go (breaks_burst x (y ∷ ys)) e)
     go true i = refl
     go false i = absurd cc
 
-pub breaks-off : {w : ℕ} (config : Config) (link : Link) (x : Beat w) (t : Trace w) (b : Broken) → Err b ≡ part_of x (unfinished (channel_of x) (on_link link.0 t)) → Err S1 ≡ admission_of (judged_in_order config link x t)
+pub breaks-off : {w : ℕ} (config : Config) (link : Link) (x : Beat w) (t : Trace w) (b : Broken) → Err b ≡ part_of x (unfinished (channel_of x) (on_link link.0 t))
+    → Err S1 ≡ admission_of (judged_in_order config link x t)
 breaks-off {w} config link x t b e =
     let p = breaks-first x (unfinished (channel_of x) (on_link link.0 t)) b e in
     let rule : broken_in_order config.profile x (on_link link.0 t) ≡ Some S1 = rw (p.0, p.1) refl in
@@ -79,23 +80,26 @@ breaks-off {w} config link x t b e =
 pub level-open : {w : ℕ} (config : Config) (link : Link) (wire : Wire w) (e : End w) → IsWire config wire link.0 e → wire.closed ≡ false → open_level config link e ≡ Some wire.level
 level-open config link wire e is open_yet = rw (sym is.closed, open_yet) is.level
 
-pub judged-ours : {w : ℕ} (config : Config) (link : Link) (ch : Channel) (wire : Wire w) (x : Beat w) (e : End w) → IsWire config wire link.0 e → wire.closed ≡ false → is_from_client x ≡ false → Err L1 ≡ admission_of (judged config link ch x e)
+pub judged-ours : {w : ℕ} (config : Config) (link : Link) (ch : Channel) (wire : Wire w) (x : Beat w) (e : End w) → IsWire config wire link.0 e → wire.closed ≡ false
+    → is_from_client x ≡ false → Err L1 ≡ admission_of (judged config link ch x e)
 unfolding judged_at
 judged-ours config link ch wire x e is open_yet ours = rw (level-open config link wire e is open_yet, ours) refl
 
-pub judged-illegal : {w : ℕ} (config : Config) (link : Link) (ch : Channel) (wire : Wire w) (x : Beat w) (e : End w) (rule : Rule) → IsWire config wire link.0 e → wire.closed ≡ false → is_from_client x ≡ true → Err rule ≡ verdict (illegal wire.level ch x) → Err rule ≡ admission_of (judged config link ch x e)
+pub judged-illegal : {w : ℕ} (config : Config) (link : Link) (ch : Channel) (wire : Wire w) (x : Beat w) (e : End w) (rule : Rule) → IsWire config wire link.0 e → wire.closed ≡ false
+    → is_from_client x ≡ true → Err rule ≡ ok_unless (illegal wire.level ch x) → Err rule ≡ admission_of (judged config link ch x e)
 unfolding judged_at
 judged-illegal config link ch wire x e rule is open_yet theirs broken = rw (level-open config link wire e is open_yet, theirs) (go (illegal wire.level ch x) broken)
   where
-    go : (o : Option Rule) → Err rule ≡ verdict o → Err rule ≡ admission_of (breaks_or o (judged_in_order config link x e.trace))
+    go : (o : Option Rule) → Err rule ≡ ok_unless o → Err rule ≡ admission_of (breaks_or o (judged_in_order config link x e.trace))
     go None f = absurd cc
     go (Some r) f = cc
 
-pub judged-legal : {w : ℕ} (config : Config) (link : Link) (ch : Channel) (wire : Wire w) (x : Beat w) (e : End w) → IsWire config wire link.0 e → wire.closed ≡ false → is_from_client x ≡ true → Ok tt ≡ verdict (illegal wire.level ch x) → judged_in_order config link x e.trace ≡ judged config link ch x e
+pub judged-legal : {w : ℕ} (config : Config) (link : Link) (ch : Channel) (wire : Wire w) (x : Beat w) (e : End w) → IsWire config wire link.0 e → wire.closed ≡ false
+    → is_from_client x ≡ true → Ok tt ≡ ok_unless (illegal wire.level ch x) → judged_in_order config link x e.trace ≡ judged config link ch x e
 unfolding judged_at
 judged-legal config link ch wire x e is open_yet theirs legal = rw (level-open config link wire e is open_yet, theirs) (go (illegal wire.level ch x) legal)
   where
-    go : (o : Option Rule) → Ok tt ≡ verdict o → judged_in_order config link x e.trace ≡ breaks_or o (judged_in_order config link x e.trace)
+    go : (o : Option Rule) → Ok tt ≡ ok_unless o → judged_in_order config link x e.trace ≡ breaks_or o (judged_in_order config link x e.trace)
     go None f = refl
     go (Some r) f = absurd cc
 
@@ -105,7 +109,8 @@ none_of : {X : Type 0} (o : Option X) → is_some o ≡ false → o ≡ None
 none_of None e = refl
 none_of (Some x) e = absurd cc
 
-pub busy-free : {w : ℕ} {M : Type 0} (perm_of : M → ℕ → ℕ → Perm) (links : Links w M) (config : Config) (e : End w) (block : ℕ) (o : Option ℕ) (least : Option ℕ) → Knows perm_of links config e → is_some o ≡ false → (o ≡ None → (i : ℕ) → is_of block (tracker_at links.home.trackers i) ≡ false)
+pub busy-free : {w : ℕ} {M : Type 0} (perm_of : M → ℕ → ℕ → Perm) (links : Links w M) (config : Config) (e : End w) (block : ℕ) (o : Option ℕ) (least : Option ℕ)
+    → Knows perm_of links config e → is_some o ≡ false → (o ≡ None → (i : ℕ) → is_of block (tracker_at links.home.trackers i) ≡ false)
     → IfSome least (λ n. (n < links.home.trackers.count) × (is_free (tracker_at links.home.trackers n) ≡ true) × ((i : ℕ) → i < n → is_free (tracker_at links.home.trackers i) ≡ false))
     → (least ≡ None → (i : ℕ) → i < links.home.trackers.count → is_free (tracker_at links.home.trackers i) ≡ false)
     → not (is_some least) ≡ (is_in_service block (services e.trace) || nat_le config.trackers (length (services e.trace)))

@@ -26,7 +26,7 @@ use Rattle.tl_manager.proofs.Sound.{leveled}
 use Rattle.tl_manager.specs.Handing.{Handed, with_handed}
 use Rattle.tl_manager.specs.Kept.{Each, AreApart, IsSound, IsTyped, IsClean, IsFilled, IsPerformable, illegal_at, illegal_message_at, blocks_of, IsKept, IsAnswerLawful}
 use Rattle.tl_manager.specs.Request.{request_if, request_carried}
-use Rattle.tl_manager.specs.Service.{Service, is_ended_by, least_free, trackers_of, with_service, served, services, serving, is_in_service}
+use Rattle.tl_manager.specs.Service.{Service, is_ended_by, least_untaken, trackers_of, with_service, served, services, serving, is_in_service}
 use Rattle.tl_manager.specs.Slave.{End, fresh, level_of, Judgement, Breaks, Waits, Passes, is_from_client, must_wait, judged, deed, taken, offered_as, offered}
 use Rattle.tl_manager.proofs.Deeds.{deed_handable, handed_sound}
 use Rattle.tl_manager.proofs.Free.{apart_filter, each_map_filter, least_free-is_free, least_free-le}
@@ -86,26 +86,29 @@ unserved : {w : ℕ} (block : ℕ) (ss : List (Service w)) → is_in_service blo
 unserved block [] e = refl
 unserved {w} block (s ∷ ss) e = go (block_at s.request.address == block) (eqb_swap block (block_at s.request.address)) e (unserved block ss)
   where
-    go : (b : Bool) → (block == block_at s.request.address) ≡ b → is_some (cond b (Some s) (serving block ss)) ≡ false → (is_in_service block ss ≡ false → is_one_of block (blocks_of ss) ≡ false) → is_one_of block (blocks_of (s ∷ ss)) ≡ false
+    go : (b : Bool) → (block == block_at s.request.address) ≡ b → is_some (cond b (Some s) (serving block ss)) ≡ false
+        → (is_in_service block ss ≡ false → is_one_of block (blocks_of ss) ≡ false) → is_one_of block (blocks_of (s ∷ ss)) ≡ false
     go true same f rest = absurd cc
     go false other f rest = rw (other, rest f) refl
 
-served_new : {w : ℕ} (config : Config) (link : Link) (x : BeatA w) (beats : List (Beat w)) (ss : List (Service w)) (fits : Bool) (e : nat_le x.size 6 ≡ fits) → IsWidth w → IsSound config (link, beat.A x) → Each (IsWhole config link x) beats → length beats ≡ burst_length (beat.A x)
+served_new : {w : ℕ} (config : Config) (link : Link) (x : BeatA w) (beats : List (Beat w)) (ss : List (Service w)) (fits : Bool) (e : nat_le x.size 6 ≡ fits) → IsWidth w
+    → IsSound config (link, beat.A x) → Each (IsWhole config link x) beats → length beats ≡ burst_length (beat.A x)
     → is_in_service (block_at x.address) ss ≡ false → length ss < config.trackers → AreServed config ss
-    → AreServed config (with_service (option_map (λ m. record { tracker = least_free (trackers_of ss); link = link; request = m }) (request_if x beats fits e)) ss)
+    → AreServed config (with_service (option_map (λ m. record { tracker = least_untaken (trackers_of ss); link = link; request = m }) (request_if x beats fits e)) ss)
 served_new config link x beats ss false e width sound whole long unused room ok = ok
 served_new config link x beats ss true e width sound whole long unused room ok =
     let low = least_free-le (trackers_of ss) in
     let len : length (trackers_of ss) ≡ length ss = length-map ss (λ s. s.tracker) in
     record {
-      requests = (performable config link x beats (least_free (trackers_of ss)) e width sound whole long, ok.requests);
+      requests = (performable config link x beats (least_untaken (trackers_of ss)) e width sound whole long, ok.requests);
       tracked = (omega (arith, low, len), ok.tracked);
       trackers_apart = (least_free-is_free (trackers_of ss), ok.trackers_apart);
       blocks_apart = (unserved (block_at x.address) ss unused, ok.blocks_apart);
       few = omega (arith, room);
     }
 
-taken_request : {w : ℕ} (config : Config) (link : Link) (x : BeatA w) (t : Trace w) → IsWidth w → IsSound config (link, beat.A x) → Each (IsWhole config link x) (beat.A x ∷ unfinished channel.A (on_link link.0 t)) → must_wait config link (beat.A x) t ≡ false → AreServed config (services t)
+taken_request : {w : ℕ} (config : Config) (link : Link) (x : BeatA w) (t : Trace w) → IsWidth w → IsSound config (link, beat.A x)
+    → Each (IsWhole config link x) (beat.A x ∷ unfinished channel.A (on_link link.0 t)) → must_wait config link (beat.A x) t ≡ false → AreServed config (services t)
     → AreServed config (services ((link, beat.A x) ∷ t))
 unfolding services request_carried
 taken_request {w} config link x t width sound whole waits ok = go (ends (beat.A x) (on_link link.0 t)) refl waits
@@ -132,8 +135,10 @@ other_beat config (link, beat.D x) t other ok = filtered config (λ s. not (is_e
 other_beat config (link, beat.E x) t other ok = filtered config (λ s. not (is_ended_by (link, beat.E x) s)) (services t) (ends (beat.E x) (on_link link.0 t)) ok
 
 -- a client's beat that passes
-pub taken_beat : {w : ℕ} (config : Config) (link : Link) (x : Beat w) (e : End w) → IsWidth w → IsKept config e → IsPassed config link x e.trace → AreServed config (services e.trace) → AreServed config (services ((link, x) ∷ e.trace))
-taken_beat config link (beat.A x) e width before passes ok = taken_request config link x e.trace width passes.sound (whole_request config link x e.trace passes.sound before.sound (before.bursts link.0) passes.order) passes.waits ok
+pub taken_beat : {w : ℕ} (config : Config) (link : Link) (x : Beat w) (e : End w) → IsWidth w → IsKept config e → IsPassed config link x e.trace → AreServed config (services e.trace)
+    → AreServed config (services ((link, x) ∷ e.trace))
+taken_beat config link (beat.A x) e width before passes ok =
+    taken_request config link x e.trace width passes.sound (whole_request config link x e.trace passes.sound before.sound (before.bursts link.0) passes.order) passes.waits ok
 taken_beat config link (beat.B x) e width before passes ok = other_beat config (link, beat.B x) e.trace refl ok
 taken_beat config link (beat.C x) e width before passes ok = other_beat config (link, beat.C x) e.trace refl ok
 taken_beat config link (beat.D x) e width before passes ok = other_beat config (link, beat.D x) e.trace refl ok
@@ -146,7 +151,8 @@ our_beat (C m) i ours = absurd cc
 our_beat (D m) i ours = refl
 our_beat (E m) i ours = absurd cc
 
-burst_served : {w : ℕ} (config : Config) (link : Link) (m : Message w) (n : ℕ) (t : Trace w) → is_from_client (beat_of m 0) ≡ false → AreServed config (services t) → AreServed config (services (map (λ b. (link, b)) (begun m n) ++ t))
+burst_served : {w : ℕ} (config : Config) (link : Link) (m : Message w) (n : ℕ) (t : Trace w) → is_from_client (beat_of m 0) ≡ false → AreServed config (services t)
+    → AreServed config (services (map (λ b. (link, b)) (begun m n) ++ t))
 burst_served config link m zero t ours ok = ok
 burst_served config link m (suc n) t ours ok = other_beat config (link, beat_of m n) (map (λ b. (link, b)) (begun m n) ++ t) (our_beat m n ours) (burst_served config link m n t ours ok)
 
@@ -187,8 +193,10 @@ kept-taken config link x e width ok before =
       steady = steady-deed config link x e (is_taken config link x e width ok before);
     }
 
-kept_as : {w : ℕ} (j : Judgement) (config : Config) (link : Link) (ch : Channel) (x : Beat w) (e : End w) → IsWidth w → IsTyped x → judged config link ch x e ≡ j → IsKept config e → IsKept config (offered_as j config link x e).1
-kept_as (Breaks r) config link ch x e width typed is before = record { sound = before.sound; whole = before.whole; bursts = before.bursts; requests = before.requests; tracked = before.tracked; trackers_apart = before.trackers_apart; blocks_apart = before.blocks_apart; sinks = before.sinks; releases = before.releases; few = before.few; steady = before.steady }
+kept_as : {w : ℕ} (j : Judgement) (config : Config) (link : Link) (ch : Channel) (x : Beat w) (e : End w) → IsWidth w → IsTyped x → judged config link ch x e ≡ j → IsKept config e
+    → IsKept config (offered_as j config link x e).1
+kept_as (Breaks r) config link ch x e width typed is before =
+    record { sound = before.sound; whole = before.whole; bursts = before.bursts; requests = before.requests; tracked = before.tracked; trackers_apart = before.trackers_apart; blocks_apart = before.blocks_apart; sinks = before.sinks; releases = before.releases; few = before.few; steady = before.steady }
 kept_as Waits config link ch x e width typed is before = before
 kept_as Passes config link ch x e width typed is before = kept-taken config link x e width (passed config link ch x e typed is) before
 
@@ -198,11 +206,13 @@ kept-offered config link ch x e width typed ok = kept_as (judged config link ch 
 
 pub fresh-kept : {w : ℕ} (config : Config) → IsKept {w = w} config fresh
 unfolding services unfinished on_link pending
-fresh-kept config = record { sound = tt; whole = λ client. (refl, refl); bursts = λ client. tt; requests = tt; tracked = tt; trackers_apart = tt; blocks_apart = tt; sinks = λ client sink e. absurd cc; releases = λ client. record { sources = λ s. refl; blocks = λ k. refl; named = tt }; few = omega arith; steady = record { accounted = record { sources = λ client source. refl; begun = λ client. tt; reports = λ client. tt; blocks = λ block. record { acquires = λ client. refl; grants = λ client. refl; named = tt; probes = λ client e. absurd cc } }; awaited = λ block. refl } }
+fresh-kept config =
+    record { sound = tt; whole = λ client. (refl, refl); bursts = λ client. tt; requests = tt; tracked = tt; trackers_apart = tt; blocks_apart = tt; sinks = λ client sink e. absurd cc; releases = λ client. record { sources = λ s. refl; blocks = λ k. refl; named = tt }; few = omega arith; steady = record { accounted = record { sources = λ client source. refl; begun = λ client. tt; reports = λ client. tt; blocks = λ block. record { acquires = λ client. refl; grants = λ client. refl; named = tt; probes = λ client e. absurd cc } }; awaited = λ block. refl } }
 
 -- ---- what is recorded
 
-recorded_as : {w : ℕ} (j : Judgement) (config : Config) (link : Link) (ch : Channel) (x : Beat w) (e : End w) (client block : ℕ) → IsWidth w → IsTyped x → judged config link ch x e ≡ j → IsKept config e
+recorded_as : {w : ℕ} (j : Judgement) (config : Config) (link : Link) (ch : Channel) (x : Beat w) (e : End w) (client block : ℕ) → IsWidth w → IsTyped x → judged config link ch x e ≡ j
+    → IsKept config e
     → recorded client block (offered_as j config link x e).1.trace ≡ recorded_after (offered_as j config link x e).0 (link, x) e.trace client block
 recorded_as (Breaks r) config link ch x e client block width typed is before = refl
 recorded_as Waits config link ch x e client block width typed is before = refl
@@ -219,7 +229,8 @@ recorded-offered config link ch x e client block width typed before = recorded_a
 
 -- ---- what is handed out is lawful
 
-lawful_message : {w : ℕ} (config : Config) (x : Link × Message w) → IsWidth w → IsHandable config x → (illegal_message_at (level_of config x.0.0) x.1 ≡ None) × IsClean x.1 × IsFilled x.1 × IsBlankAfter (beats_of x.1) x.1
+lawful_message : {w : ℕ} (config : Config) (x : Link × Message w) → IsWidth w → IsHandable config x
+    → (illegal_message_at (level_of config x.0.0) x.1 ≡ None) × IsClean x.1 × IsFilled x.1 × IsBlankAfter (beats_of x.1) x.1
 lawful_message {w} config x width ok =
     let first = leveled (level_of config x.0.0) (beat_of x.1 0) (ok.beats 0 (beats-positive x.1 width)).lawful in
     (rw first.1 (legal_from_beats first.0 (channel_of (beat_of x.1 0)) x.1 (λ i lt. legal_beat first.0 first.1 i (ok.beats i lt).lawful)), ok.clean, ok.filled, ok.blank)
@@ -227,7 +238,8 @@ lawful_message {w} config x width ok =
     legal_beat : (l : Level) → level_of config x.0.0 ≡ Some l → (i : ℕ) → illegal_at (level_of config x.0.0) (beat_of x.1 i) ≡ None → illegal l (channel_of (beat_of x.1 0)) (beat_of x.1 i) ≡ None
     legal_beat l is i e = rw (← same_channel x.1 i) (rw is at e)
 
-lawful_as : {w : ℕ} (j : Judgement) (config : Config) (link : Link) (ch : Channel) (x : Beat w) (e : End w) → IsWidth w → IsTyped x → judged config link ch x e ≡ j → IsKept config e → IsAnswerLawful config (offered_as j config link x e).0
+lawful_as : {w : ℕ} (j : Judgement) (config : Config) (link : Link) (ch : Channel) (x : Beat w) (e : End w) → IsWidth w → IsTyped x → judged config link ch x e ≡ j → IsKept config e
+    → IsAnswerLawful config (offered_as j config link x e).0
 lawful_as (Breaks r) config link ch x e width typed is before = tt
 lawful_as Waits config link ch x e width typed is before = tt
 lawful_as Passes config link ch x e width typed is before =

@@ -4,6 +4,7 @@ use Rattle.std.specs.Prelude.{nat_le, length, if◌then◌else◌}
 use Rattle.std.proofs.Math.Nat.{zero-div}
 use Rattle.std.proofs.lemmas.Bool.{le-leb}
 use Rattle.std.proofs.lemmas.Nat.{pow_pos}
+use Rattle.std.specs.Option.{option_or}
 use Rattle.tl_beat.specs.Opcode.{d_carries_data}
 use Rattle.tl_beat.specs.Width.{IsWidth}
 use Rattle.tl_beat.specs.declared.beat.Link.{Link}
@@ -23,9 +24,9 @@ use Rattle.tl_params.specs.declared.level.Level.TheVariants as level
 use Rattle.tl_params.specs.declared.param.Cap.{Cap}
 use Rattle.tl_params.specs.declared.param.Cap.TheVariants as cap
 use Rattle.tl_rules.specs.Control.{d_control, d_own, b_control}
-use Rattle.tl_rules.specs.Effect.{Memory, reply, answer_of, as_payload, bytes_from, bytes_of}
+use Rattle.tl_rules.specs.Effect.{Memory, access_result, answer_of, as_payload, bytes_from, byte_count}
 use Rattle.tl_rules.specs.History.{block_at, is_acquire}
-use Rattle.tl_rules.specs.Legality.{or_else, a_of_level, a_has_size, access_has_size, d_of_level, d_has_param, d_has_sink, d_has_size, is_full_mask, each_below}
+use Rattle.tl_rules.specs.Legality.{a_of_level, a_has_size, access_has_size, d_of_level, d_has_param, d_has_sink, d_has_size, is_full_mask, each_below}
 use Rattle.tl_params.specs.Param.{cap_code}
 use Rattle.tl_rules.proofs.Verdicts.{illegal_b, illegal_d}
 use Rattle.tl_manager.specs.Handing.{answer_with, access_answer, release_ack, grant_opcode, grant_payload, grant_with, probe_of_block}
@@ -47,12 +48,14 @@ no_bit i = rw zero-div refl
 
 -- ---- on channel D
 
-d_lawful : (w : ℕ) (l : Level) (opcode : OpD) (param size sink : ℕ) (corrupt : Bool) → d_of_level l opcode ≡ true → (d_has_param opcode param && d_has_sink opcode sink) ≡ true → d_has_size w l opcode size ≡ true → corrupt ≡ false
-    → or_else (d_control w l opcode param size sink) (d_own opcode false corrupt) ≡ None
+d_lawful : (w : ℕ) (l : Level) (opcode : OpD) (param size sink : ℕ) (corrupt : Bool) → d_of_level l opcode ≡ true → (d_has_param opcode param && d_has_sink opcode sink) ≡ true
+    → d_has_size w l opcode size ≡ true → corrupt ≡ false
+    → option_or (d_control w l opcode param size sink) (d_own opcode false corrupt) ≡ None
 d_lawful w l opcode param size sink corrupt of_level params sized clean = rw (of_level, params, sized, clean) refl
 
 -- a message of channel D that is clean and breaks no L rule by its control fields
-d_handable : {w : ℕ} (config : Config) (link : Link) (l : Level) (m : MessageD w) → level_of config link.0 ≡ Some l → d_of_level l m.opcode ≡ true → (d_has_param m.opcode m.param && d_has_sink m.opcode m.sink) ≡ true → d_has_size w l m.opcode m.size ≡ true
+d_handable : {w : ℕ} (config : Config) (link : Link) (l : Level) (m : MessageD w) → level_of config link.0 ≡ Some l → d_of_level l m.opcode ≡ true
+    → (d_has_param m.opcode m.param && d_has_sink m.opcode m.sink) ≡ true → d_has_size w l m.opcode m.size ≡ true
     → m.corrupt ≡ 0 → m.denied ≡ false → length m.payload ≡ 64 → IsZeroFrom (if d_carries_data m.opcode then w * beats_of (D m) else 0) m.payload → IsHandable config (link, D m)
 d_handable {w} config link l m has_level of_level params sized corrupt denied long zero = record {
   ours = refl;
@@ -85,8 +88,10 @@ answer_size w l d.Grant size e sized = absurd cc
 answer_size w l d.GrantData size e sized = absurd cc
 answer_size w l d.ReleaseAck size e sized = absurd cc
 
-answer_handable : {w : ℕ} (config : Config) (link : Link) (l : Level) (opcode : OpD) (payload : List ℕ) (m : MessageA w) → level_of config link.0 ≡ Some l → is_access_answer opcode ≡ true → d_of_level l opcode ≡ true → access_has_size w l m.size ≡ true
-    → length payload ≡ 64 → IsZeroFrom (if d_carries_data opcode then w * (if d_carries_data opcode then data_beats w m.size else 1) else 0) payload → IsHandable config (link, answer_with opcode payload m)
+answer_handable : {w : ℕ} (config : Config) (link : Link) (l : Level) (opcode : OpD) (payload : List ℕ) (m : MessageA w) → level_of config link.0 ≡ Some l → is_access_answer opcode ≡ true
+    → d_of_level l opcode ≡ true → access_has_size w l m.size ≡ true
+    → length payload ≡ 64 → IsZeroFrom (if d_carries_data opcode then w * (if d_carries_data opcode then data_beats w m.size else 1) else 0) payload
+    → IsHandable config (link, answer_with opcode payload m)
 answer_handable {w} config link l opcode payload m has_level e of_level sized long zero =
     d_handable config link l (record { opcode = opcode; param = 0; size = m.size; source = m.source; sink = 0; denied = false; payload = payload; corrupt = 0; small = m.small })
     has_level of_level (answer_params opcode e) (answer_size w l opcode m.size e sized) refl refl long zero
@@ -102,16 +107,17 @@ acked_with_data level.UH = refl
 acked_with_data level.C = refl
 
 -- the bytes that an aligned request reaches
-data_handable : {w : ℕ} (config : Config) (link : Link) (l : Level) (m : MessageA w) (memory : Memory) → IsWidth w → m.address % 2 ^ m.size ≡ 0 → level_of config link.0 ≡ Some l → access_has_size w l m.size ≡ true
-    → IsHandable config (link, answer_with d.AccessAckData (as_payload (m.address % w) (bytes_from memory m.address (bytes_of m))) m)
+data_handable : {w : ℕ} (config : Config) (link : Link) (l : Level) (m : MessageA w) (memory : Memory) → IsWidth w → m.address % 2 ^ m.size ≡ 0 → level_of config link.0 ≡ Some l
+    → access_has_size w l m.size ≡ true
+    → IsHandable config (link, answer_with d.AccessAckData (as_payload (m.address % w) (bytes_from memory m.address (byte_count m))) m)
 data_handable {w} config link l m memory width aligned has_level sized =
-    let bytes = bytes_from memory m.address (bytes_of m) in
-    let long = length-bytes memory m.address (bytes_of m) in
+    let bytes = bytes_from memory m.address (byte_count m) in
+    let long = length-bytes memory m.address (byte_count m) in
     let carried = room_in_beats w m.size m.address width m.small aligned in
     let room = data_room w m.size width m.small in
-    answer_handable config link l d.AccessAckData (as_payload (m.address % w) (bytes_from memory m.address (bytes_of m))) m has_level refl (acked_with_data l) sized
-    (payload-long (m.address % w) (2 ^ m.size) (bytes_from memory m.address (bytes_of m)) long (omega (arith, carried, room)))
-    (payload-zero (m.address % w) (2 ^ m.size) (w * data_beats w m.size) (bytes_from memory m.address (bytes_of m)) long carried room)
+    answer_handable config link l d.AccessAckData (as_payload (m.address % w) (bytes_from memory m.address (byte_count m))) m has_level refl (acked_with_data l) sized
+    (payload-long (m.address % w) (2 ^ m.size) (bytes_from memory m.address (byte_count m)) long (omega (arith, carried, room)))
+    (payload-zero (m.address % w) (2 ^ m.size) (w * data_beats w m.size) (bytes_from memory m.address (byte_count m)) long carried room)
 
 hinted : (l : Level) → a_of_level l a.Intent ≡ true → d_of_level l d.HintAck ≡ true
 hinted level.UL e = absurd cc
@@ -124,12 +130,15 @@ above_ul level.UL opcode m not_ul e = absurd cc
 above_ul level.UH opcode m not_ul e = le-leb m.size 6 m.small
 above_ul level.C opcode m not_ul e = le-leb m.size 6 m.small
 
-pub access_handable : {w : ℕ} (config : Config) (link : Link) (l : Level) (opcode : OpA) (m : MessageA w) (memory : Memory) → IsWidth w → m.address % 2 ^ m.size ≡ 0 → level_of config link.0 ≡ Some l → is_acquire opcode ≡ false → a_of_level l opcode ≡ true → a_has_size w l opcode m.size ≡ true
-    → IsHandable config (link, access_answer m (answer_of (A m) (reply opcode m memory)))
+pub access_handable : {w : ℕ} (config : Config) (link : Link) (l : Level) (opcode : OpA) (m : MessageA w) (memory : Memory) → IsWidth w → m.address % 2 ^ m.size ≡ 0
+    → level_of config link.0 ≡ Some l → is_acquire opcode ≡ false → a_of_level l opcode ≡ true → a_has_size w l opcode m.size ≡ true
+    → IsHandable config (link, access_answer m (answer_of (A m) (access_result opcode m memory)))
 access_handable config link l a.PutFullData m memory width aligned has_level access of_level sized = answer_handable config link l d.AccessAck _ m has_level refl (acked l) sized refl refl
 access_handable config link l a.PutPartialData m memory width aligned has_level access of_level sized = answer_handable config link l d.AccessAck _ m has_level refl (acked l) sized refl refl
-access_handable config link l a.ArithmeticData m memory width aligned has_level access of_level sized = data_handable config link l m memory width aligned has_level (above_ul l a.ArithmeticData m refl of_level)
-access_handable config link l a.LogicalData m memory width aligned has_level access of_level sized = data_handable config link l m memory width aligned has_level (above_ul l a.LogicalData m refl of_level)
+access_handable config link l a.ArithmeticData m memory width aligned has_level access of_level sized =
+    data_handable config link l m memory width aligned has_level (above_ul l a.ArithmeticData m refl of_level)
+access_handable config link l a.LogicalData m memory width aligned has_level access of_level sized =
+    data_handable config link l m memory width aligned has_level (above_ul l a.LogicalData m refl of_level)
 access_handable config link l a.Get m memory width aligned has_level access of_level sized = data_handable config link l m memory width aligned has_level sized
 access_handable config link l a.Intent m memory width aligned has_level access of_level sized = answer_handable config link l d.HintAck _ m has_level refl (hinted l of_level) sized refl refl
 access_handable config link l a.AcquireBlock m memory width aligned has_level access of_level sized = absurd cc
@@ -167,7 +176,8 @@ grant_filled : (w : ℕ) (with_data : Bool) (memory : Memory) (block : ℕ) → 
 grant_filled w true memory block width = (length-bytes memory (64 * block) 64, block-zero w memory (64 * block) width)
 grant_filled w false memory block width = (refl, refl)
 
-pub grant_handable : {w : ℕ} (config : Config) (s : Service w) (c : Cap) (with_data : Bool) (memory : Memory) → IsWidth w → level_of config s.link.0 ≡ Some level.C → IsHandable config (s.link, grant_with s c with_data memory)
+pub grant_handable : {w : ℕ} (config : Config) (s : Service w) (c : Cap) (with_data : Bool) (memory : Memory) → IsWidth w → level_of config s.link.0 ≡ Some level.C
+    → IsHandable config (s.link, grant_with s c with_data memory)
 grant_handable {w} config s c with_data memory width has_level =
     let filled = grant_filled w with_data memory (block_at s.request.address) width in
     d_handable config s.link level.C _ has_level refl (granted_params with_data c s.tracker) (granted_size w with_data) refl refl filled.0 filled.1

@@ -25,7 +25,8 @@ unfolding on_link
 other_beat client link x t e = rw e refl
 
 -- what a beat doesn't change
-pub beat-keeps : {w : ℕ} {A : Type 0} (value : History w → A) (client : ℕ) (link : Link) (x : Beat w) (t : Trace w) → ((h : History w) → value (x ∷ h) ≡ value h) → value (on_link client ((link, x) ∷ t)) ≡ value (on_link client t)
+pub beat-keeps : {w : ℕ} {A : Type 0} (value : History w → A) (client : ℕ) (link : Link) (x : Beat w) (t : Trace w) → ((h : History w) → value (x ∷ h) ≡ value h)
+    → value (on_link client ((link, x) ∷ t)) ≡ value (on_link client t)
 beat-keeps value client link x t same = go (link.0 == client) refl
   where
     go : (b : Bool) → (link.0 == client) ≡ b → value (on_link client ((link, x) ∷ t)) ≡ value (on_link client t)
@@ -33,7 +34,8 @@ beat-keeps value client link x t same = go (link.0 == client) refl
     go false e = ap value (other_beat client link x t e)
 
 -- what a message doesn't change
-pub sent-keeps : {w : ℕ} {A : Type 0} (value : History w → A) (client : ℕ) (link : Link) (m : Message w) (t : Trace w) → ((h : History w) → h ≡ on_link client t → value (sent m h) ≡ value h) → value (on_link client (after_sent link m t)) ≡ value (on_link client t)
+pub sent-keeps : {w : ℕ} {A : Type 0} (value : History w → A) (client : ℕ) (link : Link) (m : Message w) (t : Trace w) → ((h : History w) → h ≡ on_link client t → value (sent m h) ≡ value h)
+    → value (on_link client (after_sent link m t)) ≡ value (on_link client t)
 sent-keeps value client link m t same = go (link.0 == client) refl
   where
     go : (b : Bool) → (link.0 == client) ≡ b → value (on_link client (after_sent link m t)) ≡ value (on_link client t)
@@ -41,17 +43,6 @@ sent-keeps value client link m t same = go (link.0 == client) refl
     go false e = ap value (other_link client link m t e)
 
 -- ---- what is pending after a beat (to stand in tl_rules)
-
--- one that neither opens nor closes the key
-pub pending-quiet : {w : ℕ} (k : Key) (x : Beat w) (t : History w) → opens k x t ≡ false → closes k x t ≡ false → pending k (x ∷ t) ≡ pending k t
-unfolding pending
-pending-quiet k x t o c = rw (o, c) (go (begins x t) (ends x t))
-  where
-    go : (a b : Bool) → cond (a && false) true (cond (b && false) false (pending k t)) ≡ pending k t
-    go true true = refl
-    go true false = refl
-    go false true = refl
-    go false false = refl
 
 -- one that opens it at most
 pub pending-opened : {w : ℕ} (k : Key) (x : Beat w) (t : History w) → closes k x t ≡ false → pending k (x ∷ t) ≡ (if begins x t && opens k x t then true else pending k t)

@@ -1,5 +1,5 @@
 -- Lists of which each element has a property.
-use Rattle.std.proofs.Common.{◌≡◌, ℕ, zero, suc, ◌+◌, Bool, true, false, cond, ◌&&◌, List, [], ◌∷◌, ◌++◌, map, refl}
+use Rattle.std.proofs.Common.{◌≡◌, ℕ, zero, suc, ◌+◌, Bool, true, false, cond, List, [], ◌∷◌, ◌++◌, map, refl}
 use Rattle.std.specs.Prelude.{filter}
 use Rattle.tl_manager.specs.Holders.{clients_from}
 use Rattle.tl_manager.specs.Kept.{Each}
@@ -26,7 +26,8 @@ unfolding clients_from
 each_client zero first test = tt
 each_client (suc n) first test = go (test first) refl (each_client n (first + 1) test)
   where
-    go : (b : Bool) → test first ≡ b → Each (λ client. test client ≡ true) (clients_from (first + 1) n test) → Each (λ client. test client ≡ true) (cond b (first ∷ clients_from (first + 1) n test) (clients_from (first + 1) n test))
+    go : (b : Bool) → test first ≡ b → Each (λ client. test client ≡ true) (clients_from (first + 1) n test)
+        → Each (λ client. test client ≡ true) (cond b (first ∷ clients_from (first + 1) n test) (clients_from (first + 1) n test))
     go true e rest = (e, rest)
     go false e rest = rest
 
@@ -35,7 +36,3 @@ each_weaker P Q [] step each = tt
 each_weaker P Q (x ∷ xs) step each = (step x each.0, each_weaker P Q xs step each.1)
 
 -- ---- tests
-
-pub never : (b : Bool) → (b && false) ≡ false
-never true = refl
-never false = refl

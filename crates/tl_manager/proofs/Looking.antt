@@ -44,7 +44,8 @@ pub record AreLooked {w : ℕ} (trackers : Trackers w) (t : Trace w) : Type 0 wh
 -- what it says of the block's service
 abbrev IsLooked : {w : ℕ} → Tracker w → ℕ → Trace w → Type 0
 IsLooked Free block t = serving block (services t) ≡ None
-IsLooked (Probing link request missing) block t = (n : ℕ) × (serving block (services t) ≡ Some (service_with n link request)) × (is_granted t (service_with n link request) ≡ false) × AreMissing missing block t
+IsLooked (Probing link request missing) block t =
+    (n : ℕ) × (serving block (services t) ≡ Some (service_with n link request)) × (is_granted t (service_with n link request) ≡ false) × AreMissing missing block t
 IsLooked {w} (Granted link k) block t = (n : ℕ) × (request : MessageA w) × (serving block (services t) ≡ Some (service_with n link request)) × (is_granted t (service_with n link request) ≡ true)
 
 looked : {w : ℕ} (trackers : Trackers w) (block : ℕ) (tracker : Tracker w) (t : Trace w) → AreLooked trackers t → IsOfBlock trackers block tracker → IsLooked tracker block t
@@ -60,7 +61,8 @@ looked {w} trackers block tracker t are (inl found) = go tracker (subst (λ (x :
     go (Granted link k) is e = (found.0, is.request, rw (eqb-true k block e) at is.serves, is.granted)
 
 -- an Acquire that isn't granted
-pub acquiring-looked : {w : ℕ} (trackers : Trackers w) (block client : ℕ) (tracker : Tracker w) (t : Trace w) → AreLooked trackers t → IsOfBlock trackers block tracker → Tracking.is_acquiring client tracker ≡ pending (AcquireOf block) (on_link client t)
+pub acquiring-looked : {w : ℕ} (trackers : Trackers w) (block client : ℕ) (tracker : Tracker w) (t : Trace w) → AreLooked trackers t → IsOfBlock trackers block tracker
+    → Tracking.is_acquiring client tracker ≡ pending (AcquireOf block) (on_link client t)
 acquiring-looked {w} trackers block client tracker t are of = go tracker (looked trackers block tracker t are of) ∙ sym ((are.accounted.blocks block).acquires client)
   where
     always : (a b : Bool) → (a && b) ≡ (a && (b && true))
@@ -79,7 +81,8 @@ acquiring-looked {w} trackers block client tracker t are of = go tracker (looked
     go (Granted link k) is = rw (is.2, is.3) (never (is_acquire is.1.opcode) (link.0 == client))
 
 -- a GrantAck that is missing
-pub granted-looked : {w : ℕ} (trackers : Trackers w) (block client : ℕ) (tracker : Tracker w) (t : Trace w) → AreLooked trackers t → IsOfBlock trackers block tracker → Tracking.is_granted_to client tracker ≡ pending (GrantAckOf block) (on_link client t)
+pub granted-looked : {w : ℕ} (trackers : Trackers w) (block client : ℕ) (tracker : Tracker w) (t : Trace w) → AreLooked trackers t → IsOfBlock trackers block tracker
+    → Tracking.is_granted_to client tracker ≡ pending (GrantAckOf block) (on_link client t)
 granted-looked {w} trackers block client tracker t are of = go tracker (looked trackers block tracker t are of) ∙ sym ((are.accounted.blocks block).grants client)
   where
     always : (b : Bool) → b ≡ (b && true)
@@ -96,7 +99,8 @@ granted-looked {w} trackers block client tracker t are of = go tracker (looked t
     go (Granted link k) is = rw (is.2, is.3) (always (link.0 == client))
 
 -- a ProbeAck that is missing
-pub missing-looked : {w : ℕ} (trackers : Trackers w) (block client : ℕ) (tracker : Tracker w) (t : Trace w) → AreLooked trackers t → IsOfBlock trackers block tracker → Tracking.is_missing client tracker ≡ pending (ProbeOf block) (on_link client t)
+pub missing-looked : {w : ℕ} (trackers : Trackers w) (block client : ℕ) (tracker : Tracker w) (t : Trace w) → AreLooked trackers t → IsOfBlock trackers block tracker
+    → Tracking.is_missing client tracker ≡ pending (ProbeOf block) (on_link client t)
 missing-looked {w} trackers block client tracker t are of = go tracker (looked trackers block tracker t are of)
   where
     calm : (b : Bool) → pending (ProbeOf block) (on_link client t) ≡ b → (IsProbed client block t → ⊥) → false ≡ b
@@ -115,7 +119,8 @@ missing-looked {w} trackers block client tracker t are of = go tracker (looked t
     go (Granted link k) is = calm (pending (ProbeOf block) (on_link client t)) refl (answered (service_with is.0 link is.1) is.2 is.3)
 
 -- the Probe that it is for
-pub probe-looked : {w : ℕ} (trackers : Trackers w) (block client : ℕ) (tracker : Tracker w) (t : Trace w) → AreLooked trackers t → IsOfBlock trackers block tracker → Tracking.is_missing client tracker ≡ true → probe_in (request_in tracker) ≡ open_probe block (on_link client t)
+pub probe-looked : {w : ℕ} (trackers : Trackers w) (block client : ℕ) (tracker : Tracker w) (t : Trace w) → AreLooked trackers t → IsOfBlock trackers block tracker
+    → Tracking.is_missing client tracker ≡ true → probe_in (request_in tracker) ≡ open_probe block (on_link client t)
 probe-looked {w} trackers block client tracker t are of e = go tracker (looked trackers block tracker t are of) e
   where
     pends : pending (ProbeOf block) (on_link client t) ≡ true
@@ -136,7 +141,8 @@ none_any : {w : ℕ} (f : Service w → Bool) (sink : ℕ) (ss : List (Service w
 none_any f sink [] at e = refl
 none_any {w} f sink (v ∷ ss) at e = go (f v) refl (sink == v.tracker) refl (λ i. none_any f sink ss at i) e
   where
-    go : (b : Bool) → f v ≡ b → (d : Bool) → (sink == v.tracker) ≡ d → (is_one_of sink (trackers_of ss) ≡ false → is_any f ss ≡ false) → (d || is_one_of sink (trackers_of ss)) ≡ false → (b || is_any f ss) ≡ false
+    go : (b : Bool) → f v ≡ b → (d : Bool) → (sink == v.tracker) ≡ d → (is_one_of sink (trackers_of ss) ≡ false → is_any f ss ≡ false) → (d || is_one_of sink (trackers_of ss)) ≡ false
+        → (b || is_any f ss) ≡ false
     go true g d h more i = absurd (let here : (sink == v.tracker) ≡ true = eq-eqb sink v.tracker (sym (at v g)) in let no : d ≡ true = sym h ∙ here in rest d no i)
       where
         rest : (d : Bool) → d ≡ true → (d || is_one_of sink (trackers_of ss)) ≡ false → ⊥
@@ -146,7 +152,8 @@ none_any {w} f sink (v ∷ ss) at e = go (f v) refl (sink == v.tracker) refl (λ
     go false g false h more i = more i
 
 -- of the services those that pass are this one
-one_any : {w : ℕ} (f : Service w → Bool) (n : ℕ) (s : Service w) (ss : List (Service w)) → serving n ss ≡ Some s → Each (λ u. (u.tracker == s.tracker) ≡ true → u ≡ s) ss → ((u : Service w) → f u ≡ true → (u.tracker == s.tracker) ≡ true) → is_any f ss ≡ f s
+one_any : {w : ℕ} (f : Service w → Bool) (n : ℕ) (s : Service w) (ss : List (Service w)) → serving n ss ≡ Some s → Each (λ u. (u.tracker == s.tracker) ≡ true → u ≡ s) ss
+    → ((u : Service w) → f u ≡ true → (u.tracker == s.tracker) ≡ true) → is_any f ss ≡ f s
 one_any {w} f n s ss e each at = go (f s) refl
   where
     either : (b : Bool) → (b || true) ≡ true
@@ -173,7 +180,8 @@ one_any {w} f n s ss e each at = go (f s) refl
     go true g = yes ss e g ∙ sym g
     go false g = no ss each g ∙ sym g
 
-pub sink-looked : {w : ℕ} (trackers : Trackers w) (sink client : ℕ) (t : Trace w) → AreLooked trackers t → Tracking.is_granted_to client (tracker_at trackers sink) ≡ pending (GrantSink sink) (on_link client t)
+pub sink-looked : {w : ℕ} (trackers : Trackers w) (sink client : ℕ) (t : Trace w) → AreLooked trackers t
+    → Tracking.is_granted_to client (tracker_at trackers sink) ≡ pending (GrantSink sink) (on_link client t)
 sink-looked {w} trackers sink client t are = go (tracker_at trackers sink) (are.tracked sink) ∙ sym (sink-pending client sink t are.sinks)
   where
     test : Service w → Bool
@@ -193,7 +201,8 @@ sink-looked {w} trackers sink client t are = go (tracker_at trackers sink) (are.
     always true = refl
     always false = refl
 
-    alone : (k : ℕ) (link : Link) (request : MessageA w) → serving k (services t) ≡ Some (service_with sink link request) → is_any (Pending.is_granted_with client sink t) (services t) ≡ Pending.is_granted_with client sink t (service_with sink link request)
+    alone : (k : ℕ) (link : Link) (request : MessageA w) → serving k (services t) ≡ Some (service_with sink link request)
+        → is_any (Pending.is_granted_with client sink t) (services t) ≡ Pending.is_granted_with client sink t (service_with sink link request)
     alone k link request e =
         one_any (Pending.is_granted_with client sink t) k (service_with sink link request) (services t) e (same_tracker k (services t) (service_with sink link request) are.trackers_apart e)
         (λ u f. eq-eqb u.tracker sink (tracker_of u f))
@@ -205,7 +214,8 @@ sink-looked {w} trackers sink client t are = go (tracker_at trackers sink) (are.
 
 -- ---- sources
 
-unasking : {w : ℕ} (trackers : Trackers w) (client source : ℕ) (t : Trace w) → AreLooked trackers t → ((i : ℕ) → Tracking.is_asking client source (tracker_at trackers i) ≡ false) → is_any (Pending.is_asking client source t) (services t) ≡ false
+unasking : {w : ℕ} (trackers : Trackers w) (client source : ℕ) (t : Trace w) → AreLooked trackers t → ((i : ℕ) → Tracking.is_asking client source (tracker_at trackers i) ≡ false)
+    → is_any (Pending.is_asking client source t) (services t) ≡ false
 unasking {w} trackers client source t are none = all (services t) (served-each (λ v. Pending.is_asking client source t v ≡ false) (services t) are.blocks_apart each)
   where
     all : (vs : List (Service w)) → Each (λ v. Pending.is_asking client source t v ≡ false) vs → is_any (Pending.is_asking client source t) vs ≡ false
@@ -235,7 +245,8 @@ unasking {w} trackers client source t are none = all (services t) (served-each (
     each k v e = go k v (tracker_at trackers v.tracker) e (are.tracked v.tracker) (none v.tracker)
 
 -- the request that has the source, and its fields
-asked-at : {w : ℕ} (n client source : ℕ) (tracker : Tracker w) (request : MessageA w) (t : Trace w) → IsTracked n tracker t → Tracking.is_asking client source tracker ≡ true → request_in tracker ≡ Some request
+asked-at : {w : ℕ} (n client source : ℕ) (tracker : Tracker w) (request : MessageA w) (t : Trace w) → IsTracked n tracker t → Tracking.is_asking client source tracker ≡ true
+    → request_in tracker ≡ Some request
     → (link : Link) × (serving (block_at request.address) (services t) ≡ Some (service_with n link request)) × (is_granted t (service_with n link request) ≡ false) × (link.0 ≡ client) × (request.source ≡ source)
 asked-at n client source Free request t is e f = absurd cc
 asked-at n client source (Granted link k) request t is e f = absurd cc
@@ -245,13 +256,15 @@ asked-at {w} n client source (Probing link asked missing) request t is e f =
     subst (λ (r : MessageA w). (l : Link) × (serving (block_at r.address) (services t) ≡ Some (service_with n l r)) × (is_granted t (service_with n l r) ≡ false) × (l.0 ≡ client) × (r.source ≡ source)) same
     (link, is.serves, is.unanswered, eqb-true link.0 client p.0, eqb-true asked.source source p.1)
 
-asking-served : {w : ℕ} (n client source : ℕ) (link : Link) (request : MessageA w) (t : Trace w) → is_granted t (service_with n link request) ≡ false → link.0 ≡ client → request.source ≡ source → Pending.is_asking client source t (service_with n link request) ≡ true
+asking-served : {w : ℕ} (n client source : ℕ) (link : Link) (request : MessageA w) (t : Trace w) → is_granted t (service_with n link request) ≡ false → link.0 ≡ client
+    → request.source ≡ source → Pending.is_asking client source t (service_with n link request) ≡ true
 asking-served n client source link request t e f g = rw (eq-eqb link.0 client f, eq-eqb request.source source g, e) refl
 
 -- a source is pending where the unfinished request has it, or one is asked with it
 pub source-looked : {w : ℕ} (trackers : Trackers w) (client source : ℕ) (o : Option (MessageA w)) (t : Trace w) → AreLooked trackers t → IsAsked trackers client source o
     → (comes_in_request source (unfinished channel.A (on_link client t)) || is_some o) ≡ pending (RequestSource source) (on_link client t)
-source-looked {w} trackers client source o t are asked = ap (λ b. comes_in_request source (unfinished channel.A (on_link client t)) || b) (go o asked) ∙ sym (source-pending client source t are.accounted)
+source-looked {w} trackers client source o t are asked =
+    ap (λ b. comes_in_request source (unfinished channel.A (on_link client t)) || b) (go o asked) ∙ sym (source-pending client source t are.accounted)
   where
     count_any : (f : Service w → Bool) (vs : List (Service w)) → 0 < count_where f vs → is_any f vs ≡ true
     count_any f [] lt = absurd (omega (arith, lt))
@@ -272,7 +285,8 @@ source-looked {w} trackers client source o t are asked = ap (λ b. comes_in_requ
 pub request-unasked : {w : ℕ} (trackers : Trackers w) (client source : ℕ) (t : Trace w) → AreLooked trackers t → IsAsked trackers client source None → None ≡ open_request source (on_link client t)
 request-unasked {w} trackers client source t are asked = go (comes_in_request source (unfinished channel.A (on_link client t))) refl (source-looked trackers client source None t are asked)
   where
-    go : (b : Bool) → comes_in_request source (unfinished channel.A (on_link client t)) ≡ b → (b || false) ≡ pending (RequestSource source) (on_link client t) → None ≡ open_request source (on_link client t)
+    go : (b : Bool) → comes_in_request source (unfinished channel.A (on_link client t)) ≡ b → (b || false) ≡ pending (RequestSource source) (on_link client t)
+        → None ≡ open_request source (on_link client t)
     go true e f = rw (sym f, e) refl
     go false e f = rw (sym f) refl
 
@@ -294,7 +308,8 @@ request-asked {w} trackers client source request t are found =
         subst (λ i. HasFields request.opcode request.param request.size request.source request.address (request_of i (on_link client t))) is.4
         (subst (λ i. HasFields request.opcode request.param request.size request.source request.address (request_of request.source (on_link i t))) is.3 named)
 
-    go : (p b : Bool) → pending (RequestSource source) (on_link client t) ≡ p → comes_in_request source (unfinished channel.A (on_link client t)) ≡ b → open_request source (on_link client t) ≡ request_fields (request_of source (on_link client t))
+    go : (p b : Bool) → pending (RequestSource source) (on_link client t) ≡ p → comes_in_request source (unfinished channel.A (on_link client t)) ≡ b
+        → open_request source (on_link client t) ≡ request_fields (request_of source (on_link client t))
     go true false e f = rw (e, f) refl
     go p true e f =
         let total = are.accounted.sources client source in

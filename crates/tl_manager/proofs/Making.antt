@@ -1,13 +1,12 @@
 -- A new manager knows the end that has taken nothing.
-use Rattle.std.proofs.Common.{◌≡◌, ℕ, zero, suc, List, [], ◌∷◌, length, map, Ok, Option, Some, None, refl, ap, ◌∙◌}
+use Rattle.std.proofs.Common.{◌≡◌, ℕ, zero, suc, List, [], ◌∷◌, length, map, Some, None, refl, ap, ◌∙◌}
 use Rattle.std.specs.Prelude.{slice_get, option_map}
 use Rattle.std.proofs.lemmas.List.{length-map}
 use Rattle.tl_params.specs.declared.config.ClientConfig.{ClientConfig}
 use Rattle.tl_params.specs.declared.config.Config.{Config}
 use Rattle.tl_params.specs.declared.perm.Perm.{Perm}
 use Rattle.tl_params.specs.declared.perm.Perm.TheVariants as perm
-use Rattle.tl_params.specs.declared.config.NewFault.{NewFault}
-use Rattle.tl_params.specs.Config.{config_fault, config_verdict}
+use Rattle.tl_params.specs.Config.{config_fault}
 use Rattle.tl_burst.specs.Messages.{unfinished}
 use Rattle.tl_rules.specs.Conformance.{on_link}
 use Rattle.tl_rules.specs.History.{held}
@@ -40,8 +39,10 @@ wire-fresh {w} config client wire found =
     let p = mapped (λ (c : ClientConfig). fresh_wire {w = w} c.level) config.clients.items client wire found in
     rw p.2 (record { level = ap (option_map (λ c. c.level)) p.1; closed = refl; carried = record { requests = refl; reports = refl } })
 
-pub knows-fresh : {w : ℕ} {M : Type 0} (perm_of : M → ℕ → ℕ → Perm) (links : Links w M) (config : Config) → config_fault config ≡ None → links.wires.items ≡ map (λ (c : ClientConfig). fresh_wire c.level) config.clients.items
-    → links.home.profile ≡ config.profile → links.home.trackers.count ≡ config.trackers → ((n : ℕ) → tracker_at links.home.trackers n ≡ Free) → ((block client : ℕ) → perm_of links.home.directory block client ≡ perm.None)
+pub knows-fresh : {w : ℕ} {M : Type 0} (perm_of : M → ℕ → ℕ → Perm) (links : Links w M) (config : Config) → config_fault config ≡ None
+    → links.wires.items ≡ map (λ (c : ClientConfig). fresh_wire c.level) config.clients.items
+    → links.home.profile ≡ config.profile → links.home.trackers.count ≡ config.trackers → ((n : ℕ) → tracker_at links.home.trackers n ≡ Free)
+    → ((block client : ℕ) → perm_of links.home.directory block client ≡ perm.None)
     → length links.home.blocks.bytes.items ≡ config.blocks → AreBlocks links.home.blocks.bytes.items (λ address. 0) → Knows perm_of links config fresh
 unfolding held on_link
 knows-fresh {w} perm_of links config fits wires profile count trackers records size bytes = record {
@@ -52,7 +53,3 @@ knows-fresh {w} perm_of links config fits wires profile count trackers records s
   count = ap length wires ∙ length-map config.clients.items (λ (c : ClientConfig). fresh_wire {w = w} c.level);
   wires = λ client wire found. wire-fresh config client wire (rw wires at found);
 }
-
-pub no-fault : (o : Option NewFault) (u : Unit {0}) → Ok u ≡ config_verdict o → o ≡ None
-no-fault None u e = refl
-no-fault (Some fault) u e = absurd cc

@@ -1,8 +1,7 @@
 -- The mask of a request reaches no further than its beats.
-use Rattle.tl_params.specs.declared.rule.Rule.{Rule}
-use Rattle.std.proofs.Common.{◌≡◌, ℕ, suc, ◌+◌, ◌*◌, ◌^◌, ◌<◌, ◌≤◌, ◌==◌, Bool, true, false, not, ◌||◌, List, [], ◌∷◌, length, Option, Some, None, refl, sym, ◌∙◌, arith, inl, inr}
+use Rattle.std.proofs.Common.{◌≡◌, ℕ, suc, ◌+◌, ◌*◌, ◌^◌, ◌<◌, ◌≤◌, ◌==◌, Bool, true, false, not, ◌||◌, List, [], ◌∷◌, length, None, refl, sym, ◌∙◌, arith, inl, inr}
 use Rattle.std.specs.Prelude.{if◌then◌else◌}
-use Rattle.std.proofs.lemmas.Bool.{cases_eq, cases_lt, or_cases, eqb-true, leb-true, not-false, true≢false}
+use Rattle.std.proofs.lemmas.Bool.{cases_eq, or_cases, eqb-true, not-false}
 use Rattle.std.proofs.lemmas.Nat.{mul-add-lt, pow-add, shl_whole}
 use Rattle.tl_burst.specs.Burst.{mask_at}
 use Rattle.tl_burst.proofs.Bits.{mask_here, mask_earlier}
@@ -16,26 +15,17 @@ use Rattle.tl_beat.specs.declared.opcode.OpA.{OpA}
 use Rattle.tl_beat.specs.declared.opcode.OpA.TheVariants as a
 use Rattle.tl_burst.specs.Messages.{History, on, unfinished, burst_length}
 use Rattle.tl_params.specs.declared.level.Level.{Level}
-use Rattle.tl_params.specs.declared.level.Level.TheVariants as level
 use Rattle.tl_params.specs.declared.rule.Rule.TheVariants.{L1, L2, L3, L4, L5}
 use Rattle.tl_rules.specs.Control.{a_control, a_own}
-use Rattle.tl_rules.specs.Legality.{illegal, or_else, is_one_of, is_aligned, a_of_level, a_has_param, a_has_size, a_has_mask, access_has_size}
-use Rattle.tl_rules.proofs.Bursts.{next_rule}
+use Rattle.tl_rules.specs.Legality.{illegal, is_one_of, is_aligned, a_of_level, a_has_param, a_has_size, a_has_mask}
+use Rattle.tl_rules.proofs.Bursts.{next_rule, both_none}
 use Rattle.tl_rules.proofs.Takeable.{full_mask-narrow, part_mask-narrow}
 use Rattle.tl_rules.proofs.Verdicts.{illegal_a}
-use Rattle.tl_rules.proofs.Widths.{size_above_width}
+use Rattle.tl_rules.proofs.Sizes.{access-small}
 use Rattle.tl_manager.specs.Kept.{Each}
 use Rattle.tl_manager.specs.Request.{mask_of, masks_carried}
 
 -- ---- the sizes that the rules let through
-
-access_small : (w size : ℕ) (l : Level) → IsWidth w → access_has_size w l size ≡ true → size ≤ 6
-access_small w size level.UL width e = elim (cases_lt 4 size) [
-  | inl above ↦ absurd (true≢false (sym e ∙ size_above_width w size width above))
-  | inr below ↦ omega arith
-]
-access_small w size level.UH width e = leb-true size 6 e
-access_small w size level.C width e = leb-true size 6 e
 
 atomic_small : (size : ℕ) → is_one_of size (2 ∷ 3 ∷ []) ≡ true → size ≤ 6
 atomic_small size e = elim (or_cases (size == 2) ((size == 3) || false) e) [
@@ -47,12 +37,12 @@ atomic_small size e = elim (or_cases (size == 2) ((size == 3) || false) e) [
 ]
 
 request_small : (w size : ℕ) (l : Level) (opcode : OpA) → IsWidth w → a_has_size w l opcode size ≡ true → size ≤ 6
-request_small w size l a.PutFullData width e = access_small w size l width e
-request_small w size l a.PutPartialData width e = access_small w size l width e
+request_small w size l a.PutFullData width e = access-small w size l width e
+request_small w size l a.PutPartialData width e = access-small w size l width e
 request_small w size l a.ArithmeticData width e = atomic_small size e
 request_small w size l a.LogicalData width e = atomic_small size e
-request_small w size l a.Get width e = access_small w size l width e
-request_small w size l a.Intent width e = access_small w size l width e
+request_small w size l a.Get width e = access-small w size l width e
+request_small w size l a.Intent width e = access-small w size l width e
 request_small w size l a.AcquireBlock width e = let h = eqb-true size 6 e in omega (arith, h)
 request_small w size l a.AcquirePerm width e = let h = eqb-true size 6 e in omega (arith, h)
 
@@ -67,10 +57,6 @@ mask_narrow w size address mask a.Get width small typed aligned e = full_mask-na
 mask_narrow w size address mask a.Intent width small typed aligned e = full_mask-narrow w size address mask width small typed aligned e
 mask_narrow w size address mask a.AcquireBlock width small typed aligned e = full_mask-narrow w size address mask width small typed aligned e
 mask_narrow w size address mask a.AcquirePerm width small typed aligned e = full_mask-narrow w size address mask width small typed aligned e
-
-pub both_none : (o rest : Option Rule) → or_else o rest ≡ None → (o ≡ None) × (rest ≡ None)
-both_none None rest e = (refl, e)
-both_none (Some r) rest e = absurd cc
 
 -- a request's beat that breaks no L rule
 pub legal-narrow : {w : ℕ} (l : Level) (x : BeatA w) → IsWidth w → x.mask < 2 ^ 16 → illegal l channel.A (A x) ≡ None → x.mask < 2 ^ w
@@ -115,7 +101,8 @@ each_unfinished {w} P ch (x ∷ t) each = go (on ch x) (length (unfinished ch t)
 
 -- ---- the mask of each beat
 
-pub each_mask : {w : ℕ} (P : ℕ → Type 0) (beats : List (Beat w)) (i : ℕ) → Each (λ x. mask_of x < 2 ^ w) beats → w * length beats ≤ 64 → Each (λ x. P (mask_of x)) beats → i < length beats → P (mask_at w (masks_carried beats) i)
+pub each_mask : {w : ℕ} (P : ℕ → Type 0) (beats : List (Beat w)) (i : ℕ) → Each (λ x. mask_of x < 2 ^ w) beats → w * length beats ≤ 64 → Each (λ x. P (mask_of x)) beats → i < length beats
+    → P (mask_at w (masks_carried beats) i)
 unfolding masks_carried
 each_mask P [] i small room each lt = absurd (omega arith)
 each_mask {w} P (x ∷ beats) i small room each lt =

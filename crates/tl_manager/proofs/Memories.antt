@@ -30,7 +30,7 @@ use Rattle.tl_manager.specs.Holders.{probed, is_settled}
 use Rattle.tl_manager.specs.Kept.{Each, IsSound, IsTyped, IsPerformable, IsKept, illegal_message_at}
 use Rattle.tl_manager.specs.Record.{is_of_block}
 use Rattle.tl_manager.specs.Request.{request_if, request_carried}
-use Rattle.tl_manager.specs.Service.{Service, services, serving, least_free, trackers_of}
+use Rattle.tl_manager.specs.Service.{Service, services, serving, least_untaken, trackers_of}
 use Rattle.tl_manager.specs.Slave.{End, Judgement, Breaks, Waits, Passes, level_of, with_block, written, probing_or, begun_with, begun_if_any, performed_if_any, settled, done_c, done, deed, judged, Refused, Stalled, refused, offered_as, offered}
 use Rattle.tl_manager.proofs.Continued.{whole_request}
 use Rattle.tl_manager.proofs.Judged.{passed}
@@ -54,12 +54,14 @@ access_code a.Intent e = omega arith
 access_code a.AcquireBlock e = absurd cc
 access_code a.AcquirePerm e = absurd cc
 
-effect_same : {w : ℕ} (config : Config) (s : Service w) (o : Option Level) (memory : Memory) (address : ℕ) → IsWidth w → is_acquire s.request.opcode ≡ false → IsPerformable config s → illegal_message_at o (A s.request) ≡ None → block_at address ≢ block_at s.request.address → (effect (A s.request) memory).0 address ≡ memory address
+effect_same : {w : ℕ} (config : Config) (s : Service w) (o : Option Level) (memory : Memory) (address : ℕ) → IsWidth w → is_acquire s.request.opcode ≡ false → IsPerformable config s
+    → illegal_message_at o (A s.request) ≡ None → block_at address ≢ block_at s.request.address → (effect (A s.request) memory).0 address ≡ memory address
 effect_same config s None memory address width access ok legal other = absurd cc
 effect_same config s (Some l) memory address width access ok legal other =
     effect_elsewhere (A s.request) width (access_at_uh l s.request width (access_code s.request.opcode access) legal) ok.blank memory address other
 
-performed_same : {w : ℕ} (config : Config) (s : Service w) (t : Trace w) (memory : Memory) (address : ℕ) → IsWidth w → IsPerformable config s → block_at address ≢ block_at s.request.address → Same (performed config s t memory) memory address
+performed_same : {w : ℕ} (config : Config) (s : Service w) (t : Trace w) (memory : Memory) (address : ℕ) → IsWidth w → IsPerformable config s → block_at address ≢ block_at s.request.address
+    → Same (performed config s t memory) memory address
 performed_same {w} config s t memory address width ok other = go (is_acquire s.request.opcode) refl
   where
     go : (b : Bool) → is_acquire s.request.opcode ≡ b
@@ -73,11 +75,13 @@ probing_same : {w : ℕ} (d : Deed w) (block : ℕ) (c : Cap) (clients : List �
 probing_same d block c [] memory address same = same
 probing_same d block c (client ∷ clients) memory address same = refl
 
-begun_same : {w : ℕ} (config : Config) (o : Option Cap) (s : Service w) (t : Trace w) (memory : Memory) (address : ℕ) → Same (performed config s t memory) memory address → Same (begun_with config o s t memory) memory address
+begun_same : {w : ℕ} (config : Config) (o : Option Cap) (s : Service w) (t : Trace w) (memory : Memory) (address : ℕ) → Same (performed config s t memory) memory address
+    → Same (begun_with config o s t memory) memory address
 begun_same config None s t memory address same = same
 begun_same config (Some c) s t memory address same = probing_same (performed config s t memory) (block_at s.request.address) c (probed config s c t) memory address same
 
-begun_new : {w : ℕ} (config : Config) (link : Link) (x : BeatA w) (beats : List (Beat w)) (tracker : ℕ) (t : Trace w) (memory : Memory) (address : ℕ) (fits : Bool) (e : nat_le x.size 6 ≡ fits) → IsWidth w → IsSound config (link, beat.A x) → Each (IsWhole config link x) beats → length beats ≡ burst_length (beat.A x)
+begun_new : {w : ℕ} (config : Config) (link : Link) (x : BeatA w) (beats : List (Beat w)) (tracker : ℕ) (t : Trace w) (memory : Memory) (address : ℕ) (fits : Bool) (e : nat_le x.size 6 ≡ fits)
+    → IsWidth w → IsSound config (link, beat.A x) → Each (IsWhole config link x) beats → length beats ≡ burst_length (beat.A x)
     → block_at address ≢ block_at x.address
     → Same (begun_if_any config (option_map (λ m. record { tracker = tracker; link = link; request = m }) (request_if x beats fits e)) t memory) memory address
 begun_new config link x beats tracker t memory address false e width sound whole long other = refl
@@ -86,15 +90,18 @@ begun_new config link x beats tracker t memory address true e width sound whole 
 
 -- ---- channel C
 
-found_same : {w : ℕ} (config : Config) (block : ℕ) (ss : List (Service w)) (t : Trace w) (memory : Memory) (address : ℕ) → IsWidth w → Each (IsPerformable config) ss → block_at address ≢ block → Same (performed_if_any config (serving block ss) t memory) memory address
+found_same : {w : ℕ} (config : Config) (block : ℕ) (ss : List (Service w)) (t : Trace w) (memory : Memory) (address : ℕ) → IsWidth w → Each (IsPerformable config) ss
+    → block_at address ≢ block → Same (performed_if_any config (serving block ss) t memory) memory address
 found_same config block [] t memory address width each other = refl
 found_same {w} config block (s ∷ ss) t memory address width each other = go (block_at s.request.address == block) refl (found_same config block ss t memory address width each.1 other)
   where
-    go : (b : Bool) → (block_at s.request.address == block) ≡ b → Same (performed_if_any config (serving block ss) t memory) memory address → Same (performed_if_any config (cond b (Some s) (serving block ss)) t memory) memory address
+    go : (b : Bool) → (block_at s.request.address == block) ≡ b → Same (performed_if_any config (serving block ss) t memory) memory address
+        → Same (performed_if_any config (cond b (Some s) (serving block ss)) t memory) memory address
     go true e rest = performed_same config s t memory address width each.0 (λ f. other (f ∙ eqb-true (block_at s.request.address) block e))
     go false e rest = rest
 
-settled_same : {w : ℕ} (config : Config) (block : ℕ) (t : Trace w) (memory : Memory) (address : ℕ) → IsWidth w → Each (IsPerformable config) (services t) → block_at address ≢ block → Same (settled config block t memory) memory address
+settled_same : {w : ℕ} (config : Config) (block : ℕ) (t : Trace w) (memory : Memory) (address : ℕ) → IsWidth w → Each (IsPerformable config) (services t) → block_at address ≢ block
+    → Same (settled config block t memory) memory address
 settled_same {w} config block t memory address width each other = go (is_settled config block t)
   where
     go : (b : Bool) → Same (if b then performed_if_any config (serving block (services t)) t memory else nothing memory) memory address
@@ -108,7 +115,8 @@ written_same {w} x beats memory address other = go (c_carries_data x.opcode)
     go true = rw other refl
     go false = refl
 
-done_c_same : {w : ℕ} (config : Config) (link : Link) (x : BeatC w) (t : Trace w) (memory : Memory) (address : ℕ) → IsWidth w → Each (IsPerformable config) (services t) → block_at address ≢ block_at x.address → Same (done_c config link x t memory) memory address
+done_c_same : {w : ℕ} (config : Config) (link : Link) (x : BeatC w) (t : Trace w) (memory : Memory) (address : ℕ) → IsWidth w → Each (IsPerformable config) (services t)
+    → block_at address ≢ block_at x.address → Same (done_c config link x t memory) memory address
 done_c_same {w} config link x t memory address width each other = go (is_release x.opcode) (is_probe_ack x.opcode)
   where
     go : (r p : Bool) → Same (if r then record { handed = (link, release_ack x.source) ∷ []; memory = memory } else if p then settled config (block_at x.address) t memory else nothing memory) memory address
@@ -131,7 +139,7 @@ unfolding request_carried
 done_same config link x e address width before passes other false last = refl
 done_same {w} config link (beat.A x) e address width before passes other true last =
     let long = eqb-true (length (unfinished channel.A (on_link link.0 e.trace)) + 1) (burst_length (beat.A x)) last in
-    begun_new config link x (beat.A x ∷ unfinished channel.A (on_link link.0 e.trace)) (least_free (trackers_of (services e.trace))) ((link, beat.A x) ∷ e.trace) e.memory address (nat_le x.size 6) refl width passes.sound
+    begun_new config link x (beat.A x ∷ unfinished channel.A (on_link link.0 e.trace)) (least_untaken (trackers_of (services e.trace))) ((link, beat.A x) ∷ e.trace) e.memory address (nat_le x.size 6) refl width passes.sound
     (whole_request config link x e.trace passes.sound before.sound (before.bursts link.0) passes.order) (omega (arith, long)) (unlike address (block_at x.address) other)
 done_same config link (beat.B x) e address width before passes other true last = refl
 done_same {w} config link (beat.C x) e address width before passes other true last =
@@ -142,28 +150,33 @@ done_same {w} config link (beat.C x) e address width before passes other true la
 done_same config link (beat.D x) e address width before passes other true last = refl
 done_same config link (beat.E x) e address width before passes other true last = refl
 
-deed_same : {w : ℕ} (config : Config) (link : Link) (x : Beat w) (e : End w) (address : ℕ) → IsWidth w → IsKept config e → IsPassed config link x e.trace → is_of_block (block_at address) x ≡ false → Same (deed config link x e) e.memory address
+deed_same : {w : ℕ} (config : Config) (link : Link) (x : Beat w) (e : End w) (address : ℕ) → IsWidth w → IsKept config e → IsPassed config link x e.trace
+    → is_of_block (block_at address) x ≡ false → Same (deed config link x e) e.memory address
 unfolding deed
 deed_same config link x e address width before passes other = done_same config link x e address width before passes other (ends x (on_link link.0 e.trace)) refl
 
-memory_as : {w : ℕ} (j : Judgement) (config : Config) (link : Link) (ch : Channel) (x : Beat w) (e : End w) (address : ℕ) → IsWidth w → IsTyped x → judged config link ch x e ≡ j → IsKept config e → is_of_block (block_at address) x ≡ false
+memory_as : {w : ℕ} (j : Judgement) (config : Config) (link : Link) (ch : Channel) (x : Beat w) (e : End w) (address : ℕ) → IsWidth w → IsTyped x → judged config link ch x e ≡ j
+    → IsKept config e → is_of_block (block_at address) x ≡ false
     → (offered_as j config link x e).1.memory address ≡ e.memory address
 memory_as (Breaks r) config link ch x e address width typed is before other = refl
 memory_as Waits config link ch x e address width typed is before other = refl
 memory_as Passes config link ch x e address width typed is before other = deed_same config link x e address width before (passed config link ch x e typed is) other
 
-pub memory-elsewhere : {w : ℕ} (config : Config) (link : Link) (ch : Channel) (x : Beat w) (e : End w) (address : ℕ) → IsWidth w → IsTyped x → IsKept config e → is_of_block (block_at address) x ≡ false → (offered config link ch x e).1.memory address ≡ e.memory address
+pub memory-elsewhere : {w : ℕ} (config : Config) (link : Link) (ch : Channel) (x : Beat w) (e : End w) (address : ℕ) → IsWidth w → IsTyped x → IsKept config e
+    → is_of_block (block_at address) x ≡ false → (offered config link ch x e).1.memory address ≡ e.memory address
 unfolding offered
 memory-elsewhere config link ch x e address width typed before other = memory_as (judged config link ch x e) config link ch x e address width typed refl before other
 
 -- ---- a beat that isn't taken
 
-refused_as : {w : ℕ} (j : Judgement) (config : Config) (link : Link) (x : Beat w) (e : End w) (rule : Rule) → (offered_as j config link x e).0 ≡ Refused rule → (offered_as j config link x e).1 ≡ refused link e
+refused_as : {w : ℕ} (j : Judgement) (config : Config) (link : Link) (x : Beat w) (e : End w) (rule : Rule) → (offered_as j config link x e).0 ≡ Refused rule
+    → (offered_as j config link x e).1 ≡ refused link e
 refused_as (Breaks r) config link x e rule is = refl
 refused_as Waits config link x e rule is = absurd cc
 refused_as Passes config link x e rule is = absurd cc
 
-pub refusal-closes : {w : ℕ} (config : Config) (link : Link) (ch : Channel) (x : Beat w) (e : End w) (rule : Rule) → (offered config link ch x e).0 ≡ Refused rule → (offered config link ch x e).1 ≡ refused link e
+pub refusal-closes : {w : ℕ} (config : Config) (link : Link) (ch : Channel) (x : Beat w) (e : End w) (rule : Rule) → (offered config link ch x e).0 ≡ Refused rule
+    → (offered config link ch x e).1 ≡ refused link e
 unfolding offered
 refusal-closes config link ch x e rule is = refused_as (judged config link ch x e) config link x e rule is
 

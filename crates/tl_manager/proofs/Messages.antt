@@ -64,7 +64,8 @@ probes-append : {w : ℕ} (block : ℕ) (cap : Cap) (cs ds : List ℕ) → probe
 probes-append block cap [] ds = refl
 probes-append {w} block cap (c ∷ cs) ds = ap (λ (h : Handed w). (record { 0 = c }, probe_of_block block cap) ∷ h) (probes-append block cap cs ds)
 
-pub probes-sent : {w : ℕ} (block n : ℕ) (cap : Cap) (test : ℕ → Bool) (handed : Handed w) (m : Message w) → handed ≡ probes block cap (clients_from 0 n test) → m ≡ probe_of_block block cap → test n ≡ true
+pub probes-sent : {w : ℕ} (block n : ℕ) (cap : Cap) (test : ℕ → Bool) (handed : Handed w) (m : Message w) → handed ≡ probes block cap (clients_from 0 n test) → m ≡ probe_of_block block cap
+    → test n ≡ true
     → handed ++ (record { 0 = n }, m) ∷ [] ≡ probes block cap (clients_from 0 (n + 1) test)
 probes-sent {w} block n cap test handed m e is passes =
     rw (e, is) (sym (ap (probes {w = w} block cap) (clients-more n test true passes) ∙ probes-append block cap (clients_from 0 n test) (n ∷ [])))

@@ -13,7 +13,8 @@ use Rattle.tl_manager.specs.declared.manager.admission.Admission.{Admission}
 use Rattle.tl_manager.specs.declared.manager.admission.Admission.TheVariants as admission
 use Rattle.tl_manager.specs.declared.manager.links.Links.{Links}
 
-pub offered-broken : {w : ℕ} (config : Config) (link : Link) (ch : Channel) (x : Beat w) (e : End w) (rule : Rule) → Err rule ≡ admission_of (judged config link ch x e) → offered config link ch x e ≡ (Refused rule, refused link e)
+pub offered-broken : {w : ℕ} (config : Config) (link : Link) (ch : Channel) (x : Beat w) (e : End w) (rule : Rule) → Err rule ≡ admission_of (judged config link ch x e)
+    → offered config link ch x e ≡ (Refused rule, refused link e)
 unfolding offered
 offered-broken {w} config link ch x e rule is = go (judged config link ch x e) is
   where
@@ -22,7 +23,8 @@ offered-broken {w} config link ch x e rule is = go (judged config link ch x e) i
     go Waits f = absurd cc
     go Passes f = absurd cc
 
-pub offered-waits : {w : ℕ} (config : Config) (link : Link) (ch : Channel) (x : Beat w) (e : End w) (a : Admission) → a ≡ admission.Waits → Ok a ≡ admission_of (judged config link ch x e) → offered config link ch x e ≡ (Stalled, e)
+pub offered-waits : {w : ℕ} (config : Config) (link : Link) (ch : Channel) (x : Beat w) (e : End w) (a : Admission) → a ≡ admission.Waits → Ok a ≡ admission_of (judged config link ch x e)
+    → offered config link ch x e ≡ (Stalled, e)
 unfolding offered
 offered-waits {w} config link ch x e a waits is = go (judged config link ch x e) (rw waits at is)
   where
@@ -31,7 +33,8 @@ offered-waits {w} config link ch x e a waits is = go (judged config link ch x e)
     go Waits f = refl
     go Passes f = absurd cc
 
-pub offered-passes : {w : ℕ} (config : Config) (link : Link) (ch : Channel) (x : Beat w) (e : End w) (a : Admission) → a ≡ admission.Passes → Ok a ≡ admission_of (judged config link ch x e) → offered config link ch x e ≡ (Sent (deed config link x e).handed, taken link x (deed config link x e) e)
+pub offered-passes : {w : ℕ} (config : Config) (link : Link) (ch : Channel) (x : Beat w) (e : End w) (a : Admission) → a ≡ admission.Passes → Ok a ≡ admission_of (judged config link ch x e)
+    → offered config link ch x e ≡ (Sent (deed config link x e).handed, taken link x (deed config link x e) e)
 unfolding offered
 offered-passes {w} config link ch x e a passes is = go (judged config link ch x e) (rw passes at is)
   where
@@ -42,7 +45,8 @@ offered-passes {w} config link ch x e a passes is = go (judged config link ch x 
 
 -- ---- it knows some end
 
-pub manager-after : {w : ℕ} {M : Type 0} (perm_of : M → ℕ → ℕ → Perm) (blocks_of clients_of : M → ℕ) (old new : Links w M) (e : End w) → (known : IsManager perm_of blocks_of clients_of old) → Knows perm_of new known.config e
+pub manager-after : {w : ℕ} {M : Type 0} (perm_of : M → ℕ → ℕ → Perm) (blocks_of clients_of : M → ℕ) (old new : Links w M) (e : End w) → (known : IsManager perm_of blocks_of clients_of old)
+    → Knows perm_of new known.config e
     → blocks_of new.home.directory ≡ blocks_of old.home.directory → clients_of new.home.directory ≡ clients_of old.home.directory → IsManager perm_of blocks_of clients_of new
 manager-after perm_of blocks_of clients_of old new e known k blocks clients =
     let was = known.knows in

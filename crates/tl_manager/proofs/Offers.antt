@@ -19,7 +19,7 @@ use Rattle.tl_burst.specs.Messages.{channel_of}
 use Rattle.tl_params.specs.declared.config.Config.{Config}
 use Rattle.tl_params.specs.declared.level.Level.{Level}
 use Rattle.tl_params.specs.declared.profile.Profile.{Profile}
-use Rattle.tl_manager.specs.Slave.{End, Answer, Sent, fresh, offered}
+use Rattle.tl_manager.specs.Slave.{End, Reception, Sent, fresh, offered}
 
 -- a manager of so many blocks and trackers, whose links have these levels
 abbrev pub with_links : Profile → ℕ → ℕ → List Level → Config
@@ -46,28 +46,30 @@ on_channel link ch x = record { link = link; channel = ch; beat = x }
 abbrev pub on : {w : ℕ} → ℕ → Beat w → Offer w
 on link x = on_channel link (channel_of x) x
 
-abbrev pub with_first : {w : ℕ} → Answer w → List (Answer w) × End w → List (Answer w) × End w
+abbrev pub with_first : {w : ℕ} → Reception w → List (Reception w) × End w → List (Reception w) × End w
 with_first answer later = (answer ∷ later.0, later.1)
 
-abbrev pub and_then : {w : ℕ} → Answer w × End w → (End w → List (Answer w) × End w) → List (Answer w) × End w
+abbrev pub and_then : {w : ℕ} → Reception w × End w → (End w → List (Reception w) × End w) → List (Reception w) × End w
 and_then first later = with_first first.0 (later first.1)
 
 -- the answers to these beats, offered one after another, and the end afterwards
-abbrev pub offer_all : {w : ℕ} → Config → List (Offer w) → End w → List (Answer w) × End w
+abbrev pub offer_all : {w : ℕ} → Config → List (Offer w) → End w → List (Reception w) × End w
 offer_all config [] e = ([], e)
 offer_all config (x ∷ xs) e = and_then (offered config (link_of x.link) x.channel x.beat e) (offer_all config xs)
 
 -- the answers of a manager that has taken nothing yet
-abbrev pub answers_to : {w : ℕ} → Config → List (Offer w) → List (Answer w)
+abbrev pub answers_to : {w : ℕ} → Config → List (Offer w) → List (Reception w)
 answers_to config offers = (offer_all config offers fresh).0
 
 -- ---- beats
 
 abbrev pub request : {w : ℕ} (opcode : OpA) → false ≡ a_carries_data opcode → ℕ → ℕ → ℕ → ℕ → ℕ → Beat w
-request opcode carries param size source address mask = A (record { opcode = opcode; param = param; size = size; source = source; address = address; mask = mask; lanes = None; corrupt = false; carries = carries })
+request opcode carries param size source address mask =
+    A (record { opcode = opcode; param = param; size = size; source = source; address = address; mask = mask; lanes = None; corrupt = false; carries = carries })
 
 abbrev pub request_of_data : {w : ℕ} (opcode : OpA) → true ≡ a_carries_data opcode → ℕ → ℕ → ℕ → ℕ → List ℕ → Beat w
-request_of_data opcode carries param size address mask lanes = A (record { opcode = opcode; param = param; size = size; source = 0; address = address; mask = mask; lanes = Some lanes; corrupt = false; carries = carries })
+request_of_data opcode carries param size address mask lanes =
+    A (record { opcode = opcode; param = param; size = size; source = 0; address = address; mask = mask; lanes = Some lanes; corrupt = false; carries = carries })
 
 abbrev pub get : {w : ℕ} → ℕ → ℕ → ℕ → Beat w
 get {w} source size address = request a.Get refl 0 size source address (2 ^ w - 1)
@@ -104,7 +106,7 @@ abbrev pub to : {w : ℕ} → ℕ → Message w → Link × Message w
 to link m = (link_of link, m)
 
 -- what one message is answered with
-abbrev pub said : {w : ℕ} → ℕ → Message w → Answer w
+abbrev pub said : {w : ℕ} → ℕ → Message w → Reception w
 said link m = Sent (to link m ∷ [])
 
 abbrev pub on_d : {w : ℕ} → OpD → ℕ → ℕ → ℕ → List ℕ → Message w

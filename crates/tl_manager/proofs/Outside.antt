@@ -1,6 +1,6 @@
 -- Nothing is recorded of blocks outside of the map.
 use Rattle.std.proofs.Common.{◌≡◌, ℕ, ◌≤◌, ◌==◌, Bool, true, false, ◌&&◌, ◌||◌, [], ◌∷◌, Some, None, refl, arith}
-use Rattle.std.specs.Prelude.{if◌then◌else◌, nat_le}
+use Rattle.std.specs.Prelude.{if◌then◌else◌, nat_le, unwrap_or}
 use Rattle.std.proofs.lemmas.Bool.{ne_eqb, leb-false}
 use Rattle.tl_beat.specs.declared.beat.Beat.{Beat}
 use Rattle.tl_beat.specs.declared.beat.Beat.TheVariants as beat
@@ -9,10 +9,10 @@ use Rattle.tl_burst.specs.Messages.{History}
 use Rattle.tl_params.specs.declared.config.Config.{Config}
 use Rattle.tl_params.specs.declared.perm.Perm.TheVariants as perm
 use Rattle.tl_rules.specs.Conformance.{Trace, on_link}
-use Rattle.tl_rules.specs.History.{begins, ends, block_at, is_grant, is_probe_ack, is_release, asks_for, request_of, says_held, or_perm, held}
+use Rattle.tl_rules.specs.History.{begins, ends, block_at, is_grant, is_probe_ack, is_release, asks_for, request_of, says_held, held}
+use Rattle.tl_rules.proofs.Open.{never}
 use Rattle.tl_manager.specs.Holders.{recorded}
 use Rattle.tl_manager.specs.Kept.{Each, IsSound}
-use Rattle.tl_manager.proofs.Lists.{never}
 use Rattle.tl_manager.proofs.Sound.{sound_on_link}
 
 abbrev Sound : {w : ℕ} → Config → Link → History w → Type 0
@@ -46,7 +46,7 @@ unfolding held
 unheld config link k [] each past = refl
 unheld {w} config link k (x ∷ t) each past = go (ends x t) (unheld config link k t each.1 past)
   where
-    go : (b : Bool) → held k t ≡ perm.None → (if b then or_perm (says_held k x t) (held k t) else held k t) ≡ perm.None
+    go : (b : Bool) → held k t ≡ perm.None → (if b then unwrap_or (says_held k x t) (held k t) else held k t) ≡ perm.None
     go true rest = rw (unsaid config link k x t each.0 each.1 past) rest
     go false rest = rest
 

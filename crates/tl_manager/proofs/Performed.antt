@@ -33,13 +33,15 @@ grants_by_opcode true = (refl, refl)
 grants_by_opcode false = (refl, refl)
 
 -- a Grant is a message of channel D with the source of its request and the tracker as its sink
-pub grant_is : {w : ℕ} (config : Config) (s : Service w) (t : Trace w) (memory : Memory) → (m : MessageD w) × (grant config s t memory ≡ D m) × (is_grant m.opcode ≡ true) × (is_release_ack m.opcode ≡ false) × (m.source ≡ s.request.source) × (m.sink ≡ s.tracker)
+pub grant_is : {w : ℕ} (config : Config) (s : Service w) (t : Trace w) (memory : Memory)
+    → (m : MessageD w) × (grant config s t memory ≡ D m) × (is_grant m.opcode ≡ true) × (is_release_ack m.opcode ≡ false) × (m.source ≡ s.request.source) × (m.sink ≡ s.tracker)
 grant_is config s t memory =
     let kind = grants_by_opcode (is_granted_data s.request.opcode s.request.param (recorded s.link.0 (block_at s.request.address) t)) in
     (_, refl, kind.0, kind.1, refl, refl)
 
 -- and so is an answer to an access
-pub answer_is : {w : ℕ} (r : MessageA w) (kind : Answer) → (m : MessageD w) × (access_answer r kind ≡ D m) × (is_access_answer m.opcode ≡ true) × (is_release_ack m.opcode ≡ false) × (m.source ≡ r.source)
+pub answer_is : {w : ℕ} (r : MessageA w) (kind : Answer)
+    → (m : MessageD w) × (access_answer r kind ≡ D m) × (is_access_answer m.opcode ≡ true) × (is_release_ack m.opcode ≡ false) × (m.source ≡ r.source)
 answer_is r answer.Ack = (_, refl, refl, refl, refl)
 answer_is r answer.Hint = (_, refl, refl, refl, refl)
 answer_is r (answer.Data payload) = (_, refl, refl, refl, refl)
@@ -59,7 +61,8 @@ reply_of config n s m t is other source = record {
   trackers_apart = is.trackers_apart;
 }
 
-answered_steady : {w : ℕ} (config : Config) (n : ℕ) (s : Service w) (m : MessageD w) (t : Trace w) → IsReady config n s t → is_acquire s.request.opcode ≡ false → is_access_answer m.opcode ≡ true → IsReply n s m t → is_grant m.opcode ≡ false → IsSteady config (after_sent s.link (D m) t)
+answered_steady : {w : ℕ} (config : Config) (n : ℕ) (s : Service w) (m : MessageD w) (t : Trace w) → IsReady config n s t → is_acquire s.request.opcode ≡ false
+    → is_access_answer m.opcode ≡ true → IsReply n s m t → is_grant m.opcode ≡ false → IsSteady config (after_sent s.link (D m) t)
 answered_steady {w} config n s m t is access kind reply other = record {
   accounted = accounted-answer n s m t reply kind access is.accounted;
   awaited = λ k. awaited k (n == k) refl;

@@ -18,7 +18,7 @@ use Rattle.tl_burst.specs.Burst.{a_beat_of, beat_of, begun, beats_of}
 use Rattle.tl_burst.specs.Messages.{channel_of, unfinished}
 use Rattle.tl_params.specs.declared.config.ClientConfig.{ClientConfig}
 use Rattle.tl_params.specs.declared.config.Config.{Config}
-use Rattle.tl_params.specs.Config.{fault_unless, config_fault}
+use Rattle.tl_params.specs.Config.{config_fault}
 use Rattle.tl_params.specs.Range.{is_from_to}
 use Rattle.tl_params.specs.declared.config.NewFault.{NewFault}
 use Rattle.tl_params.specs.declared.perm.Perm.{Perm}
@@ -29,13 +29,13 @@ use Rattle.tl_rules.specs.Conformance.{on_link}
 use Rattle.tl_rules.specs.Control.{a_control, a_own}
 use Rattle.tl_rules.specs.History.{block_at, is_acquire}
 use Rattle.tl_rules.specs.Legality.{illegal, first_illegal, beats_from, is_aligned, a_of_level, a_has_param, a_has_size, is_one_of}
-use Rattle.tl_rules.proofs.Bursts.{next_rule}
+use Rattle.tl_rules.proofs.Bursts.{next_rule, both_none}
 use Rattle.tl_rules.proofs.Verdicts.{illegal_a}
 use Rattle.tl_manager.specs.Complete.{IsComplete, IsDue}
 use Rattle.tl_manager.specs.Home.{IsPlaced, IsPlacedIn}
 use Rattle.tl_manager.specs.Kept.{Each, IsPerformable, illegal_message_at}
 use Rattle.tl_manager.specs.Knows.{Knows, IsManager}
-use Rattle.tl_manager.specs.Service.{Service, services, serving, trackers_of, least_free}
+use Rattle.tl_manager.specs.Service.{Service, services, serving, trackers_of, least_untaken}
 use Rattle.tl_manager.specs.Slave.{End, level_of}
 use Rattle.tl_manager.specs.Tracked.{service_with, IsTracked}
 use Rattle.tl_manager.specs.Trackers.{tracker_at}
@@ -47,8 +47,8 @@ use Rattle.tl_manager.proofs.Completed.{is_served}
 use Rattle.tl_manager.proofs.Events.{services-request}
 use Rattle.tl_manager.proofs.Keeping.{are_served, taken_beat}
 use Rattle.tl_manager.proofs.Serving.{some_is}
-use Rattle.tl_manager.proofs.Taking.{granting-among}
-use Rattle.tl_manager.proofs.Masks.{both_none, legal-small}
+use Rattle.tl_manager.proofs.Masks.{legal-small}
+use Rattle.tl_manager.proofs.Requested.{granting_taken}
 
 access_of : (opcode : OpA) → is_acquire opcode ≡ false → a_of_level level.UH opcode ≡ true
 access_of a.PutFullData e = refl
@@ -82,7 +82,8 @@ beat-uh {w} l x width access e =
     illegal_a level.UH x
     ∙ rw (access_of x.opcode access, not-false _ two.0, access_size w l x.opcode x.size access small (not-false _ three.0), not-false _ four.0) p.1
 
-legal-uh : {w : ℕ} (l : Level) (m : MessageA w) (i n : ℕ) → IsWidth w → is_acquire m.opcode ≡ false → first_illegal l channel.A (beats_from (A m) i n) ≡ None → first_illegal level.UH channel.A (beats_from (A m) i n) ≡ None
+legal-uh : {w : ℕ} (l : Level) (m : MessageA w) (i n : ℕ) → IsWidth w → is_acquire m.opcode ≡ false → first_illegal l channel.A (beats_from (A m) i n) ≡ None
+    → first_illegal level.UH channel.A (beats_from (A m) i n) ≡ None
 unfolding first_illegal beats_from
 legal-uh l m i zero width access e = refl
 legal-uh {w} l m i (suc n) width access e =
@@ -96,7 +97,8 @@ client-within config client l e = go (slice_get config.clients.items client) ref
     go None f g = absurd cc
     go (Some c) f g = slice_get_within config.clients.items client c f
 
-pub is-placed : {w : ℕ} (config : Config) (s : Service w) (blocks clients : ℕ) → IsWidth w → IsPerformable config s → blocks ≡ config.blocks → length config.clients.items ≤ clients → IsPlaced blocks clients s.link s.request
+pub is-placed : {w : ℕ} (config : Config) (s : Service w) (blocks clients : ℕ) → IsWidth w → IsPerformable config s → blocks ≡ config.blocks → length config.clients.items ≤ clients
+    → IsPlaced blocks clients s.link s.request
 is-placed {w} config s blocks clients width ok same covered = go (level_of config s.link.0) refl ok.lawful
   where
     go : (o : Option Level) → level_of config s.link.0 ≡ o → illegal_message_at o (A s.request) ≡ None → IsPlaced blocks clients s.link s.request
@@ -113,7 +115,7 @@ is-placed {w} config s blocks clients width ok same covered = go (level_of confi
 at-most : (low high n : ℕ) → is_from_to low high n ≡ true → n ≤ high
 at-most low high n e = leb-true n high (and_parts (nat_le low n) (nat_le n high) e).1
 
-within : (b : Bool) (fault : NewFault) (rest : Option NewFault) → fault_unless b fault rest ≡ None → (b ≡ true) × (rest ≡ None)
+within : (b : Bool) (fault : NewFault) (rest : Option NewFault) → (if not b then Some fault else rest) ≡ None → (b ≡ true) × (rest ≡ None)
 within true fault rest e = (refl, e)
 within false fault rest e = absurd cc
 
@@ -134,12 +136,14 @@ serving-each {w} P n (v ∷ ss) s each e = go (block_at v.request.address == n) 
     go true rest f = subst P (some_is v s f) each.0
     go false rest f = rest f
 
-pub are-placed : {w : ℕ} {M : Type 0} (perm_of : M → ℕ → ℕ → Perm) (links : Links w M) (config : Config) (e : End w) (clients n : ℕ) → IsWidth w → Knows perm_of links config e → length config.clients.items ≤ clients → IsPlacedIn (length links.home.blocks.bytes.items) clients (tracker_at links.home.trackers n)
+pub are-placed : {w : ℕ} {M : Type 0} (perm_of : M → ℕ → ℕ → Perm) (links : Links w M) (config : Config) (e : End w) (clients n : ℕ) → IsWidth w → Knows perm_of links config e
+    → length config.clients.items ≤ clients → IsPlacedIn (length links.home.blocks.bytes.items) clients (tracker_at links.home.trackers n)
 are-placed {w} perm_of links config e clients n width k covered = go (tracker_at links.home.trackers n) (k.home.tracked n tt)
   where
     go : (tracker : Tracker w) → IsTracked n tracker e.trace → IsPlacedIn (length links.home.blocks.bytes.items) clients tracker
     go Free is = tt
-    go (Probing link request missing) is = is-placed config (service_with n link request) (length links.home.blocks.bytes.items) clients width (serving-each (IsPerformable config) (block_at request.address) (services e.trace) (service_with n link request) k.kept.requests is.serves) k.size covered
+    go (Probing link request missing) is =
+        is-placed config (service_with n link request) (length links.home.blocks.bytes.items) clients width (serving-each (IsPerformable config) (block_at request.address) (services e.trace) (service_with n link request) k.kept.requests is.serves) k.size covered
     go (Granted link block) is = tt
 
 -- ---- what is due for a message
@@ -156,14 +160,15 @@ among-below k n (m ∷ ns) each e = go (n == m) refl (λ f. among-below k n ns e
     go true f rest g = let same = eqb-true n m f in let lt = each.0 in omega (arith, same, lt)
     go false f rest g = rest g
 
-pub is-due : {w : ℕ} (config : Config) (link : Link) (x : Beat w) (message : Message w) (e : End w) (blocks clients : ℕ) → config.trackers ≤ 8 → blocks ≡ config.blocks → length config.clients.items ≤ clients → IsComplete config link x message e → IsDue blocks clients link message
+pub is-due : {w : ℕ} (config : Config) (link : Link) (x : Beat w) (message : Message w) (e : End w) (blocks clients : ℕ) → config.trackers ≤ 8 → blocks ≡ config.blocks
+    → length config.clients.items ≤ clients → IsComplete config link x message e → IsDue blocks clients link message
 is-due {w} config link x message e blocks clients few same covered is =
     let head = newest message x (unfinished (channel_of x) (on_link link.0 e.trace)) (beats_of message) is.burst.0 in
     go message head.0 (subst (λ (y : Beat w). IsComplete config link y message e) head.1 is)
   where
     go : (message : Message w) (k : ℕ) → IsComplete config link (beat_of message k) message e → IsDue blocks clients link message
     go (A m) k done =
-        let number = least_free (trackers_of (services e.trace)) in
+        let number = least_untaken (trackers_of (services e.trace)) in
         let served = is_served number link (a_beat_of m k) m e.trace done.taken.width done.filled done.last done.burst refl in
         let more = services-request link (a_beat_of m k) (service_with number link m) e.trace served in
         let all = (taken_beat config link (beat.A (a_beat_of m k)) e done.taken.width done.taken.before done.taken.passes (are_served config e done.taken.before)).requests in
@@ -172,12 +177,13 @@ is-due {w} config link x message e blocks clients few same covered is =
     go (C m) k done = let lt = leb-false config.blocks (block_at m.address) done.taken.passes.sound.inside in omega (arith, lt, same)
     go (D m) k done = absurd (let no = done.taken.passes.theirs in cc)
     go (E m) k done =
-        let taken = granting-among link.0 m.sink (services e.trace) (done.taken.before.sinks link.0 m.sink (acked-sink config.profile (record { sink = m.sink }) (on_link link.0 e.trace) done.taken.passes.order)) in
+        let taken = granting_taken link.0 m.sink (services e.trace) (done.taken.before.sinks link.0 m.sink (acked-sink config.profile (record { sink = m.sink }) (on_link link.0 e.trace) done.taken.passes.order)) in
         let lt = among-below config.trackers m.sink (trackers_of (services e.trace)) done.taken.before.tracked taken in
         omega (arith, lt, few)
 
 -- so all that a message needs is there
-pub can-complete : {w : ℕ} {M : Type 0} (perm_of : M → ℕ → ℕ → Perm) (blocks_of clients_of : M → ℕ) (links : Links w M) (link : Link) (x : Beat w) (m : Message w) → (known : IsManager perm_of blocks_of clients_of links) → link.0 < length links.wires.items → IsComplete known.config link x m known.end
+pub can-complete : {w : ℕ} {M : Type 0} (perm_of : M → ℕ → ℕ → Perm) (blocks_of clients_of : M → ℕ) (links : Links w M) (link : Link) (x : Beat w) (m : Message w)
+    → (known : IsManager perm_of blocks_of clients_of links) → link.0 < length links.wires.items → IsComplete known.config link x m known.end
     → (link.0 < 16) × (link.0 < clients_of links.home.directory) × IsDue (length links.home.blocks.bytes.items) (clients_of links.home.directory) link m × ((n : ℕ) → IsPlacedIn (length links.home.blocks.bytes.items) (clients_of links.home.directory) (tracker_at links.home.trackers n))
     × (length links.home.blocks.bytes.items ≤ 1024) × (links.home.trackers.count ≤ 8)
 can-complete perm_of blocks_of clients_of links link x m known inside is =

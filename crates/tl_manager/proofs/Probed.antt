@@ -11,12 +11,13 @@ use Rattle.tl_params.specs.declared.param.Cap.{Cap}
 use Rattle.tl_rules.specs.Conformance.{Trace, on_link}
 use Rattle.tl_rules.specs.History.{block_at, is_acquire, pending}
 use Rattle.tl_rules.specs.Legality.{is_one_of}
+use Rattle.tl_rules.proofs.Sent.{pending-quiet}
 use Rattle.tl_manager.specs.Handing.{with_handed, probes, probe_beat}
 use Rattle.tl_manager.specs.Holders.{recorded, is_missing, is_settled, is_above, is_spared, cap_probed, probed}
 use Rattle.tl_manager.specs.Pending.{is_granted, is_awaited, IsSteady}
 use Rattle.tl_manager.specs.Service.{Service, services, serving}
 use Rattle.tl_manager.proofs.Clients.{among-where, nobody-where}
-use Rattle.tl_manager.proofs.Links.{beat-keeps, pending-quiet}
+use Rattle.tl_manager.proofs.Links.{beat-keeps}
 use Rattle.tl_manager.proofs.Lists.{each_client, each_weaker}
 use Rattle.tl_manager.proofs.Probes.{probes-within, services-probes}
 use Rattle.tl_manager.proofs.Probing.{missing-own_b, missing-else_b, accounted-probes}
@@ -24,7 +25,8 @@ use Rattle.tl_manager.proofs.Unmoved.{awaited-same}
 use Rattle.tl_manager.specs.Ready.{IsReady}
 
 -- what a Probe leaves on each link, several leave
-pub probes-keep : {w : ℕ} {A : Type 0} (value : History w → A) (c n : ℕ) (k : Cap) (clients : List ℕ) (t : Trace w) → ((h : History w) → value (beat.B (probe_beat n k) ∷ h) ≡ value h) → value (on_link c (with_handed (probes n k clients) t)) ≡ value (on_link c t)
+pub probes-keep : {w : ℕ} {A : Type 0} (value : History w → A) (c n : ℕ) (k : Cap) (clients : List ℕ) (t : Trace w) → ((h : History w) → value (beat.B (probe_beat n k) ∷ h) ≡ value h)
+    → value (on_link c (with_handed (probes n k clients) t)) ≡ value (on_link c t)
 unfolding with_handed
 probes-keep value c n k [] t same = refl
 probes-keep value c n k (d ∷ clients) t same =
@@ -52,7 +54,8 @@ missing-probed {w} config n s k t d none among =
     go true e = missing-own_b n k (on_link d t) none
     go false e = absurd cc
 
-pub probes-steady : {w : ℕ} (config : Config) (n : ℕ) (s : Service w) (k : Cap) (d : ℕ) (ds : List ℕ) (t : Trace w) → IsReady config n s t → cap_probed s.request.opcode s.request.param ≡ Some k → probed config s k t ≡ d ∷ ds
+pub probes-steady : {w : ℕ} (config : Config) (n : ℕ) (s : Service w) (k : Cap) (d : ℕ) (ds : List ℕ) (t : Trace w) → IsReady config n s t
+    → cap_probed s.request.opcode s.request.param ≡ Some k → probed config s k t ≡ d ∷ ds
     → IsSteady config (with_handed (probes n k (probed config s k t)) t)
 probes-steady {w} config n s k d ds t is caps someone = record {
   accounted = accounted-probes n k (probed config s k t) s t is.width is.whole (record { serves = is.serves; unanswered = is.unanswered; caps = caps })

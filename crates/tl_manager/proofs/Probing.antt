@@ -10,6 +10,7 @@ use Rattle.tl_beat.specs.declared.beat.Link.{Link}
 use Rattle.tl_beat.specs.declared.opcode.Channel.TheVariants as channel
 use Rattle.tl_beat.specs.declared.opcode.OpC.{OpC}
 use Rattle.tl_beat.specs.declared.opcode.OpC.TheVariants as c
+use Rattle.tl_beat.specs.First.{first_if}
 use Rattle.tl_burst.specs.Messages.{History, unfinished, same_control, breaks_burst}
 use Rattle.tl_burst.specs.Part.{is_empty}
 use Rattle.tl_burst.proofs.ControlFields.{control_c}
@@ -18,9 +19,9 @@ use Rattle.tl_params.specs.declared.param.Cap.{Cap}
 use Rattle.tl_params.specs.declared.profile.Profile.{Profile}
 use Rattle.tl_params.specs.declared.rule.Rule.TheVariants.{S1, H10}
 use Rattle.tl_rules.specs.Conformance.{Trace, on_link, broken_in_order, broken_order, answers_wrong_probe}
-use Rattle.tl_rules.specs.Legality.{rule_if}
 use Rattle.tl_rules.proofs.Bursts.{next_rule}
 use Rattle.tl_rules.specs.History.{begins, ends, opens, closes, block_at, is_probe_ack, is_release, pending, request_of, probe_of, grant_sink}
+use Rattle.tl_rules.proofs.Sent.{pending-quiet}
 use Rattle.tl_manager.specs.Handing.{with_handed, probes, probe_of_block, probe_beat}
 use Rattle.tl_manager.specs.Holders.{cap_probed, is_spared}
 use Rattle.tl_manager.specs.Kept.{Each}
@@ -28,7 +29,7 @@ use Rattle.tl_manager.specs.Pending.{is_granted, IsReporting, IsProbed, IsAccoun
 use Rattle.tl_manager.specs.Service.{Service, services, serving, is_ended_by}
 use Rattle.tl_manager.proofs.Accepted.{granted-kept}
 use Rattle.tl_manager.proofs.Handed.{whole-after_sent}
-use Rattle.tl_manager.proofs.Links.{own_beat, other_beat, beat-keeps, pending-quiet, pending-opened, pending-closed}
+use Rattle.tl_manager.proofs.Links.{own_beat, other_beat, beat-keeps, pending-opened, pending-closed}
 use Rattle.tl_manager.proofs.Probes.{filter-all, services-b}
 use Rattle.tl_manager.proofs.Unmoved.{IsSame, IsQuiet, handled-same, handled-quiet, reports-kept, accounted-kept}
 use Rattle.tl_manager.specs.Ready.{IsWhole}
@@ -69,11 +70,13 @@ missing-before {w} link x t c k e = go (link.0 == c) refl
     still false d f = f
 
     go : (b : Bool) → (link.0 == c) ≡ b → pending (ProbeOf k) (on_link c t) ≡ true
-    go true f = still (ends (beat.C x) (on_link c t) && closes (ProbeOf k) (beat.C x) (on_link c t)) (pending (ProbeOf k) (on_link c t)) (sym (ap (pending (ProbeOf k)) (own_beat c link (beat.C x) t f) ∙ pending-closed (ProbeOf k) (beat.C x) (on_link c t) refl) ∙ e)
+    go true f =
+        still (ends (beat.C x) (on_link c t) && closes (ProbeOf k) (beat.C x) (on_link c t)) (pending (ProbeOf k) (on_link c t)) (sym (ap (pending (ProbeOf k)) (own_beat c link (beat.C x) t f) ∙ pending-closed (ProbeOf k) (beat.C x) (on_link c t) refl) ∙ e)
     go false f = sym (ap (pending (ProbeOf k)) (other_beat c link (beat.C x) t f)) ∙ e
 
 -- of another block the same are missing
-pub missing-else_c : {w : ℕ} (link : Link) (x : BeatC w) (t : Trace w) (c k : ℕ) → (is_probe_ack x.opcode && (block_at x.address == k)) ≡ false → pending (ProbeOf k) (on_link c ((link, beat.C x) ∷ t)) ≡ pending (ProbeOf k) (on_link c t)
+pub missing-else_c : {w : ℕ} (link : Link) (x : BeatC w) (t : Trace w) (c k : ℕ) → (is_probe_ack x.opcode && (block_at x.address == k)) ≡ false
+    → pending (ProbeOf k) (on_link c ((link, beat.C x) ∷ t)) ≡ pending (ProbeOf k) (on_link c t)
 missing-else_c link x t c k other = beat-keeps (pending (ProbeOf k)) c link (beat.C x) t (λ h. pending-quiet (ProbeOf k) (beat.C x) h refl other)
 
 pub same-c : {w : ℕ} (link : Link) (x : BeatC w) (t : Trace w) (k : ℕ) → IsSame k t ((link, beat.C x) ∷ t)
@@ -100,11 +103,13 @@ probe_ack_kind c.Release e = absurd cc
 probe_ack_kind c.ReleaseData e = absurd cc
 
 -- a beat of a ProbeAck that breaks no rule of order is of one that is missing
-pub report-pending : {w : ℕ} (p : Profile) (x : BeatC w) (t : History w) → broken_in_order p (beat.C x) t ≡ None → IsReporting t (unfinished channel.C t) → is_probe_ack x.opcode ≡ true → pending (ProbeOf (block_at x.address)) t ≡ true
+pub report-pending : {w : ℕ} (p : Profile) (x : BeatC w) (t : History w) → broken_in_order p (beat.C x) t ≡ None → IsReporting t (unfinished channel.C t) → is_probe_ack x.opcode ≡ true
+    → pending (ProbeOf (block_at x.address)) t ≡ true
 unfolding broken_order
 report-pending {w} p x t order reporting report = go (unfinished channel.C t) order reporting
   where
-    go : (burst : List (Beat w)) → (if is_empty burst then broken_order p (beat.C x) t else rule_if (breaks_burst (beat.C x) burst) S1 None) ≡ None → IsReporting t burst → pending (ProbeOf (block_at x.address)) t ≡ true
+    go : (burst : List (Beat w)) → (if is_empty burst then broken_order p (beat.C x) t else first_if (breaks_burst (beat.C x) burst) S1 None) ≡ None → IsReporting t burst
+        → pending (ProbeOf (block_at x.address)) t ≡ true
     go [] f ok =
         let rules = rw (probe_ack_kind x.opcode report, report) at f in
         let missing = (next_rule (not (pending (ProbeOf (block_at x.address)) t) || answers_wrong_probe x (probe_of (block_at x.address) t)) H10 _ rules).0 in
@@ -122,7 +127,8 @@ report-pending {w} p x t order reporting report = go (unfinished channel.C t) or
 pub missing-part : {w : ℕ} (x : BeatC w) (h : History w) (k : ℕ) → ends (beat.C x) h ≡ false → pending (ProbeOf k) (beat.C x ∷ h) ≡ pending (ProbeOf k) h
 missing-part x h k part = pending-closed (ProbeOf k) (beat.C x) h refl ∙ rw part refl
 
-reporting-now : {w : ℕ} (p : Profile) (x : BeatC w) (h : History w) → broken_in_order p (beat.C x) h ≡ None → IsReporting h (unfinished channel.C h) → IsReporting (beat.C x ∷ h) (unfinished channel.C (beat.C x ∷ h))
+reporting-now : {w : ℕ} (p : Profile) (x : BeatC w) (h : History w) → broken_in_order p (beat.C x) h ≡ None → IsReporting h (unfinished channel.C h)
+    → IsReporting (beat.C x ∷ h) (unfinished channel.C (beat.C x ∷ h))
 unfolding unfinished
 reporting-now {w} p x h order reporting = go (ends (beat.C x) h) refl
   where
@@ -130,7 +136,8 @@ reporting-now {w} p x h order reporting = go (ends (beat.C x) h) refl
     go true e = tt
     go false e = λ report. missing-part x h (block_at x.address) e ∙ report-pending p x h order reporting report
 
-reports-c : {w : ℕ} (p : Profile) (link : Link) (x : BeatC w) (t : Trace w) (c : ℕ) → broken_in_order p (beat.C x) (on_link link.0 t) ≡ None → IsAccounted t → IsReporting (on_link c ((link, beat.C x) ∷ t)) (unfinished channel.C (on_link c ((link, beat.C x) ∷ t)))
+reports-c : {w : ℕ} (p : Profile) (link : Link) (x : BeatC w) (t : Trace w) (c : ℕ) → broken_in_order p (beat.C x) (on_link link.0 t) ≡ None → IsAccounted t
+    → IsReporting (on_link c ((link, beat.C x) ∷ t)) (unfinished channel.C (on_link c ((link, beat.C x) ∷ t)))
 reports-c {w} p link x t c order ok = go (link.0 == c) refl
   where
     IsOk : History w → Type 0
@@ -185,7 +192,9 @@ missing-still_b {w} link n i c k t e = go (link.0 == c) refl
     opened false d f = f
 
     go : (b : Bool) → (link.0 == c) ≡ b → pending (ProbeOf i) (on_link c ((link, beat.B (probe_beat n k)) ∷ t)) ≡ true
-    go true f = ap (pending (ProbeOf i)) (own_beat c link (beat.B (probe_beat n k)) t f) ∙ pending-opened (ProbeOf i) (beat.B (probe_beat n k)) (on_link c t) refl ∙ opened (begins (beat.B (probe_beat {w = w} n k)) (on_link c t) && opens (ProbeOf i) (beat.B (probe_beat n k)) (on_link c t)) (pending (ProbeOf i) (on_link c t)) e
+    go true f =
+        ap (pending (ProbeOf i)) (own_beat c link (beat.B (probe_beat n k)) t f) ∙ pending-opened (ProbeOf i) (beat.B (probe_beat n k)) (on_link c t) refl
+        ∙ opened (begins (beat.B (probe_beat {w = w} n k)) (on_link c t) && opens (ProbeOf i) (beat.B (probe_beat n k)) (on_link c t)) (pending (ProbeOf i) (on_link c t)) e
     go false f = ap (pending (ProbeOf i)) (other_beat c link (beat.B (probe_beat n k)) t f) ∙ e
 
 -- of another block than its own
@@ -227,7 +236,8 @@ quiet-b link n i k t = record {
   sinks = λ c. beat-keeps (grant_sink i) c link (beat.B (probe_beat n k)) t (grant_sink-b i n k);
 }
 
-probed-still : {w : ℕ} (link : Link) (c i n : ℕ) (k : Cap) (t : Trace w) → probe_of i (on_link c ((link, beat.B (probe_beat n k)) ∷ t)) ≡ probe_of i (on_link c t) → IsProbed c i t → IsProbed c i ((link, beat.B (probe_beat n k)) ∷ t)
+probed-still : {w : ℕ} (link : Link) (c i n : ℕ) (k : Cap) (t : Trace w) → probe_of i (on_link c ((link, beat.B (probe_beat n k)) ∷ t)) ≡ probe_of i (on_link c t) → IsProbed c i t
+    → IsProbed c i ((link, beat.B (probe_beat n k)) ∷ t)
 probed-still link c i n k t same is = record {
   service = is.service;
   cap = is.cap;
@@ -238,7 +248,8 @@ probed-still link c i n k t same is = record {
   probe = same ∙ is.probe;
 }
 
-pub accounted-probe : {w : ℕ} (link : Link) (n : ℕ) (k : Cap) (s : Service w) (t : Trace w) → unfinished channel.B (on_link link.0 t) ≡ [] → IsProbing n k s t → is_spared s link.0 ≡ false → IsAccounted t → IsAccounted ((link, beat.B (probe_beat n k)) ∷ t)
+pub accounted-probe : {w : ℕ} (link : Link) (n : ℕ) (k : Cap) (s : Service w) (t : Trace w) → unfinished channel.B (on_link link.0 t) ≡ [] → IsProbing n k s t → is_spared s link.0 ≡ false
+    → IsAccounted t → IsAccounted ((link, beat.B (probe_beat n k)) ∷ t)
 accounted-probe {w} link n k s t none is other ok =
     accounted-kept t u
     (record {
@@ -275,7 +286,8 @@ accounted-probe {w} link n k s t none is other ok =
         })
 
 -- Probes to several clients
-pub accounted-probes : {w : ℕ} (n : ℕ) (k : Cap) (clients : List ℕ) (s : Service w) (t : Trace w) → IsWidth w → ((c : ℕ) → IsWhole (on_link c t)) → IsProbing n k s t → Each (λ c. is_spared s c ≡ false) clients → IsAccounted t
+pub accounted-probes : {w : ℕ} (n : ℕ) (k : Cap) (clients : List ℕ) (s : Service w) (t : Trace w) → IsWidth w → ((c : ℕ) → IsWhole (on_link c t)) → IsProbing n k s t
+    → Each (λ c. is_spared s c ≡ false) clients → IsAccounted t
     → IsAccounted (with_handed (probes n k clients) t)
 unfolding with_handed
 accounted-probes n k [] s t width whole is others ok = ok

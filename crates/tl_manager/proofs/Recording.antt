@@ -27,7 +27,8 @@ copy-bit perm.Branch = refl
 copy-bit perm.Trunk = refl
 
 -- whether a block is unheld is read off the word of its holders
-pub unheld-word : {w : ℕ} (config : Config) (block word : ℕ) (perm_at : ℕ → Perm) (t : Trace w) → Each (IsSound config) t → ((c : ℕ) → bit_at word c ≡ copy_bit (perm_at c)) → ((c : ℕ) → perm_at c ≡ recorded c block t) → (word == 0) ≡ is_unheld config block t
+pub unheld-word : {w : ℕ} (config : Config) (block word : ℕ) (perm_at : ℕ → Perm) (t : Trace w) → Each (IsSound config) t → ((c : ℕ) → bit_at word c ≡ copy_bit (perm_at c))
+    → ((c : ℕ) → perm_at c ≡ recorded c block t) → (word == 0) ≡ is_unheld config block t
 unheld-word config block word perm_at t sound bits records =
     word-nobody config word (λ c. has_copy (recorded c block t)) (record {
       bits = λ c. bits c ∙ copy-bit (perm_at c) ∙ ap (λ p. bit_if (has_copy p)) (records c);

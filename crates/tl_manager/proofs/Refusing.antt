@@ -33,12 +33,14 @@ stalls-judged config link ch x e = stall-is (judged config link ch x e)
 -- ---- refusals
 
 kept-refused : {w : ℕ} (config : Config) (link : Link) (e : End w) → IsKept config e → IsKept config (refused link e)
-kept-refused config link e k = record { sound = k.sound; whole = k.whole; bursts = k.bursts; requests = k.requests; tracked = k.tracked; trackers_apart = k.trackers_apart; blocks_apart = k.blocks_apart; sinks = k.sinks; releases = k.releases; few = k.few; steady = k.steady }
+kept-refused config link e k =
+    record { sound = k.sound; whole = k.whole; bursts = k.bursts; requests = k.requests; tracked = k.tracked; trackers_apart = k.trackers_apart; blocks_apart = k.blocks_apart; sinks = k.sinks; releases = k.releases; few = k.few; steady = k.steady }
 
 still-wire : {w : ℕ} (config : Config) (link : Link) (client : ℕ) (wire : Wire w) (e : End w) → (client == link.0) ≡ false → IsWire config wire client e → IsWire config wire client (refused link e)
 still-wire config link client wire e other is = record { level = is.level; closed = is.closed ∙ rw other refl; carried = is.carried }
 
-pub knows-absent : {w : ℕ} {M : Type 0} (perm_of : M → ℕ → ℕ → Perm) (links : Links w M) (config : Config) (link : Link) (e : End w) → Knows perm_of links config e → length links.wires.items ≤ link.0 → Knows perm_of links config (refused link e)
+pub knows-absent : {w : ℕ} {M : Type 0} (perm_of : M → ℕ → ℕ → Perm) (links : Links w M) (config : Config) (link : Link) (e : End w) → Knows perm_of links config e
+    → length links.wires.items ≤ link.0 → Knows perm_of links config (refused link e)
 knows-absent perm_of links config link e k past = record {
   fits = k.fits;
   kept = kept-refused config link e k.kept;
@@ -62,7 +64,8 @@ set-here [] i x y e = absurd cc
 set-here (z ∷ xs) zero x y e = cc
 set-here (z ∷ xs) (suc i) x y e = set-here xs i x y e
 
-pub knows-refused : {w : ℕ} {M : Type 0} (perm_of : M → ℕ → ℕ → Perm) (old new : Links w M) (config : Config) (link : Link) (before after : Wire w) (e : End w) → new.home ≡ old.home → new.wires.items ≡ slice_set old.wires.items link.0 after
+pub knows-refused : {w : ℕ} {M : Type 0} (perm_of : M → ℕ → ℕ → Perm) (old new : Links w M) (config : Config) (link : Link) (before after : Wire w) (e : End w) → new.home ≡ old.home
+    → new.wires.items ≡ slice_set old.wires.items link.0 after
     → slice_get old.wires.items link.0 ≡ Some before → after.level ≡ before.level → after.requests ≡ before.requests → after.reports ≡ before.reports → after.closed ≡ true
     → Knows perm_of old config e → Knows perm_of new config (refused link e)
 knows-refused {w} perm_of old new config link before after e home wires found level requests reports closed k = record {

@@ -1,6 +1,6 @@
 -- A Release is pending only while its burst is unfinished, since it is answered at its last beat.
 use Rattle.std.proofs.Common.{◌≡◌, ℕ, ◌+◌, ◌==◌, Bool, true, false, not, ◌&&◌, List, [], ◌∷◌, length, None, refl, sym, ap, subst, ◌∙◌}
-use Rattle.std.specs.Prelude.{if◌then◌else◌}
+use Rattle.std.specs.Prelude.{if◌then◌else◌, ⊤}
 use Rattle.std.proofs.lemmas.Bool.{eq-eqb, not-false}
 use Rattle.tl_beat.specs.Width.{IsWidth}
 use Rattle.tl_beat.specs.declared.beat.Beat.{Beat}
@@ -9,6 +9,7 @@ use Rattle.tl_beat.specs.declared.beat.BeatA.{BeatA}
 use Rattle.tl_beat.specs.declared.beat.BeatC.{BeatC}
 use Rattle.tl_beat.specs.declared.beat.BeatE.{BeatE}
 use Rattle.tl_beat.specs.declared.opcode.Channel.TheVariants as channel
+use Rattle.tl_beat.specs.First.{first_if}
 use Rattle.tl_burst.specs.declared.message.Message.{Message}
 use Rattle.tl_burst.specs.declared.message.Message.TheVariants.{B, D}
 use Rattle.tl_burst.specs.declared.message.MessageB.{MessageB}
@@ -24,16 +25,15 @@ use Rattle.tl_params.specs.declared.rule.Rule.TheVariants.{S1}
 use Rattle.tl_rules.specs.Agent.{sent}
 use Rattle.tl_rules.specs.Conformance.{broken_in_order, broken_order}
 use Rattle.tl_rules.specs.History.{begins, ends, pending, release_of, releases, block_at, is_release, is_release_ack}
-use Rattle.tl_rules.specs.Legality.{rule_if}
 use Rattle.tl_rules.proofs.Bursts.{next_rule}
 use Rattle.tl_manager.specs.Releases.{comes_with, comes_of, IsNamed, IsAnswered}
-use Rattle.tl_manager.proofs.Sinks.{unmoved}
 use Rattle.tl_rules.proofs.Sent.{unfinished-sent_other, release_of-other}
 use Rattle.tl_rules.proofs.Handed.{pending-sent_b, pending-sent_d}
+use Rattle.tl_rules.proofs.Tables.{neither}
 
 -- the unfinished burst of a channel has its beats
 abbrev AreC : {w : ℕ} → List (Beat w) → Type 0
-AreC [] = Unit {0}
+AreC [] = ⊤
 AreC (beat.C x ∷ burst) = AreC burst
 AreC (_ ∷ burst) = ⊥
 
@@ -63,16 +63,16 @@ named-same t u (beat.E x ∷ burst) same ok = tt
 pub answered-a : {w : ℕ} (x : BeatA w) (t : History w) → IsAnswered t → IsAnswered (beat.A x ∷ t)
 unfolding pending unfinished release_of
 answered-a x t ok = record {
-  sources = λ s. unmoved (begins (beat.A x) t) (ends (beat.A x) t) (pending (ReleaseSource s) t) ∙ ok.sources s;
-  blocks = λ k. unmoved (begins (beat.A x) t) (ends (beat.A x) t) (pending (ReleaseOf k) t) ∙ ok.blocks k;
+  sources = λ s. neither (begins (beat.A x) t) (ends (beat.A x) t) (pending (ReleaseSource s) t) ∙ ok.sources s;
+  blocks = λ k. neither (begins (beat.A x) t) (ends (beat.A x) t) (pending (ReleaseOf k) t) ∙ ok.blocks k;
   named = named-same t (beat.A x ∷ t) (unfinished channel.C t) (λ s. refl) ok.named;
 }
 
 pub answered-e : {w : ℕ} (x : BeatE) (t : History w) → IsAnswered t → IsAnswered (beat.E x ∷ t)
 unfolding pending unfinished release_of
 answered-e {w} x t ok = record {
-  sources = λ s. unmoved (begins {w = w} (beat.E x) t) (ends {w = w} (beat.E x) t) (pending (ReleaseSource s) t) ∙ ok.sources s;
-  blocks = λ k. unmoved (begins {w = w} (beat.E x) t) (ends {w = w} (beat.E x) t) (pending (ReleaseOf k) t) ∙ ok.blocks k;
+  sources = λ s. neither (begins {w = w} (beat.E x) t) (ends {w = w} (beat.E x) t) (pending (ReleaseSource s) t) ∙ ok.sources s;
+  blocks = λ k. neither (begins {w = w} (beat.E x) t) (ends {w = w} (beat.E x) t) (pending (ReleaseOf k) t) ∙ ok.blocks k;
   named = named-same t (beat.E x ∷ t) (unfinished channel.C t) (λ s. refl) ok.named;
 }
 
@@ -113,7 +113,7 @@ next_carried x y burst t ok is same =
     }
 
 carried_from : {w : ℕ} (p : Profile) (x : BeatC w) (t : History w) (burst : List (Beat w)) → unfinished channel.C t ≡ burst → AreC burst → IsAnswered t
-    → (if is_empty burst then broken_order p (beat.C x) t else rule_if (breaks_burst (beat.C x) burst) S1 None) ≡ None → IsCarried x t
+    → (if is_empty burst then broken_order p (beat.C x) t else first_if (breaks_burst (beat.C x) burst) S1 None) ≡ None → IsCarried x t
 carried_from p x t [] is own ok e = first_carried x t ok is
 carried_from p x t (beat.A y ∷ burst) is own ok e = absurd own
 carried_from p x t (beat.B y ∷ burst) is own ok e = absurd own
@@ -146,7 +146,7 @@ no_release x t c is other = record {
 -- no answer to a Release
 abbrev pub IsNoAck : {w : ℕ} → Message w → Type 0
 IsNoAck (D m) = is_release_ack m.opcode ≡ false
-IsNoAck _ = Unit {0}
+IsNoAck _ = ⊤
 
 pub answered-b : {w : ℕ} (m : MessageB w) (t : History w) → IsWidth w → unfinished channel.B t ≡ [] → IsAnswered t → IsAnswered (sent (B m) t)
 answered-b m t width none ok =
@@ -173,7 +173,8 @@ chosen true false before e f = absurd cc
 chosen false true before e f = absurd cc
 
 -- the ReleaseAck of a Release
-pub released : {w : ℕ} (x : BeatC w) (m : MessageD w) (t : History w) → IsWidth w → IsCarried x t → is_release x.opcode ≡ true → unfinished channel.C (beat.C x ∷ t) ≡ [] → unfinished channel.D (beat.C x ∷ t) ≡ [] → is_release_ack m.opcode ≡ true → m.source ≡ x.source → IsAnswered (sent (D m) (beat.C x ∷ t))
+pub released : {w : ℕ} (x : BeatC w) (m : MessageD w) (t : History w) → IsWidth w → IsCarried x t → is_release x.opcode ≡ true → unfinished channel.C (beat.C x ∷ t) ≡ []
+    → unfinished channel.D (beat.C x ∷ t) ≡ [] → is_release_ack m.opcode ≡ true → m.source ≡ x.source → IsAnswered (sent (D m) (beat.C x ∷ t))
 released {w} x m t width c release last none ack source =
     let same : unfinished channel.C (sent (D m) (beat.C x ∷ t)) ≡ [] = unfinished-sent_other channel.C (D m) (beat.C x ∷ t) refl ∙ last in
     record {

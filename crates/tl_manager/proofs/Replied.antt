@@ -60,7 +60,8 @@ pub block-of : {w : ℕ} (n : ℕ) (ss : List (Service w)) (s : Service w) → s
 block-of n [] s e = absurd cc
 block-of {w} n (u ∷ ss) s e = go (block_at u.request.address == n) refl e (λ f. block-of n ss s f)
   where
-    go : (b : Bool) → (block_at u.request.address == n) ≡ b → (if b then Some u else serving n ss) ≡ Some s → (serving n ss ≡ Some s → (block_at s.request.address == n) ≡ true) → (block_at s.request.address == n) ≡ true
+    go : (b : Bool) → (block_at u.request.address == n) ≡ b → (if b then Some u else serving n ss) ≡ Some s → (serving n ss ≡ Some s → (block_at s.request.address == n) ≡ true)
+        → (block_at s.request.address == n) ≡ true
     go true here f rest = ap (λ (v : Service w). block_at v.request.address == n) (sym (some_is u s f)) ∙ here
     go false here f rest = rest f
 
@@ -83,7 +84,8 @@ none-left {w} n s m t is ok =
     away v false e alone = never (block_at v.request.address == n)
 
 -- with another one as many as before
-others-left : {w : ℕ} (n c q : ℕ) (s : Service w) (m : MessageD w) (t : Trace w) → IsReply n s m t → ((s.link.0 == c) && (s.request.source == q)) ≡ false → count_where (asks_else n c q t) (services t) ≡ count_where (is_asking c q t) (services t)
+others-left : {w : ℕ} (n c q : ℕ) (s : Service w) (m : MessageD w) (t : Trace w) → IsReply n s m t → ((s.link.0 == c) && (s.request.source == q)) ≡ false
+    → count_where (asks_else n c q t) (services t) ≡ count_where (is_asking c q t) (services t)
 others-left {w} n c q s m t is other =
     count-same (asks_else n c q t) (is_asking c q t) (services t)
     (each_weaker (λ v. (block_at v.request.address == n) ≡ true → v ≡ s) (λ v. asks_else n c q t v ≡ is_asking c q t v) (services t) (λ v mine. still v (block_at v.request.address == n) refl mine) (same_block n (services t) s is.blocks_apart is.serves))
@@ -98,7 +100,8 @@ others-left {w} n c q s m t is other =
     still v false e mine = refl
 
 -- its source is free once it is answered
-pub source-reply : {w : ℕ} (n c q : ℕ) (s : Service w) (m : MessageD w) (t : Trace w) → IsReply n s m t → pending (RequestSource q) (on_link c (after_sent s.link (D m) t)) ≡ (if (s.link.0 == c) && (s.request.source == q) then false else pending (RequestSource q) (on_link c t))
+pub source-reply : {w : ℕ} (n c q : ℕ) (s : Service w) (m : MessageD w) (t : Trace w) → IsReply n s m t
+    → pending (RequestSource q) (on_link c (after_sent s.link (D m) t)) ≡ (if (s.link.0 == c) && (s.request.source == q) then false else pending (RequestSource q) (on_link c t))
 source-reply n c q s m t is =
     pending-reply (RequestSource q) s.link m t c is.width is.whole ∙ rw (is.answers, is.source) (go (s.link.0 == c) (s.request.source == q) (pending (RequestSource q) (on_link c t)))
   where
@@ -107,11 +110,13 @@ source-reply n c q s m t is =
     go true false before = refl
     go false b before = refl
 
-pub sources-reply : {w : ℕ} (n c q : ℕ) (s : Service w) (m : MessageD w) (t : Trace w) → IsReply n s m t → IsAccounted t → count_where (is_asking c q (after_sent s.link (D m) t)) (services (after_sent s.link (D m) t)) ≡ count_where (asks_else n c q t) (services t)
+pub sources-reply : {w : ℕ} (n c q : ℕ) (s : Service w) (m : MessageD w) (t : Trace w) → IsReply n s m t → IsAccounted t
+    → count_where (is_asking c q (after_sent s.link (D m) t)) (services (after_sent s.link (D m) t)) ≡ count_where (asks_else n c q t) (services t)
     → one_if (comes_in_request q (unfinished channel.A (on_link c (after_sent s.link (D m) t)))) + count_where (is_asking c q (after_sent s.link (D m) t)) (services (after_sent s.link (D m) t)) ≡ one_if (pending (RequestSource q) (on_link c (after_sent s.link (D m) t)))
 sources-reply {w} n c q s m t is ok left = rw (burst-reply s.link m t c, left, source-reply n c q s m t is) (go ((s.link.0 == c) && (s.request.source == q)) refl)
   where
-    go : (b : Bool) → ((s.link.0 == c) && (s.request.source == q)) ≡ b → one_if (comes_in_request q (unfinished channel.A (on_link c t))) + count_where (asks_else n c q t) (services t) ≡ one_if (if b then false else pending (RequestSource q) (on_link c t))
+    go : (b : Bool) → ((s.link.0 == c) && (s.request.source == q)) ≡ b
+        → one_if (comes_in_request q (unfinished channel.A (on_link c t))) + count_where (asks_else n c q t) (services t) ≡ one_if (if b then false else pending (RequestSource q) (on_link c t))
     go false e = ap (λ i. one_if (comes_in_request q (unfinished channel.A (on_link c t))) + i) (others-left n c q s m t is e) ∙ ok.sources c q
     go true e =
         let p = and_parts (s.link.0 == c) (s.request.source == q) e in

@@ -32,13 +32,17 @@ pub pending-reply : {w : ℕ} (j : Key) (link : Link) (m : MessageD w) (t : Trac
     ≡ (if link.0 == c then after_whole (opens j (beat_of (D m) 0) (on_link c t)) (closes j (beat_of (D m) 0) (on_link c t)) (pending j (on_link c t)) else pending j (on_link c t))
 pending-reply {w} j link m t c width none = go (link.0 == c) refl
   where
-    go : (b : Bool) → (link.0 == c) ≡ b → pending j (on_link c (after_sent link (D m) t)) ≡ (if b then after_whole (opens j (beat_of (D m) 0) (on_link c t)) (closes j (beat_of (D m) 0) (on_link c t)) (pending j (on_link c t)) else pending j (on_link c t))
-    go true e = ap (pending j) (own_link c link (D m) t e) ∙ pending-sent_d j m (on_link c t) (subst (λ (i : ℕ). unfinished channel.D (on_link i t) ≡ []) (eqb-true link.0 c e) none) (beats-positive (D m) width)
+    go : (b : Bool) → (link.0 == c) ≡ b
+        → pending j (on_link c (after_sent link (D m) t)) ≡ (if b then after_whole (opens j (beat_of (D m) 0) (on_link c t)) (closes j (beat_of (D m) 0) (on_link c t)) (pending j (on_link c t)) else pending j (on_link c t))
+    go true e =
+        ap (pending j) (own_link c link (D m) t e)
+        ∙ pending-sent_d j m (on_link c t) (subst (λ (i : ℕ). unfinished channel.D (on_link i t) ≡ []) (eqb-true link.0 c e) none) (beats-positive (D m) width)
     go false e = ap (pending j) (other_link c link (D m) t e)
 
 -- what it neither opens nor closes
 pub reply-quiet : {w : ℕ} (j : Key) (link : Link) (m : MessageD w) (t : Trace w) (c : ℕ) → IsWidth w → unfinished channel.D (on_link link.0 t) ≡ []
-    → ((link.0 == c) ≡ true → (opens j (beat_of (D m) 0) (on_link c t) ≡ false) × (closes j (beat_of (D m) 0) (on_link c t) ≡ false)) → pending j (on_link c (after_sent link (D m) t)) ≡ pending j (on_link c t)
+    → ((link.0 == c) ≡ true → (opens j (beat_of (D m) 0) (on_link c t) ≡ false) × (closes j (beat_of (D m) 0) (on_link c t) ≡ false))
+    → pending j (on_link c (after_sent link (D m) t)) ≡ pending j (on_link c t)
 reply-quiet {w} j link m t c width none quiet = pending-reply j link m t c width none ∙ go (link.0 == c) quiet
   where
     go : (b : Bool) → (b ≡ true → (opens j (beat_of (D m) 0) (on_link c t) ≡ false) × (closes j (beat_of (D m) 0) (on_link c t) ≡ false))
@@ -52,7 +56,8 @@ pub burst-reply : {w : ℕ} (link : Link) (m : MessageD w) (t : Trace w) (c : �
 burst-reply link m t c = sent-keeps (unfinished channel.A) c link (D m) t (λ h e. unfinished-sent_other channel.A (D m) h refl)
 
 -- reports that are unfinished, and ProbeAcks that are missing
-pub reports-reply : {w : ℕ} (link : Link) (m : MessageD w) (t : Trace w) (c : ℕ) → IsWidth w → unfinished channel.D (on_link link.0 t) ≡ [] → IsAccounted t → IsReporting (on_link c (after_sent link (D m) t)) (unfinished channel.C (on_link c (after_sent link (D m) t)))
+pub reports-reply : {w : ℕ} (link : Link) (m : MessageD w) (t : Trace w) (c : ℕ) → IsWidth w → unfinished channel.D (on_link link.0 t) ≡ [] → IsAccounted t
+    → IsReporting (on_link c (after_sent link (D m) t)) (unfinished channel.C (on_link c (after_sent link (D m) t)))
 reports-reply link m t c width none ok =
     reports-kept t (after_sent link (D m) t) c (sent-keeps (unfinished channel.C) c link (D m) t (λ h e. unfinished-sent_other channel.C (D m) h refl))
     (λ k e. reply-quiet (ProbeOf k) link m t c width none (λ f. (refl, refl)) ∙ e) ok
@@ -76,11 +81,13 @@ unfolding grant_sink
 sink_opened k m t zero none le = rw (begins-first (D m) t none) refl
 sink_opened k m t (suc i) none le = rw (begins-later (D m) t i none (omega (arith, le))) (sink_opened k m t i none (omega (arith, le)))
 
-sink_by : {w : ℕ} (k : ℕ) (m : MessageD w) (t : History w) (n : ℕ) → unfinished channel.D t ≡ [] → 0 < n → n ≤ beats_of (D m) → grant_sink k (begun (D m) n ++ t) ≡ (if is_grant m.opcode && asks_for k (request_of m.source t) then Some m.sink else grant_sink k t)
+sink_by : {w : ℕ} (k : ℕ) (m : MessageD w) (t : History w) (n : ℕ) → unfinished channel.D t ≡ [] → 0 < n → n ≤ beats_of (D m)
+    → grant_sink k (begun (D m) n ++ t) ≡ (if is_grant m.opcode && asks_for k (request_of m.source t) then Some m.sink else grant_sink k t)
 sink_by k m t zero none pos le = absurd (omega (arith, pos))
 sink_by k m t (suc i) none pos le = sink_opened k m t i none le
 
-pub grant_sink-sent : {w : ℕ} (k : ℕ) (m : MessageD w) (t : History w) → unfinished channel.D t ≡ [] → 0 < beats_of (D m) → grant_sink k (sent (D m) t) ≡ (if is_grant m.opcode && asks_for k (request_of m.source t) then Some m.sink else grant_sink k t)
+pub grant_sink-sent : {w : ℕ} (k : ℕ) (m : MessageD w) (t : History w) → unfinished channel.D t ≡ [] → 0 < beats_of (D m)
+    → grant_sink k (sent (D m) t) ≡ (if is_grant m.opcode && asks_for k (request_of m.source t) then Some m.sink else grant_sink k t)
 grant_sink-sent k m t none pos = sink_by k m t (beats_of (D m)) none pos (omega arith)
 
 -- where it grants nothing of the block

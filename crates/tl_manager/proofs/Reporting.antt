@@ -14,6 +14,7 @@ use Rattle.tl_rules.specs.Conformance.{Trace, on_link}
 use Rattle.tl_rules.specs.Effect.{Memory}
 use Rattle.tl_rules.specs.History.{ends, block_at, is_probe_ack, pending}
 use Rattle.tl_rules.specs.Legality.{is_one_of}
+use Rattle.tl_rules.proofs.Open.{never}
 use Rattle.tl_manager.specs.Bit.{bit_if}
 use Rattle.tl_manager.specs.Handing.{Deed, Handed, with_handed, nothing, performed}
 use Rattle.tl_manager.specs.Holders.{is_missing, is_settled}
@@ -31,7 +32,6 @@ use Rattle.tl_manager.specs.declared.manager.tracker.Tracker.{Tracker}
 use Rattle.tl_manager.specs.declared.manager.tracker.Tracker.TheVariants.{Free, Probing, Granted}
 use Rattle.tl_manager.proofs.Answering.{tracker-changed}
 use Rattle.tl_manager.proofs.Afterwards.{missing-taken}
-use Rattle.tl_manager.proofs.Lists.{never}
 use Rattle.tl_manager.proofs.Probing.{services-c, missing-else_c}
 use Rattle.tl_manager.proofs.Replied.{block_served}
 use Rattle.tl_manager.proofs.Serving.{some_is, tracker_among, one_tracker}
@@ -43,8 +43,10 @@ use Rattle.tl_manager.proofs.Words.{word-nobody}
 -- ---- the service that a ProbeAck is for
 
 -- no tracker that keeps the truth is of another block's service
-of_block : {w : ℕ} (n block : ℕ) (tracker : Tracker w) (s : Service w) (t : Trace w) → IsTracked n tracker t → serving block (services t) ≡ Some s → s.tracker ≡ n → is_of block tracker ≡ false → ((v : Service w) (k : ℕ) → serving k (services t) ≡ Some v → v.tracker ≡ n → k ≡ block) → ⊥
-of_block n block Free s t is e at away one = absurd (let among : is_one_of n (trackers_of (services t)) ≡ true = subst (λ i. is_one_of i (trackers_of (services t)) ≡ true) at (tracker_among block (services t) s e) in cc)
+of_block : {w : ℕ} (n block : ℕ) (tracker : Tracker w) (s : Service w) (t : Trace w) → IsTracked n tracker t → serving block (services t) ≡ Some s → s.tracker ≡ n
+    → is_of block tracker ≡ false → ((v : Service w) (k : ℕ) → serving k (services t) ≡ Some v → v.tracker ≡ n → k ≡ block) → ⊥
+of_block n block Free s t is e at away one =
+    absurd (let among : is_one_of n (trackers_of (services t)) ≡ true = subst (λ i. is_one_of i (trackers_of (services t)) ≡ true) at (tracker_among block (services t) s e) in cc)
 of_block n block (Probing link request missing) s t is e at away one =
     let same = one (service_with n link request) (block_at request.address) is.serves refl in
     let here : (block_at request.address == block) ≡ true = eq-eqb (block_at request.address) block same in
@@ -55,7 +57,8 @@ of_block n block (Granted link granted) s t is e at away one =
     absurd cc
 
 -- where no tracker is of the block, it isn't in service
-pub unserved-block : {w : ℕ} (block : ℕ) (at : ℕ → Tracker w) (t : Trace w) → AreApart (trackers_of (services t)) → ((n : ℕ) → IsTracked n (at n) t) → ((n : ℕ) → is_of block (at n) ≡ false) → serving block (services t) ≡ None
+pub unserved-block : {w : ℕ} (block : ℕ) (at : ℕ → Tracker w) (t : Trace w) → AreApart (trackers_of (services t)) → ((n : ℕ) → IsTracked n (at n) t) → ((n : ℕ) → is_of block (at n) ≡ false)
+    → serving block (services t) ≡ None
 unserved-block {w} block at t apart tracked none = go (serving block (services t)) refl
   where
     go : (o : Option (Service w)) → serving block (services t) ≡ o → o ≡ None
@@ -63,13 +66,10 @@ unserved-block {w} block at t apart tracked none = go (serving block (services t
     go (Some s) e = absurd (of_block s.tracker block (at s.tracker) s t (tracked s.tracker) e refl (none s.tracker)
         (λ v k f g. sym (block_served k t v f) ∙ ap (λ (x : Service w). block_at x.request.address) (one_tracker k block (services t) v s apart f e g) ∙ block_served block t s e))
 
--- the tracker that is of a block in service has its service
-pub served-block : {w : ℕ} (n block : ℕ) (link : Link) (request : MessageA w) (missing : ℕ) (t : Trace w) → IsTracked n (Probing link request missing) t → is_of block (Probing link request missing) ≡ true → serving block (services t) ≡ Some (service_with n link request)
-served-block n block link request missing t is e = subst (λ k. serving k (services t) ≡ Some (service_with n link request)) (eqb-true (block_at request.address) block e) is.serves
-
 -- ---- what is missing after a ProbeAck
 
-pub missing-reported : {w : ℕ} (config : Config) (link : Link) (block : ℕ) (x : BeatC w) (e : End w) (word left : ℕ) → IsReport config link block x e → AreMissing word block e.trace → ((c : ℕ) → bit_at left c ≡ bit_if ((bit_at word c == 1) && not (link.0 == c)))
+pub missing-reported : {w : ℕ} (config : Config) (link : Link) (block : ℕ) (x : BeatC w) (e : End w) (word left : ℕ) → IsReport config link block x e → AreMissing word block e.trace
+    → ((c : ℕ) → bit_at left c ≡ bit_if ((bit_at word c == 1) && not (link.0 == c)))
     → AreMissing left block ((link, beat.C x) ∷ e.trace)
 missing-reported {w} config link block x e word left is before bits c = bits c ∙ go (link.0 == c) refl ∙ ap bit_if (sym (missing-taken c block link (beat.C x) e.trace refl))
   where
@@ -81,7 +81,8 @@ missing-reported {w} config link block x e word left is before bits c = bits c �
     none true = refl
     none false = refl
 
-    go : (here : Bool) → (link.0 == c) ≡ here → bit_if ((bit_at word c == 1) && not here) ≡ bit_if (if here && (ends (beat.C x) (on_link c e.trace) && (is_probe_ack x.opcode && (block_at x.address == block))) then false else is_missing c block e.trace)
+    go : (here : Bool) → (link.0 == c) ≡ here
+        → bit_if ((bit_at word c == 1) && not here) ≡ bit_if (if here && (ends (beat.C x) (on_link c e.trace) && (is_probe_ack x.opcode && (block_at x.address == block))) then false else is_missing c block e.trace)
     go true f =
         let last : ends (beat.C x) (on_link c e.trace) ≡ true = subst (λ i. ends (beat.C x) (on_link i e.trace) ≡ true) (eqb-true link.0 c f) is.last in
         rw (last, is.kind, eq-eqb (block_at x.address) block is.of_block) (none (bit_at word c == 1))
@@ -98,7 +99,8 @@ missing-word {w} config link block x e left is bits =
 
 -- ---- the deed
 
-settled-as : {w : ℕ} (config : Config) (block : ℕ) (t : Trace w) (memory : Memory) (b : Bool) (o : Option (Service w)) → is_settled config block t ≡ b → serving block (services t) ≡ o → settled config block t memory ≡ (if b then performed_if_any config o t memory else nothing memory)
+settled-as : {w : ℕ} (config : Config) (block : ℕ) (t : Trace w) (memory : Memory) (b : Bool) (o : Option (Service w)) → is_settled config block t ≡ b → serving block (services t) ≡ o
+    → settled config block t memory ≡ (if b then performed_if_any config o t memory else nothing memory)
 settled-as config block t memory b o e f = rw (e, f) refl
 
 -- the service that the ProbeAck is for
@@ -111,7 +113,8 @@ reported-service config link block x e is =
 pub report-served : {w : ℕ} (config : Config) (link : Link) (block : ℕ) (x : BeatC w) (e : End w) → IsReport config link block x e → serving block (services e.trace) ≡ None → ⊥
 report-served config link block x e is none = let found = reported-service config link block x e is in absurd (let no : Some found.0 ≡ None = sym found.1 ∙ none in cc)
 
-pub report-granted : {w : ℕ} (config : Config) (n : ℕ) (asking link : Link) (block granted : ℕ) (x : BeatC w) (e : End w) → IsReport config link block x e → IsTracked n (Granted asking granted) e.trace → (granted == block) ≡ true → ⊥
+pub report-granted : {w : ℕ} (config : Config) (n : ℕ) (asking link : Link) (block granted : ℕ) (x : BeatC w) (e : End w) → IsReport config link block x e
+    → IsTracked n (Granted asking granted) e.trace → (granted == block) ≡ true → ⊥
 report-granted config n asking link block granted x e is ok here =
     let found = reported-service config link block x e is in
     let same = some_is found.0 _ (sym found.1 ∙ subst (λ k. serving k (services e.trace) ≡ Some (service_with n asking ok.request)) (eqb-true granted block here) ok.serves) in
@@ -120,7 +123,8 @@ report-granted config n asking link block granted x e is ok here =
 -- ---- the trackers
 
 -- those of other blocks
-others-reported : {w : ℕ} (config : Config) (link : Link) (block : ℕ) (x : BeatC w) (e : End w) (s : Service w) (n : ℕ) (tracker : Tracker w) → IsReport config link block x e → serving block (services e.trace) ≡ Some s → n ≢ s.tracker
+others-reported : {w : ℕ} (config : Config) (link : Link) (block : ℕ) (x : BeatC w) (e : End w) (s : Service w) (n : ℕ) (tracker : Tracker w) → IsReport config link block x e
+    → serving block (services e.trace) ≡ Some s → n ≢ s.tracker
     → IsTracked n tracker e.trace → IsTracked n tracker ((link, beat.C x) ∷ e.trace)
 others-reported {w} config link block x e s n tracker is serves other ok =
     tracked-still n tracker e.trace ((link, beat.C x) ∷ e.trace) (λ free. ap (λ (ss : List (Service w)). is_one_of n (trackers_of ss)) (services-c link x e.trace) ∙ free)
@@ -136,7 +140,8 @@ others-reported {w} config link block x e s n tracker is serves other ok =
     elsewhere k f = rw f (never (is_probe_ack x.opcode))
 
 pub home-reported : {w : ℕ} {D : Type 0} (perm_of : D → ℕ → ℕ → Perm) (config : Config) (home : Home w D) (number : ℕ) (asking link : Link) (request : MessageA w) (block : ℕ) (x : BeatC w) (e : End w) (memory : Memory)
-    → IsReport config link block x e → serving block (services e.trace) ≡ Some (service_with number asking request) → IsReportedHome perm_of config home e.trace ((link, beat.C x) ∷ e.trace) memory → IsHomeWithout number perm_of config home ((link, beat.C x) ∷ e.trace) memory
+    → IsReport config link block x e → serving block (services e.trace) ≡ Some (service_with number asking request)
+    → IsReportedHome perm_of config home e.trace ((link, beat.C x) ∷ e.trace) memory → IsHomeWithout number perm_of config home ((link, beat.C x) ∷ e.trace) memory
 home-reported perm_of config home number asking link request block x e memory is serves ok = record {
   profile = ok.profile;
   count = ok.count;
@@ -154,8 +159,10 @@ done-settled {w} perm_of config home handed number asking link request block x e
     subst (λ (d : Deed w). IsDone perm_of config home handed ((link, beat.C x) ∷ e.trace) d)
     (sym (settled-as config block ((link, beat.C x) ∷ e.trace) memory true (Some (service_with number asking request)) all (ap (serving block) (services-c link x e.trace) ∙ serves))) done
 
-pub ready-settled : {w : ℕ} (config : Config) (number : ℕ) (asking link : Link) (request : MessageA w) (block : ℕ) (x : BeatC w) (e : End w) → IsReport config link block x e → block_at request.address ≡ block
-    → serving block (services e.trace) ≡ Some (service_with number asking request) → is_settled config block ((link, beat.C x) ∷ e.trace) ≡ true → IsReadyAt config number asking request ((link, beat.C x) ∷ e.trace)
+pub ready-settled : {w : ℕ} (config : Config) (number : ℕ) (asking link : Link) (request : MessageA w) (block : ℕ) (x : BeatC w) (e : End w) → IsReport config link block x e
+    → block_at request.address ≡ block
+    → serving block (services e.trace) ≡ Some (service_with number asking request) → is_settled config block ((link, beat.C x) ∷ e.trace) ≡ true
+    → IsReadyAt config number asking request ((link, beat.C x) ∷ e.trace)
 ready-settled config number asking link request block x e is same serves all = record {
   ready = subst (λ k. IsReady config k (service_with number asking request) ((link, beat.C x) ∷ e.trace)) (is.of_block ∙ sym same)
       (report-ready config link x (service_with number asking request) e is.taken is.kind
@@ -168,7 +175,8 @@ ready-settled config number asking link request block x e is same serves all = r
 pub done-waiting : {w : ℕ} {D : Type 0} (perm_of : D → ℕ → ℕ → Perm) (config : Config) (old new : Home w D) (number : ℕ) (asking link : Link) (request : MessageA w) (left block : ℕ) (x : BeatC w) (e : End w) (memory : Memory)
     → new.profile ≡ old.profile → new.directory ≡ old.directory → new.blocks ≡ old.blocks → new.trackers.count ≡ old.trackers.count
     → ((n : ℕ) → tracker_at new.trackers n ≡ (if number == n then Probing asking request left else tracker_at old.trackers n))
-    → IsReport config link block x e → block_at request.address ≡ block → serving block (services e.trace) ≡ Some (service_with number asking request) → is_granted e.trace (service_with number asking request) ≡ false
+    → IsReport config link block x e → block_at request.address ≡ block → serving block (services e.trace) ≡ Some (service_with number asking request)
+    → is_granted e.trace (service_with number asking request) ≡ false
     → AreMissing left block ((link, beat.C x) ∷ e.trace) → is_settled config block ((link, beat.C x) ∷ e.trace) ≡ false → IsReportedHome perm_of config old e.trace ((link, beat.C x) ∷ e.trace) memory
     → IsDone perm_of config new [] ((link, beat.C x) ∷ e.trace) (settled config block ((link, beat.C x) ∷ e.trace) memory)
 unfolding with_handed
@@ -196,11 +204,13 @@ done-waiting {w} {D} perm_of config old new number asking link request left bloc
     }
 
 -- what is read off the tracker of the block
-pub probing-at : {w : ℕ} (n block : ℕ) (asking : Link) (request : MessageA w) (missing : ℕ) (tracker : Tracker w) (t : Trace w) → Probing asking request missing ≡ tracker → IsTracked n tracker t → is_of block tracker ≡ true
+pub probing-at : {w : ℕ} (n block : ℕ) (asking : Link) (request : MessageA w) (missing : ℕ) (tracker : Tracker w) (t : Trace w) → Probing asking request missing ≡ tracker
+    → IsTracked n tracker t → is_of block tracker ≡ true
     → IsProbing n asking request missing t × (block_at request.address ≡ block)
 probing-at {w} n block asking request missing tracker t e is here =
     (subst (λ (x : Tracker w). IsTracked n x t) (sym e) is, eqb-true (block_at request.address) block (ap (is_of block) e ∙ here))
 
-pub granted-at : {w : ℕ} (config : Config) (n : ℕ) (asking link : Link) (block granted : ℕ) (x : BeatC w) (e : End w) (tracker : Tracker w) → Granted asking granted ≡ tracker → IsTracked n tracker e.trace → is_of block tracker ≡ true → IsReport config link block x e → ⊥
+pub granted-at : {w : ℕ} (config : Config) (n : ℕ) (asking link : Link) (block granted : ℕ) (x : BeatC w) (e : End w) (tracker : Tracker w) → Granted asking granted ≡ tracker
+    → IsTracked n tracker e.trace → is_of block tracker ≡ true → IsReport config link block x e → ⊥
 granted-at {w} config n asking link block granted x e tracker same ok here is =
     report-granted config n asking link block granted x e is (subst (λ (y : Tracker w). IsTracked n y e.trace) (sym same) ok) (ap (is_of block) same ∙ here)

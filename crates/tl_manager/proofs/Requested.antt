@@ -13,27 +13,29 @@ use Rattle.tl_params.specs.declared.key.Key.TheVariants.{RequestSource, AcquireO
 use Rattle.tl_rules.specs.Conformance.{Trace, on_link, comes_in_request}
 use Rattle.tl_rules.specs.History.{ends, block_at, is_acquire, pending, request_of}
 use Rattle.tl_rules.specs.Legality.{is_one_of}
+use Rattle.tl_rules.proofs.Sent.{pending-quiet}
+use Rattle.tl_rules.proofs.Open.{never}
 use Rattle.tl_manager.specs.Kept.{is_granting}
 use Rattle.tl_manager.specs.Pending.{one_if, count_where, is_granted, is_asking, is_acquiring, is_granted_to, HasFields, IsBegun, IsReporting, IsNamed, IsHandled, IsAccounted}
 use Rattle.tl_manager.specs.Request.{request_if, request_carried}
-use Rattle.tl_manager.specs.Service.{Service, services, serving, is_in_service, least_free, trackers_of}
+use Rattle.tl_manager.specs.Service.{Service, services, serving, is_in_service, least_untaken, trackers_of}
 use Rattle.tl_manager.proofs.Accepted.{granted_a, same-else}
 use Rattle.tl_manager.proofs.Counts.{counted-kept}
 use Rattle.tl_manager.proofs.Asked.{Place, fields-now, acquire_whole, begun-now, source-now, comes-now}
 use Rattle.tl_manager.proofs.Ended.{services-part}
 use Rattle.tl_manager.proofs.Events.{services-request}
 use Rattle.tl_manager.proofs.Free.{least_free-is_free}
-use Rattle.tl_manager.proofs.Links.{own_beat, other_beat, beat-keeps, pending-quiet, pending-opened}
+use Rattle.tl_manager.proofs.Links.{own_beat, other_beat, beat-keeps, pending-opened}
 use Rattle.tl_manager.proofs.Requests.{made_of}
 use Rattle.tl_manager.proofs.Sinks.{AreTracked, grants_by}
 use Rattle.tl_manager.proofs.Unmoved.{handled-same, reports-kept}
-use Rattle.tl_manager.proofs.Lists.{never}
 use Rattle.tl_manager.specs.Ready.{IsServed}
 
 -- ---- sources and bursts
 
 -- the burst of each link
-begun-all : {w : ℕ} (link : Link) (x : BeatA w) (t : Trace w) (c : ℕ) → Place x (on_link link.0 t) → IsAccounted t → IsBegun (on_link c ((link, beat.A x) ∷ t)) (unfinished channel.A (on_link c ((link, beat.A x) ∷ t)))
+begun-all : {w : ℕ} (link : Link) (x : BeatA w) (t : Trace w) (c : ℕ) → Place x (on_link link.0 t) → IsAccounted t
+    → IsBegun (on_link c ((link, beat.A x) ∷ t)) (unfinished channel.A (on_link c ((link, beat.A x) ∷ t)))
 begun-all {w} link x t c place ok = go (link.0 == c) refl
   where
     IsOk : History w → Type 0
@@ -120,9 +122,10 @@ accounted-part {w} link x t place part ok = record {
 
 -- the service of the request that the beat completes
 abbrev pub service_made : {w : ℕ} (link : Link) (x : BeatA w) (t : Trace w) → nat_le x.size 6 ≡ true → Service w
-service_made link x t fits = record { tracker = least_free (trackers_of (services t)); link = link; request = made_of x (beat.A x ∷ unfinished channel.A (on_link link.0 t)) fits }
+service_made link x t fits = record { tracker = least_untaken (trackers_of (services t)); link = link; request = made_of x (beat.A x ∷ unfinished channel.A (on_link link.0 t)) fits }
 
-pub made : {w : ℕ} (link : Link) (x : BeatA w) (t : Trace w) → ends (beat.A x) (on_link link.0 t) ≡ true → nat_le x.size 6 ≡ true → (fits : nat_le x.size 6 ≡ true) × IsServed link x (service_made link x t fits) t
+pub made : {w : ℕ} (link : Link) (x : BeatA w) (t : Trace w) → ends (beat.A x) (on_link link.0 t) ≡ true → nat_le x.size 6 ≡ true
+    → (fits : nat_le x.size 6 ≡ true) × IsServed link x (service_made link x t fits) t
 unfolding request_carried
 made {w} link x t last small = let found = go (nat_le x.size 6) refl small in (found.0, record { last = last; made = found.1 })
   where
@@ -130,14 +133,14 @@ made {w} link x t last small = let found = go (nat_le x.size 6) refl small in (f
     beats = beat.A x ∷ unfinished channel.A (on_link link.0 t)
 
     with_tracker : MessageA w → Service w
-    with_tracker m = record { tracker = least_free (trackers_of (services t)); link = link; request = m }
+    with_tracker m = record { tracker = least_untaken (trackers_of (services t)); link = link; request = m }
 
     go : (b : Bool) (e : nat_le x.size 6 ≡ b) → b ≡ true → (fits : nat_le x.size 6 ≡ true) × (option_map with_tracker (request_if x beats b e) ≡ Some (with_tracker (made_of x beats fits)))
     go true e f = (e, refl)
     go false e f = absurd cc
 
 -- the tracker of an Acquire whose GrantAck is missing is taken
-granting_taken : {w : ℕ} (c n : ℕ) (ss : List (Service w)) → is_granting c n ss ≡ true → is_one_of n (trackers_of ss) ≡ true
+pub granting_taken : {w : ℕ} (c n : ℕ) (ss : List (Service w)) → is_granting c n ss ≡ true → is_one_of n (trackers_of ss) ≡ true
 granting_taken c n [] e = absurd cc
 granting_taken {w} c n (s ∷ ss) e = elim (or_cases (grants_by c n s) (is_granting c n ss) e) [
   | inl here ↦
@@ -162,7 +165,7 @@ free_tracker {w} c n t tracked free = go (pending (GrantSink n) (on_link c t)) r
 pub new_ungranted : {w : ℕ} (link : Link) (x : BeatA w) (t : Trace w) (fits : nat_le x.size 6 ≡ true) → AreTracked t → is_granted ((link, beat.A x) ∷ t) (service_made link x t fits) ≡ false
 new_ungranted link x t fits tracked =
     granted_a link x t (service_made link x t fits)
-    ∙ rw (free_tracker link.0 (least_free (trackers_of (services t))) t tracked (least_free-is_free (trackers_of (services t)))) (never (is_acquire x.opcode))
+    ∙ rw (free_tracker link.0 (least_untaken (trackers_of (services t))) t tracked (least_free-is_free (trackers_of (services t)))) (never (is_acquire x.opcode))
 
 pub unserved : {w : ℕ} (o : Option (Service w)) → is_some o ≡ false → o ≡ None
 unserved None e = refl
@@ -192,7 +195,8 @@ new_handled {w} link x t s place ok none more from opcode block fields free = re
     served = ap (serving k) more ∙ rw (eq-eqb (block_at s.request.address) (block_at x.address) block) refl
 
     named_here : HasFields s.request.opcode s.request.param s.request.size s.request.source s.request.address (request_of s.request.source (on_link s.link.0 u))
-    named_here = subst (λ (h : History w). HasFields s.request.opcode s.request.param s.request.size s.request.source s.request.address (request_of s.request.source h)) (sym (own_beat s.link.0 link (beat.A x) t (eq-eqb link.0 s.link.0 (sym from)) ∙ ap (λ i. beat.A x ∷ on_link i t) from)) fields
+    named_here =
+        subst (λ (h : History w). HasFields s.request.opcode s.request.param s.request.size s.request.source s.request.address (request_of s.request.source h)) (sym (own_beat s.link.0 link (beat.A x) t (eq-eqb link.0 s.link.0 (sym from)) ∙ ap (λ i. beat.A x ∷ on_link i t) from)) fields
 
     opened : (b : Bool) (h : History w) → Place x h → is_acquire x.opcode ≡ b → pending (AcquireOf k) h ≡ false → pending (AcquireOf k) (beat.A x ∷ h) ≡ b
     opened true h here e before = pending-opened (AcquireOf k) (beat.A x) h refl ∙ rw ((acquire_whole x h here e).0, e, eq-eqb k k refl) refl
@@ -213,7 +217,8 @@ new_handled {w} link x t s place ok none more from opcode block fields free = re
 opens_else : {w : ℕ} (x : BeatA w) (h : History w) (k : ℕ) → (block_at x.address == k) ≡ false → pending (AcquireOf k) (beat.A x ∷ h) ≡ pending (AcquireOf k) h
 opens_else x h k other = pending-quiet (AcquireOf k) (beat.A x) h (rw other (never (is_acquire x.opcode))) refl
 
-pub accounted-last : {w : ℕ} (link : Link) (x : BeatA w) (t : Trace w) (fits : nat_le x.size 6 ≡ true) → Place x (on_link link.0 t) → AreTracked t → is_in_service (block_at x.address) (services t) ≡ false → IsServed link x (service_made link x t fits) t → IsAccounted t
+pub accounted-last : {w : ℕ} (link : Link) (x : BeatA w) (t : Trace w) (fits : nat_le x.size 6 ≡ true) → Place x (on_link link.0 t) → AreTracked t
+    → is_in_service (block_at x.address) (services t) ≡ false → IsServed link x (service_made link x t fits) t → IsAccounted t
     → IsAccounted ((link, beat.A x) ∷ t)
 accounted-last {w} link x t fits place tracked unused is ok = record {
   sources = λ c q. sources-all link x t c q place ok (counted c q);

@@ -23,12 +23,13 @@ use Rattle.tl_rules.specs.Legality.{illegal}
 use Rattle.tl_rules.proofs.Checks.{beats_room}
 use Rattle.tl_rules.proofs.Legal.{legal_from_beats}
 use Rattle.tl_rules.proofs.Verdicts.{illegal_a}
+use Rattle.tl_rules.proofs.Bursts.{both_none}
 use Rattle.tl_manager.specs.Kept.{Each, IsSound, IsTyped, IsLike, IsPerformable}
 use Rattle.tl_manager.specs.Request.{mask_of, corrupt_of, masks_carried, corrupt_carried}
 use Rattle.tl_manager.specs.Slave.{level_of}
 use Rattle.tl_manager.proofs.Lawful.{no_bit}
 use Rattle.tl_manager.proofs.Lists.{each_weaker}
-use Rattle.tl_manager.proofs.Masks.{both_none, legal-narrow, masks-below, each_mask}
+use Rattle.tl_manager.proofs.Masks.{legal-narrow, masks-below, each_mask}
 use Rattle.tl_manager.proofs.Sound.{leveled}
 
 -- the beats of one request, all of which are sound
@@ -60,7 +61,8 @@ bytes_length (x ∷ beats) n each =
 zero_after : (bytes : List ℕ) (k : ℕ) → length bytes ≡ k → IsZeroFrom k (bytes ++ replicate (64 - length bytes) 0)
 zero_after bytes k long = drop_at bytes (replicate (64 - length bytes) 0) k long ∙ ap (λ n. replicate (64 - n) 0) long
 
-payload_blank : {w : ℕ} (config : Config) (link : Link) (x : BeatA w) (beats : List (Beat w)) (n : ℕ) (carries : Bool) → a_carries_data x.opcode ≡ carries → length beats ≡ n → Each (IsWhole config link x) beats → IsZeroFrom (if carries then w * n else 0) (payload_of beats)
+payload_blank : {w : ℕ} (config : Config) (link : Link) (x : BeatA w) (beats : List (Beat w)) (n : ℕ) (carries : Bool) → a_carries_data x.opcode ≡ carries → length beats ≡ n
+    → Each (IsWhole config link x) beats → IsZeroFrom (if carries then w * n else 0) (payload_of beats)
 payload_blank {w} config link x beats n carries e long each =
     zero_after (bytes_carried beats) (if carries then w * n else 0)
     (bytes_length beats (if carries then w else 0) (each_weaker (IsWhole config link x) (λ y. length (lanes_of y) ≡ (if carries then w else 0)) beats (λ y ok. lanes_length x y carries e ok.like ok.sound.typed) each) ∙ go carries)
@@ -69,7 +71,8 @@ payload_blank {w} config link x beats n carries e long each =
     go true = ap (λ k. w * k) long
     go false = omega arith
 
-payload_filled : {w : ℕ} (config : Config) (link : Link) (x : BeatA w) (beats : List (Beat w)) (carries : Bool) → a_carries_data x.opcode ≡ carries → w * length beats ≤ 64 → Each (IsWhole config link x) beats → length (payload_of beats) ≡ 64
+payload_filled : {w : ℕ} (config : Config) (link : Link) (x : BeatA w) (beats : List (Beat w)) (carries : Bool) → a_carries_data x.opcode ≡ carries → w * length beats ≤ 64
+    → Each (IsWhole config link x) beats → length (payload_of beats) ≡ 64
 payload_filled {w} config link x beats carries e room each =
     let bytes = bytes_length beats (if carries then w else 0) (each_weaker (IsWhole config link x) (λ y. length (lanes_of y) ≡ (if carries then w else 0)) beats (λ y ok. lanes_length x y carries e ok.like ok.sound.typed) each) in
     let few = below carries in
@@ -93,7 +96,8 @@ beat_narrow config link x (beat.C y) width ok = absurd ok.like
 beat_narrow config link x (beat.D y) width ok = absurd ok.like
 beat_narrow config link x (beat.E y) width ok = absurd ok.like
 
-beat_own : {w : ℕ} (config : Config) (link : Link) (l : Level) (x : BeatA w) (y : Beat w) → level_of config link.0 ≡ Some l → IsWhole config link x y → a_own w x.opcode x.size x.address (mask_of y) false ≡ None
+beat_own : {w : ℕ} (config : Config) (link : Link) (l : Level) (x : BeatA w) (y : Beat w) → level_of config link.0 ≡ Some l → IsWhole config link x y
+    → a_own w x.opcode x.size x.address (mask_of y) false ≡ None
 beat_own {w} config link l x (beat.A y) has_level ok =
     let legal : illegal l channel.A (beat.A y) ≡ None = rw has_level at ok.sound.lawful in
     let own = (both_none (a_control w l y.opcode y.param y.size y.address) (a_own w y.opcode y.size y.address y.mask y.corrupt) (sym (illegal_a l y) ∙ legal)).1 in
@@ -130,7 +134,8 @@ made_of x beats fits = record {
   small = leb-true x.size 6 fits;
 }
 
-legal_beat : {w : ℕ} (config : Config) (link : Link) (l : Level) (x : BeatA w) (beats : List (Beat w)) (fits : nat_le x.size 6 ≡ true) (i : ℕ) → IsWidth w → level_of config link.0 ≡ Some l → illegal l channel.A (beat.A x) ≡ None → Each (IsWhole config link x) beats → length beats ≡ beats_of (A (made_of x beats fits)) → i < length beats
+legal_beat : {w : ℕ} (config : Config) (link : Link) (l : Level) (x : BeatA w) (beats : List (Beat w)) (fits : nat_le x.size 6 ≡ true) (i : ℕ) → IsWidth w → level_of config link.0 ≡ Some l
+    → illegal l channel.A (beat.A x) ≡ None → Each (IsWhole config link x) beats → length beats ≡ beats_of (A (made_of x beats fits)) → i < length beats
     → illegal l channel.A (beat.A (a_beat_of (made_of x beats fits) i)) ≡ None
 legal_beat {w} config link l x beats fits i width has_level legal each long lt =
     let control = (both_none (a_control w l x.opcode x.param x.size x.address) (a_own w x.opcode x.size x.address x.mask x.corrupt) (sym (illegal_a l x) ∙ legal)).0 in
@@ -141,7 +146,8 @@ legal_beat {w} config link l x beats fits i width has_level legal each long lt =
     illegal_a l (a_beat_of (made_of x beats fits) i) ∙ rw (control, clean, no_bit i) own
 
 -- the service of a request that has these beats
-pub performable : {w : ℕ} (config : Config) (link : Link) (x : BeatA w) (beats : List (Beat w)) (tracker : ℕ) (fits : nat_le x.size 6 ≡ true) → IsWidth w → IsSound config (link, beat.A x) → Each (IsWhole config link x) beats → length beats ≡ burst_length (beat.A x)
+pub performable : {w : ℕ} (config : Config) (link : Link) (x : BeatA w) (beats : List (Beat w)) (tracker : ℕ) (fits : nat_le x.size 6 ≡ true) → IsWidth w → IsSound config (link, beat.A x)
+    → Each (IsWhole config link x) beats → length beats ≡ burst_length (beat.A x)
     → IsPerformable config (record { tracker = tracker; link = link; request = made_of x beats fits })
 performable {w} config link x beats tracker fits width ok each long =
     let l = leveled (level_of config link.0) (beat.A x) ok.lawful in
@@ -149,7 +155,8 @@ performable {w} config link x beats tracker fits width ok each long =
     let below = masks-below beats (each_weaker (IsWhole config link x) (λ y. mask_of y < 2 ^ w) beats (λ y whole. beat_narrow config link x y width whole) each) in
     record {
       lawful = rw l.1 (legal_from_beats l.0 channel.A (A (made_of x beats fits)) (λ i lt. legal_beat config link l.0 x beats fits i width l.1 l.2 each long (rw long lt)));
-      blank = (payload_blank config link x beats (beats_of (A (made_of x beats fits))) (a_carries_data x.opcode) refl long each, rw long at below, rw clean (pow_pos (beats_of (A (made_of x beats fits)))));
+      blank =
+          (payload_blank config link x beats (beats_of (A (made_of x beats fits))) (a_carries_data x.opcode) refl long each, rw long at below, rw clean (pow_pos (beats_of (A (made_of x beats fits)))));
       filled = payload_filled config link x beats (a_carries_data x.opcode) refl (rw long (beats_room (A (made_of x beats fits)) width)) each;
       clean = clean;
       inside = ok.inside;

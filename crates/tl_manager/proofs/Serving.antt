@@ -1,15 +1,11 @@
 -- The service of a block, where some services end.
-use Rattle.std.proofs.Common.{◌≡◌, ℕ, Bool, true, false, not, ◌||◌, List, [], ◌∷◌, Option, Some, None, refl, sym, ◌∙◌, ap}
+use Rattle.std.proofs.Common.{◌≡◌, ℕ, Bool, true, false, ◌||◌, List, [], ◌∷◌, Option, Some, None, refl, sym, ◌∙◌, ap}
 use Rattle.std.specs.Prelude.{◌==◌, if◌then◌else◌, filter}
 use Rattle.std.proofs.lemmas.Bool.{eqb-true, eq-eqb, ne_eqb}
-use Rattle.tl_beat.specs.declared.beat.Beat.TheVariants as beat
-use Rattle.tl_beat.specs.declared.beat.BeatE.{BeatE}
-use Rattle.tl_beat.specs.declared.beat.Link.{Link}
-use Rattle.tl_rules.specs.Conformance.{Trace, on_link}
-use Rattle.tl_rules.specs.History.{ends, block_at}
+use Rattle.tl_rules.specs.History.{block_at}
 use Rattle.tl_rules.specs.Legality.{is_one_of}
 use Rattle.tl_manager.specs.Kept.{AreApart, blocks_of}
-use Rattle.tl_manager.specs.Service.{Service, services, serving, is_ended_by, trackers_of}
+use Rattle.tl_manager.specs.Service.{Service, serving, trackers_of}
 
 same_number : (n : ℕ) → (n == n) ≡ true
 same_number n = eq-eqb n n refl
@@ -19,7 +15,7 @@ abbrev pub if_passes : {X : Type 0} → (X → Bool) → Option X → Option X
 if_passes test None = None
 if_passes test (Some x) = if test x then Some x else None
 
-not_swapped : (a b : ℕ) → (a == b) ≡ false → (b == a) ≡ false
+pub not_swapped : (a b : ℕ) → (a == b) ≡ false → (b == a) ≡ false
 not_swapped a b f = ne_eqb b a (λ e. absurd (let yes : (a == b) ≡ true = rw e (same_number a) in cc))
 
 pub none_of_block : {w : ℕ} (n : ℕ) (ss : List (Service w)) → is_one_of n (blocks_of ss) ≡ false → serving n ss ≡ None
@@ -40,7 +36,8 @@ serving-filter {w} n test (s ∷ ss) apart = go (serving-filter n test ss apart.
         let same : block_at s.request.address ≡ n = eqb-true (block_at s.request.address) n e in
         rest ∙ ap (if_passes test) (none_of_block n ss (rw same at apart.0))
 
-    go : serving n (filter test ss) ≡ if_passes test (serving n ss) → (b : Bool) → (block_at s.request.address == n) ≡ b → (p : Bool) → test s ≡ p → serving n (filter test (s ∷ ss)) ≡ if_passes test (serving n (s ∷ ss))
+    go : serving n (filter test ss) ≡ if_passes test (serving n ss) → (b : Bool) → (block_at s.request.address == n) ≡ b → (p : Bool) → test s ≡ p
+        → serving n (filter test (s ∷ ss)) ≡ if_passes test (serving n (s ∷ ss))
     go rest true e true f = rw (f, e) (rw f refl)
     go rest true e false f = rw (f, e) (rw f (missing rest e))
     go rest false e true f = rw (f, e) rest
@@ -60,7 +57,8 @@ tracker_among {w} n (s ∷ ss) a e = go (block_at s.request.address == n) (λ f.
     either true = refl
     either false = refl
 
-    go : (b : Bool) → (serving n ss ≡ Some a → is_one_of a.tracker (trackers_of ss) ≡ true) → (if b then Some s else serving n ss) ≡ Some a → ((a.tracker == s.tracker) || is_one_of a.tracker (trackers_of ss)) ≡ true
+    go : (b : Bool) → (serving n ss ≡ Some a → is_one_of a.tracker (trackers_of ss) ≡ true) → (if b then Some s else serving n ss) ≡ Some a
+        → ((a.tracker == s.tracker) || is_one_of a.tracker (trackers_of ss)) ≡ true
     go true rest f = let same : s ≡ a = some_is s a f in let t : s.tracker ≡ a.tracker = ap (λ (x : Service w). x.tracker) same in rw (t, same_number a.tracker) refl
     go false rest f = rw (rest f) (either (a.tracker == s.tracker))
 

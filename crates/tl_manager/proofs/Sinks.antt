@@ -1,6 +1,6 @@
 -- A sink is pending only of an Acquire in service.
 use Rattle.std.proofs.Common.{◌≡◌, ℕ, zero, suc, ◌==◌, Bool, true, false, not, cond, ◌&&◌, ◌||◌, List, [], ◌∷◌, ◌++◌, map, Option, Some, None, refl, sym, ap, subst, ◌∙◌, inl, inr}
-use Rattle.std.specs.Prelude.{filter, if◌then◌else◌}
+use Rattle.std.specs.Prelude.{filter, if◌then◌else◌, ⊤}
 use Rattle.std.proofs.lemmas.Bool.{or_cases, and_parts, eqb-true, eq-eqb, ne_eqb, true≢false}
 use Rattle.tl_beat.specs.Width.{IsWidth}
 use Rattle.tl_beat.specs.declared.beat.Beat.{Beat}
@@ -28,6 +28,7 @@ use Rattle.tl_manager.proofs.Handed.{after_sent, own_link, other_link, whole-aft
 use Rattle.tl_manager.proofs.Lawful.{IsHandable}
 use Rattle.tl_manager.proofs.Lists.{each_weaker}
 use Rattle.tl_rules.proofs.Handed.{pending-sent_b, pending-sent_d}
+use Rattle.tl_rules.proofs.Tables.{neither}
 use Rattle.tl_manager.specs.Ready.{IsWhole}
 
 -- the Acquire of this client that has this tracker
@@ -37,7 +38,8 @@ grants_by client sink s = is_acquire s.request.opcode && ((s.link.0 == client) &
 -- ---- services that go on
 
 -- an element that a filter keeps
-kept_by : {w : ℕ} (client sink : ℕ) (test : Service w → Bool) (ss : List (Service w)) → ((s : Service w) → grants_by client sink s ≡ true → test s ≡ true) → is_granting client sink ss ≡ true → is_granting client sink (filter test ss) ≡ true
+kept_by : {w : ℕ} (client sink : ℕ) (test : Service w → Bool) (ss : List (Service w)) → ((s : Service w) → grants_by client sink s ≡ true → test s ≡ true) → is_granting client sink ss ≡ true
+    → is_granting client sink (filter test ss) ≡ true
 kept_by client sink test [] keeps e = e
 kept_by {w} client sink test (s ∷ ss) keeps e = elim (or_cases (grants_by client sink s) (is_granting client sink ss) e) [
   | inl here ↦ rw (keeps s here, here) refl
@@ -57,12 +59,14 @@ abbrev pub is_request : {w : ℕ} → Beat w → Bool
 is_request (beat.A x) = true
 is_request _ = false
 
-goes_on : {w : ℕ} (client sink : ℕ) (x : Link × Beat w) (ss : List (Service w)) (last : Bool) → ((s : Service w) → grants_by client sink s ≡ true → is_ended_by x s ≡ false) → is_granting client sink ss ≡ true
+goes_on : {w : ℕ} (client sink : ℕ) (x : Link × Beat w) (ss : List (Service w)) (last : Bool) → ((s : Service w) → grants_by client sink s ≡ true → is_ended_by x s ≡ false)
+    → is_granting client sink ss ≡ true
     → is_granting client sink (if last then filter (λ s. not (is_ended_by x s)) ss else ss) ≡ true
 goes_on client sink x ss true keeps e = kept_by client sink (λ s. not (is_ended_by x s)) ss (λ s by. rw (keeps s by) refl) e
 goes_on client sink x ss false keeps e = e
 
-granting-beat : {w : ℕ} (client sink : ℕ) (x : Link × Beat w) (t : Trace w) → is_request x.1 ≡ false → ((s : Service w) → grants_by client sink s ≡ true → is_ended_by x s ≡ false) → is_granting client sink (services t) ≡ true → is_granting client sink (services (x ∷ t)) ≡ true
+granting-beat : {w : ℕ} (client sink : ℕ) (x : Link × Beat w) (t : Trace w) → is_request x.1 ≡ false → ((s : Service w) → grants_by client sink s ≡ true → is_ended_by x s ≡ false)
+    → is_granting client sink (services t) ≡ true → is_granting client sink (services (x ∷ t)) ≡ true
 unfolding services
 granting-beat client sink (link, beat.A x) t other keeps e = absurd cc
 granting-beat client sink (link, beat.B x) t other keeps e = goes_on client sink (link, beat.B x) (services t) (ends (beat.B x) (on_link link.0 t)) keeps e
@@ -98,24 +102,21 @@ not_answered : {w : ℕ} (client sink : ℕ) (link : Link) (m : MessageD w) (i :
 not_answered client sink link m i s by =
     no_access (s.link.0 == link.0) (is_access_answer m.opcode) (s.request.source == m.source) (is_acquire s.request.opcode) (and_parts (is_acquire s.request.opcode) _ by).0
 
-ours_go_on : {w : ℕ} (client sink : ℕ) (link : Link) (m : Message w) (n : ℕ) (t : Trace w) → is_from_client (beat_of m 0) ≡ false → is_granting client sink (services t) ≡ true → is_granting client sink (services (map (λ b. (link, b)) (begun m n) ++ t)) ≡ true
+ours_go_on : {w : ℕ} (client sink : ℕ) (link : Link) (m : Message w) (n : ℕ) (t : Trace w) → is_from_client (beat_of m 0) ≡ false → is_granting client sink (services t) ≡ true
+    → is_granting client sink (services (map (λ b. (link, b)) (begun m n) ++ t)) ≡ true
 ours_go_on client sink link m zero t ours e = e
 ours_go_on client sink link (A m) (suc n) t ours e = absurd cc
-ours_go_on client sink link (B m) (suc n) t ours e = granting-beat client sink (link, beat_of (B m) n) (map (λ b. (link, b)) (begun (B m) n) ++ t) refl (λ s by. refl) (ours_go_on client sink link (B m) n t ours e)
+ours_go_on client sink link (B m) (suc n) t ours e =
+    granting-beat client sink (link, beat_of (B m) n) (map (λ b. (link, b)) (begun (B m) n) ++ t) refl (λ s by. refl) (ours_go_on client sink link (B m) n t ours e)
 ours_go_on client sink link (C m) (suc n) t ours e = absurd cc
-ours_go_on client sink link (D m) (suc n) t ours e = granting-beat client sink (link, beat_of (D m) n) (map (λ b. (link, b)) (begun (D m) n) ++ t) refl (λ s by. not_answered client sink link m n s by) (ours_go_on client sink link (D m) n t ours e)
+ours_go_on client sink link (D m) (suc n) t ours e =
+    granting-beat client sink (link, beat_of (D m) n) (map (λ b. (link, b)) (begun (D m) n) ++ t) refl (λ s by. not_answered client sink link m n s by) (ours_go_on client sink link (D m) n t ours e)
 ours_go_on client sink link (E m) (suc n) t ours e = absurd cc
 
 -- ---- what is pending after a client's beat
 
 abbrev pub AreTracked : {w : ℕ} → Trace w → Type 0
 AreTracked t = (client sink : ℕ) → pending (GrantSink sink) (on_link client t) ≡ true → is_granting client sink (services t) ≡ true
-
-pub unmoved : (first last before : Bool) → (if first && false then true else if last && false then false else before) ≡ before
-unmoved true true before = refl
-unmoved true false before = refl
-unmoved false true before = refl
-unmoved false false before = refl
 
 still : (first last closed before : Bool) → (if first && false then true else if last && closed then false else before) ≡ true → (before ≡ true) × ((last && closed) ≡ false)
 still true true true before e = absurd cc
@@ -126,7 +127,8 @@ still false true false before e = (e, refl)
 still false false closed before e = (e, refl)
 
 -- a beat that moves no sink
-pending_before : {w : ℕ} (client sink : ℕ) (link : Link) (x : Beat w) (t : Trace w) → ((h : History w) → pending (GrantSink sink) (x ∷ h) ≡ pending (GrantSink sink) h) → pending (GrantSink sink) (on_link client ((link, x) ∷ t)) ≡ pending (GrantSink sink) (on_link client t)
+pending_before : {w : ℕ} (client sink : ℕ) (link : Link) (x : Beat w) (t : Trace w) → ((h : History w) → pending (GrantSink sink) (x ∷ h) ≡ pending (GrantSink sink) h)
+    → pending (GrantSink sink) (on_link client ((link, x) ∷ t)) ≡ pending (GrantSink sink) (on_link client t)
 unfolding on_link
 pending_before {w} client sink link x t same = go (link.0 == client)
   where
@@ -136,11 +138,11 @@ pending_before {w} client sink link x t same = go (link.0 == client)
 
 moves_none_a : {w : ℕ} (sink : ℕ) (x : BeatA w) (h : History w) → pending (GrantSink sink) (beat.A x ∷ h) ≡ pending (GrantSink sink) h
 unfolding pending
-moves_none_a sink x h = unmoved (begins (beat.A x) h) (ends (beat.A x) h) (pending (GrantSink sink) h)
+moves_none_a sink x h = neither (begins (beat.A x) h) (ends (beat.A x) h) (pending (GrantSink sink) h)
 
 moves_none_c : {w : ℕ} (sink : ℕ) (x : BeatC w) (h : History w) → pending (GrantSink sink) (beat.C x ∷ h) ≡ pending (GrantSink sink) h
 unfolding pending
-moves_none_c sink x h = unmoved (begins (beat.C x) h) (ends (beat.C x) h) (pending (GrantSink sink) h)
+moves_none_c sink x h = neither (begins (beat.C x) h) (ends (beat.C x) h) (pending (GrantSink sink) h)
 
 after_ack : {w : ℕ} (sink : ℕ) (x : BeatE) (h : History w) → pending (GrantSink sink) (beat.E x ∷ h) ≡ true → (pending (GrantSink sink) h ≡ true) × ((ends {w = w} (beat.E x) h && (x.sink == sink)) ≡ false)
 unfolding pending
@@ -164,21 +166,25 @@ other_sink_ack client sink link x s other by =
     two true false = refl
     two false b = refl
 
-own_ack : {w : ℕ} (sink : ℕ) (link : Link) (x : BeatE) (t : Trace w) → AreTracked t → pending (GrantSink sink) (beat.E x ∷ on_link link.0 t) ≡ true → is_granting link.0 sink (services ((link, beat.E x) ∷ t)) ≡ true
+own_ack : {w : ℕ} (sink : ℕ) (link : Link) (x : BeatE) (t : Trace w) → AreTracked t → pending (GrantSink sink) (beat.E x ∷ on_link link.0 t) ≡ true
+    → is_granting link.0 sink (services ((link, beat.E x) ∷ t)) ≡ true
 unfolding services
 own_ack {w} sink link x t tracked e =
     let p = after_ack sink x (on_link link.0 t) e in
     go (ends {w = w} (beat.E x) (on_link link.0 t)) p.1 (tracked link.0 sink p.0)
   where
-    go : (b : Bool) → (b && (x.sink == sink)) ≡ false → is_granting link.0 sink (services t) ≡ true → is_granting link.0 sink (if b then filter (λ s. not (is_ended_by (link, beat.E x) s)) (services t) else services t) ≡ true
+    go : (b : Bool) → (b && (x.sink == sink)) ≡ false → is_granting link.0 sink (services t) ≡ true
+        → is_granting link.0 sink (if b then filter (λ s. not (is_ended_by (link, beat.E x) s)) (services t) else services t) ≡ true
     go true other before = kept_by link.0 sink (λ s. not (is_ended_by (link, beat.E x) s)) (services t) (λ s by. rw (other_sink_ack link.0 sink link x s other by) refl) before
     go false other before = before
 
-taken_ack : {w : ℕ} (client sink : ℕ) (link : Link) (x : BeatE) (t : Trace w) → AreTracked t → pending (GrantSink sink) (on_link client ((link, beat.E x) ∷ t)) ≡ true → is_granting client sink (services ((link, beat.E x) ∷ t)) ≡ true
+taken_ack : {w : ℕ} (client sink : ℕ) (link : Link) (x : BeatE) (t : Trace w) → AreTracked t → pending (GrantSink sink) (on_link client ((link, beat.E x) ∷ t)) ≡ true
+    → is_granting client sink (services ((link, beat.E x) ∷ t)) ≡ true
 unfolding on_link
 taken_ack {w} client sink link x t tracked e = go (link.0 == client) refl e
   where
-    go : (b : Bool) → (link.0 == client) ≡ b → pending (GrantSink sink) (if b then beat.E x ∷ on_link client t else on_link client t) ≡ true → is_granting client sink (services ((link, beat.E x) ∷ t)) ≡ true
+    go : (b : Bool) → (link.0 == client) ≡ b → pending (GrantSink sink) (if b then beat.E x ∷ on_link client t else on_link client t) ≡ true
+        → is_granting client sink (services ((link, beat.E x) ∷ t)) ≡ true
     go true here f =
         let same = eqb-true link.0 client here in
         subst (λ (n : ℕ). is_granting n sink (services ((link, beat.E x) ∷ t)) ≡ true) same (own_ack sink link x t tracked (ap (λ n. pending (GrantSink sink) (beat.E x ∷ on_link n t)) same ∙ f))
@@ -186,9 +192,11 @@ taken_ack {w} client sink link x t tracked e = go (link.0 == client) refl e
 
 -- each pending sink is still tracked after a client's beat
 pub tracked-taken : {w : ℕ} (link : Link) (x : Beat w) (t : Trace w) → is_from_client x ≡ true → AreTracked t → AreTracked ((link, x) ∷ t)
-tracked-taken link (beat.A x) t theirs tracked = λ client sink e. granting-request client sink link x t (tracked client sink (sym (pending_before client sink link (beat.A x) t (λ h. moves_none_a sink x h)) ∙ e))
+tracked-taken link (beat.A x) t theirs tracked =
+    λ client sink e. granting-request client sink link x t (tracked client sink (sym (pending_before client sink link (beat.A x) t (λ h. moves_none_a sink x h)) ∙ e))
 tracked-taken link (beat.B x) t theirs tracked = absurd cc
-tracked-taken link (beat.C x) t theirs tracked = λ client sink e. granting-beat client sink (link, beat.C x) t refl (λ s by. refl) (tracked client sink (sym (pending_before client sink link (beat.C x) t (λ h. moves_none_c sink x h)) ∙ e))
+tracked-taken link (beat.C x) t theirs tracked =
+    λ client sink e. granting-beat client sink (link, beat.C x) t refl (λ s by. refl) (tracked client sink (sym (pending_before client sink link (beat.C x) t (λ h. moves_none_c sink x h)) ∙ e))
 tracked-taken link (beat.D x) t theirs tracked = absurd cc
 tracked-taken link (beat.E x) t theirs tracked = λ client sink e. taken_ack client sink link x t tracked e
 
@@ -197,22 +205,25 @@ tracked-taken link (beat.E x) t theirs tracked = λ client sink e. taken_ack cli
 -- a Grant has the tracker of an Acquire of its client that is in service as its sink
 abbrev pub IsGranted : {w : ℕ} → List (Service w) → Link × Message w → Type 0
 IsGranted ss (link, D m) = is_grant m.opcode ≡ true → is_granting link.0 m.sink ss ≡ true
-IsGranted ss _ = Unit {0}
+IsGranted ss _ = ⊤
 
-sent_sink : {w : ℕ} (link : Link) (m : Message w) (sink : ℕ) (t : Trace w) → IsWidth w → is_from_client (beat_of m 0) ≡ false → IsWhole (on_link link.0 t) → IsGranted (services t) (link, m) → AreTracked t → pending (GrantSink sink) (sent m (on_link link.0 t)) ≡ true → is_granting link.0 sink (services t) ≡ true
+sent_sink : {w : ℕ} (link : Link) (m : Message w) (sink : ℕ) (t : Trace w) → IsWidth w → is_from_client (beat_of m 0) ≡ false → IsWhole (on_link link.0 t) → IsGranted (services t) (link, m)
+    → AreTracked t → pending (GrantSink sink) (sent m (on_link link.0 t)) ≡ true → is_granting link.0 sink (services t) ≡ true
 sent_sink link (A m) sink t width ours ok granted tracked e = absurd cc
 sent_sink link (B m) sink t width ours ok granted tracked e = tracked link.0 sink (sym (pending-sent_b (GrantSink sink) m (on_link link.0 t) ok.0 (beats-positive (B m) width)) ∙ e)
 sent_sink link (C m) sink t width ours ok granted tracked e = absurd cc
 sent_sink {w} link (D m) sink t width ours ok granted tracked e =
     go (is_grant m.opcode) (m.sink == sink) granted refl (sym (pending-sent_d (GrantSink sink) m (on_link link.0 t) ok.1 (beats-positive (D m) width)) ∙ e)
   where
-    go : (b c : Bool) → (b ≡ true → is_granting link.0 m.sink (services t) ≡ true) → (m.sink == sink) ≡ c → (if b && c then true else pending (GrantSink sink) (on_link link.0 t)) ≡ true → is_granting link.0 sink (services t) ≡ true
+    go : (b c : Bool) → (b ≡ true → is_granting link.0 m.sink (services t) ≡ true) → (m.sink == sink) ≡ c → (if b && c then true else pending (GrantSink sink) (on_link link.0 t)) ≡ true
+        → is_granting link.0 sink (services t) ≡ true
     go true true has same f = subst (λ (n : ℕ). is_granting link.0 n (services t) ≡ true) (eqb-true m.sink sink same) (has refl)
     go true false has same f = tracked link.0 sink f
     go false c has same f = tracked link.0 sink f
 sent_sink link (E m) sink t width ours ok granted tracked e = absurd cc
 
-tracked-sent : {w : ℕ} (link : Link) (m : Message w) (t : Trace w) → IsWidth w → is_from_client (beat_of m 0) ≡ false → ((client : ℕ) → IsWhole (on_link client t)) → IsGranted (services t) (link, m) → AreTracked t → AreTracked (after_sent link m t)
+tracked-sent : {w : ℕ} (link : Link) (m : Message w) (t : Trace w) → IsWidth w → is_from_client (beat_of m 0) ≡ false → ((client : ℕ) → IsWhole (on_link client t))
+    → IsGranted (services t) (link, m) → AreTracked t → AreTracked (after_sent link m t)
 tracked-sent {w} link m t width ours ok granted tracked = λ client sink e. ours_go_on client sink link m (beats_of m) t ours (go client sink (link.0 == client) refl e)
   where
     go : (client sink : ℕ) (b : Bool) → (link.0 == client) ≡ b → pending (GrantSink sink) (on_link client (after_sent link m t)) ≡ true → is_granting client sink (services t) ≡ true
@@ -223,14 +234,16 @@ tracked-sent {w} link m t width ours ok granted tracked = λ client sink e. ours
         (ap (pending (GrantSink sink)) (sym (own_link link.0 link m t (eq-eqb link.0 link.0 refl))) ∙ ap (λ n. pending (GrantSink sink) (on_link n (after_sent link m t))) same ∙ e))
     go client sink false other e = tracked client sink (ap (pending (GrantSink sink)) (sym (other_link client link m t other)) ∙ e)
 
-granted_still : {w : ℕ} (x : Link × Message w) (link : Link) (m : Message w) (t : Trace w) → is_from_client (beat_of m 0) ≡ false → IsGranted (services t) x → IsGranted (services (after_sent link m t)) x
+granted_still : {w : ℕ} (x : Link × Message w) (link : Link) (m : Message w) (t : Trace w) → is_from_client (beat_of m 0) ≡ false → IsGranted (services t) x
+    → IsGranted (services (after_sent link m t)) x
 granted_still (to, A y) link m t ours granted = tt
 granted_still (to, B y) link m t ours granted = tt
 granted_still (to, C y) link m t ours granted = tt
 granted_still (to, D y) link m t ours granted = λ e. ours_go_on to.0 y.sink link m (beats_of m) t ours (granted e)
 granted_still (to, E y) link m t ours granted = tt
 
-pub tracked-handed : {w : ℕ} (config : Config) (handed : Handed w) (t : Trace w) → IsWidth w → Each (IsHandable config) handed → ((client : ℕ) → IsWhole (on_link client t)) → Each (IsGranted (services t)) handed → AreTracked t → AreTracked (with_handed handed t)
+pub tracked-handed : {w : ℕ} (config : Config) (handed : Handed w) (t : Trace w) → IsWidth w → Each (IsHandable config) handed → ((client : ℕ) → IsWhole (on_link client t))
+    → Each (IsGranted (services t)) handed → AreTracked t → AreTracked (with_handed handed t)
 unfolding with_handed
 tracked-handed config [] t width each ok granted tracked = tracked
 tracked-handed config (x ∷ handed) t width each ok granted tracked =

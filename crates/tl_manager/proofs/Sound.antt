@@ -1,6 +1,6 @@
 -- Beats that break no L rule at their links: what they say of levels and of the requests in service.
 use Rattle.std.proofs.Common.{subst, ◌≡◌, ℕ, ◌==◌, Bool, true, false, not, ◌&&◌, List, [], ◌∷◌, Option, Some, None, refl, sym, ap, ◌∙◌}
-use Rattle.std.specs.Prelude.{nat_le, option_map, if◌then◌else◌}
+use Rattle.std.specs.Prelude.{nat_le, option_map, if◌then◌else◌, unwrap_or}
 use Rattle.std.proofs.lemmas.Bool.{eqb-true}
 use Rattle.tl_beat.specs.declared.beat.Beat.{Beat}
 use Rattle.tl_beat.specs.declared.beat.Beat.TheVariants.{A, B, C, D, E}
@@ -16,16 +16,15 @@ use Rattle.tl_params.specs.declared.perm.Perm.{Perm}
 use Rattle.tl_params.specs.declared.rule.Rule.TheVariants.{L1}
 use Rattle.tl_rules.specs.Conformance.{Trace, on_link}
 use Rattle.tl_rules.specs.Control.{a_control, a_own}
-use Rattle.tl_rules.specs.History.{ends, block_at, capped, held, says_held, or_perm, is_grant}
+use Rattle.tl_rules.specs.History.{ends, block_at, capped, held, says_held, is_grant}
 use Rattle.tl_rules.specs.Legality.{illegal, breaks_l1, has_transfers, d_of_level}
-use Rattle.tl_rules.proofs.Bursts.{next_rule}
+use Rattle.tl_rules.proofs.Bursts.{next_rule, both_none}
 use Rattle.tl_rules.proofs.Verdicts.{illegal_a}
 use Rattle.tl_manager.specs.Holders.{recorded, has_copy}
 use Rattle.tl_manager.specs.Kept.{Each, IsSound, illegal_at}
 use Rattle.tl_manager.specs.Request.{request_if, request_carried}
-use Rattle.tl_manager.specs.Service.{Service, least_free, trackers_of, with_service, is_ended_by, served, services}
+use Rattle.tl_manager.specs.Service.{Service, least_untaken, trackers_of, with_service, is_ended_by, served, services}
 use Rattle.tl_manager.specs.Slave.{level_of}
-use Rattle.tl_manager.proofs.Masks.{both_none}
 use Rattle.tl_manager.proofs.Lists.{each_filter, each_weaker}
 
 -- where a beat breaks no L rule there is a level
@@ -42,7 +41,8 @@ pub record IsServable {w : ℕ} (config : Config) (s : Service w) : Type 0 where
   pub control : a_control w level s.request.opcode s.request.param s.request.size s.request.address ≡ None
   pub inside : nat_le config.blocks (block_at s.request.address) ≡ false
 
-pub servable_new : {w : ℕ} (config : Config) (link : Link) (x : BeatA w) (beats : List (Beat w)) (tracker : ℕ) (ss : List (Service w)) (fits : Bool) (e : nat_le x.size 6 ≡ fits) → IsSound config (link, A x) → Each (IsServable config) ss
+pub servable_new : {w : ℕ} (config : Config) (link : Link) (x : BeatA w) (beats : List (Beat w)) (tracker : ℕ) (ss : List (Service w)) (fits : Bool) (e : nat_le x.size 6 ≡ fits)
+    → IsSound config (link, A x) → Each (IsServable config) ss
     → Each (IsServable config) (with_service (option_map (λ m. record { tracker = tracker; link = link; request = m }) (request_if x beats fits e)) ss)
 servable_new config link x beats tracker ss false e sound each = each
 servable_new {w} config link x beats tracker ss true e sound each =
@@ -56,9 +56,10 @@ servable_new {w} config link x beats tracker ss true e sound each =
       each,
     )
 
-pub servable_served : {w : ℕ} (config : Config) (link : Link) (x : Beat w) (burst : List (Beat w)) (ss : List (Service w)) → IsSound config (link, x) → Each (IsServable config) ss → Each (IsServable config) (served (link, x) burst ss)
+pub servable_served : {w : ℕ} (config : Config) (link : Link) (x : Beat w) (burst : List (Beat w)) (ss : List (Service w)) → IsSound config (link, x) → Each (IsServable config) ss
+    → Each (IsServable config) (served (link, x) burst ss)
 unfolding request_carried
-servable_served config link (A x) burst ss sound each = servable_new config link x (A x ∷ burst) (least_free (trackers_of ss)) ss (nat_le x.size 6) refl sound each
+servable_served config link (A x) burst ss sound each = servable_new config link x (A x ∷ burst) (least_untaken (trackers_of ss)) ss (nat_le x.size 6) refl sound each
 servable_served config link (B x) burst ss sound each = each_filter (IsServable config) (λ s. not (is_ended_by (link, B x) s)) ss each
 servable_served config link (C x) burst ss sound each = each_filter (IsServable config) (λ s. not (is_ended_by (link, C x) s)) ss each
 servable_served config link (D x) burst ss sound each = each_filter (IsServable config) (λ s. not (is_ended_by (link, D x) s)) ss each
@@ -128,7 +129,8 @@ unfolding held
 copy_level o k [] each copy = absurd cc
 copy_level o k (x ∷ t) each copy = go (ends x t) (says_held k x t) (copy_level o k t each.1) refl copy
   where
-    go : (b : Bool) (said : Option Perm) → (has_copy (held k t) ≡ true → o ≡ Some level.C) → says_held k x t ≡ said → has_copy (if b then or_perm said (held k t) else held k t) ≡ true → o ≡ Some level.C
+    go : (b : Bool) (said : Option Perm) → (has_copy (held k t) ≡ true → o ≡ Some level.C) → says_held k x t ≡ said → has_copy (if b then unwrap_or said (held k t) else held k t) ≡ true
+        → o ≡ Some level.C
     go true (Some p) before e f = says_level o k x t p each.0 e
     go true None before e f = before f
     go false said before e f = before f

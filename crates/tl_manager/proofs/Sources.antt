@@ -30,7 +30,8 @@ count-any {X} test (x ∷ xs) e = go (test x) e (λ f. count-any test xs f)
     go false f rest = let lt = rest f in omega (arith, lt)
 
 -- a source is pending exactly where the unfinished request has it, or one in service that isn't answered
-pub source-pending : {w : ℕ} (c q : ℕ) (t : Trace w) → IsAccounted t → pending (RequestSource q) (on_link c t) ≡ (comes_in_request q (unfinished channel.A (on_link c t)) || is_any (is_asking c q t) (services t))
+pub source-pending : {w : ℕ} (c q : ℕ) (t : Trace w) → IsAccounted t
+    → pending (RequestSource q) (on_link c t) ≡ (comes_in_request q (unfinished channel.A (on_link c t)) || is_any (is_asking c q t) (services t))
 source-pending {w} c q t ok =
     go (comes_in_request q (unfinished channel.A (on_link c t))) (is_any (is_asking c q t) (services t)) (pending (RequestSource q) (on_link c t)) refl (ok.sources c q)
   where
@@ -47,7 +48,8 @@ source-pending {w} c q t ok =
 -- what holds of the service of any block holds of each service
 pub served-each : {w : ℕ} (P : Service w → Type 0) (ss : List (Service w)) → AreApart (blocks_of ss) → ((n : ℕ) (s : Service w) → serving n ss ≡ Some s → P s) → Each P ss
 served-each P [] apart all = tt
-served-each {w} P (s ∷ ss) apart all = (all (block_at s.request.address) s (rw (eq-eqb (block_at s.request.address) (block_at s.request.address) refl) refl), served-each P ss apart.1 (λ n u e. later n u e (block_at s.request.address == n) refl))
+served-each {w} P (s ∷ ss) apart all =
+    (all (block_at s.request.address) s (rw (eq-eqb (block_at s.request.address) (block_at s.request.address) refl) refl), served-each P ss apart.1 (λ n u e. later n u e (block_at s.request.address == n) refl))
   where
     later : (n : ℕ) (u : Service w) → serving n ss ≡ Some u → (b : Bool) → (block_at s.request.address == n) ≡ b → P u
     later n u e true f =
@@ -55,15 +57,6 @@ served-each {w} P (s ∷ ss) apart all = (all (block_at s.request.address) s (rw
         let gone : serving n ss ≡ None = none_of_block n ss (rw same at apart.0) in
         absurd (let no : Some u ≡ None = sym e ∙ gone in cc)
     later n u e false f = all n u (rw f e)
-
--- a source that no service asks with is free, where no unfinished request has it
-pub source-free : {w : ℕ} (c q : ℕ) (t : Trace w) → IsAccounted t → AreApart (blocks_of (services t)) → comes_in_request q (unfinished channel.A (on_link c t)) ≡ false → ((n : ℕ) (s : Service w) → serving n (services t) ≡ Some s → is_asking c q t s ≡ false)
-    → pending (RequestSource q) (on_link c t) ≡ false
-source-free {w} c q t ok apart burst none = source-pending c q t ok ∙ rw burst (nobody (services t) (served-each (λ s. is_asking c q t s ≡ false) (services t) apart none))
-  where
-    nobody : (ss : List (Service w)) → Each (λ s. is_asking c q t s ≡ false) ss → is_any (is_asking c q t) ss ≡ false
-    nobody [] each = refl
-    nobody (s ∷ ss) each = rw each.0 (nobody ss each.1)
 
 -- ---- sinks
 

@@ -3,13 +3,13 @@ use Rattle.std.proofs.Common.{◌≡◌, ℕ, false, Option, Some, None, refl}
 use Rattle.tl_beat.specs.declared.beat.Beat.{Beat}
 use Rattle.tl_beat.specs.declared.beat.Link.{Link}
 use Rattle.tl_beat.specs.declared.opcode.Channel.{Channel}
+use Rattle.tl_beat.specs.First.{first_if}
 use Rattle.tl_params.specs.declared.config.Config.{Config}
 use Rattle.tl_params.specs.declared.level.Level.{Level}
 use Rattle.tl_params.specs.declared.rule.Rule.{Rule}
 use Rattle.tl_params.specs.declared.rule.Rule.TheVariants.{A1, A2}
 use Rattle.tl_rules.specs.Agent.{is_outside, is_spoiled}
 use Rattle.tl_rules.specs.Conformance.{Trace, on_link, broken_in_order}
-use Rattle.tl_rules.specs.Legality.{rule_if}
 use Rattle.tl_manager.specs.Kept.{is_stalled}
 use Rattle.tl_manager.specs.Slave.{End, Judgement, Breaks, Waits, Passes, breaks_or, unlawful, before_stall, must_wait, judged_at, judged_on, judged, open_level, offered_as, offered, is_waiting, stalls}
 
@@ -32,7 +32,7 @@ never_at config l link ch x t free =
     goes_on (unlawful l ch x) _
     (goes_on (before_stall (broken_in_order config.profile x (on_link link.0 t))) _
     (rw free (goes_on (broken_in_order config.profile x (on_link link.0 t)) _
-    (goes_on (rule_if (is_outside config.blocks x) A1 (rule_if (is_spoiled x) A2 None)) Passes refl))))
+    (goes_on (first_if (is_outside config.blocks x) A1 (first_if (is_spoiled x) A2 None)) Passes refl))))
 
 -- what needn't wait isn't stalled
 pub never-stalled : {w : ℕ} (config : Config) (link : Link) (ch : Channel) (x : Beat w) (e : End w) → must_wait config link x e.trace ≡ false → stalls config link ch x e ≡ false

@@ -13,6 +13,7 @@ use Rattle.tl_params.specs.declared.key.Key.TheVariants.{ProbeOf}
 use Rattle.tl_params.specs.declared.param.Cap.{Cap}
 use Rattle.tl_rules.specs.Conformance.{Trace, on_link}
 use Rattle.tl_rules.specs.History.{ends, block_at, pending}
+use Rattle.tl_rules.proofs.Sent.{pending-quiet}
 use Rattle.tl_manager.specs.Handing.{Deed, with_handed, probes}
 use Rattle.tl_manager.specs.Holders.{cap_probed, probed}
 use Rattle.tl_manager.specs.Kept.{IsSound}
@@ -25,7 +26,7 @@ use Rattle.tl_manager.proofs.Asked.{Place, placed}
 use Rattle.tl_manager.proofs.Ended.{services-part}
 use Rattle.tl_manager.proofs.Events.{services-request, deed-part, deed-probes, deed-unprobed, deed-intent, deed-ack}
 use Rattle.tl_manager.proofs.Handed.{whole-taken}
-use Rattle.tl_manager.proofs.Links.{beat-keeps, pending-quiet}
+use Rattle.tl_manager.proofs.Links.{beat-keeps}
 use Rattle.tl_manager.proofs.Masks.{legal-small}
 use Rattle.tl_manager.proofs.Performed.{performed-steady}
 use Rattle.tl_manager.proofs.Probed.{probes-steady}
@@ -41,10 +42,11 @@ use Rattle.tl_manager.specs.Ready.{IsReady, IsServed, IsTaken}
 place_of : {w : ℕ} (config : Config) (link : Link) (x : BeatA w) (e : End w) → IsTaken config link (beat.A x) e → Place x (on_link link.0 e.trace)
 place_of config link x e is = placed config.profile x (on_link link.0 e.trace) is.passes.order (is.before.steady.accounted.begun link.0)
 
-missing_a : {w : ℕ} (link : Link) (x : BeatA w) (t : Trace w) (k c : ℕ) → pending (ProbeOf k) (on_link c ((link, beat.A x) ∷ t)) ≡ pending (ProbeOf k) (on_link c t)
+pub missing_a : {w : ℕ} (link : Link) (x : BeatA w) (t : Trace w) (k c : ℕ) → pending (ProbeOf k) (on_link c ((link, beat.A x) ∷ t)) ≡ pending (ProbeOf k) (on_link c t)
 missing_a link x t k c = beat-keeps (pending (ProbeOf k)) c link (beat.A x) t (λ h. pending-quiet (ProbeOf k) (beat.A x) h refl refl)
 
-request-part : {w : ℕ} (config : Config) (link : Link) (x : BeatA w) (e : End w) → IsTaken config link (beat.A x) e → ends (beat.A x) (on_link link.0 e.trace) ≡ false → IsSteady config ((link, beat.A x) ∷ e.trace)
+request-part : {w : ℕ} (config : Config) (link : Link) (x : BeatA w) (e : End w) → IsTaken config link (beat.A x) e → ends (beat.A x) (on_link link.0 e.trace) ≡ false
+    → IsSteady config ((link, beat.A x) ∷ e.trace)
 request-part config link x e is part = record {
   accounted = accounted-part link x e.trace (place_of config link x e is) part is.before.steady.accounted;
   awaited = λ k. awaited-same config k e.trace ((link, beat.A x) ∷ e.trace) (ap (serving k) (services-part (link, beat.A x) e.trace part)) (λ s f. granted_a link x e.trace s) (missing_a link x e.trace k) (is.before.steady.awaited k);
@@ -55,11 +57,13 @@ small config link x width sound =
     let l = leveled (level_of config link.0) (beat.A x) sound.lawful in
     le-leb x.size 6 (legal-small l.0 x width l.2)
 
-unused : {w : ℕ} (config : Config) (link : Link) (x : BeatA w) (t : Trace w) → must_wait config link (beat.A x) t ≡ false → ends (beat.A x) (on_link link.0 t) ≡ true → is_in_service (block_at x.address) (services t) ≡ false
+unused : {w : ℕ} (config : Config) (link : Link) (x : BeatA w) (t : Trace w) → must_wait config link (beat.A x) t ≡ false → ends (beat.A x) (on_link link.0 t) ≡ true
+    → is_in_service (block_at x.address) (services t) ≡ false
 unused config link x t waits last = (or_parts (is_in_service (block_at x.address) (services t)) (nat_le config.trackers (length (services t))) (rw last at waits)).0
 
 -- the request that the beat completes may be performed, where it probes nobody
-pub request-ready : {w : ℕ} (config : Config) (link : Link) (x : BeatA w) (e : End w) (fits : nat_le x.size 6 ≡ true) → IsTaken config link (beat.A x) e → IsServed link x (service_made link x e.trace fits) e.trace
+pub request-ready : {w : ℕ} (config : Config) (link : Link) (x : BeatA w) (e : End w) (fits : nat_le x.size 6 ≡ true) → IsTaken config link (beat.A x) e
+    → IsServed link x (service_made link x e.trace fits) e.trace
     → IsReady config (block_at x.address) (service_made link x e.trace fits) ((link, beat.A x) ∷ e.trace)
 request-ready {w} config link x e fits is served = record {
   width = is.width;
@@ -89,7 +93,8 @@ request-ready {w} config link x e fits is served = record {
     calm d true f = let probed_by = (is.before.steady.accounted.blocks n).probes d f in absurd (let no : Some probed_by.service ≡ None = sym probed_by.serves ∙ unserved (serving n (services t)) free in cc)
     calm d false f = refl
 
-request-last : {w : ℕ} (config : Config) (link : Link) (x : BeatA w) (e : End w) → IsTaken config link (beat.A x) e → ends (beat.A x) (on_link link.0 e.trace) ≡ true → IsSteady config (with_handed (deed config link (beat.A x) e).handed ((link, beat.A x) ∷ e.trace))
+request-last : {w : ℕ} (config : Config) (link : Link) (x : BeatA w) (e : End w) → IsTaken config link (beat.A x) e → ends (beat.A x) (on_link link.0 e.trace) ≡ true
+    → IsSteady config (with_handed (deed config link (beat.A x) e).handed ((link, beat.A x) ∷ e.trace))
 request-last {w} config link x e is last = go (cap_probed s.request.opcode s.request.param) refl
   where
     u : Trace w
@@ -138,7 +143,8 @@ ack {w} config link x e is = record {
     missing : (k d : ℕ) → pending (ProbeOf k) (on_link d u) ≡ pending (ProbeOf k) (on_link d t)
     missing k d = beat-keeps (pending (ProbeOf k)) d link (beat.E x) t (λ h. pending-quiet (ProbeOf k) (beat.E x) h refl refl)
 
-    left : (k : ℕ) (s : Service w) (b : Bool) → is_ended_by (link, beat.E x) s ≡ b → serving k (services t) ≡ Some s → serving k (services u) ≡ (if not b then Some s else None) → is_awaited config k u (serving k (services u)) ≡ true
+    left : (k : ℕ) (s : Service w) (b : Bool) → is_ended_by (link, beat.E x) s ≡ b → serving k (services t) ≡ Some s → serving k (services u) ≡ (if not b then Some s else None)
+        → is_awaited config k u (serving k (services u)) ≡ true
     left k s true f found after = ap (is_awaited config k u) after
     left k s false f found after =
         awaited-same config k t u (after ∙ sym found) (λ v g. granted-left link x t v (ap (is_ended_by (link, beat.E x)) (some_is v s (sym g ∙ found)) ∙ f)) (missing k) (is.before.steady.awaited k)

@@ -17,6 +17,8 @@ use Rattle.tl_params.specs.declared.config.Config.{Config}
 use Rattle.tl_params.specs.declared.key.Key.TheVariants.{GrantSink, ProbeOf}
 use Rattle.tl_rules.specs.Conformance.{Trace, on_link}
 use Rattle.tl_rules.specs.History.{ends, block_at, is_probe_ack, is_release, is_release_ack, is_grant, pending}
+use Rattle.tl_rules.proofs.Sent.{pending-quiet}
+use Rattle.tl_rules.proofs.Open.{never}
 use Rattle.tl_manager.specs.Handing.{Deed, with_handed, release_ack}
 use Rattle.tl_manager.specs.Holders.{is_settled}
 use Rattle.tl_manager.specs.Pending.{is_granted, is_awaited, IsSteady}
@@ -26,23 +28,24 @@ use Rattle.tl_manager.proofs.Accepted.{granted-kept}
 use Rattle.tl_manager.proofs.Accesses.{granted-still, services-release_ack, accounted-release_ack}
 use Rattle.tl_manager.proofs.Events.{deed-part, deed-release, deed-report, deed-settled, memory_with}
 use Rattle.tl_manager.proofs.Handed.{after_sent, whole-taken}
-use Rattle.tl_manager.proofs.Links.{own_beat, other_beat, pending-quiet}
+use Rattle.tl_manager.proofs.Links.{own_beat, other_beat}
 use Rattle.tl_manager.proofs.Performed.{performed-steady}
 use Rattle.tl_manager.proofs.Probing.{services-c, missing-else_c, missing-part, report-pending, accounted-c}
 use Rattle.tl_manager.proofs.Replies.{reply-quiet}
 use Rattle.tl_manager.proofs.Serving.{some_is}
 use Rattle.tl_manager.proofs.Settled.{settled-all}
 use Rattle.tl_manager.proofs.Unmoved.{awaited-same}
-use Rattle.tl_manager.proofs.Lists.{never}
 use Rattle.tl_manager.specs.Ready.{IsReady, IsTaken}
 
 -- where nothing is handed out
-pub quietly : {w : ℕ} (config : Config) (link : Link) (x : Beat w) (e : End w) → (deed config link x e).handed ≡ [] → IsSteady config ((link, x) ∷ e.trace) → IsSteady config (with_handed (deed config link x e).handed ((link, x) ∷ e.trace))
+pub quietly : {w : ℕ} (config : Config) (link : Link) (x : Beat w) (e : End w) → (deed config link x e).handed ≡ [] → IsSteady config ((link, x) ∷ e.trace)
+    → IsSteady config (with_handed (deed config link x e).handed ((link, x) ∷ e.trace))
 unfolding with_handed
 quietly config link x e nothing ok = rw nothing ok
 
 -- where this is done
-pub doing : {w : ℕ} (config : Config) (link : Link) (x : Beat w) (e : End w) (d : Deed w) → deed config link x e ≡ d → IsSteady config (with_handed d.handed ((link, x) ∷ e.trace)) → IsSteady config (with_handed (deed config link x e).handed ((link, x) ∷ e.trace))
+pub doing : {w : ℕ} (config : Config) (link : Link) (x : Beat w) (e : End w) (d : Deed w) → deed config link x e ≡ d → IsSteady config (with_handed d.handed ((link, x) ∷ e.trace))
+    → IsSteady config (with_handed (deed config link x e).handed ((link, x) ∷ e.trace))
 doing {w} config link x e d is ok = subst (λ (i : Deed w). IsSteady config (with_handed i.handed ((link, x) ∷ e.trace))) (sym is) ok
 
 -- ---- which ProbeAcks are missing
@@ -59,7 +62,8 @@ release_kind c.ReleaseData e = refl
 pub granted_c : {w : ℕ} (link : Link) (x : BeatC w) (t : Trace w) (s : Service w) → is_granted ((link, beat.C x) ∷ t) s ≡ is_granted t s
 granted_c link x t s = granted-kept link (beat.C x) t s (λ sink h. pending-quiet (GrantSink sink) (beat.C x) h refl refl)
 
-missing_part : {w : ℕ} (link : Link) (x : BeatC w) (t : Trace w) (k d : ℕ) → ends (beat.C x) (on_link link.0 t) ≡ false → pending (ProbeOf k) (on_link d ((link, beat.C x) ∷ t)) ≡ pending (ProbeOf k) (on_link d t)
+missing_part : {w : ℕ} (link : Link) (x : BeatC w) (t : Trace w) (k d : ℕ) → ends (beat.C x) (on_link link.0 t) ≡ false
+    → pending (ProbeOf k) (on_link d ((link, beat.C x) ∷ t)) ≡ pending (ProbeOf k) (on_link d t)
 missing_part {w} link x t k d part = go (link.0 == d) refl
   where
     go : (b : Bool) → (link.0 == d) ≡ b → pending (ProbeOf k) (on_link d ((link, beat.C x) ∷ t)) ≡ pending (ProbeOf k) (on_link d t)
@@ -67,7 +71,8 @@ missing_part {w} link x t k d part = go (link.0 == d) refl
     go false e = ap (pending (ProbeOf k)) (other_beat d link (beat.C x) t e)
 
 -- where as many are missing as before
-still-steady : {w : ℕ} (config : Config) (link : Link) (x : BeatC w) (e : End w) → IsTaken config link (beat.C x) e → ((k d : ℕ) → pending (ProbeOf k) (on_link d ((link, beat.C x) ∷ e.trace)) ≡ pending (ProbeOf k) (on_link d e.trace)) → IsSteady config ((link, beat.C x) ∷ e.trace)
+still-steady : {w : ℕ} (config : Config) (link : Link) (x : BeatC w) (e : End w) → IsTaken config link (beat.C x) e
+    → ((k d : ℕ) → pending (ProbeOf k) (on_link d ((link, beat.C x) ∷ e.trace)) ≡ pending (ProbeOf k) (on_link d e.trace)) → IsSteady config ((link, beat.C x) ∷ e.trace)
 still-steady config link x e is same = record {
   accounted = accounted-c config.profile link x e.trace is.passes.order is.before.steady.accounted;
   awaited = λ k. awaited-same config k e.trace ((link, beat.C x) ∷ e.trace) (ap (serving k) (services-c link x e.trace)) (λ s f. granted_c link x e.trace s) (same k) (is.before.steady.awaited k);
@@ -81,7 +86,8 @@ no_report config link x e is other = still-steady config link x e is (λ k d. mi
 pub release_is : {w : ℕ} (source : ℕ) → (m : MessageD w) × (release_ack source ≡ D m) × (is_release_ack m.opcode ≡ true) × (is_grant m.opcode ≡ false)
 release_is source = (_, refl, refl, refl)
 
-acked-steady : {w : ℕ} (config : Config) (link : Link) (m : MessageD w) (t : Trace w) → IsWidth w → unfinished channel.D (on_link link.0 t) ≡ [] → is_release_ack m.opcode ≡ true → is_grant m.opcode ≡ false → IsSteady config t → IsSteady config (after_sent link (D m) t)
+acked-steady : {w : ℕ} (config : Config) (link : Link) (m : MessageD w) (t : Trace w) → IsWidth w → unfinished channel.D (on_link link.0 t) ≡ [] → is_release_ack m.opcode ≡ true
+    → is_grant m.opcode ≡ false → IsSteady config t → IsSteady config (after_sent link (D m) t)
 acked-steady config link m t width none ack other ok = record {
   accounted = accounted-release_ack link m t width none ack ok.accounted;
   awaited = λ k.
@@ -89,7 +95,8 @@ acked-steady config link m t width none ack other ok = record {
       (λ d. reply-quiet (ProbeOf k) link m t d width none (λ f. (refl, refl))) (ok.awaited k);
 }
 
-release : {w : ℕ} (config : Config) (link : Link) (x : BeatC w) (e : End w) → IsTaken config link (beat.C x) e → is_release x.opcode ≡ true → IsSteady config (with_handed ((link, release_ack x.source) ∷ []) ((link, beat.C x) ∷ e.trace))
+release : {w : ℕ} (config : Config) (link : Link) (x : BeatC w) (e : End w) → IsTaken config link (beat.C x) e → is_release x.opcode ≡ true
+    → IsSteady config (with_handed ((link, release_ack x.source) ∷ []) ((link, beat.C x) ∷ e.trace))
 unfolding with_handed
 release {w} config link x e is kind =
     let m = release_is {w = w} x.source in
@@ -101,7 +108,8 @@ release {w} config link x e is kind =
 apart_block : {w : ℕ} (x : BeatC w) (k : ℕ) → (block_at x.address == k) ≡ false → (is_probe_ack x.opcode && (block_at x.address == k)) ≡ false
 apart_block x k e = rw e (never (is_probe_ack x.opcode))
 
-awaited-else : {w : ℕ} (config : Config) (link : Link) (x : BeatC w) (e : End w) (k : ℕ) → IsTaken config link (beat.C x) e → (block_at x.address == k) ≡ false → is_awaited config k ((link, beat.C x) ∷ e.trace) (serving k (services ((link, beat.C x) ∷ e.trace))) ≡ true
+awaited-else : {w : ℕ} (config : Config) (link : Link) (x : BeatC w) (e : End w) (k : ℕ) → IsTaken config link (beat.C x) e → (block_at x.address == k) ≡ false
+    → is_awaited config k ((link, beat.C x) ∷ e.trace) (serving k (services ((link, beat.C x) ∷ e.trace))) ≡ true
 awaited-else config link x e k is other =
     awaited-same config k e.trace ((link, beat.C x) ∷ e.trace) (ap (serving k) (services-c link x e.trace)) (λ s f. granted_c link x e.trace s) (λ d. missing-else_c link x e.trace d k (apart_block x k other)) (is.before.steady.awaited k)
 
@@ -126,7 +134,8 @@ report-service config link x e is kind =
     (probed_by.service, ap (serving (block_at x.address)) (services-c link x e.trace) ∙ probed_by.serves, granted_c link x e.trace probed_by.service ∙ probed_by.unanswered)
 
 -- its request may be performed, where no other ProbeAck is missing
-pub report-ready : {w : ℕ} (config : Config) (link : Link) (x : BeatC w) (s : Service w) (e : End w) → IsTaken config link (beat.C x) e → is_probe_ack x.opcode ≡ true → serving (block_at x.address) (services ((link, beat.C x) ∷ e.trace)) ≡ Some s
+pub report-ready : {w : ℕ} (config : Config) (link : Link) (x : BeatC w) (s : Service w) (e : End w) → IsTaken config link (beat.C x) e → is_probe_ack x.opcode ≡ true
+    → serving (block_at x.address) (services ((link, beat.C x) ∷ e.trace)) ≡ Some s
     → is_settled config (block_at x.address) ((link, beat.C x) ∷ e.trace) ≡ true → IsReady config (block_at x.address) s ((link, beat.C x) ∷ e.trace)
 report-ready config link x s e is kind found all =
     let asked = report-service config link x e is kind in
@@ -143,7 +152,8 @@ report-ready config link x s e is kind found all =
       awaited = λ k f. awaited-else config link x e k is f;
     }
 
-report : {w : ℕ} (config : Config) (link : Link) (x : BeatC w) (e : End w) → IsTaken config link (beat.C x) e → ends (beat.C x) (on_link link.0 e.trace) ≡ true → is_release x.opcode ≡ false → is_probe_ack x.opcode ≡ true
+report : {w : ℕ} (config : Config) (link : Link) (x : BeatC w) (e : End w) → IsTaken config link (beat.C x) e → ends (beat.C x) (on_link link.0 e.trace) ≡ true → is_release x.opcode ≡ false
+    → is_probe_ack x.opcode ≡ true
     → IsSteady config (with_handed (deed config link (beat.C x) e).handed ((link, beat.C x) ∷ e.trace))
 report {w} config link x e is last other kind = go (is_settled config n u) refl
   where
@@ -169,14 +179,17 @@ report {w} config link x e is last other kind = go (is_settled config n u) refl
 
 -- ---- any beat of channel C
 
-deed-other : {w : ℕ} (config : Config) (link : Link) (x : BeatC w) (e : End w) → ends (beat.C x) (on_link link.0 e.trace) ≡ true → is_release x.opcode ≡ false → is_probe_ack x.opcode ≡ false → (deed config link (beat.C x) e).handed ≡ []
+deed-other : {w : ℕ} (config : Config) (link : Link) (x : BeatC w) (e : End w) → ends (beat.C x) (on_link link.0 e.trace) ≡ true → is_release x.opcode ≡ false → is_probe_ack x.opcode ≡ false
+    → (deed config link (beat.C x) e).handed ≡ []
 unfolding deed
 deed-other config link x e last other kind = rw (last, other, kind) refl
 
-pub steady-report : {w : ℕ} (config : Config) (link : Link) (x : BeatC w) (e : End w) → IsTaken config link (beat.C x) e → IsSteady config (with_handed (deed config link (beat.C x) e).handed ((link, beat.C x) ∷ e.trace))
+pub steady-report : {w : ℕ} (config : Config) (link : Link) (x : BeatC w) (e : End w) → IsTaken config link (beat.C x) e
+    → IsSteady config (with_handed (deed config link (beat.C x) e).handed ((link, beat.C x) ∷ e.trace))
 steady-report {w} config link x e is = go (ends (beat.C x) (on_link link.0 e.trace)) (is_release x.opcode) (is_probe_ack x.opcode) refl refl refl
   where
-    go : (last kind answers : Bool) → ends (beat.C x) (on_link link.0 e.trace) ≡ last → is_release x.opcode ≡ kind → is_probe_ack x.opcode ≡ answers → IsSteady config (with_handed (deed config link (beat.C x) e).handed ((link, beat.C x) ∷ e.trace))
+    go : (last kind answers : Bool) → ends (beat.C x) (on_link link.0 e.trace) ≡ last → is_release x.opcode ≡ kind → is_probe_ack x.opcode ≡ answers
+        → IsSteady config (with_handed (deed config link (beat.C x) e).handed ((link, beat.C x) ∷ e.trace))
     go false kind answers f g h =
         quietly config link (beat.C x) e (ap (λ (d : Deed w). d.handed) (deed-part config link (beat.C x) e f)) (still-steady config link x e is (λ k d. missing_part link x e.trace k d f))
     go true true answers f g h = doing config link (beat.C x) e _ (deed-release config link x e f g) (release config link x e is g)

@@ -1,12 +1,7 @@
 -- Rows of entries.
-use Rattle.std.proofs.Common.{◌≡◌, ◌≢◌, ℕ, zero, suc, ◌<◌, List, [], ◌∷◌, length, get_or, set, take, refl, ap, ◌∙◌, arith, get_or-set_same}
+use Rattle.std.proofs.Common.{◌≡◌, ◌≢◌, ℕ, zero, suc, ◌<◌, List, [], ◌∷◌, length, take, refl, ap, arith}
 use Rattle.tl_params.specs.declared.perm.Perm.{Perm}
-use Rattle.tl_params.specs.declared.perm.Perm.TheVariants as perm
-use Rattle.tl_manager.specs.Table.{entry, perm_of_rows}
-
-pub set_here : (rows : List (List Perm)) (row : List Perm) (b c b' c' : ℕ) (p : Perm) → b' ≡ b → c' ≡ c → b < length rows → c < length row → perm_of_rows (set rows b' (set row c' p)) b c ≡ p
-set_here rows row b c b' c' p e f lt within =
-    rw (e, f) (ap (λ (r : List Perm). get_or r c perm.None) (get_or-set_same rows b (set row c p) [] lt) ∙ get_or-set_same row c p perm.None within)
+use Rattle.tl_manager.specs.Table.{entry}
 
 -- one more entry
 pub entry-take_same : (row : List Perm) (i : ℕ) → i < length row → entry (take (suc i) row) i ≡ entry row i

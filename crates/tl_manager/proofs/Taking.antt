@@ -1,6 +1,6 @@
 -- What is kept of the blocks after a message of channel C or E was taken.
 use Rattle.std.proofs.Common.{◌≡◌, ◌≢◌, ℕ, ◌==◌, ◌⊎◌, Bool, true, false, not, ◌&&◌, ◌||◌, List, [], ◌∷◌, Some, None, refl, sym, ap, subst, ◌∙◌}
-use Rattle.std.specs.Prelude.{if◌then◌else◌, filter, nat_le}
+use Rattle.std.specs.Prelude.{if◌then◌else◌, filter, unwrap_or}
 use Rattle.std.proofs.lemmas.Bool.{eqb-true, eq-eqb, ne_eqb}
 use Rattle.tl_beat.specs.declared.beat.Beat.TheVariants as beat
 use Rattle.tl_beat.specs.declared.beat.BeatC.{BeatC}
@@ -9,7 +9,7 @@ use Rattle.tl_beat.specs.declared.beat.Link.{Link}
 use Rattle.tl_beat.specs.declared.opcode.Channel.TheVariants as channel
 use Rattle.tl_beat.specs.declared.opcode.OpC.{OpC}
 use Rattle.tl_beat.specs.declared.opcode.OpC.TheVariants as c
-use Rattle.tl_beat.specs.Opcode.{c_code, c_carries_data}
+use Rattle.tl_beat.specs.Opcode.{c_carries_data}
 use Rattle.tl_burst.specs.declared.message.Message.{Message}
 use Rattle.tl_burst.specs.declared.message.Message.TheVariants.{D}
 use Rattle.tl_burst.specs.declared.message.MessageC.{MessageC}
@@ -21,9 +21,10 @@ use Rattle.tl_params.specs.declared.level.Level.{Level}
 use Rattle.tl_params.specs.declared.perm.Perm.{Perm}
 use Rattle.tl_params.specs.declared.rule.Rule.TheVariants.{L1, L7}
 use Rattle.tl_rules.specs.Conformance.{Trace, on_link}
-use Rattle.tl_rules.specs.History.{ends, block_at, is_acquire, is_probe_ack, is_release, is_release_ack, is_grant, pending, reported, or_perm, capped}
-use Rattle.tl_rules.specs.Legality.{illegal, breaks_l1, breaks_l7, is_one_of}
+use Rattle.tl_rules.specs.History.{ends, block_at, is_acquire, is_probe_ack, is_release, is_release_ack, is_grant, pending, reported, capped}
+use Rattle.tl_rules.specs.Legality.{illegal, breaks_l1, breaks_l7, is_one_of, answers_forwarded}
 use Rattle.tl_rules.proofs.Bursts.{next_rule}
+use Rattle.tl_rules.proofs.Sent.{pending-quiet}
 use Rattle.tl_manager.specs.Blocks.{AreBlocks}
 use Rattle.tl_manager.specs.Handing.{Deed, Handed, with_handed, release_ack}
 use Rattle.tl_manager.specs.Holders.{recorded}
@@ -43,17 +44,18 @@ use Rattle.tl_manager.proofs.Events.{memory_with, deed-release}
 use Rattle.tl_manager.proofs.Free.{missing_filter}
 use Rattle.tl_manager.proofs.Granting.{records-set}
 use Rattle.tl_manager.proofs.Handed.{after_sent, recorded-taken, recorded-sent, whole-taken}
-use Rattle.tl_manager.proofs.Links.{beat-keeps, pending-quiet}
+use Rattle.tl_manager.proofs.Links.{beat-keeps}
 use Rattle.tl_manager.proofs.Probing.{services-c, missing-else_c}
 use Rattle.tl_manager.proofs.Replies.{reply-quiet}
 use Rattle.tl_manager.proofs.Serving.{if_passes, serving-filter}
 use Rattle.tl_manager.proofs.Sound.{leveled}
 use Rattle.tl_manager.proofs.SteadyReports.{granted_c, release_is, release_kind}
 use Rattle.tl_manager.proofs.Trackers.{tracked-still}
+use Rattle.tl_manager.proofs.Requested.{granting_taken}
 
 -- ---- the kinds of messages that come on channel C
 
-kind_of : (opcode : OpC) → nat_le (c_code opcode) 2 ≡ false → is_release opcode ≡ false → is_probe_ack opcode ≡ true
+kind_of : (opcode : OpC) → answers_forwarded opcode ≡ false → is_release opcode ≡ false → is_probe_ack opcode ≡ true
 kind_of c.AccessAck e f = absurd cc
 kind_of c.AccessAckData e f = absurd cc
 kind_of c.HintAck e f = absurd cc
@@ -62,7 +64,7 @@ kind_of c.ProbeAckData e f = refl
 kind_of c.Release e f = absurd cc
 kind_of c.ReleaseData e f = absurd cc
 
-no_answer : {w : ℕ} (l : Level) (x : BeatC w) → illegal l channel.C (beat.C x) ≡ None → nat_le (c_code x.opcode) 2 ≡ false
+no_answer : {w : ℕ} (l : Level) (x : BeatC w) → illegal l channel.C (beat.C x) ≡ None → answers_forwarded x.opcode ≡ false
 unfolding illegal
 no_answer l x e = (next_rule (breaks_l7 (beat.C x)) L7 _ (next_rule (breaks_l1 l channel.C (beat.C x)) L1 _ e).1).0
 
@@ -86,11 +88,12 @@ recorded-reported : {w : ℕ} (config : Config) (link : Link) (x : BeatC w) (e :
     → recorded c b ((link, beat.C x) ∷ e.trace) ≡ (if (link.0 == c) && (block_at x.address == b) then reported x.param else recorded c b e.trace)
 recorded-reported {w} config link x e c b is last = recorded-taken c link b (beat.C x) e.trace refl ∙ go (link.0 == c) refl
   where
-    chosen : (d : Bool) (p q : Perm) → or_perm (if d then Some p else None) q ≡ (if d then p else q)
+    chosen : (d : Bool) (p q : Perm) → unwrap_or (if d then Some p else None) q ≡ (if d then p else q)
     chosen true p q = refl
     chosen false p q = refl
 
-    go : (here : Bool) → (link.0 == c) ≡ here → or_perm (if here && (ends (beat.C x) (on_link c e.trace) && ((is_probe_ack x.opcode || is_release x.opcode) && (block_at x.address == b))) then Some (reported x.param) else None) (recorded c b e.trace)
+    go : (here : Bool) → (link.0 == c) ≡ here
+        → unwrap_or (if here && (ends (beat.C x) (on_link c e.trace) && ((is_probe_ack x.opcode || is_release x.opcode) && (block_at x.address == b))) then Some (reported x.param) else None) (recorded c b e.trace)
         ≡ (if here && (block_at x.address == b) then reported x.param else recorded c b e.trace)
     go true f =
         let there : ends (beat.C x) (on_link c e.trace) ≡ true = subst (λ i. ends (beat.C x) (on_link i e.trace) ≡ true) (eqb-true link.0 c f) last in
@@ -100,22 +103,26 @@ recorded-reported {w} config link x e c b is last = recorded-taken c link b (bea
 -- the directory and the bytes after it
 pub home-written : {w : ℕ} {D : Type 0} (perm_of : D → ℕ → ℕ → Perm) (config : Config) (old new : Home w D) (link : Link) (x : BeatC w) (message : MessageC w) (e : End w)
     → new.profile ≡ old.profile → new.trackers ≡ old.trackers
-    → perm_of new.directory (block_at message.address) link.0 ≡ reported message.param → ((b c : ℕ) → (b ≢ block_at message.address) ⊎ (c ≢ link.0) → perm_of new.directory b c ≡ perm_of old.directory b c)
+    → perm_of new.directory (block_at message.address) link.0 ≡ reported message.param
+    → ((b c : ℕ) → (b ≢ block_at message.address) ⊎ (c ≢ link.0) → perm_of new.directory b c ≡ perm_of old.directory b c)
     → AreBlocks new.blocks.bytes.items (if c_carries_data message.opcode then with_block (block_at message.address) message.payload e.memory else e.memory)
     → IsMessage config link x message e → IsHome perm_of config old e.trace e.memory → IsReportedHome perm_of config new e.trace ((link, beat.C x) ∷ e.trace) (memory_with link x e)
 home-written {w} perm_of config old new link x message e profile trackers here others bytes is home = record {
   profile = profile ∙ home.profile;
   count = ap (λ t. t.count) trackers ∙ home.count;
   tracked = λ n. rw trackers (home.tracked n tt);
-  records = records-set (perm_of old.directory) (perm_of new.directory) (λ b c. recorded c b e.trace) (λ b c. recorded c b ((link, beat.C x) ∷ e.trace)) (block_at message.address) link.0 (reported message.param) here others home.records
+  records =
+      records-set (perm_of old.directory) (perm_of new.directory) (λ b c. recorded c b e.trace) (λ b c. recorded c b ((link, beat.C x) ∷ e.trace)) (block_at message.address) link.0 (reported message.param) here others home.records
       (λ b c. rw (is.address, is.param) (recorded-reported config link x e c b is.taken.passes is.last));
   bytes = rw (is.opcode, is.address, is.payload) at bytes;
 }
 
 -- ---- a Release
 
-pub home-released : {w : ℕ} {M : Type 0} (perm_of : M → ℕ → ℕ → Perm) (config : Config) (home : Home w M) (link : Link) (x : BeatC w) (message : MessageC w) (e : End w) → IsMessage config link x message e → is_release x.opcode ≡ true
-    → IsReportedHome perm_of config home e.trace ((link, beat.C x) ∷ e.trace) (memory_with link x e) → IsDone perm_of config home ((link, release_ack message.source) ∷ []) ((link, beat.C x) ∷ e.trace) (deed config link (beat.C x) e)
+pub home-released : {w : ℕ} {M : Type 0} (perm_of : M → ℕ → ℕ → Perm) (config : Config) (home : Home w M) (link : Link) (x : BeatC w) (message : MessageC w) (e : End w)
+    → IsMessage config link x message e → is_release x.opcode ≡ true
+    → IsReportedHome perm_of config home e.trace ((link, beat.C x) ∷ e.trace) (memory_with link x e)
+    → IsDone perm_of config home ((link, release_ack message.source) ∷ []) ((link, beat.C x) ∷ e.trace) (deed config link (beat.C x) e)
 unfolding with_handed
 home-released {w} {M} perm_of config home link x message e is release ok =
     subst (λ (d : Deed w). IsDone perm_of config home ((link, release_ack message.source) ∷ []) u d) (sym (deed-release config link x e is.last release)) (
@@ -132,7 +139,7 @@ home-released {w} {M} perm_of config home link x message e is release ok =
     u : Trace w
     u = (link, beat.C x) ∷ e.trace
 
-    silent : (c b : ℕ) (here : Bool) → or_perm (if here && false then Some (capped 0) else None) (recorded c b u) ≡ recorded c b u
+    silent : (c b : ℕ) (here : Bool) → unwrap_or (if here && false then Some (capped 0) else None) (recorded c b u) ≡ recorded c b u
     silent c b true = refl
     silent c b false = refl
 
@@ -150,7 +157,9 @@ home-released {w} {M} perm_of config home link x message e is release ok =
         whole = (whole-taken link.0 link (beat.C x) e.trace refl (is.taken.before.whole link.0)).1
 
         same : services (after_sent link (D m.0) ((link, beat.C x) ∷ e.trace)) ≡ services e.trace
-        same = services-release_ack link m.0 ((link, beat.C x) ∷ e.trace) is.taken.width (whole-taken link.0 link (beat.C x) e.trace refl (is.taken.before.whole link.0)).1 m.2 ∙ services-c link x e.trace
+        same =
+            services-release_ack link m.0 ((link, beat.C x) ∷ e.trace) is.taken.width (whole-taken link.0 link (beat.C x) e.trace refl (is.taken.before.whole link.0)).1 m.2
+            ∙ services-c link x e.trace
 
 -- ---- a ProbeAck
 
@@ -160,7 +169,8 @@ unfolding deed
 deed-ack_report config link x e last other kind = rw (last, other, kind) refl
 
 -- it is for the request of its block
-pub is_report : {w : ℕ} (config : Config) (link : Link) (block : ℕ) (x : BeatC w) (message : MessageC w) (e : End w) → block ≡ block_at message.address → is_release message.opcode ≡ false → IsMessage config link x message e → IsReport config link block x e
+pub is_report : {w : ℕ} (config : Config) (link : Link) (block : ℕ) (x : BeatC w) (message : MessageC w) (e : End w) → block ≡ block_at message.address → is_release message.opcode ≡ false
+    → IsMessage config link x message e → IsReport config link block x e
 is_report config link block x message e of_block other is = record {
   taken = is.taken;
   last = is.last;
@@ -168,32 +178,18 @@ is_report config link block x message e of_block other is = record {
   of_block = ap block_at (sym is.address) ∙ sym of_block;
 }
 
-pub done-ack : {w : ℕ} {M : Type 0} (perm_of : M → ℕ → ℕ → Perm) (config : Config) (home : Home w M) (handed : Handed w) (link : Link) (block : ℕ) (x : BeatC w) (message : MessageC w) (e : End w) → is_release message.opcode ≡ false → IsMessage config link x message e → IsReport config link block x e
-    → IsDone perm_of config home handed ((link, beat.C x) ∷ e.trace) (settled config block ((link, beat.C x) ∷ e.trace) (memory_with link x e)) → IsDone perm_of config home handed ((link, beat.C x) ∷ e.trace) (deed config link (beat.C x) e)
+pub done-ack : {w : ℕ} {M : Type 0} (perm_of : M → ℕ → ℕ → Perm) (config : Config) (home : Home w M) (handed : Handed w) (link : Link) (block : ℕ) (x : BeatC w) (message : MessageC w) (e : End w)
+    → is_release message.opcode ≡ false → IsMessage config link x message e → IsReport config link block x e
+    → IsDone perm_of config home handed ((link, beat.C x) ∷ e.trace) (settled config block ((link, beat.C x) ∷ e.trace) (memory_with link x e))
+    → IsDone perm_of config home handed ((link, beat.C x) ∷ e.trace) (deed config link (beat.C x) e)
 done-ack {w} perm_of config home handed link block x message e other is report done =
     subst (λ (d : Deed w). IsDone perm_of config home handed ((link, beat.C x) ∷ e.trace) d)
     (ap (λ k. settled config k ((link, beat.C x) ∷ e.trace) (memory_with link x e)) (sym report.of_block) ∙ sym (deed-ack_report config link x e is.last (ap is_release (sym is.opcode) ∙ other) report.kind)) done
 
 -- ---- a GrantAck
 
-pub granting-among : {w : ℕ} (client sink : ℕ) (ss : List (Service w)) → is_granting client sink ss ≡ true → is_one_of sink (trackers_of ss) ≡ true
-granting-among client sink [] e = absurd cc
-granting-among {w} client sink (s ∷ ss) e = go (is_acquire s.request.opcode) (s.link.0 == client) (s.tracker == sink) refl (λ f. granting-among client sink ss f) e
-  where
-    either : (b : Bool) → (b || true) ≡ true
-    either true = refl
-    either false = refl
-
-    later : (is_granting client sink ss ≡ true → is_one_of sink (trackers_of ss) ≡ true) → is_granting client sink ss ≡ true → ((sink == s.tracker) || is_one_of sink (trackers_of ss)) ≡ true
-    later rest f = rw (rest f) (either (sink == s.tracker))
-
-    go : (a b d : Bool) → (s.tracker == sink) ≡ d → (is_granting client sink ss ≡ true → is_one_of sink (trackers_of ss) ≡ true) → ((a && (b && d)) || is_granting client sink ss) ≡ true → ((sink == s.tracker) || is_one_of sink (trackers_of ss)) ≡ true
-    go true true true f rest g = rw (eq-eqb sink s.tracker (sym (eqb-true s.tracker sink f))) refl
-    go true true false f rest g = later rest g
-    go true false d f rest g = later rest g
-    go false b d f rest g = later rest g
-
-pub tracker-acked : {w : ℕ} (link : Link) (x : BeatE) (ss : List (Service w)) → AreApart (trackers_of ss) → is_granting link.0 x.sink ss ≡ true → is_one_of x.sink (trackers_of (filter (λ s. not (is_ended_by (link, beat.E x) s)) ss)) ≡ false
+pub tracker-acked : {w : ℕ} (link : Link) (x : BeatE) (ss : List (Service w)) → AreApart (trackers_of ss) → is_granting link.0 x.sink ss ≡ true
+    → is_one_of x.sink (trackers_of (filter (λ s. not (is_ended_by (link, beat.E x) s)) ss)) ≡ false
 tracker-acked link x [] apart e = absurd cc
 tracker-acked {w} link x (s ∷ ss) apart e = go (is_acquire s.request.opcode) refl (s.link.0 == link.0) refl (s.tracker == x.sink) refl (λ f. tracker-acked link x ss apart.1 f) e
   where
@@ -208,13 +204,15 @@ tracker-acked {w} link x (s ∷ ss) apart e = go (is_acquire s.request.opcode) r
 
     twice : (s.tracker == x.sink) ≡ true → is_granting link.0 x.sink ss ≡ true → ⊥
     twice f g = absurd (
-        let there : is_one_of s.tracker (trackers_of ss) ≡ true = subst (λ i. is_one_of i (trackers_of ss) ≡ true) (sym (eqb-true s.tracker x.sink f)) (granting-among link.0 x.sink ss g) in
+        let there : is_one_of s.tracker (trackers_of ss) ≡ true = subst (λ i. is_one_of i (trackers_of ss) ≡ true) (sym (eqb-true s.tracker x.sink f)) (granting_taken link.0 x.sink ss g) in
         let none : is_one_of s.tracker (trackers_of ss) ≡ false = apart.0 in
         cc)
 
-    go : (a : Bool) → is_acquire s.request.opcode ≡ a → (b : Bool) → (s.link.0 == link.0) ≡ b → (d : Bool) → (s.tracker == x.sink) ≡ d → (is_granting link.0 x.sink ss ≡ true → is_one_of x.sink (trackers_of (filter keeps ss)) ≡ false)
+    go : (a : Bool) → is_acquire s.request.opcode ≡ a → (b : Bool) → (s.link.0 == link.0) ≡ b → (d : Bool) → (s.tracker == x.sink) ≡ d
+        → (is_granting link.0 x.sink ss ≡ true → is_one_of x.sink (trackers_of (filter keeps ss)) ≡ false)
         → ((a && (b && d)) || is_granting link.0 x.sink ss) ≡ true → is_one_of x.sink (trackers_of (filter keeps (s ∷ ss))) ≡ false
-    go true f true g true h rest i = rw (f, g, h) (missing_filter (λ (v : Service w). v.tracker) keeps x.sink ss (subst (λ k. is_one_of k (trackers_of ss) ≡ false) (eqb-true s.tracker x.sink h) apart.0))
+    go true f true g true h rest i =
+        rw (f, g, h) (missing_filter (λ (v : Service w). v.tracker) keeps x.sink ss (subst (λ k. is_one_of k (trackers_of ss) ≡ false) (eqb-true s.tracker x.sink h) apart.0))
     go true f true g false h rest i = rw (f, g, h) (stays h (rest i))
     go true f false g false h rest i = rw (f, g) (stays h (rest i))
     go true f false g true h rest i = absurd (twice h i)
@@ -224,7 +222,8 @@ tracker-acked {w} link x (s ∷ ss) apart e = go (is_acquire s.request.opcode) r
     go false f false g true h rest i = absurd (twice h i)
 
 pub home-acked : {w : ℕ} {D : Type 0} (perm_of : D → ℕ → ℕ → Perm) (config : Config) (old new : Home w D) (sink : ℕ) (link : Link) (x : BeatE) (e : End w)
-    → new.profile ≡ old.profile → new.directory ≡ old.directory → new.blocks ≡ old.blocks → new.trackers.count ≡ old.trackers.count → ((n : ℕ) → tracker_at new.trackers n ≡ (if sink == n then Free else tracker_at old.trackers n))
+    → new.profile ≡ old.profile → new.directory ≡ old.directory → new.blocks ≡ old.blocks → new.trackers.count ≡ old.trackers.count
+    → ((n : ℕ) → tracker_at new.trackers n ≡ (if sink == n then Free else tracker_at old.trackers n))
     → x.sink ≡ sink → IsTaken config link (beat.E x) e → IsHome perm_of config old e.trace e.memory → IsHome perm_of config new ((link, beat.E x) ∷ e.trace) e.memory
 home-acked {w} perm_of config old new sink link x e profile directory blocks count trackers same is home = record {
   profile = profile ∙ home.profile;

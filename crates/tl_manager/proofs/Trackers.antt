@@ -39,14 +39,17 @@ pub other_block : {w : ℕ} (n k : ℕ) (s v : Service w) (ss : List (Service w)
 other_block n k s v ss e f apart = ne_eqb n k (λ same. apart (ap (λ (x : Service _). x.tracker) (some_is v s (sym f ∙ ap (λ i. serving i ss) (sym same) ∙ e))))
 
 -- where the services of a block end, its tracker is free
-pub tracker-ended : {w : ℕ} (n : ℕ) (s : Service w) (ss : List (Service w)) → AreApart (trackers_of ss) → serving n ss ≡ Some s → is_one_of s.tracker (trackers_of (filter (λ v. not (block_at v.request.address == n)) ss)) ≡ false
+pub tracker-ended : {w : ℕ} (n : ℕ) (s : Service w) (ss : List (Service w)) → AreApart (trackers_of ss) → serving n ss ≡ Some s
+    → is_one_of s.tracker (trackers_of (filter (λ v. not (block_at v.request.address == n)) ss)) ≡ false
 tracker-ended {w} n s ss apart e = none (block-of n ss s e) ss (same_tracker n ss s apart e)
   where
-    none : (block_at s.request.address == n) ≡ true → (vs : List (Service w)) → Each (λ v. (v.tracker == s.tracker) ≡ true → v ≡ s) vs → is_one_of s.tracker (trackers_of (filter (λ v. not (block_at v.request.address == n)) vs)) ≡ false
+    none : (block_at s.request.address == n) ≡ true → (vs : List (Service w)) → Each (λ v. (v.tracker == s.tracker) ≡ true → v ≡ s) vs
+        → is_one_of s.tracker (trackers_of (filter (λ v. not (block_at v.request.address == n)) vs)) ≡ false
     none here [] each = refl
     none here (v ∷ vs) each = go (block_at v.request.address == n) refl (s.tracker == v.tracker) refl (none here vs each.1)
       where
-        go : (b : Bool) → (block_at v.request.address == n) ≡ b → (d : Bool) → (s.tracker == v.tracker) ≡ d → is_one_of s.tracker (trackers_of (filter (λ u. not (block_at u.request.address == n)) vs)) ≡ false
+        go : (b : Bool) → (block_at v.request.address == n) ≡ b → (d : Bool) → (s.tracker == v.tracker) ≡ d
+            → is_one_of s.tracker (trackers_of (filter (λ u. not (block_at u.request.address == n)) vs)) ≡ false
             → is_one_of s.tracker (trackers_of (if not b then v ∷ filter (λ u. not (block_at u.request.address == n)) vs else filter (λ u. not (block_at u.request.address == n)) vs)) ≡ false
         go true f d g rest = rest
         go false f false g rest = rw g rest

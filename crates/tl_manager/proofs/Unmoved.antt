@@ -98,7 +98,8 @@ begun-same t u (beat.C x ∷ burst) same ok = absurd ok
 begun-same t u (beat.D x ∷ burst) same ok = absurd ok
 begun-same t u (beat.E x ∷ burst) same ok = absurd ok
 
-pub begun-kept : {w : ℕ} (t u : Trace w) (c : ℕ) → unfinished channel.A (on_link c u) ≡ unfinished channel.A (on_link c t) → ((q : ℕ) → request_of q (on_link c u) ≡ request_of q (on_link c t)) → IsAccounted t → IsBegun (on_link c u) (unfinished channel.A (on_link c u))
+pub begun-kept : {w : ℕ} (t u : Trace w) (c : ℕ) → unfinished channel.A (on_link c u) ≡ unfinished channel.A (on_link c t)
+    → ((q : ℕ) → request_of q (on_link c u) ≡ request_of q (on_link c t)) → IsAccounted t → IsBegun (on_link c u) (unfinished channel.A (on_link c u))
 begun-kept t u c bursts requests ok = subst (IsBegun (on_link c u)) (sym bursts) (begun-same (on_link c t) (on_link c u) (unfinished channel.A (on_link c t)) requests (ok.begun c))
 
 -- a report that is unfinished
@@ -110,11 +111,13 @@ reporting-same t u (beat.C x ∷ burst) still ok = λ e. still (block_at x.addre
 reporting-same t u (beat.D x ∷ burst) still ok = tt
 reporting-same t u (beat.E x ∷ burst) still ok = tt
 
-pub reports-kept : {w : ℕ} (t u : Trace w) (c : ℕ) → unfinished channel.C (on_link c u) ≡ unfinished channel.C (on_link c t) → ((k : ℕ) → pending (ProbeOf k) (on_link c t) ≡ true → pending (ProbeOf k) (on_link c u) ≡ true) → IsAccounted t
+pub reports-kept : {w : ℕ} (t u : Trace w) (c : ℕ) → unfinished channel.C (on_link c u) ≡ unfinished channel.C (on_link c t)
+    → ((k : ℕ) → pending (ProbeOf k) (on_link c t) ≡ true → pending (ProbeOf k) (on_link c u) ≡ true) → IsAccounted t
     → IsReporting (on_link c u) (unfinished channel.C (on_link c u))
 reports-kept t u c bursts still ok = subst (IsReporting (on_link c u)) (sym bursts) (reporting-same (on_link c t) (on_link c u) (unfinished channel.C (on_link c t)) still (ok.reports c))
 
-pub accounted-kept : {w : ℕ} (t u : Trace w) → KeepsRequests t u → ((c : ℕ) → IsReporting (on_link c u) (unfinished channel.C (on_link c u))) → ((k : ℕ) → IsHandled k u) → IsAccounted t → IsAccounted u
+pub accounted-kept : {w : ℕ} (t u : Trace w) → KeepsRequests t u → ((c : ℕ) → IsReporting (on_link c u) (unfinished channel.C (on_link c u))) → ((k : ℕ) → IsHandled k u) → IsAccounted t
+    → IsAccounted u
 accounted-kept t u same reports handled ok = record {
   sources = λ c q. rw (same.bursts c, same.sources c q, same.serves, counted-kept t u c q (services t) same.granted) (ok.sources c q);
   begun = λ c. begun-kept t u c (same.bursts c) (same.requests c) ok;
@@ -128,7 +131,8 @@ accounted-kept t u same reports handled ok = record {
 pub settled-same : {w : ℕ} (config : Config) (k : ℕ) (t u : Trace w) → ((c : ℕ) → pending (ProbeOf k) (on_link c u) ≡ pending (ProbeOf k) (on_link c t)) → is_settled config k u ≡ is_settled config k t
 settled-same config k t u same = ap is_nobody (where-same 0 _ (λ c. is_missing c k u) (λ c. is_missing c k t) same)
 
-pub awaited-same : {w : ℕ} (config : Config) (k : ℕ) (t u : Trace w) → serving k (services u) ≡ serving k (services t) → ((s : Service w) → serving k (services t) ≡ Some s → is_granted u s ≡ is_granted t s)
+pub awaited-same : {w : ℕ} (config : Config) (k : ℕ) (t u : Trace w) → serving k (services u) ≡ serving k (services t)
+    → ((s : Service w) → serving k (services t) ≡ Some s → is_granted u s ≡ is_granted t s)
     → ((c : ℕ) → pending (ProbeOf k) (on_link c u) ≡ pending (ProbeOf k) (on_link c t)) → is_awaited config k t (serving k (services t)) ≡ true → is_awaited config k u (serving k (services u)) ≡ true
 awaited-same {w} config k t u serves same missing ok = ap (is_awaited config k u) serves ∙ go (serving k (services t)) same ok
   where

@@ -50,7 +50,8 @@ more-clients first zero (suc m) test le none =
 more-clients first (suc n) zero test le none = absurd (omega (arith, le))
 more-clients first (suc n) (suc m) test le none = go (test first) (more-clients (first + 1) n m test (omega (arith, le)) (λ c past. none c (omega (arith, past))))
   where
-    go : (b : Bool) → clients_from (first + 1) m test ≡ clients_from (first + 1) n test → (if b then first ∷ clients_from (first + 1) m test else clients_from (first + 1) m test) ≡ (if b then first ∷ clients_from (first + 1) n test else clients_from (first + 1) n test)
+    go : (b : Bool) → clients_from (first + 1) m test ≡ clients_from (first + 1) n test
+        → (if b then first ∷ clients_from (first + 1) m test else clients_from (first + 1) m test) ≡ (if b then first ∷ clients_from (first + 1) n test else clients_from (first + 1) n test)
     go true e = ap (λ (cs : List ℕ). first ∷ cs) e
     go false e = e
 

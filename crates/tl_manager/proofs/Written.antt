@@ -1,14 +1,9 @@
 -- A block that is written reads back, and the others stay.
-use Rattle.std.proofs.Common.{◌≡◌, ℕ, suc, ◌+◌, ◌*◌, ◌/◌, ◌%◌, ◌<◌, Bool, true, false, List, [], ◌∷◌, length, refl, sym, ◌∙◌, ap, ap₂, arith}
-use Rattle.std.specs.Prelude.{slice_index, if◌then◌else◌}
+use Rattle.std.proofs.Common.{◌≡◌, ℕ, suc, ◌+◌, ◌*◌, ◌/◌, ◌%◌, ◌<◌, List, [], ◌∷◌, length, refl, sym, ◌∙◌, ap, ap₂, arith}
+use Rattle.std.specs.Prelude.{slice_index}
 use Rattle.std.proofs.lemmas.Bool.{eq-eqb}
-use Rattle.tl_beat.specs.Opcode.{c_carries_data}
-use Rattle.tl_beat.specs.declared.beat.Beat.{Beat}
-use Rattle.tl_beat.specs.declared.beat.BeatC.{BeatC}
-use Rattle.tl_rules.specs.Agent.{payload_of}
 use Rattle.tl_rules.specs.Effect.{Memory, bytes_from}
-use Rattle.tl_rules.specs.History.{block_at}
-use Rattle.tl_manager.specs.Slave.{with_block, written}
+use Rattle.tl_manager.specs.Slave.{with_block}
 
 pub bytes_are : (f : Memory) (x : ℕ) (bytes : List ℕ) → ((i : ℕ) → i < length bytes → f (x + i) ≡ slice_index bytes i) → bytes_from f x (length bytes) ≡ bytes
 unfolding bytes_from
@@ -27,12 +22,3 @@ block-written n bytes memory long =
         let block : (64 * n + i) / 64 ≡ n = omega (arith, lt) in
         let place : (64 * n + i) % 64 ≡ i = omega (arith, lt) in
         rw (block, place, eq-eqb n n refl) refl
-
--- the block of a message of channel C after it was taken: its payload, where it carries data
-pub block-taken : {w : ℕ} (x : BeatC w) (beats : List (Beat w)) (memory : Memory) (n : ℕ) → block_at x.address ≡ n → length (payload_of beats) ≡ 64
-    → bytes_from (written x beats memory) (64 * n) 64 ≡ (if c_carries_data x.opcode then payload_of beats else bytes_from memory (64 * n) 64)
-block-taken {w} x beats memory n block long = rw block (go (c_carries_data x.opcode))
-  where
-    go : (b : Bool) → bytes_from (if b then with_block n (payload_of beats) memory else memory) (64 * n) 64 ≡ (if b then payload_of beats else bytes_from memory (64 * n) 64)
-    go true = block-written n (payload_of beats) memory long
-    go false = refl

@@ -2,12 +2,12 @@
 use Rattle.std.specs.Prelude.{ℕ, Bool, true, false, Option, None, Result, Ok, Err}
 use Rattle.tl_beat.specs.declared.beat.Beat.{Beat}
 use Rattle.tl_beat.specs.declared.beat.Link.{Link}
+use Rattle.tl_beat.specs.First.{first_if}
 use Rattle.tl_params.specs.declared.config.Config.{Config}
 use Rattle.tl_params.specs.declared.rule.Rule.{Rule}
 use Rattle.tl_params.specs.declared.rule.Rule.TheVariants.{A1, A2}
 use Rattle.tl_rules.specs.Agent.{is_outside, is_spoiled}
 use Rattle.tl_rules.specs.Conformance.{Trace, on_link, broken_in_order}
-use Rattle.tl_rules.specs.Legality.{rule_if}
 use Rattle.tl_manager.specs.Slave.{Judgement, Breaks, Waits, Passes, breaks_or, waits_or, before_stall, must_wait}
 use Rattle.tl_manager.specs.declared.manager.admission.Admission.{Admission}
 use Rattle.tl_manager.specs.declared.manager.admission.Admission.TheVariants as admission
@@ -20,7 +20,7 @@ admission_of Passes = Ok admission.Passes
 -- by the rule of order that is broken, and whether the beat has to wait, is outside of the map, and is spoiled
 abbrev pub judged_by : Option Rule → Bool → Bool → Bool → Judgement
 judged_by broken waits outside spoiled =
-    breaks_or (before_stall broken) (waits_or waits (breaks_or broken (breaks_or (rule_if outside A1 (rule_if spoiled A2 None)) Passes)))
+    breaks_or (before_stall broken) (waits_or waits (breaks_or broken (breaks_or (first_if outside A1 (first_if spoiled A2 None)) Passes)))
 
 -- of a beat that breaks no L rule
 abbrev pub judged_in_order : {w : ℕ} → Config → Link → Beat w → Trace w → Judgement

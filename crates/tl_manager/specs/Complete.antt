@@ -3,7 +3,7 @@ use Rattle.std.specs.Prelude.{ℕ, ◌∷◌, ◌≡◌, ◌<◌, true}
 use Rattle.tl_beat.specs.declared.beat.Beat.{Beat}
 use Rattle.tl_beat.specs.declared.beat.Link.{Link}
 use Rattle.tl_burst.specs.declared.message.Message.{Message}
-use Rattle.tl_burst.specs.declared.message.Message.TheVariants.{A, C, E}
+use Rattle.tl_burst.specs.declared.message.Message.TheVariants as message
 use Rattle.tl_burst.specs.Burst.{IsBurst}
 use Rattle.tl_burst.specs.Messages.{channel_of, unfinished}
 use Rattle.tl_params.specs.declared.config.Config.{Config}
@@ -23,7 +23,7 @@ pub record IsComplete {w : ℕ} (config : Config) (link : Link) (x : Beat w) (me
 
 -- where there are so many blocks and clients, what is due for it can be done
 abbrev pub IsDue : {w : ℕ} → ℕ → ℕ → Link → Message w → Type 0
-IsDue blocks clients link (A m) = IsPlaced blocks clients link m
-IsDue blocks clients link (C m) = block_at m.address < blocks
-IsDue blocks clients link (E m) = m.sink < 8
+IsDue blocks clients link (message.A m) = IsPlaced blocks clients link m
+IsDue blocks clients link (message.C m) = block_at m.address < blocks
+IsDue blocks clients link (message.E m) = m.sink < 8
 IsDue blocks clients link _ = ⊥

@@ -4,13 +4,13 @@ use Rattle.std.proofs.Common.{lit≤}
 use Rattle.tl_beat.specs.declared.opcode.OpD.{OpD}
 use Rattle.tl_beat.specs.declared.opcode.OpD.TheVariants as d
 use Rattle.tl_burst.specs.declared.message.Message.{Message}
-use Rattle.tl_burst.specs.declared.message.Message.TheVariants.{D}
+use Rattle.tl_burst.specs.declared.message.Message.TheVariants as message
 use Rattle.tl_params.specs.declared.param.Cap.{Cap}
 use Rattle.tl_params.specs.Param.{cap_code}
 use Rattle.tl_manager.specs.Handing.{no_payload}
 
 abbrev pub grant_with : {w : ℕ} → OpD → ℕ → ℕ → Cap → List ℕ → Message w
-grant_with opcode source sink cap payload = D (record {
+grant_with opcode source sink cap payload = message.D (record {
   opcode = opcode;
   param = cap_code cap;
   size = 6;

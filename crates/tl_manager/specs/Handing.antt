@@ -9,7 +9,7 @@ use Rattle.tl_beat.specs.declared.opcode.OpB.TheVariants as b
 use Rattle.tl_beat.specs.declared.opcode.OpD.{OpD}
 use Rattle.tl_beat.specs.declared.opcode.OpD.TheVariants as d
 use Rattle.tl_burst.specs.declared.message.Message.{Message}
-use Rattle.tl_burst.specs.declared.message.Message.TheVariants.{A, B, D}
+use Rattle.tl_burst.specs.declared.message.Message.TheVariants as message
 use Rattle.tl_burst.specs.declared.message.MessageA.{MessageA}
 use Rattle.tl_burst.specs.declared.message.MessageB.{MessageB}
 use Rattle.tl_burst.specs.Burst.{b_beat_of, burst_of}
@@ -18,6 +18,7 @@ use Rattle.tl_rules.specs.declared.answer.Answer.TheVariants as answer
 use Rattle.tl_params.specs.declared.config.Config.{Config}
 use Rattle.tl_params.specs.declared.param.Cap.{Cap}
 use Rattle.tl_params.specs.declared.param.Cap.TheVariants as cap
+use Rattle.tl_params.specs.declared.param.Grow.TheVariants as grow
 use Rattle.tl_params.specs.declared.perm.Perm.{Perm}
 use Rattle.tl_params.specs.declared.perm.Perm.TheVariants as perm
 use Rattle.tl_params.specs.declared.profile.Profile.{Profile}
@@ -25,7 +26,7 @@ use Rattle.tl_params.specs.declared.profile.Profile.TheVariants as profile
 use Rattle.tl_rules.specs.History.{block_at, is_acquire}
 use Rattle.tl_rules.specs.Conformance.{Trace, same_perm}
 use Rattle.tl_rules.specs.Effect.{Memory, bytes_from, effect, answer_of}
-use Rattle.tl_params.specs.Param.{cap_code}
+use Rattle.tl_params.specs.Param.{grow_code, cap_code}
 use Rattle.tl_manager.specs.Service.{Service}
 use Rattle.tl_manager.specs.Holders.{recorded, is_unheld}
 
@@ -57,7 +58,7 @@ probe_message {w} block cap = record {
 }
 
 abbrev pub probe_of_block : {w : ℕ} → ℕ → Cap → Message w
-probe_of_block block cap = B (probe_message block cap)
+probe_of_block block cap = message.B (probe_message block cap)
 
 -- its one beat
 abbrev pub probe_beat : {w : ℕ} → ℕ → Cap → BeatB w
@@ -70,7 +71,7 @@ probes block cap clients = map (λ client. (record { 0 = client }, probe_of_bloc
 
 -- an answer that carries this payload, no sink, and the request's source and size
 abbrev pub answer_with : {w : ℕ} → OpD → List ℕ → MessageA w → Message w
-answer_with opcode payload m = D (record {
+answer_with opcode payload m = message.D (record {
   opcode = opcode;
   param = 0;
   size = m.size;
@@ -90,7 +91,7 @@ access_answer m (answer.Data payload) = answer_with d.AccessAckData payload m
 
 -- the answer to a Release with this source
 abbrev pub release_ack : {w : ℕ} → ℕ → Message w
-release_ack source = D (record {
+release_ack source = message.D (record {
   opcode = d.ReleaseAck;
   param = 0;
   size = 6;
@@ -108,14 +109,14 @@ release_ack source = D (record {
 -- a copy: toB for NtoB, otherwise toT; under the second profile an AcquireBlock NtoB of a block that
 -- nobody has is granted toT
 abbrev pub cap_granted : Profile → OpA → ℕ → Bool → Cap
-cap_granted profile.Two a.AcquireBlock grow unheld = if (grow == 0) && not unheld then cap.ToB else cap.ToT
-cap_granted _ opcode grow unheld = if grow == 0 then cap.ToB else cap.ToT
+cap_granted profile.Two a.AcquireBlock param unheld = if (param == grow_code grow.NtoB) && not unheld then cap.ToB else cap.ToT
+cap_granted _ opcode param unheld = if param == grow_code grow.NtoB then cap.ToB else cap.ToT
 
 -- the Grant carries the block: not for an AcquirePerm, nor for an AcquireBlock BtoT whose sender is
 -- recorded Branch
 abbrev pub is_granted_data : OpA → ℕ → Perm → Bool
-is_granted_data a.AcquireBlock grow held = not ((grow == 2) && same_perm held perm.Branch)
-is_granted_data _ grow held = false
+is_granted_data a.AcquireBlock param held = not ((param == grow_code grow.BtoT) && same_perm held perm.Branch)
+is_granted_data _ param held = false
 
 abbrev pub grant_opcode : Bool → OpD
 grant_opcode true = d.GrantData
@@ -126,7 +127,7 @@ grant_payload true memory block = bytes_from memory (64 * block) 64
 grant_payload false memory block = no_payload
 
 abbrev pub grant_with : {w : ℕ} → Service w → Cap → Bool → Memory → Message w
-grant_with s cap with_data memory = D (record {
+grant_with s cap with_data memory = message.D (record {
   opcode = grant_opcode with_data;
   param = cap_code cap;
   size = 6;
@@ -161,6 +162,6 @@ performed config s t memory =
     if is_acquire s.request.opcode
     then record { handed = (s.link, grant config s t memory) ∷ []; memory = memory }
     else record {
-      handed = (s.link, access_answer s.request (answer_of (A s.request) (effect (A s.request) memory).1)) ∷ [];
-      memory = (effect (A s.request) memory).0;
+      handed = (s.link, access_answer s.request (answer_of (message.A s.request) (effect (message.A s.request) memory).1)) ∷ [];
+      memory = (effect (message.A s.request) memory).0;
     }

@@ -6,8 +6,10 @@ use Rattle.tl_params.specs.declared.config.Config.{Config}
 use Rattle.tl_params.specs.declared.key.Key.TheVariants.{ProbeOf}
 use Rattle.tl_params.specs.declared.param.Cap.{Cap}
 use Rattle.tl_params.specs.declared.param.Cap.TheVariants as cap
+use Rattle.tl_params.specs.declared.param.Grow.TheVariants as grow
 use Rattle.tl_params.specs.declared.perm.Perm.{Perm}
 use Rattle.tl_params.specs.declared.perm.Perm.TheVariants as perm
+use Rattle.tl_params.specs.Param.{grow_code}
 use Rattle.tl_rules.specs.History.{block_at, is_acquire, pending, held}
 use Rattle.tl_rules.specs.Conformance.{Trace, on_link}
 use Rattle.tl_manager.specs.Service.{Service}
@@ -49,8 +51,8 @@ is_settled config block t = is_nobody (clients_where config (λ client. is_missi
 abbrev pub cap_probed : OpA → ℕ → Option Cap
 cap_probed a.Get param = Some cap.ToB
 cap_probed a.Intent param = None
-cap_probed a.AcquireBlock grow = Some (if grow == 0 then cap.ToB else cap.ToN)
-cap_probed a.AcquirePerm grow = Some (if grow == 0 then cap.ToB else cap.ToN)
+cap_probed a.AcquireBlock param = Some (if param == grow_code grow.NtoB then cap.ToB else cap.ToN)
+cap_probed a.AcquirePerm param = Some (if param == grow_code grow.NtoB then cap.ToB else cap.ToN)
 cap_probed _ param = Some cap.ToN
 
 -- a Probe with this cap goes to one who holds so much: toB to the holder of Trunk, toN to all holders

@@ -1,5 +1,5 @@
 -- What a manager keeps of the blocks is true of them after a trace.
-use Rattle.std.specs.Prelude.{ℕ, true, false, ◌≡◌, ◌≢◌, ◌<◌, None, ◌∷◌}
+use Rattle.std.specs.Prelude.{ℕ, true, false, ◌≡◌, ◌≢◌, ◌<◌, None, ◌∷◌, ⊤}
 use Rattle.tl_beat.specs.declared.beat.Beat.TheVariants as beat
 use Rattle.tl_beat.specs.declared.beat.BeatC.{BeatC}
 use Rattle.tl_beat.specs.declared.beat.Link.{Link}
@@ -7,7 +7,7 @@ use Rattle.tl_burst.specs.declared.message.MessageC.{MessageC}
 use Rattle.tl_burst.specs.Messages.{unfinished}
 use Rattle.tl_rules.specs.Agent.{payload_of}
 use Rattle.tl_beat.specs.declared.opcode.Channel.TheVariants as channel
-use Rattle.tl_burst.specs.declared.message.Message.TheVariants.{A}
+use Rattle.tl_burst.specs.declared.message.Message.TheVariants as message
 use Rattle.tl_burst.specs.declared.message.MessageA.{MessageA}
 use Rattle.tl_burst.specs.Burst.{beats_of, IsBlankAfter}
 use Rattle.tl_params.specs.declared.config.Config.{Config}
@@ -38,7 +38,7 @@ pub record IsHomeBut {w : ℕ} {D : Type 0} (other : ℕ → Type 0) (perm_of : 
   pub bytes : AreBlocks home.blocks.bytes.items memory
 
 abbrev pub IsHome : {w : ℕ} {D : Type 0} → (D → ℕ → ℕ → Perm) → Config → Home w D → Trace w → Memory → Type 0
-IsHome perm_of config home t memory = IsHomeBut (λ n. Unit {0}) perm_of config home t memory
+IsHome perm_of config home t memory = IsHomeBut (λ n. ⊤) perm_of config home t memory
 
 abbrev pub IsHomeWithout : {w : ℕ} {D : Type 0} → ℕ → (D → ℕ → ℕ → Perm) → Config → Home w D → Trace w → Memory → Type 0
 IsHomeWithout number perm_of config home t memory = IsHomeBut (λ n. n ≢ number) perm_of config home t memory
@@ -49,16 +49,16 @@ IsDone perm_of config home handed t deed = (handed ≡ deed.handed) × IsHome pe
 
 -- a request that can be performed, and answered, where there are so many blocks and clients
 pub record IsPlaced {w : ℕ} (blocks clients : ℕ) (link : Link) (request : MessageA w) : Type 0 where
-  pub legal : is_acquire request.opcode ≡ false → illegal_message level.UH channel.A (A request) ≡ None
-  pub blank : IsBlankAfter (beats_of (A request)) (A request)
+  pub legal : is_acquire request.opcode ≡ false → illegal_message level.UH channel.A (message.A request) ≡ None
+  pub blank : IsBlankAfter (beats_of (message.A request)) (message.A request)
   pub inside : block_at request.address < blocks
   pub client : link.0 < clients
 
 -- the tracker's request is one
 abbrev pub IsPlacedIn : {w : ℕ} → ℕ → ℕ → Tracker w → Type 0
-IsPlacedIn blocks clients Free = Unit {0}
+IsPlacedIn blocks clients Free = ⊤
 IsPlacedIn blocks clients (Probing link request missing) = IsPlaced blocks clients link request
-IsPlacedIn blocks clients (Granted link block) = Unit {0}
+IsPlacedIn blocks clients (Granted link block) = ⊤
 
 -- after this trace the request of the tracker may be performed
 pub record IsReadyAt {w : ℕ} (config : Config) (number : ℕ) (link : Link) (request : MessageA w) (t : Trace w) : Type 0 where

@@ -1,11 +1,11 @@
 -- What holds of the manager's end after any beats that it is offered, from a fresh one on.
 use Rattle.tl_beat.specs.declared.beat.Beat.TheVariants as beat
 use Rattle.tl_beat.specs.declared.beat.BeatA.{BeatA}
-use Rattle.std.specs.Prelude.{◌==◌, ◌&&◌, ◌||◌, nat_le, IfSome, length, ◌^◌, ℕ, Bool, true, false, List, [], ◌∷◌, ◌≡◌, ◌<◌, ◌≤◌, map, Option, Some, None}
+use Rattle.std.specs.Prelude.{◌==◌, ◌&&◌, ◌||◌, nat_le, IfSome, length, ◌^◌, ℕ, Bool, true, false, List, [], ◌∷◌, ◌≡◌, ◌<◌, ◌≤◌, map, Option, Some, None, ⊤}
 use Rattle.tl_beat.specs.declared.beat.Beat.{Beat}
 use Rattle.tl_beat.specs.declared.beat.Link.{Link}
 use Rattle.tl_burst.specs.declared.message.Message.{Message}
-use Rattle.tl_burst.specs.declared.message.Message.TheVariants.{A, B, C, D, E}
+use Rattle.tl_burst.specs.declared.message.Message.TheVariants as message
 use Rattle.tl_burst.specs.Burst.{beats_of, beat_of, IsBlankAfter}
 use Rattle.tl_beat.specs.declared.opcode.Channel.TheVariants as channel
 use Rattle.tl_burst.specs.Messages.{channel_of, unfinished}
@@ -22,20 +22,20 @@ use Rattle.tl_manager.specs.Handing.{Handed}
 use Rattle.tl_manager.specs.Pending.{IsSteady}
 use Rattle.tl_manager.specs.Releases.{IsAnswered}
 use Rattle.tl_manager.specs.Service.{Service, services, trackers_of}
-use Rattle.tl_manager.specs.Slave.{End, Answer, Refused, Stalled, Sent, level_of}
+use Rattle.tl_manager.specs.Slave.{End, Reception, Refused, Stalled, Sent, level_of}
 
 abbrev pub Each : {X : Type 0} → (X → Type 0) → List X → Type 0
-Each P [] = Unit {0}
+Each P [] = ⊤
 Each P (x ∷ xs) = P x × Each P xs
 
 -- no number stands twice
 abbrev pub AreApart : List ℕ → Type 0
-AreApart [] = Unit {0}
+AreApart [] = ⊤
 AreApart (n ∷ ns) = (is_one_of n ns ≡ false) × AreApart ns
 
 -- each number is less than those behind it
 abbrev pub IsRising : List ℕ → Type 0
-IsRising [] = Unit {0}
+IsRising [] = ⊤
 IsRising (n ∷ ns) = Each (λ k. n < k) ns × IsRising ns
 
 -- the L rule that a beat, or a message, breaks on a link of this level, or of none
@@ -50,7 +50,7 @@ illegal_message_at (Some l) m = illegal_message l (channel_of (beat_of m 0)) m
 -- the numbers of a beat of channel A are those of its type: 16 bits of mask, and a byte for each lane
 abbrev pub IsTyped : {w : ℕ} → Beat w → Type 0
 IsTyped {w} (beat.A x) = (x.mask < 2 ^ 16) × IfSome x.lanes (λ lanes. length lanes ≡ w)
-IsTyped _ = Unit {0}
+IsTyped _ = ⊤
 
 -- a beat that breaks no L rule at its link, is of a block of the map, and isn't corrupt or denied
 pub record IsSound {w : ℕ} (config : Config) (x : Link × Beat w) : Type 0 where
@@ -61,31 +61,32 @@ pub record IsSound {w : ℕ} (config : Config) (x : Link × Beat w) : Type 0 whe
 
 -- no beat of the message is corrupt, and it isn't denied
 abbrev pub IsClean : {w : ℕ} → Message w → Type 0
-IsClean (A m) = m.corrupt ≡ 0
-IsClean (B m) = m.corrupt ≡ 0
-IsClean (C m) = m.corrupt ≡ 0
-IsClean (D m) = (m.corrupt ≡ 0) × (m.denied ≡ false)
-IsClean (E m) = Unit {0}
+IsClean (message.A m) = m.corrupt ≡ 0
+IsClean (message.B m) = m.corrupt ≡ 0
+IsClean (message.C m) = m.corrupt ≡ 0
+IsClean (message.D m) = (m.corrupt ≡ 0) × (m.denied ≡ false)
+IsClean (message.E m) = ⊤
 
 -- its payload has 64 bytes
 abbrev pub IsFilled : {w : ℕ} → Message w → Type 0
-IsFilled (A m) = length m.payload ≡ 64
-IsFilled (B m) = length m.payload ≡ 64
-IsFilled (C m) = length m.payload ≡ 64
-IsFilled (D m) = length m.payload ≡ 64
-IsFilled (E m) = Unit {0}
+IsFilled (message.A m) = length m.payload ≡ 64
+IsFilled (message.B m) = length m.payload ≡ 64
+IsFilled (message.C m) = length m.payload ≡ 64
+IsFilled (message.D m) = length m.payload ≡ 64
+IsFilled (message.E m) = ⊤
 
 -- messages that break no L rule at their links and are clean, with 64 bytes that are zero where no beat carries them
 abbrev pub AreLawful : {w : ℕ} → Config → Handed w → Type 0
-AreLawful config handed = Each (λ x. (illegal_message_at (level_of config x.0.0) x.1 ≡ None) × IsClean x.1 × IsFilled x.1 × IsBlankAfter (beats_of x.1) x.1) handed
+AreLawful config handed =
+    Each (λ x. (illegal_message_at (level_of config x.0.0) x.1 ≡ None) × IsClean x.1 × IsFilled x.1 × IsBlankAfter (beats_of x.1) x.1) handed
 
 -- what the manager hands out in this answer is so
-abbrev pub IsAnswerLawful : {w : ℕ} → Config → Answer w → Type 0
-IsAnswerLawful config (Refused rule) = Unit {0}
-IsAnswerLawful config Stalled = Unit {0}
+abbrev pub IsAnswerLawful : {w : ℕ} → Config → Reception w → Type 0
+IsAnswerLawful config (Refused rule) = ⊤
+IsAnswerLawful config Stalled = ⊤
 IsAnswerLawful config (Sent handed) = AreLawful config handed
 
-abbrev pub is_stalled : {w : ℕ} → Answer w → Bool
+abbrev pub is_stalled : {w : ℕ} → Reception w → Bool
 is_stalled Stalled = true
 is_stalled _ = false
 
@@ -96,15 +97,15 @@ IsLike x _ = ⊥
 
 -- beats of one request, the newest first
 abbrev pub AreOfOne : {w : ℕ} → List (Beat w) → Type 0
-AreOfOne [] = Unit {0}
+AreOfOne [] = ⊤
 AreOfOne (beat.A x ∷ beats) = Each (IsLike x) beats
 AreOfOne (_ ∷ beats) = ⊥
 
 -- a request that breaks no L rule at its link, has a payload of 64 bytes that is zero where no beat carries
 -- anything, isn't corrupt, and is of a block of the map
 pub record IsPerformable {w : ℕ} (config : Config) (s : Service w) : Type 0 where
-  pub lawful : illegal_message_at (level_of config s.link.0) (A s.request) ≡ None
-  pub blank : IsBlankAfter (beats_of (A s.request)) (A s.request)
+  pub lawful : illegal_message_at (level_of config s.link.0) (message.A s.request) ≡ None
+  pub blank : IsBlankAfter (beats_of (message.A s.request)) (message.A s.request)
   pub filled : length s.request.payload ≡ 64
   pub clean : s.request.corrupt ≡ 0
   pub inside : nat_le config.blocks (block_at s.request.address) ≡ false

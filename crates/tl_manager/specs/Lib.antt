@@ -6,6 +6,7 @@ pub mod Bits
 pub mod Blocks
 pub mod BurstFor
 pub mod Complete
+pub mod Directories
 pub mod Fresh
 pub mod Granting
 pub mod Handing
@@ -21,6 +22,7 @@ pub mod Ready
 pub mod Record
 pub mod Releases
 pub mod Request
+pub mod Sending
 pub mod Service
 pub mod Slave
 pub mod Table

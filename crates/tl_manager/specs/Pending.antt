@@ -1,6 +1,6 @@
 -- What is pending at the manager's end of each link: it follows from the requests in service and the
 -- bursts that are unfinished.
-use Rattle.std.specs.Prelude.{ℕ, Bool, true, false, not, List, [], ◌∷◌, ◌==◌, ◌&&◌, ◌||◌, ◌+◌, ◌≡◌, Option, Some, None}
+use Rattle.std.specs.Prelude.{ℕ, Bool, true, false, not, List, [], ◌∷◌, ◌==◌, ◌&&◌, ◌||◌, ◌+◌, ◌≡◌, Option, Some, None, ⊤}
 use Rattle.tl_beat.specs.declared.beat.Beat.{Beat}
 use Rattle.tl_beat.specs.declared.beat.Beat.TheVariants as beat
 use Rattle.tl_beat.specs.declared.beat.BeatA.{BeatA}
@@ -68,19 +68,19 @@ HasFields opcode param size source address (Some x) = (x.opcode ≡ opcode) × (
 
 -- the request that began last with the source of the unfinished one is that one, which is no Acquire
 abbrev pub IsBegun : {w : ℕ} → History w → List (Beat w) → Type 0
-IsBegun t [] = Unit {0}
+IsBegun t [] = ⊤
 IsBegun t (beat.A x ∷ burst) = (is_acquire x.opcode ≡ false) × HasFields x.opcode x.param x.size x.source x.address (request_of x.source t)
 IsBegun t (_ ∷ burst) = ⊥
 
 -- the ProbeAck that the unfinished report is of is missing
 abbrev pub IsReporting : {w : ℕ} → History w → List (Beat w) → Type 0
 IsReporting t (beat.C x ∷ burst) = is_probe_ack x.opcode ≡ true → pending (ProbeOf (block_at x.address)) t ≡ true
-IsReporting t _ = Unit {0}
+IsReporting t _ = ⊤
 
 -- on the link of a service, the request that began last with its source is its request, until that is
 -- answered; the sink of the block's last Grant is its tracker, once that was handed out
 abbrev pub IsNamed : {w : ℕ} → ℕ → Trace w → Option (Service w) → Type 0
-IsNamed block t None = Unit {0}
+IsNamed block t None = ⊤
 IsNamed block t (Some s) =
     (is_granted t s ≡ false → HasFields s.request.opcode s.request.param s.request.size s.request.source s.request.address (request_of s.request.source (on_link s.link.0 t)))
     × (is_granted t s ≡ true → grant_sink block (on_link s.link.0 t) ≡ Some s.tracker)
@@ -109,7 +109,8 @@ pub record IsHandled {w : ℕ} (block : ℕ) (t : Trace w) : Type 0 where
 -- A source is pending exactly where an unfinished request, or one in service that isn't answered, has
 -- it, and no two do.
 pub record IsAccounted {w : ℕ} (t : Trace w) : Type 0 where
-  pub sources : (client source : ℕ) → one_if (comes_in_request source (unfinished channel.A (on_link client t))) + count_where (is_asking client source t) (services t) ≡ one_if (pending (RequestSource source) (on_link client t))
+  pub sources : (client source : ℕ)
+      → one_if (comes_in_request source (unfinished channel.A (on_link client t))) + count_where (is_asking client source t) (services t) ≡ one_if (pending (RequestSource source) (on_link client t))
   pub begun : (client : ℕ) → IsBegun (on_link client t) (unfinished channel.A (on_link client t))
   pub reports : (client : ℕ) → IsReporting (on_link client t) (unfinished channel.C (on_link client t))
   pub blocks : (block : ℕ) → IsHandled block t

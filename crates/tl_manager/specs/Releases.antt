@@ -1,5 +1,5 @@
 -- Which Releases are pending at the manager's end of a link: it answers each as it is complete.
-use Rattle.std.specs.Prelude.{ℕ, Bool, true, false, List, ◌∷◌, ◌==◌, ◌&&◌, ◌≡◌}
+use Rattle.std.specs.Prelude.{ℕ, Bool, true, false, List, ◌∷◌, ◌==◌, ◌&&◌, ◌≡◌, ⊤}
 use Rattle.tl_beat.specs.declared.beat.Beat.{Beat}
 use Rattle.tl_beat.specs.declared.beat.Beat.TheVariants as beat
 use Rattle.tl_beat.specs.declared.opcode.Channel.TheVariants as channel
@@ -19,7 +19,7 @@ comes_of k _ = false
 -- the Release that began last with the source of the unfinished one is that one
 abbrev pub IsNamed : {w : ℕ} → History w → List (Beat w) → Type 0
 IsNamed t (beat.C x ∷ burst) = (k : ℕ) → is_release x.opcode ≡ true → releases k (release_of x.source t) ≡ (block_at x.address == k)
-IsNamed t _ = Unit {0}
+IsNamed t _ = ⊤
 
 -- a history in which each Release is answered but for one that is unfinished
 pub record IsAnswered {w : ℕ} (t : History w) : Type 0 where

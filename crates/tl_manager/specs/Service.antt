@@ -1,7 +1,7 @@
 -- Which requests are in service, as a function of what the manager took and handed out.
 use Rattle.std.specs.Prelude.{ℕ, zero, suc, Bool, true, false, not, List, [], ◌∷◌, ◌==◌, ◌&&◌, ◌+◌, if◌then◌else◌, length, map, filter, find, Option, Some, None, is_some, option_map}
 use Rattle.tl_beat.specs.declared.beat.Beat.{Beat}
-use Rattle.tl_beat.specs.declared.beat.Beat.TheVariants.{A, D, E}
+use Rattle.tl_beat.specs.declared.beat.Beat.TheVariants as beat
 use Rattle.tl_beat.specs.declared.beat.BeatD.{BeatD}
 use Rattle.tl_beat.specs.declared.beat.BeatE.{BeatE}
 use Rattle.tl_beat.specs.declared.beat.Link.{Link}
@@ -26,8 +26,8 @@ free_from n zero taken = n
 free_from n (suc more) taken = if is_one_of n taken then free_from (n + 1) more taken else n
 
 -- the least number that isn't taken: of one number more than are taken one is free
-unfoldable pub least_free : List ℕ → ℕ
-least_free taken = free_from 0 (length taken) taken
+unfoldable pub least_untaken : List ℕ → ℕ
+least_untaken taken = free_from 0 (length taken) taken
 
 abbrev pub trackers_of : {w : ℕ} → List (Service w) → List ℕ
 trackers_of services = map (λ s. s.tracker) services
@@ -35,7 +35,7 @@ trackers_of services = map (λ s. s.tracker) services
 -- the service of the request that has these beats, the newest of which is first
 abbrev pub service_of : {w : ℕ} → Link → List (Beat w) → List (Service w) → Option (Service w)
 service_of link beats services =
-    option_map (λ m. record { tracker = least_free (trackers_of services); link = link; request = m }) (request_carried beats)
+    option_map (λ m. record { tracker = least_untaken (trackers_of services); link = link; request = m }) (request_carried beats)
 
 -- an answer to an access, which ends its service
 abbrev pub is_access_answer : OpD → Bool
@@ -53,8 +53,8 @@ acknowledges x s = is_acquire s.request.opcode && (s.tracker == x.sink)
 -- the message that is complete with this beat ends the service: it answers the access, or it is the
 -- GrantAck of the Acquire
 abbrev pub is_ended_by : {w : ℕ} → Link × Beat w → Service w → Bool
-is_ended_by (link, D x) s = (s.link.0 == link.0) && answers_access x s
-is_ended_by (link, E x) s = (s.link.0 == link.0) && acknowledges x s
+is_ended_by (link, beat.D x) s = (s.link.0 == link.0) && answers_access x s
+is_ended_by (link, beat.E x) s = (s.link.0 == link.0) && acknowledges x s
 is_ended_by _ s = false
 
 abbrev pub with_service : {w : ℕ} → Option (Service w) → List (Service w) → List (Service w)
@@ -63,7 +63,7 @@ with_service (Some s) services = s ∷ services
 
 -- the services after a message is complete with this beat, before which its burst had these
 abbrev pub served : {w : ℕ} → Link × Beat w → List (Beat w) → List (Service w) → List (Service w)
-served (link, A x) burst services = with_service (service_of link (A x ∷ burst) services) services
+served (link, beat.A x) burst services = with_service (service_of link (beat.A x ∷ burst) services) services
 served (link, x) burst services = filter (λ s. not (is_ended_by (link, x) s)) services
 
 -- The requests in service, the newest first: from their last beat on, until their answer was handed

@@ -1,11 +1,12 @@
 -- What a manager does at each beat that it is offered: the standard's rules for slaves.
 use Rattle.std.specs.Prelude.{ℕ, Bool, true, false, List, [], ◌∷◌, ◌==◌, ◌&&◌, ◌||◌, ◌%◌, if◌then◌else◌, length, nat_le, slice_get, slice_index, Option, Some, None, option_map}
 use Rattle.tl_beat.specs.declared.beat.Beat.{Beat}
-use Rattle.tl_beat.specs.declared.beat.Beat.TheVariants.{A, B, C, D, E}
+use Rattle.tl_beat.specs.declared.beat.Beat.TheVariants as beat
 use Rattle.tl_beat.specs.declared.beat.BeatC.{BeatC}
 use Rattle.tl_beat.specs.declared.beat.Link.{Link}
 use Rattle.tl_beat.specs.declared.opcode.Channel.{Channel}
 use Rattle.tl_beat.specs.Opcode.{c_carries_data}
+use Rattle.tl_beat.specs.First.{first_if}
 use Rattle.tl_burst.specs.Messages.{channel_of, unfinished}
 use Rattle.tl_params.specs.declared.config.Config.{Config}
 use Rattle.tl_params.specs.declared.level.Level.{Level}
@@ -16,7 +17,7 @@ use Rattle.tl_rules.specs.Agent.{is_outside, is_spoiled, payload_of}
 use Rattle.tl_rules.specs.Conformance.{Trace, on_link, broken_in_order}
 use Rattle.tl_rules.specs.Effect.{Memory}
 use Rattle.tl_rules.specs.History.{ends, block_at, is_probe_ack, is_release}
-use Rattle.tl_rules.specs.Legality.{illegal, is_one_of, rule_if}
+use Rattle.tl_rules.specs.Legality.{illegal, is_one_of}
 use Rattle.tl_manager.specs.Service.{Service, service_of, services, serving, is_in_service}
 use Rattle.tl_manager.specs.Holders.{cap_probed, probed, is_settled}
 use Rattle.tl_manager.specs.Handing.{Handed, with_handed, probes, release_ack, Deed, nothing, performed}
@@ -43,11 +44,11 @@ open_level config link e = if is_one_of link.0 e.closed then None else level_of 
 
 -- the beat is of a channel on which clients send
 abbrev pub is_from_client : {w : ℕ} → Beat w → Bool
-is_from_client (A x) = true
-is_from_client (B x) = false
-is_from_client (C x) = true
-is_from_client (D x) = false
-is_from_client (E x) = true
+is_from_client (beat.A x) = true
+is_from_client (beat.B x) = false
+is_from_client (beat.C x) = true
+is_from_client (beat.D x) = false
+is_from_client (beat.E x) = true
 
 -- the L rule that a beat breaks which is offered on a channel
 abbrev pub unlawful : {w : ℕ} → Level → Channel → Beat w → Option Rule
@@ -61,8 +62,8 @@ before_stall _ = None
 
 -- the beat is the last of a request whose block is in service, or for which there is no tracker
 abbrev pub must_wait : {w : ℕ} → Config → Link → Beat w → Trace w → Bool
-must_wait config link (A x) t =
-    ends (A x) (on_link link.0 t) && (is_in_service (block_at x.address) (services t) || nat_le config.trackers (length (services t)))
+must_wait config link (beat.A x) t =
+    ends (beat.A x) (on_link link.0 t) && (is_in_service (block_at x.address) (services t) || nat_le config.trackers (length (services t)))
 must_wait config link _ t = false
 
 -- what becomes of a beat
@@ -86,7 +87,7 @@ judged_at config l link ch x t =
     (breaks_or (before_stall (broken_in_order config.profile x (on_link link.0 t)))
     (waits_or (must_wait config link x t)
     (breaks_or (broken_in_order config.profile x (on_link link.0 t))
-    (breaks_or (rule_if (is_outside config.blocks x) A1 (rule_if (is_spoiled x) A2 None)) Passes))))
+    (breaks_or (first_if (is_outside config.blocks x) A1 (first_if (is_spoiled x) A2 None)) Passes))))
 
 abbrev pub judged_on : {w : ℕ} → Config → Option Level → Link → Channel → Beat w → Trace w → Judgement
 judged_on config None link ch x t = Breaks A3
@@ -137,8 +138,8 @@ done_c config link x t memory =
 -- What is done as a message is complete with this beat, whose burst had these before it; `t` is the
 -- trace before the beat.
 abbrev pub done : {w : ℕ} → Config → Link → Beat w → List (Beat w) → Trace w → Memory → Deed w
-done config link (A x) burst t memory = begun_if_any config (service_of link (A x ∷ burst) (services t)) ((link, A x) ∷ t) memory
-done config link (C x) burst t memory = done_c config link x ((link, C x) ∷ t) (written x (C x ∷ burst) memory)
+done config link (beat.A x) burst t memory = begun_if_any config (service_of link (beat.A x ∷ burst) (services t)) ((link, beat.A x) ∷ t) memory
+done config link (beat.C x) burst t memory = done_c config link x ((link, beat.C x) ∷ t) (written x (beat.C x ∷ burst) memory)
 done config link x burst t memory = nothing memory
 
 unfoldable pub deed : {w : ℕ} → Config → Link → Beat w → End w → Deed w
@@ -149,10 +150,10 @@ deed config link x e =
 
 -- ---- a beat that is offered
 
-pub data Answer (w : ℕ) : Type 0 where
-  Refused : Rule → Answer w
-  Stalled : Answer w
-  Sent : Handed w → Answer w
+pub data Reception (w : ℕ) : Type 0 where
+  Refused : Rule → Reception w
+  Stalled : Reception w
+  Sent : Handed w → Reception w
 
 -- a refusal closes the link, and changes nothing else
 abbrev pub refused : {w : ℕ} → Link → End w → End w
@@ -161,13 +162,13 @@ refused link e = record { trace = e.trace; closed = link.0 ∷ e.closed; memory 
 abbrev pub taken : {w : ℕ} → Link → Beat w → Deed w → End w → End w
 taken link x deed e = record { trace = with_handed deed.handed ((link, x) ∷ e.trace); closed = e.closed; memory = deed.memory }
 
-abbrev pub offered_as : {w : ℕ} → Judgement → Config → Link → Beat w → End w → Answer w × End w
+abbrev pub offered_as : {w : ℕ} → Judgement → Config → Link → Beat w → End w → Reception w × End w
 offered_as (Breaks rule) config link x e = (Refused rule, refused link e)
 offered_as Waits config link x e = (Stalled, e)
 offered_as Passes config link x e = (Sent (deed config link x e).handed, taken link x (deed config link x e) e)
 
 -- How the manager answers a beat that it is offered on a channel of a link, and its end afterwards.
-unfoldable pub offered : {w : ℕ} → Config → Link → Channel → Beat w → End w → Answer w × End w
+unfoldable pub offered : {w : ℕ} → Config → Link → Channel → Beat w → End w → Reception w × End w
 offered config link ch x e = offered_as (judged config link ch x e) config link x e
 
 abbrev pub is_waiting : Judgement → Bool

@@ -6,6 +6,7 @@ ghost use Rattle.tl_manager.specs.Bits.{perm_in};
 ghost use Rattle.tl_manager.specs.Word.{trunk_bit, branch_bit, copy_bit};
 
 use crate::directory::Directory;
+use crate::word::with_bit;
 use std::alloc::{AllocError, Global};
 use tl_rules::perm::Perm;
 
@@ -15,16 +16,6 @@ pub struct Words {
     pub owners: u16,
     pub sharers: u16,
     pub ghost apart: { bit_and owners sharers ≡ 0 },
-}
-
-/// A word with a bit set or cleared.
-fn with_bit(word: u16, place: u8, is_set: bool) -> u16
-    requires { place < 16 }
-    ensures here { bit_at result place ≡ (if is_set then 1 else 0) }
-    ensures others { (c : ℕ) → c ≢ place → bit_at result c ≡ bit_at word c }
-{
-    let bit = 1u16 << place;
-    if is_set { word | bit } else { word & !bit }
 }
 
 impl Words {
@@ -71,20 +62,20 @@ impl Words {
 /// in common.
 #[derive(Drop)]
 pub struct BitDirectory {
-    pub words: Vec<Words>,
-    pub clients: u8,
-    pub ghost few: { clients ≤ 16 },
+    words: Vec<Words>,
+    clients: u8,
+    ghost few: { clients ≤ 16 },
 }
 
 impl BitDirectory {
     ghost use Rattle.std.specs.Prelude.{length};
-    ghost use Rattle.tl_manager.specs.Held.{perm_of_words};
+    ghost use Rattle.tl_manager.specs.Directories.{perm_of_bits, blocks_of_bits, clients_of_bits};
 
     /// A directory of so many blocks and clients, at most 16, of whom none holds anything.
     pub fn new(alloc: Global, blocks: u16, clients: u8) -> Result<BitDirectory, AllocError>
         requires { clients ≤ 16 }
-        ensures none { IfOk result (λ d. (b c : ℕ) → perm_of_words d.words.items b c ≡ Perm.None) }
-        ensures covers { IfOk result (λ d. (length d.words.items ≡ blocks) × (d.clients ≡ clients)) }
+        ensures none { IfOk result (λ d. (b c : ℕ) → perm_of_bits d b c ≡ Perm.None) }
+        ensures covers { IfOk result (λ d. (blocks_of_bits d ≡ blocks) × (clients_of_bits d ≡ clients)) }
     {
         let mut words = Vec::new(alloc);
         words.resize(usize::from(blocks), Words::NONE)?;
@@ -93,14 +84,14 @@ impl BitDirectory {
 }
 
 impl Directory for BitDirectory {
-    ghost use Rattle.tl_manager.specs.Held.{perm_of_words};
+    ghost use Rattle.tl_manager.specs.Directories.{perm_of_bits, blocks_of_bits, clients_of_bits};
     ghost use Rattle.std.specs.Prelude.{length};
 
-    ghost perm_of = { λ d. perm_of_words d.words.items };
+    ghost perm_of = { perm_of_bits };
 
-    ghost blocks = { λ d. length d.words.items };
+    ghost blocks = { blocks_of_bits };
 
-    ghost clients = { λ d. d.clients };
+    ghost clients = { clients_of_bits };
 
     fn get(&self, block: u16, client: u8) -> Perm {
         self.words[usize::from(block)].perm(client)

@@ -1,4 +1,5 @@
-//! What a directory is: a map from block and client to permission.
+//! What a directory is: a map from block and client to permission (SiFive TileLink Specification 1.8,
+//! chapter on TL-C: None, Branch and Trunk).
 
 ghost use Rattle.std.specs.Prelude.{◌≡◌, ◌<◌, ◌⊎◌, ◌≢◌, ℕ};
 ghost use Rattle.std.specs.Int.{bit_at};

@@ -8,3 +8,4 @@ pub mod manager;
 pub mod table;
 #[cfg(test)]
 mod tests;
+pub mod word;

@@ -19,7 +19,7 @@ ghost use Rattle.tl_manager.specs.Slave.{End, offered, open_level};
 use crate::directory::Directory;
 use crate::manager::admission::Admission;
 use crate::manager::links::Links;
-use crate::manager::reply::Handed;
+use crate::manager::reply::{Handed, Sending};
 use std::alloc::Global;
 use std::marker::Model;
 use tl_beat::beat::{Beat, Link};
@@ -54,7 +54,7 @@ impl<const W: usize, D: Directory> Model for Manager<W, D> {
 }
 
 impl<const W: usize, D: Directory> Manager<W, D> {
-    ghost use Rattle.tl_manager.specs.Answers.{IsAnswer};
+    ghost use Rattle.tl_manager.specs.Answers.{IsAnswer, sent_of};
     ghost use Rattle.tl_manager.specs.Fresh.{IsNew};
     ghost use Rattle.tl_manager.specs.Knows.{Knows};
 
@@ -78,13 +78,32 @@ impl<const W: usize, D: Directory> Manager<W, D> {
         ensures after { (config : Config) (e : End W) → Knows D.perm_of self.old config e →
             Knows D.perm_of self.new config (offered config link channel beat.now e).1 }
     {
+        let _ = &self.links;
+        match self.answer(link, channel, beat)? {
+            None => Ok(Taken::Stalled),
+            Some(sending) => Ok(Taken::Sent(sending.handed())),
+        }
+    }
+
+    /// As `offer`, with what is handed out for a beat in few bytes: None for a beat that has to wait.
+    pub fn answer(
+        &mut self,
+        link: Link,
+        channel: Channel,
+        beat: &Beat<W>,
+    ) -> Result<Option<Sending<W>>, Rule>
+        ensures answer { (config : Config) (e : End W) → Knows D.perm_of self.old config e →
+            sent_of result ≡ (offered config link channel beat.now e).0 }
+        ensures after { (config : Config) (e : End W) → Knows D.perm_of self.old config e →
+            Knows D.perm_of self.new config (offered config link channel beat.now e).1 }
+    {
         match self.links.judge(link, channel, beat) {
             Err(rule) => {
                 self.links.refuse(link);
                 Err(rule)
             }
-            Ok(Admission::Waits) => Ok(Taken::Stalled),
-            Ok(Admission::Passes) => Ok(Taken::Sent(self.links.take(link, beat))),
+            Ok(Admission::Waits) => Ok(None),
+            Ok(Admission::Passes) => Ok(Some(self.links.take(link, beat))),
         }
     }
 

@@ -1,7 +1,7 @@
 //! A directory of one entry for each block and client.
 
 ghost use Rattle.std.specs.Prelude.{◌≡◌, ◌≤◌, ◌<◌, ◌≢◌, ℕ, IfOk, length};
-ghost use Rattle.tl_manager.specs.Table.{entry, perm_of_rows};
+ghost use Rattle.tl_manager.specs.Table.{entry};
 ghost use Rattle.tl_manager.specs.Bits.{perm_in};
 
 use crate::bits::Words;
@@ -12,17 +12,19 @@ use tl_rules::perm::Perm;
 /// A directory of one entry for each block and client.
 #[derive(Drop)]
 pub struct TableDirectory {
-    pub rows: Vec<[Perm; 16]>,
-    pub clients: u8,
-    pub ghost few: { clients ≤ 16 },
+    rows: Vec<[Perm; 16]>,
+    clients: u8,
+    ghost few: { clients ≤ 16 },
 }
 
 impl TableDirectory {
+    ghost use Rattle.tl_manager.specs.Directories.{perm_of_table, blocks_of_table, clients_of_table};
+
     /// A directory of so many blocks and clients, at most 16, of whom none holds anything.
     pub fn new(alloc: Global, blocks: u16, clients: u8) -> Result<TableDirectory, AllocError>
         requires { clients ≤ 16 }
-        ensures none { IfOk result (λ d. (b c : ℕ) → perm_of_rows d.rows.items b c ≡ Perm.None) }
-        ensures covers { IfOk result (λ d. (length d.rows.items ≡ blocks) × (d.clients ≡ clients)) }
+        ensures none { IfOk result (λ d. (b c : ℕ) → perm_of_table d b c ≡ Perm.None) }
+        ensures covers { IfOk result (λ d. (blocks_of_table d ≡ blocks) × (clients_of_table d ≡ clients)) }
     {
         let mut rows = Vec::new(alloc);
         rows.resize(usize::from(blocks), [Perm::None; 16])?;
@@ -52,11 +54,13 @@ fn words_in(row: &[Perm; 16]) -> Words
 }
 
 impl Directory for TableDirectory {
-    ghost perm_of = { λ d. perm_of_rows d.rows.items };
+    ghost use Rattle.tl_manager.specs.Directories.{perm_of_table, blocks_of_table, clients_of_table};
 
-    ghost blocks = { λ d. length d.rows.items };
+    ghost perm_of = { perm_of_table };
 
-    ghost clients = { λ d. d.clients };
+    ghost blocks = { blocks_of_table };
+
+    ghost clients = { clients_of_table };
 
     fn get(&self, block: u16, client: u8) -> Perm {
         self.rows[usize::from(block)][usize::from(client)]

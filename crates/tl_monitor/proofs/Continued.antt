@@ -1,7 +1,7 @@
 -- What is kept of unfinished bursts, with one more beat.
 use Rattle.std.proofs.Common.{◌≡◌, ℕ, zero, suc, ◌≢◌, ◌<◌, ◌+◌, ◌-◌, Bool, true, false, refl, sym, ap, ◌∙◌, arith, inl, inr}
-use Rattle.std.specs.Prelude.{if◌then◌else◌, [], ◌∷◌, not, ◌==◌, nat_le, length, List, Option, Some, None, is_none, IsTrue}
-use Rattle.std.proofs.lemmas.Bool.{cases_Bool, cases_eq, eq-eqb, ne_eqb, lt-leb}
+use Rattle.std.specs.Prelude.{if◌then◌else◌, [], ◌∷◌, ◌==◌, nat_le, length, List, Option, Some, None, is_none, IsTrue}
+use Rattle.std.proofs.lemmas.Bool.{cases_Bool, cases_eq, eq-eqb, ne_eqb, lt-leb, not-false}
 use Rattle.tl_beat.specs.Width.{IsWidth}
 use Rattle.tl_beat.specs.declared.beat.Beat.{Beat}
 use Rattle.tl_beat.specs.declared.beat.Beat.TheVariants.{A, B, C, D, E}
@@ -57,13 +57,9 @@ burst-same (E x) (B y) e = absurd cc
 burst-same (E x) (C y) e = absurd cc
 burst-same (E x) (D y) e = absurd cc
 
-not-not : (b : Bool) → not b ≡ false → b ≡ true
-not-not true e = refl
-not-not false e = absurd cc
-
 -- a beat continues a burst: they have the same control fields, where there is one
 pub same-length : {w : ℕ} (x y : Beat w) (beats : List (Beat w)) → breaks_burst x (y ∷ beats) ≡ false → burst_length x ≡ burst_length y
-same-length x y beats e = burst-same x y (not-not (same_control x y) e)
+same-length x y beats e = burst-same x y (not-false (same_control x y) e)
 
 -- ---- first and last beats
 
@@ -113,7 +109,8 @@ of-next x u beats width of cont =
     let long = last-length x u beats width of cont in
     of_next x beats (left_after x u) (completes x beats) long (ends_where (length beats) (left_after x u) (burst_length x) long)
 
-of_with : {w : ℕ} (ch : Channel) (x : Beat w) (u : Option Unfinished) (beats : List (Beat w)) → IsOf u beats → (on ch x ≡ true → IsOf (burst_next x u) (grown x beats)) → IsOf (burst_with ch x u) (if on ch x then grown x beats else beats)
+of_with : {w : ℕ} (ch : Channel) (x : Beat w) (u : Option Unfinished) (beats : List (Beat w)) → IsOf u beats → (on ch x ≡ true → IsOf (burst_next x u) (grown x beats))
+    → IsOf (burst_with ch x u) (if on ch x then grown x beats else beats)
 of_with ch x u beats of next = elim (cases_Bool (on ch x)) [
   | inl here ↦ rw here (next here)
   | inr other ↦ rw other of
@@ -147,7 +144,8 @@ own_channel channel.E (C x) e = absurd cc
 own_channel channel.E (D x) e = absurd cc
 
 -- what is kept of each channel's burst, with one more beat
-pub bursts-next : {w : ℕ} (ch : Channel) (x : Beat w) (t : History w) (u : Option Unfinished) → IsWidth w → IsOf u (unfinished ch t) → breaks_burst x (unfinished (channel_of x) t) ≡ false → IsOf (burst_with ch x u) (unfinished ch (x ∷ t))
+pub bursts-next : {w : ℕ} (ch : Channel) (x : Beat w) (t : History w) (u : Option Unfinished) → IsWidth w → IsOf u (unfinished ch t) → breaks_burst x (unfinished (channel_of x) t) ≡ false
+    → IsOf (burst_with ch x u) (unfinished ch (x ∷ t))
 unfolding unfinished
 bursts-next ch x t u width of cont = of_with ch x u (unfinished ch t) of (λ here.
     let own : ch ≡ channel_of x = own_channel ch x here in

@@ -88,7 +88,8 @@ byte-one true = refl
 byte-one false = refl
 
 -- what was read of a slot
-pub one-read : {X : Type 0} (values : List (Option X)) (k before : ℕ) (d : Option X) (b : Bool) → k < length values → b ≡ is_some (slice_index_or values k d) → before ≡ bool_byte b → before ≡ one_if (is_some (at values k))
+pub one-read : {X : Type 0} (values : List (Option X)) (k before : ℕ) (d : Option X) (b : Bool) → k < length values → b ≡ is_some (slice_index_or values k d) → before ≡ bool_byte b
+    → before ≡ one_if (is_some (at values k))
 one-read values k before d b lt e f = f ∙ byte-one b ∙ ap one_if (e ∙ ap is_some (get_or_default values k d None lt))
 
 pub byte-le : (b : Bool) → bool_byte b ≤ 1

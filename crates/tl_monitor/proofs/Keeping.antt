@@ -24,7 +24,7 @@ use Rattle.tl_rules.specs.Open.{request_fields}
 use Rattle.tl_rules.specs.Tables.{kept_request, kept_release, kept_grant, kept_block, release_fields, block_next, bears_on}
 use Rattle.tl_monitor.specs.Count.{at}
 use Rattle.tl_monitor.specs.Bursts.{burst_on}
-use Rattle.tl_monitor.specs.Kept.{is_first, touched, is_block, sink_with, block_of_request, block_of_release, IsNext}
+use Rattle.tl_monitor.specs.Kept.{is_first, touched, is_block, block_of_request, block_of_release}
 use Rattle.tl_monitor.specs.Kept as kept
 use Rattle.tl_monitor.specs.Keeps.{Keeps}
 use Rattle.tl_monitor.specs.declared.kept.Kept.{Kept}
@@ -48,19 +48,17 @@ same_number a b = elim (cases_eq a b) [
 ]
 
 -- the block of the request that is kept is the one that its history has
-kept_asks : {w : ℕ} (b : ℕ) (before : Bool) (o : Option (BeatA w)) → is_some (if before then request_fields o else None) ≡ true → asks_for b o ≡ is_block b (block_of_request (if before then request_fields o else None))
+kept_asks : {w : ℕ} (b : ℕ) (before : Bool) (o : Option (BeatA w)) → is_some (if before then request_fields o else None) ≡ true
+    → asks_for b o ≡ is_block b (block_of_request (if before then request_fields o else None))
 kept_asks b true (Some x) e = same_number (block_at x.address) b
 kept_asks b true None e = absurd cc
 kept_asks b false o e = absurd cc
 
-kept_releases : {w : ℕ} (b : ℕ) (before : Bool) (o : Option (BeatC w)) → is_some (if before then release_fields o else None) ≡ true → releases b o ≡ is_block b (block_of_release (if before then release_fields o else None))
+kept_releases : {w : ℕ} (b : ℕ) (before : Bool) (o : Option (BeatC w)) → is_some (if before then release_fields o else None) ≡ true
+    → releases b o ≡ is_block b (block_of_release (if before then release_fields o else None))
 kept_releases b true (Some x) e = same_number (block_at x.address) b
 kept_releases b true None e = absurd cc
 kept_releases b false o e = absurd cc
-
--- where a beat touches a block, it bears on that one; of other blocks it says nothing
-turn : Bool → Block → Block → Block
-turn here b c = if here then b else c
 
 same_either : (here : Bool) (b c : Block) → b ≡ c → (if here then b else c) ≡ c
 same_either true b c e = e
@@ -131,7 +129,8 @@ pub record Answers {w : ℕ} (x : BeatD w) (t : History w) : Type 0 where
   pub release : is_release_ack x.opcode ≡ true → (is_some (kept_release x.source t) ≡ true) × (begins (D x) t ≡ true)
   pub request : is_release_ack x.opcode ≡ false → is_some (kept_request x.source t) ≡ true
 
-later : {w : ℕ} (k : Kept) (x : BeatD w) (y : Beat w) (earlier : List (Beat w)) (t : History w) → Keeps k t → unfinished channel.D t ≡ y ∷ earlier → breaks_burst (D x) (y ∷ earlier) ≡ false → Answers x t
+later : {w : ℕ} (k : Kept) (x : BeatD w) (y : Beat w) (earlier : List (Beat w)) (t : History w) → Keeps k t → unfinished channel.D t ≡ y ∷ earlier → breaks_burst (D x) (y ∷ earlier) ≡ false
+    → Answers x t
 later k x (D y) earlier t keeps is cont =
     let same = same_source x y cont in
     let known = keeps.answering y earlier is in
@@ -147,7 +146,8 @@ later k x (B y) earlier t keeps is cont = absurd cc
 later k x (C y) earlier t keeps is cont = absurd cc
 later k x (E y) earlier t keeps is cont = absurd cc
 
-pub answers : {w : ℕ} (l : Level) (p : Profile) (k : Kept) (x : BeatD w) (t : History w) (beats : List (Beat w)) → Keeps k t → broken_after l p (D x) t ≡ None → unfinished channel.D t ≡ beats → Answers x t
+pub answers : {w : ℕ} (l : Level) (p : Profile) (k : Kept) (x : BeatD w) (t : History w) (beats : List (Beat w)) → Keeps k t → broken_after l p (D x) t ≡ None
+    → unfinished channel.D t ≡ beats → Answers x t
 answers l p k x t [] keeps legal is =
     let first : begins (D x) t ≡ true = ap is_empty is in
     record {

@@ -45,7 +45,8 @@ sink-with first last (B x) block s b some = refl
 sink-with first last (C x) block s b some = refl
 sink-with first last (D x) block s b some = opened first (is_grant x.opcode) (x.sink == s) block b (some x refl)
   where
-    opened : (first grant own : Bool) (block b : Option ℕ) → (first ≡ true → grant ≡ true → is_some block ≡ true) → is_some (if first && (grant && own) then block else b) ≡ (if first && (grant && own) then true else is_some b)
+    opened : (first grant own : Bool) (block b : Option ℕ) → (first ≡ true → grant ≡ true → is_some block ≡ true)
+        → is_some (if first && (grant && own) then block else b) ≡ (if first && (grant && own) then true else is_some b)
     opened true true true block b some = some refl refl
     opened true true false block b some = refl
     opened true false own block b some = refl
@@ -149,7 +150,8 @@ grants-next {w} first last (E x) b s c block at_s at_sink free own stands e = cl
     stays true last e = before last c.grant e
     stays false last e = e
 
-    closed : (last here : Bool) → here ≡ is_block b block → (if here then (if last && is_sink x.sink c.grant then None else c.grant) else c.grant) ≡ Some s → (if last && (x.sink == s) then None else at_s) ≡ Some b
+    closed : (last here : Bool) → here ≡ is_block b block → (if here then (if last && is_sink x.sink c.grant then None else c.grant) else c.grant) ≡ Some s
+        → (if last && (x.sink == s) then None else at_s) ≡ Some b
     closed false here is e = stands s (stays here false e) refl
     closed true here is e = elim (cases_eq x.sink s) [
       | inl its ↦

@@ -54,7 +54,8 @@ get_is (y ∷ ys) zero x lt is = ap Some (sym is)
 get_is (y ∷ ys) (suc i) x lt is = get_is ys i x (omega arith) is
 
 -- what is kept of the link of a beat
-pub kept-of : {w : ℕ} (m : Monitor w) (levels : List Level) (p : Profile) (t : Trace w) (closed : Bool) (i : ℕ) (kept : Kept) → Knows m levels p t closed → i < length m.levels.items → kept ≡ slice_index_or m.links.items i kept → Keeps kept (on_link i t)
+pub kept-of : {w : ℕ} (m : Monitor w) (levels : List Level) (p : Profile) (t : Trace w) (closed : Bool) (i : ℕ) (kept : Kept) → Knows m levels p t closed → i < length m.levels.items
+    → kept ≡ slice_index_or m.links.items i kept → Keeps kept (on_link i t)
 kept-of m levels p t closed i kept k lt is = let at_i : i < length levels = rw k.levels_are at lt in rw is (k.links_are i kept at_i)
 
 -- the fault of a beat is the rule that it breaks after what its link has carried
@@ -71,7 +72,8 @@ on_link-none : {w : ℕ} (n : ℕ) → on_link {w = w} n [] ≡ []
 unfolding on_link
 on_link-none n = refl
 
-pub knows-new : {w : ℕ} (m : Monitor w) (levels : List Level) (p : Profile) → m.levels.items ≡ levels → m.profile ≡ p → m.closed ≡ false → AllEmpty (length levels) m.links.items → Knows m levels p [] false
+pub knows-new : {w : ℕ} (m : Monitor w) (levels : List Level) (p : Profile) → m.levels.items ≡ levels → m.profile ≡ p → m.closed ≡ false → AllEmpty (length levels) m.links.items
+    → Knows m levels p [] false
 knows-new m levels p levels_are profile_is open_still all = record {
   levels_are = levels_are;
   profile_is = profile_is;
@@ -88,16 +90,19 @@ broken_by : (o : Option Rule) (r : Rule) → broken o ≡ Some (monitor.Broken r
 broken_by None r e = absurd cc
 broken_by (Some s) r e = cc
 
-judged : {w : ℕ} (i : ℕ) (trace : Trace w) (x : Link × Beat w) → i < length trace → x ≡ slice_index_or trace i x → (drop i trace ≡ x ∷ drop (i + 1) trace) × (reverse (take (i + 1) trace) ≡ x ∷ reverse (take i trace))
+judged : {w : ℕ} (i : ℕ) (trace : Trace w) (x : Link × Beat w) → i < length trace → x ≡ slice_index_or trace i x
+    → (drop i trace ≡ x ∷ drop (i + 1) trace) × (reverse (take (i + 1) trace) ≡ x ∷ reverse (take i trace))
 judged {w} i trace x lt is =
     let more : take (i + 1) trace ≡ take i trace ++ x ∷ [] = take_more trace i x lt ∙ ap (λ (y : Link × Beat w). take i trace ++ y ∷ []) (sym is) in
     let first : drop i trace ≡ x ∷ drop (i + 1) trace = drop_more trace i x lt ∙ ap (λ (y : Link × Beat w). y ∷ drop (i + 1) trace) (sym is) in
     (first, ap reverse more ∙ reverse-append (take i trace) (x ∷ []))
 
-pub known-goes_on : {w : ℕ} (m : Monitor w) (levels : List Level) (p : Profile) (trace : Trace w) (i : ℕ) (x : Link × Beat w) → i < length trace → x ≡ slice_index_or trace i x → Knows m levels p (x ∷ reverse (take i trace)) false → Knows m levels p (reverse (take (i + 1) trace)) false
+pub known-goes_on : {w : ℕ} (m : Monitor w) (levels : List Level) (p : Profile) (trace : Trace w) (i : ℕ) (x : Link × Beat w) → i < length trace → x ≡ slice_index_or trace i x
+    → Knows m levels p (x ∷ reverse (take i trace)) false → Knows m levels p (reverse (take (i + 1) trace)) false
 known-goes_on m levels p trace i x lt is k = rw ((judged i trace x lt is).1) k
 
-pub fault-goes_on : {w : ℕ} (levels : List Level) (p : Profile) (trace : Trace w) (i : ℕ) (x : Link × Beat w) → i < length trace → x ≡ slice_index_or trace i x → fault_of levels p (reverse (take i trace)) false x ≡ None
+pub fault-goes_on : {w : ℕ} (levels : List Level) (p : Profile) (trace : Trace w) (i : ℕ) (x : Link × Beat w) → i < length trace → x ≡ slice_index_or trace i x
+    → fault_of levels p (reverse (take i trace)) false x ≡ None
     → fault_from levels p (reverse (take i trace)) (drop i trace) ≡ fault_from levels p (reverse (take (i + 1) trace)) (drop (i + 1) trace)
 unfolding fault_from
 fault-goes_on levels p trace i x lt is none =
@@ -105,7 +110,8 @@ fault-goes_on levels p trace i x lt is none =
     let fine : broken_on_link levels p x (reverse (take i trace)) ≡ None = unbroken (broken_on_link levels p x (reverse (take i trace))) none in
     rw (e.0, e.1, fine) refl
 
-fault-found : {w : ℕ} (levels : List Level) (p : Profile) (trace : Trace w) (i : ℕ) (x : Link × Beat w) (r : Rule) → i < length trace → x ≡ slice_index_or trace i x → fault_of levels p (reverse (take i trace)) false x ≡ Some (monitor.Broken r)
+fault-found : {w : ℕ} (levels : List Level) (p : Profile) (trace : Trace w) (i : ℕ) (x : Link × Beat w) (r : Rule) → i < length trace → x ≡ slice_index_or trace i x
+    → fault_of levels p (reverse (take i trace)) false x ≡ Some (monitor.Broken r)
     → fault_from levels p (reverse (take i trace)) (drop i trace) ≡ Some (i, r)
 unfolding fault_from
 fault-found levels p trace i x r lt is found =
@@ -118,8 +124,10 @@ pub fault-none : {w : ℕ} (levels : List Level) (p : Profile) (trace before : T
 unfolding fault_from
 fault-none levels p trace before i le = rw (drop_all i trace le) refl
 
-pub fault-answered : {w : ℕ} (levels : List Level) (p : Profile) (beats : Trace w) (i : ℕ) (x : Link × Beat w) (e : MonitorFault) → IsCount (length levels) → i < length beats → x ≡ slice_index_or beats i x
-    → fault_from levels p [] beats ≡ fault_from levels p (reverse (take i beats)) (drop i beats) → Answers (fault_of levels p (reverse (take i beats)) false x) (Err e) → AnswersTrace levels p beats (Err (trace_fault_of i e))
+pub fault-answered : {w : ℕ} (levels : List Level) (p : Profile) (beats : Trace w) (i : ℕ) (x : Link × Beat w) (e : MonitorFault) → IsCount (length levels) → i < length beats
+    → x ≡ slice_index_or beats i x
+    → fault_from levels p [] beats ≡ fault_from levels p (reverse (take i beats)) (drop i beats) → Answers (fault_of levels p (reverse (take i beats)) false x) (Err e)
+    → AnswersTrace levels p beats (Err (trace_fault_of i e))
 fault-answered levels p beats i x (monitor.Broken rule) counted lt is same answer = (counted, same ∙ fault-found levels p beats i x rule lt is answer)
 fault-answered levels p beats i x monitor.Levels counted lt is same answer = counted
 fault-answered levels p beats i x monitor.Memory counted lt is same answer = counted

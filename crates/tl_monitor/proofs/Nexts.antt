@@ -12,7 +12,8 @@ use Rattle.tl_monitor.specs.Kept.{is_first, completes, touched, is_block, sink_w
 use Rattle.tl_monitor.specs.declared.bursts.Bursts.{Bursts}
 use Rattle.tl_monitor.specs.declared.kept.Kept.{Kept}
 
-bursts_by_channel : {w : ℕ} (old new : Bursts) (x : Beat w) → new.a ≡ burst_with channel.A x old.a → new.b ≡ burst_with channel.B x old.b → new.c ≡ burst_with channel.C x old.c → new.d ≡ burst_with channel.D x old.d
+bursts_by_channel : {w : ℕ} (old new : Bursts) (x : Beat w) → new.a ≡ burst_with channel.A x old.a → new.b ≡ burst_with channel.B x old.b → new.c ≡ burst_with channel.C x old.c
+    → new.d ≡ burst_with channel.D x old.d
     → new.e ≡ burst_with channel.E x old.e → (ch : Channel) → burst_on new ch ≡ burst_with ch x (burst_on old ch)
 bursts_by_channel old new x a b c d e channel.A = a
 bursts_by_channel old new x a b c d e channel.B = b

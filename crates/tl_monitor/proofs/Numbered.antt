@@ -69,7 +69,8 @@ one_more n b f g lt same was is =
     omega (arith, e, x, y)
 
 -- what a beat leaves of each block but the one that it touches
-others_stay : {w : ℕ} (l : Level) (p : Profile) (k : Kept) (x : Beat w) (t : History w) (b n : ℕ) → IsWidth w → Keeps k t → broken_after l p x t ≡ None → touched (is_first x k) (kept.completes x k) x k ≡ Some b
+others_stay : {w : ℕ} (l : Level) (p : Profile) (k : Kept) (x : Beat w) (t : History w) (b n : ℕ) → IsWidth w → Keeps k t → broken_after l p x t ≡ None
+    → touched (is_first x k) (kept.completes x k) x k ≡ Some b
     → kept_block n (x ∷ t) ≡ (if is_block n (Some b) then block_next (is_first x k) (kept.completes x k) x (kept_block n t) else kept_block n t)
 others_stay l p k x t b n width keeps legal is =
     block-next n x t ∙ ap₂ (λ f g. if bears_on n x t then block_next f g x (kept_block n t) else kept_block n t) (begins-is k x t keeps) (ends-is l p k x t width keeps legal)
@@ -96,7 +97,8 @@ some_open c pos = elim (cases_Bool (is_held c.held)) [
   ]
 ]
 
-pub some-more : {w : ℕ} (l : Level) (p : Profile) (k : Kept) (x : Beat w) (t : History w) (b : ℕ) → IsWidth w → Keeps k t → broken_after l p x t ≡ None → IsNew k x b → AnyMore (numbers t) (numbers (x ∷ t))
+pub some-more : {w : ℕ} (l : Level) (p : Profile) (k : Kept) (x : Beat w) (t : History w) (b : ℕ) → IsWidth w → Keeps k t → broken_after l p x t ≡ None → IsNew k x b
+    → AnyMore (numbers t) (numbers (x ∷ t))
 some-more {w} l p k x t b width keeps legal new =
     let step : (n : ℕ) → kept_block n (x ∷ t) ≡ (if is_block n (Some b) then block_next (is_first x k) (kept.completes x k) x (kept_block n t) else kept_block n t) = λ n. others_stay l p k x t b n width keeps legal new.is_touched in
     let before : kept_block b t ≡ empty_block = sym (keeps.blocks_are b) ∙ new.was_empty in
@@ -114,13 +116,15 @@ some-more {w} l p k x t b width keeps legal new =
       | inr (inr (inr (inr g))) ↦ inr (inr (inr (inr (inr (inr (inl (by_grant (more (λ c. is_some c.grant) refl g))))))))
     ]
   where
-    by_probe : count_below (2 ^ 32) (λ n. is_some (kept_block n t).probe) < count_below (2 ^ 32) (λ n. is_some (kept_block n (x ∷ t)).probe) → count_below (2 ^ 32) (λ n. pending (ProbeOf n) t) < count_below (2 ^ 32) (λ n. pending (ProbeOf n) (x ∷ t))
+    by_probe : count_below (2 ^ 32) (λ n. is_some (kept_block n t).probe) < count_below (2 ^ 32) (λ n. is_some (kept_block n (x ∷ t)).probe)
+        → count_below (2 ^ 32) (λ n. pending (ProbeOf n) t) < count_below (2 ^ 32) (λ n. pending (ProbeOf n) (x ∷ t))
     by_probe lt =
         let e = same_count (2 ^ 32) (λ n. pending (ProbeOf n) t) (λ n. is_some (kept_block n t).probe) (λ n. pending-probe n t) in
         let f = same_count (2 ^ 32) (λ n. pending (ProbeOf n) (x ∷ t)) (λ n. is_some (kept_block n (x ∷ t)).probe) (λ n. pending-probe n (x ∷ t)) in
         omega (arith, e, f, lt)
 
-    by_grant : count_below (2 ^ 32) (λ n. is_some (kept_block n t).grant) < count_below (2 ^ 32) (λ n. is_some (kept_block n (x ∷ t)).grant) → count_below (2 ^ 32) (λ n. pending (GrantAckOf n) t) < count_below (2 ^ 32) (λ n. pending (GrantAckOf n) (x ∷ t))
+    by_grant : count_below (2 ^ 32) (λ n. is_some (kept_block n t).grant) < count_below (2 ^ 32) (λ n. is_some (kept_block n (x ∷ t)).grant)
+        → count_below (2 ^ 32) (λ n. pending (GrantAckOf n) t) < count_below (2 ^ 32) (λ n. pending (GrantAckOf n) (x ∷ t))
     by_grant lt =
         let e = same_count (2 ^ 32) (λ n. pending (GrantAckOf n) t) (λ n. is_some (kept_block n t).grant) (λ n. pending-grant n t) in
         let f = same_count (2 ^ 32) (λ n. pending (GrantAckOf n) (x ∷ t)) (λ n. is_some (kept_block n (x ∷ t)).grant) (λ n. pending-grant n (x ∷ t)) in
@@ -130,7 +134,8 @@ some-more {w} l p k x t b width keeps legal new =
 pub no-entries : {w : ℕ} (levels : List Level) (link : Link) (t : Trace w) (n count : ℕ) → n ≡ link.0 → count ≡ length levels → count ≤ n → 0 ≡ entries_of levels link t
 no-entries levels link t n count own counted none = rw (le-ltb link.0 (length levels) (omega arith)) refl
 
-pub link-entries : {w : ℕ} (levels : List Level) (link : Link) (t : Trace w) (k : Kept) (n count : ℕ) → n ≡ link.0 → count ≡ length levels → n < count → Keeps k (on_link n t) → entries_in k ≡ entries_of levels link t
+pub link-entries : {w : ℕ} (levels : List Level) (link : Link) (t : Trace w) (k : Kept) (n count : ℕ) → n ≡ link.0 → count ≡ length levels → n < count → Keeps k (on_link n t)
+    → entries_in k ≡ entries_of levels link t
 link-entries {w} levels link t k n count own counted lt keeps =
     let below : link.0 < length levels = omega arith in
     entries-are k (on_link n t) keeps ∙ rw (lt-ltb link.0 (length levels) below) (ap (λ i. sum (numbers (on_link i t))) own)

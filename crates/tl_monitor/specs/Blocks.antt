@@ -10,15 +10,15 @@ use Rattle.tl_rules.specs.Tables.{empty_block}
 use Rattle.tl_monitor.specs.Count.{one_if}
 
 -- what is stored under a number
-abbrev pub stored : List (ℕ × Block) → ℕ → Option Block
-stored entries k = lookup (is_at (nat_cmp k)) entries
+abbrev pub block_found : List (ℕ × Block) → ℕ → Option Block
+block_found entries k = lookup (is_at (nat_cmp k)) entries
 
 abbrev pub block_or_empty : Option Block → Block
 block_or_empty None = empty_block
 block_or_empty (Some b) = b
 
 abbrev pub block_in : List (ℕ × Block) → ℕ → Block
-block_in entries k = block_or_empty (stored entries k)
+block_in entries k = block_or_empty (block_found entries k)
 
 abbrev pub is_held : Perm → Bool
 is_held perm.None = false
@@ -31,4 +31,4 @@ open_of b = one_if (is_held b.held) + one_if b.acquire + one_if b.release + one_
 
 -- of each block that is stored something is open or held
 abbrev pub AreOpen : List (ℕ × Block) → Type 0
-AreOpen entries = (k : ℕ) (b : Block) → stored entries k ≡ Some b → 0 < open_of b
+AreOpen entries = (k : ℕ) (b : Block) → block_found entries k ≡ Some b → 0 < open_of b

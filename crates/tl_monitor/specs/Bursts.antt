@@ -18,7 +18,9 @@ burst_on b channel.E = b.e
 -- these are the beats of the unfinished burst: all that have come, the newest first
 abbrev pub IsOf : {w : ℕ} → Option Unfinished → List (Beat w) → Type 0
 IsOf {w} None beats = beats ≡ []
-IsOf {w} (Some u) beats = (x : Beat w) × (earlier : List (Beat w)) × (beats ≡ x ∷ earlier) × (u.control ≡ control_of x) × (length beats + u.left ≡ burst_length x) × (0 < u.left)
+IsOf {w} (Some u) beats =
+    (x : Beat w) × (earlier : List (Beat w)) × (beats ≡ x ∷ earlier) × (u.control ≡ control_of x) × (length beats + u.left ≡ burst_length x)
+    × (0 < u.left)
 
 -- the beat is the last one of its burst
 abbrev pub is_last : {w : ℕ} → Beat w → Option Unfinished → Bool

@@ -1,7 +1,7 @@
 -- The tables of a link say what its history does.
 use Rattle.std.specs.Prelude.{ℕ, ◌≡◌, true, false, List, ◌∷◌, Some, is_some}
 use Rattle.tl_beat.specs.declared.beat.Beat.{Beat}
-use Rattle.tl_beat.specs.declared.beat.Beat.TheVariants.{D}
+use Rattle.tl_beat.specs.declared.beat.Beat.TheVariants as beat
 use Rattle.tl_beat.specs.declared.beat.BeatD.{BeatD}
 use Rattle.tl_beat.specs.declared.opcode.Channel.{Channel}
 use Rattle.tl_beat.specs.declared.opcode.Channel.TheVariants as channel
@@ -23,4 +23,5 @@ pub record Keeps {w : ℕ} (k : Kept) (t : History w) : Type 0 where
   pub sinks_are : (s : ℕ) → is_some (at k.sinks s) ≡ pending (GrantSink s) t
   pub blocks_are : (b : ℕ) → block_in k.blocks b ≡ kept_block b t
   pub granted : (b s : ℕ) → kept_grant b t ≡ Some s → at k.sinks s ≡ Some b
-  pub answering : (x : BeatD w) (earlier : List (Beat w)) → unfinished channel.D t ≡ D x ∷ earlier → (is_release_ack x.opcode ≡ false) × (is_some (kept_request x.source t) ≡ true)
+  pub answering : (x : BeatD w) (earlier : List (Beat w)) → unfinished channel.D t ≡ beat.D x ∷ earlier
+      → (is_release_ack x.opcode ≡ false) × (is_some (kept_request x.source t) ≡ true)

@@ -1,7 +1,7 @@
 -- What the tables of a link say, and what they say with one more beat.
 use Rattle.std.specs.Prelude.{ℕ, Bool, false, ◌==◌, ◌≡◌, ◌<◌, ◌+◌, ◌^◌, ◌&&◌, ◌||◌, if◌then◌else◌, Option, Some, None, is_some, is_none}
 use Rattle.tl_beat.specs.declared.beat.Beat.{Beat}
-use Rattle.tl_beat.specs.declared.beat.Beat.TheVariants.{A, B, C, D, E}
+use Rattle.tl_beat.specs.declared.beat.Beat.TheVariants as beat
 use Rattle.tl_beat.specs.declared.opcode.Channel.{Channel}
 use Rattle.tl_burst.specs.Messages.{channel_of}
 use Rattle.tl_rules.specs.declared.past.Request.{Request}
@@ -30,14 +30,14 @@ block_of_release (Some r) = Some r.block
 
 -- the block that a beat changes something of
 abbrev pub touched : {w : ℕ} → Bool → Bool → Beat w → Kept → Option ℕ
-touched first last (A x) k = if first && is_acquire x.opcode then Some (block_at x.address) else None
-touched first last (B x) k = if first && is_probe x.opcode then Some (block_at x.address) else None
-touched first last (C x) k = if first || last then Some (block_at x.address) else None
-touched first last (D x) k =
+touched first last (beat.A x) k = if first && is_acquire x.opcode then Some (block_at x.address) else None
+touched first last (beat.B x) k = if first && is_probe x.opcode then Some (block_at x.address) else None
+touched first last (beat.C x) k = if first || last then Some (block_at x.address) else None
+touched first last (beat.D x) k =
     if first || last
     then (if is_release_ack x.opcode then block_of_release (at k.releases x.source) else if is_grant x.opcode then block_of_request (at k.requests x.source) else None)
     else None
-touched first last (E x) k = at k.sinks x.sink
+touched first last (beat.E x) k = at k.sinks x.sink
 
 abbrev pub is_block : ℕ → Option ℕ → Bool
 is_block k None = false
@@ -45,8 +45,8 @@ is_block k (Some b) = k == b
 
 -- the block that was granted with a sink, where b was before
 abbrev pub sink_with : {w : ℕ} → Bool → Bool → Beat w → Option ℕ → ℕ → Option ℕ → Option ℕ
-sink_with first last (D x) block s b = if first && (is_grant x.opcode && (x.sink == s)) then block else b
-sink_with first last (E x) block s b = if last && (x.sink == s) then None else b
+sink_with first last (beat.D x) block s b = if first && (is_grant x.opcode && (x.sink == s)) then block else b
+sink_with first last (beat.E x) block s b = if last && (x.sink == s) then None else b
 sink_with first last _ block s b = b
 
 -- these are the tables with one more beat
@@ -54,7 +54,8 @@ pub record IsNext {w : ℕ} (old : Kept) (x : Beat w) (new : Kept) : Type 0 wher
   pub bursts_are : (ch : Channel) → burst_on new.bursts ch ≡ burst_with ch x (burst_on old.bursts ch)
   pub requests_are : (s : ℕ) → at new.requests s ≡ request_next (is_first x old) (completes x old) x s (at old.requests s)
   pub releases_are : (s : ℕ) → at new.releases s ≡ release_next (is_first x old) (completes x old) x s (at old.releases s)
-  pub sinks_are : (s : ℕ) → at new.sinks s ≡ sink_with (is_first x old) (completes x old) x (touched (is_first x old) (completes x old) x old) s (at old.sinks s)
+  pub sinks_are : (s : ℕ)
+      → at new.sinks s ≡ sink_with (is_first x old) (completes x old) x (touched (is_first x old) (completes x old) x old) s (at old.sinks s)
   pub blocks_are : (b : ℕ) → block_in new.blocks b
       ≡ (if is_block b (touched (is_first x old) (completes x old) x old) then block_next (is_first x old) (completes x old) x (block_in old.blocks b) else block_in old.blocks b)
 

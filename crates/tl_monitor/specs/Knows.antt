@@ -1,4 +1,5 @@
-use Rattle.std.specs.Prelude.{ℕ, Bool, true, false, List, [], ◌∷◌, ◌≡◌, ◌<◌, ◌≤◌, length, slice_index_or, Option, Some, None, Result, Ok, Err}
+-- What a monitor knows of the trace that it was given.
+use Rattle.std.specs.Prelude.{ℕ, Bool, true, false, List, [], ◌∷◌, ◌≡◌, ◌<◌, ◌≤◌, length, slice_index_or, Option, Some, None, Result, Ok, Err, ⊤}
 use Rattle.tl_beat.specs.declared.beat.Beat.{Beat}
 use Rattle.tl_beat.specs.declared.beat.Link.{Link}
 use Rattle.tl_params.specs.declared.level.Level.{Level}
@@ -49,24 +50,24 @@ fault_of levels p t true x = Some monitor.Closed
 fault_of levels p t false x = broken (broken_on_link levels p x t)
 
 -- the answer to a beat that has this fault, or none
-abbrev pub Answers : Option MonitorFault → Result (Unit {0}) MonitorFault → Type 0
+abbrev pub Answers : Option MonitorFault → Result ⊤ MonitorFault → Type 0
 Answers fault (Ok u) = fault ≡ None
 Answers fault (Err monitor.Memory) = fault ≡ None
 Answers fault (Err e) = fault ≡ Some e
 
 -- what is recorded after an answer
-abbrev pub recorded_after : {w : ℕ} → Result (Unit {0}) MonitorFault → Link × Beat w → Trace w → Trace w
+abbrev pub recorded_after : {w : ℕ} → Result ⊤ MonitorFault → Link × Beat w → Trace w → Trace w
 recorded_after (Ok u) x t = x ∷ t
 recorded_after (Err e) x t = t
 
 -- whether the monitor is closed after an answer
-abbrev pub closed_after : Result (Unit {0}) MonitorFault → Bool
+abbrev pub closed_after : Result ⊤ MonitorFault → Bool
 closed_after (Ok u) = false
 closed_after (Err monitor.Memory) = false
 closed_after (Err e) = true
 
 -- the answer to a trace: its first fault, want of memory aside
-abbrev pub AnswersTrace : {w : ℕ} → List Level → Profile → Trace w → Result (Unit {0}) TraceFault → Type 0
+abbrev pub AnswersTrace : {w : ℕ} → List Level → Profile → Trace w → Result ⊤ TraceFault → Type 0
 AnswersTrace levels p beats (Ok u) = IsCount (length levels) × (first_fault levels p beats ≡ None)
 AnswersTrace levels p beats (Err (trace.At i rule)) = IsCount (length levels) × (first_fault levels p beats ≡ Some (i, rule))
 AnswersTrace levels p beats (Err trace.Levels) = ¬ IsCount (length levels)

@@ -1,5 +1,5 @@
 -- How many keys are pending on a link, and how many blocks are held.
-use Rattle.std.specs.Prelude.{ℕ, List, [], ◌∷◌, ◌<◌, ◌⊎◌, ◌^◌, if◌then◌else◌, length, nat_lt, Result, Err}
+use Rattle.std.specs.Prelude.{ℕ, List, [], ◌∷◌, ◌<◌, ◌⊎◌, ◌^◌, if◌then◌else◌, length, nat_lt, Result, Err, ⊤}
 use Rattle.std.specs.List.{sum}
 use Rattle.tl_beat.specs.declared.beat.Beat.{Beat}
 use Rattle.tl_beat.specs.declared.beat.Link.{Link}
@@ -37,6 +37,6 @@ AnyMore (n ∷ before) (m ∷ after) = (n < m) ⊎ AnyMore before after
 AnyMore _ _ = ⊥
 
 -- where a beat is refused for want of memory, one of these numbers was to become more
-abbrev pub IsMoreWhereRefused : {w : ℕ} → History w → Beat w → Result (Unit {0}) MonitorFault → Type 0
+abbrev pub IsMoreWhereRefused : {w : ℕ} → History w → Beat w → Result ⊤ MonitorFault → Type 0
 IsMoreWhereRefused t x (Err monitor.Memory) = AnyMore (numbers t) (numbers (x ∷ t))
-IsMoreWhereRefused t x _ = Unit {0}
+IsMoreWhereRefused t x _ = ⊤

@@ -4,7 +4,7 @@ ghost use Rattle.std.specs.Prelude.{ℕ, List, None, IfOk, OnOk, OnErr, if◌the
 ghost use Rattle.tl_rules.specs.declared.table.Block.{Block};
 ghost use Rattle.tl_rules.specs.Tables.{empty_block};
 ghost use Rattle.tl_monitor.specs.Count.{sum_below};
-ghost use Rattle.tl_monitor.specs.Blocks.{stored, block_or_empty, block_in, is_held, open_of, AreOpen};
+ghost use Rattle.tl_monitor.specs.Blocks.{block_found, block_or_empty, block_in, is_held, open_of, AreOpen};
 
 use std::alloc::{AllocError, Global};
 use std::collections::BTreeMap;
@@ -55,7 +55,7 @@ fn store(map: &mut BTreeMap<u32, Block>, block: u32, value: Block) -> Result<Blo
     ensures changed { OnOk result ((k : ℕ) → block_in map.new.entries k ≡ (if k == block then value else block_in map.old.entries k)) }
     ensures kept { AreOpen map.old.entries → AreOpen map.new.entries }
     ensures unchanged { OnErr result (map.new.entries ≡ map.old.entries) }
-    ensures new { OnErr result ((stored map.old.entries block ≡ None) × (0 < open_of value)) }
+    ensures new { OnErr result ((block_found map.old.entries block ≡ None) × (0 < open_of value)) }
 {
     if open_of(&value) == 0 {
         return Ok(or_empty(map.remove(&block)));

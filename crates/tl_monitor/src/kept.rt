@@ -17,7 +17,7 @@ use crate::bursts::Bursts;
 use crate::slots::Slots;
 use std::alloc::{AllocError, Global};
 use tl_beat::beat::{Beat, BeatA, BeatB, BeatC, BeatD, BeatE};
-use tl_rules::key::block_of;
+use tl_rules::key::block_at;
 use tl_rules::kind::{
     capped, is_acquire, is_grant, is_probe, is_probe_ack, is_release, is_release_ack, reported,
 };
@@ -43,7 +43,7 @@ fn request_of<const W: usize>(x: &BeatA<W>) -> Request
         opcode: x.opcode,
         param: x.param,
         size: x.size,
-        block: block_of(x.address),
+        block: block_at(x.address),
     }
 }
 
@@ -52,7 +52,7 @@ fn release_of<const W: usize>(x: &BeatC<W>) -> Release
 {
     Release {
         size: x.size,
-        block: block_of(x.address),
+        block: block_at(x.address),
     }
 }
 
@@ -247,9 +247,9 @@ impl Kept {
         ensures { result ≡ touched first last beat.now self.now }
     {
         match beat {
-            Beat::A(x) if first && is_acquire(x.opcode) => Some(block_of(x.address)),
-            Beat::B(x) if first && is_probe(x.opcode) => Some(block_of(x.address)),
-            Beat::C(x) if first || last => Some(block_of(x.address)),
+            Beat::A(x) if first && is_acquire(x.opcode) => Some(block_at(x.address)),
+            Beat::B(x) if first && is_probe(x.opcode) => Some(block_at(x.address)),
+            Beat::C(x) if first || last => Some(block_at(x.address)),
             Beat::D(x) if first || last => self.answered(x),
             Beat::E(x) => self.sinks.get(x.sink),
             _ => None,

@@ -20,10 +20,10 @@ use tl_rules::rule::Rule;
 /// pending and held on each link, and no beat.
 #[derive(Drop)]
 pub struct Monitor<const W: usize> {
-    pub levels: Vec<Level>,
-    pub profile: Profile,
-    pub links: Vec<Kept>,
-    pub closed: bool,
+    levels: Vec<Level>,
+    profile: Profile,
+    links: Vec<Kept>,
+    closed: bool,
     ghost one_each: { length links.items ≡ length levels.items },
 }
 

@@ -1,14 +1,13 @@
-use Rattle.std.specs.Prelude.{ℕ, Bool, true, false, List, [], ◌∷◌, ◌&&◌, length, Option, Some, None, Result, Ok, Err}
+-- The limits of a configuration, and the first that one breaks.
+use Rattle.std.specs.Prelude.{ℕ, Bool, true, not, List, [], ◌∷◌, ◌&&◌, if◌then◌else◌, length, Option, Some, None}
 use Rattle.tl_params.specs.declared.config.ClientConfig.{ClientConfig}
 use Rattle.tl_params.specs.declared.config.Config.{Config}
 use Rattle.tl_params.specs.declared.config.NewFault.{NewFault}
 use Rattle.tl_params.specs.declared.config.NewFault.TheVariants as fault
 use Rattle.tl_params.specs.Range.{is_from_to}
 
--- the fault where the test fails, and otherwise what follows
-abbrev pub fault_unless : Bool → NewFault → Option NewFault → Option NewFault
-fault_unless true fault rest = rest
-fault_unless false fault rest = Some fault
+abbrev pub clients_fit : Config → Bool
+clients_fit config = is_from_to 1 16 (length config.clients.items)
 
 abbrev pub blocks_fit : ℕ → Bool
 blocks_fit blocks = is_from_to 1 1024 blocks
@@ -26,15 +25,15 @@ all_sources_fit (client ∷ clients) = sources_fit client && all_sources_fit cli
 -- the first limit that a configuration breaks
 abbrev pub config_fault : Config → Option NewFault
 config_fault config =
-    fault_unless (is_from_to 1 16 (length config.clients.items)) fault.N1
-    (fault_unless (blocks_fit config.blocks) fault.N2
-    (fault_unless (trackers_fit config.trackers) fault.N3
-    (fault_unless (all_sources_fit config.clients.items) fault.N4 None)))
+    if not (clients_fit config) then Some fault.N1 else
+    if not (blocks_fit config.blocks) then Some fault.N2 else
+    if not (trackers_fit config.trackers) then Some fault.N3 else
+    if not (all_sources_fit config.clients.items) then Some fault.N4 else
+    None
 
 -- the first limit that one client, on so many blocks, breaks
 abbrev pub client_fault : ClientConfig → ℕ → Option NewFault
-client_fault client blocks = fault_unless (blocks_fit blocks) fault.N2 (fault_unless (sources_fit client) fault.N4 None)
-
-abbrev pub config_verdict : Option NewFault → Result (Unit {0}) NewFault
-config_verdict None = Ok tt
-config_verdict (Some fault) = Err fault
+client_fault client blocks =
+    if not (blocks_fit blocks) then Some fault.N2 else
+    if not (sources_fit client) then Some fault.N4 else
+    None

@@ -1,3 +1,5 @@
 pub mod Config
+pub mod Names
 pub mod Param
 pub mod Range
+pub mod Refusal

@@ -1,3 +1,5 @@
+-- Params by name: their numbers, the permissions at the ends of a transition, and the report that
+-- answers a Probe.
 use Rattle.std.specs.Prelude.{ℕ, ◌==◌, if◌then◌else◌, Option, Some, None}
 use Rattle.tl_params.specs.declared.param.Grow.{Grow}
 use Rattle.tl_params.specs.declared.param.Grow.TheVariants as grow

@@ -1,3 +1,4 @@
+-- Numbers within limits.
 use Rattle.std.specs.Prelude.{ℕ, Bool, ◌&&◌, nat_le}
 
 abbrev pub is_from_to : ℕ → ℕ → ℕ → Bool

@@ -67,11 +67,12 @@ fn few_fit(count: u8) -> bool
 
 impl ClientConfig {
     ghost use Rattle.std.specs.Prelude.{◌≡◌};
-    ghost use Rattle.tl_params.specs.Config.{client_fault, config_verdict};
+    ghost use Rattle.tl_params.specs.Config.{client_fault};
+    ghost use Rattle.tl_params.specs.Refusal.{ok_unless};
 
     /// The first limit that a client on so many blocks breaks, in the order N2, N4.
     pub fn check(&self, blocks: u16) -> Result<(), NewFault>
-        ensures { result ≡ config_verdict (client_fault self.now blocks) }
+        ensures { result ≡ ok_unless (client_fault self.now blocks) }
     {
         if !blocks_fit(blocks) {
             return Err(NewFault::N2);
@@ -85,11 +86,12 @@ impl ClientConfig {
 
 impl Config {
     ghost use Rattle.std.specs.Prelude.{◌≡◌};
-    ghost use Rattle.tl_params.specs.Config.{config_fault, config_verdict};
+    ghost use Rattle.tl_params.specs.Config.{config_fault};
+    ghost use Rattle.tl_params.specs.Refusal.{ok_unless};
 
     /// The first limit that the configuration breaks, in the order N1 to N4.
     pub fn check(&self) -> Result<(), NewFault>
-        ensures { result ≡ config_verdict (config_fault self.now) }
+        ensures { result ≡ ok_unless (config_fault self.now) }
     {
         let clients = self.clients.as_slice();
         if clients.is_empty() {

@@ -1,4 +1,5 @@
-//! What can be pending on a link.
+//! What can be pending on a link (SiFive TileLink Specification 1.8, "Operations and Messages" on
+//! source and sink identifiers, and the chapter on TL-C on concurrent transfers).
 
 ghost use Rattle.std.specs.Prelude.{◌≡◌, ◌/◌};
 
@@ -23,7 +24,7 @@ pub enum Key {
 }
 
 /// The number of the block that an address is in.
-pub fn block_of(address: u32) -> u32
+pub fn block_at(address: u32) -> u32
     ensures { result ≡ address / 64 }
 {
     address / 64

@@ -3,6 +3,8 @@
 //! a transition.
 
 ghost use Rattle.std.specs.Prelude.{◌≡◌, IfSome};
+ghost use Rattle.tl_params.specs.Names.{grow_name, cap_name, prune_name, report_name};
+ghost use Rattle.tl_params.specs.Names.{arithmetic_name, logical_name, intent_name};
 ghost use Rattle.tl_params.specs.Param.{grow_of, grow_code, grow_left, grow_right};
 ghost use Rattle.tl_params.specs.Param.{cap_of, cap_code, cap_right};
 ghost use Rattle.tl_params.specs.Param.{prune_of, prune_code, prune_left, prune_right};
@@ -98,6 +100,17 @@ impl Grow {
         }
     }
 
+    /// The grow's name, as the specification has it.
+    pub fn name(self) -> &'static str
+        ensures { result.now ≡ grow_name self }
+    {
+        match self {
+            Self::NtoB => "NtoB",
+            Self::NtoT => "NtoT",
+            Self::BtoT => "BtoT",
+        }
+    }
+
     /// The permission from which it grows.
     pub fn left(self) -> Perm
         ensures { result ≡ grow_left self }
@@ -145,6 +158,17 @@ impl Cap {
         }
     }
 
+    /// The cap's name, as the specification has it.
+    pub fn name(self) -> &'static str
+        ensures { result.now ≡ cap_name self }
+    {
+        match self {
+            Self::ToT => "toT",
+            Self::ToB => "toB",
+            Self::ToN => "toN",
+        }
+    }
+
     /// The most that may be held under it.
     pub fn right(self) -> Perm
         ensures { result ≡ cap_right self }
@@ -180,6 +204,17 @@ impl Prune {
             Self::TtoB => 0,
             Self::TtoN => 1,
             Self::BtoN => 2,
+        }
+    }
+
+    /// The prune's name, as the specification has it.
+    pub fn name(self) -> &'static str
+        ensures { result.now ≡ prune_name self }
+    {
+        match self {
+            Self::TtoB => "TtoB",
+            Self::TtoN => "TtoN",
+            Self::BtoN => "BtoN",
         }
     }
 
@@ -236,6 +271,20 @@ impl Report {
         }
     }
 
+    /// The report's name, as the specification has it.
+    pub fn name(self) -> &'static str
+        ensures { result.now ≡ report_name self }
+    {
+        match self {
+            Self::TtoB => "TtoB",
+            Self::TtoN => "TtoN",
+            Self::BtoN => "BtoN",
+            Self::TtoT => "TtoT",
+            Self::BtoB => "BtoB",
+            Self::NtoN => "NtoN",
+        }
+    }
+
     /// The permission that was held.
     pub fn left(self) -> Perm
         ensures { result ≡ report_left self }
@@ -288,6 +337,19 @@ impl Arithmetic {
             Self::Add => 4,
         }
     }
+
+    /// The operation's name, as the specification has it.
+    pub fn name(self) -> &'static str
+        ensures { result.now ≡ arithmetic_name self }
+    {
+        match self {
+            Self::Min => "MIN",
+            Self::Max => "MAX",
+            Self::MinU => "MINU",
+            Self::MaxU => "MAXU",
+            Self::Add => "ADD",
+        }
+    }
 }
 
 impl Logical {
@@ -317,6 +379,18 @@ impl Logical {
             Self::Swap => 3,
         }
     }
+
+    /// The operation's name, as the specification has it.
+    pub fn name(self) -> &'static str
+        ensures { result.now ≡ logical_name self }
+    {
+        match self {
+            Self::Xor => "XOR",
+            Self::Or => "OR",
+            Self::And => "AND",
+            Self::Swap => "SWAP",
+        }
+    }
 }
 
 impl Intent {
@@ -340,6 +414,16 @@ impl Intent {
         match self {
             Self::PrefetchRead => 0,
             Self::PrefetchWrite => 1,
+        }
+    }
+
+    /// The intent's name, as the specification has it.
+    pub fn name(self) -> &'static str
+        ensures { result.now ≡ intent_name self }
+    {
+        match self {
+            Self::PrefetchRead => "PrefetchRead",
+            Self::PrefetchWrite => "PrefetchWrite",
         }
     }
 }

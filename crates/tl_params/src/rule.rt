@@ -1,39 +1,49 @@
-//! The rules by which a beat is refused.
+//! The rules by which a beat is refused, each with the chapter of the SiFive TileLink Specification
+//! 1.8 that it comes from.
+
+ghost use Rattle.std.specs.Prelude.{◌≡◌};
+ghost use Rattle.tl_params.specs.Names.{rule_name};
 
 /// A rule that a beat breaks. L rules judge a beat by level and channel alone, S1 a beat against its
 /// burst, H rules a message at its first beat against the history of its link; A rules are those
-/// that an agent adds.
+/// that an agent adds. Where no chapter is named, the rule is this project's own choice.
 #[derive(Clone, Copy, Debug, PartialEq, Eq)]
 pub enum Rule {
-    /// The beat isn't of the channel named, its opcode isn't of the level, or the link has no level.
+    /// The beat isn't of the channel named, its opcode isn't of the level, or the link has no level
+    /// ("Protocol Conformance Levels").
     L1,
-    /// Param, or source or sink where these are fixed, isn't one that the opcode may have.
+    /// Param, or source or sink where these are fixed, isn't one that the opcode may have (the
+    /// messages in the chapters on TL-UL, TL-UH and TL-C; sources and sinks: this project).
     L2,
-    /// The size isn't one that the opcode may have at the level.
+    /// The size isn't one that the opcode may have at the level (the messages in the chapters on
+    /// TL-UL, TL-UH and TL-C; at most a block: this project).
     L3,
-    /// The address isn't a multiple of the size in bytes.
+    /// The address isn't a multiple of the size in bytes ("Operations and Messages", on addresses).
     L4,
-    /// The mask isn't that of address and size.
+    /// The mask isn't that of address and size ("Serialization", on byte lanes).
     L5,
-    /// Corrupt or denied stands where it may not.
+    /// Corrupt or denied stands where it may not ("Serialization", on errors).
     L6,
     /// An access forwarded on channel B, or an answer to one on channel C.
     L7,
-    /// A beat that continues a burst differs from its first beat in a control field.
+    /// A beat that continues a burst differs from its first beat in a control field
+    /// ("Serialization", on bursts).
     S1,
-    /// The source is pending.
+    /// The source is pending ("Operations and Messages", on source and sink identifiers).
     H1,
-    /// No complete pending request with this source has this answer.
+    /// No complete pending request with this source has this answer ("Operations and Messages", on
+    /// operations and on source and sink identifiers).
     H2,
-    /// The size isn't that of the request.
+    /// The size isn't that of the request (the responses in the chapters on TL-UL, TL-UH and TL-C).
     H3,
-    /// An Acquire while an Acquire or a Release of the block is pending.
+    /// An Acquire while an Acquire or a Release of the block is pending (chapter on TL-C, on
+    /// concurrent transfers; from here to H13 likewise).
     H4,
     /// An Acquire whose grow doesn't begin at what is held.
     H5,
     /// A Grant with a cap or of a kind that its Acquire doesn't have, or while a Probe is pending.
     H6,
-    /// The sink of a Grant is pending.
+    /// The sink of a Grant is pending ("Operations and Messages", on source and sink identifiers).
     H7,
     /// A GrantAck whose sink isn't pending.
     H8,
@@ -47,10 +57,44 @@ pub enum Rule {
     H12,
     /// A Release while an Acquire or a Release of the block is pending, or of what isn't held.
     H13,
-    /// The address is outside the map.
+    /// The address is outside the map ("Architecture", on the address space).
     A1,
     /// Corrupt or denied is set.
     A2,
     /// The link is closed, or there is no such link.
     A3,
+}
+
+impl Rule {
+    /// The rule's name.
+    pub fn name(self) -> &'static str
+        ensures { result.now ≡ rule_name self }
+    {
+        match self {
+            Self::L1 => "L1",
+            Self::L2 => "L2",
+            Self::L3 => "L3",
+            Self::L4 => "L4",
+            Self::L5 => "L5",
+            Self::L6 => "L6",
+            Self::L7 => "L7",
+            Self::S1 => "S1",
+            Self::H1 => "H1",
+            Self::H2 => "H2",
+            Self::H3 => "H3",
+            Self::H4 => "H4",
+            Self::H5 => "H5",
+            Self::H6 => "H6",
+            Self::H7 => "H7",
+            Self::H8 => "H8",
+            Self::H9 => "H9",
+            Self::H10 => "H10",
+            Self::H11 => "H11",
+            Self::H12 => "H12",
+            Self::H13 => "H13",
+            Self::A1 => "A1",
+            Self::A2 => "A2",
+            Self::A3 => "A3",
+        }
+    }
 }

@@ -22,7 +22,7 @@ use Rattle.tl_params.specs.declared.level.Level.TheVariants as level
 use Rattle.tl_rules.specs.Legality.{illegal_message}
 use Rattle.tl_rules.specs.Merge.{merged}
 use Rattle.tl_rules.specs.Place.{base_of, moved_up}
-use Rattle.tl_rules.specs.Effect.{Memory, number_from, byte_of, arithmetic_result, logical_result, by_param, bytes_of, operand_of, stored, with_number, after, as_payload, bytes_from, IsBlock, block_of, effect, reply, answer_at, answer_of}
+use Rattle.tl_rules.specs.Effect.{Memory, number_from, byte_of, arithmetic_result, logical_result, by_param, byte_count, operand_of, number_stored, with_number, after, as_payload, bytes_from, IsBlock, request_block, effect, access_result, answer_at, answer_of}
 use Rattle.std.proofs.Math.Nat.{mod-mod}
 use Rattle.std.proofs.lemmas.Nat.{div-add-mod'}
 use Rattle.std.proofs.lemmas.Nat.Bits.{bit_at_above}
@@ -59,7 +59,8 @@ splice_outside at count old mid new long le is i out =
 
 -- ---- a masked merge, byte by byte
 
-pub merged_byte : (mask k : ℕ) (olds news : List ℕ) (i : ℕ) → length olds ≡ length news → i < length olds → get_or (merged mask k olds news) i 0 ≡ cond (bit mask (k + i)) (get_or news i 0) (get_or olds i 0)
+pub merged_byte : (mask k : ℕ) (olds news : List ℕ) (i : ℕ) → length olds ≡ length news → i < length olds
+    → get_or (merged mask k olds news) i 0 ≡ cond (bit mask (k + i)) (get_or news i 0) (get_or olds i 0)
 merged_byte mask k [] news i same lt = absurd (omega arith)
 merged_byte mask k (x ∷ xs) [] i same lt = absurd (omega arith)
 merged_byte mask k (x ∷ xs) (y ∷ ys) zero same lt = let e : k ≡ k + 0 = omega arith in ap (λ n. cond (bit mask n) y x) e
@@ -135,12 +136,12 @@ pub arithmetic_done : {w : ℕ} (m : MessageA w) (operation : Arithmetic) (memor
     → n % 2 ^ (8 * count) ≡ arithmetic_result operation (8 * count) v o
     → new ≡ take at old ++ take count (to_le_bytes w64 n) ++ drop (at + count) old
     → IsBlock memory (m.address / 64) old
-    → IsBlock (with_number m (stored m (by_param (λ o. arithmetic_result o (8 * bytes_of m)) (arithmetic_of m.param)) memory) memory) (m.address / 64) new
+    → IsBlock (with_number m (number_stored m (by_param (λ o. arithmetic_result o (8 * byte_count m)) (arithmetic_of m.param)) memory) memory) (m.address / 64) new
 arithmetic_done {w} m operation memory old new at first count v o n is_width param at_is first_is count_is few room long v_is o_is n_is new_is is =
     let room' : m.address % 64 + 2 ^ m.size ≤ 64 = omega arith in
     let v_as : v ≡ number_from memory m.address (2 ^ m.size) = v_is ∙ rw (at_is, count_is) (old_value m memory old room' is) in
     let o_as : o ≡ number_from (operand_of m) m.address (2 ^ m.size) = o_is ∙ rw (first_is, count_is) (operand_value m is_width) in
-    let number = stored m (by_param (λ o. arithmetic_result o (8 * bytes_of m)) (arithmetic_of m.param)) memory in
+    let number = number_stored m (by_param (λ o. arithmetic_result o (8 * byte_count m)) (arithmetic_of m.param)) memory in
     let number_is : n % 2 ^ (8 * count) ≡ number = n_is ∙ rw (← param, ← v_as, ← o_as, count_is) refl in
     number_put m memory old new at count n number at_is count_is few room long (sym (mod-mod n (2 ^ (8 * count))) ∙ ap (λ k. k % 2 ^ (8 * count)) number_is) new_is is
 
@@ -150,12 +151,12 @@ pub logical_done : {w : ℕ} (m : MessageA w) (operation : Logical) (memory : Me
     → n ≡ logical_result operation v o
     → new ≡ take at old ++ take count (to_le_bytes w64 n) ++ drop (at + count) old
     → IsBlock memory (m.address / 64) old
-    → IsBlock (with_number m (stored m (by_param logical_result (logical_of m.param)) memory) memory) (m.address / 64) new
+    → IsBlock (with_number m (number_stored m (by_param logical_result (logical_of m.param)) memory) memory) (m.address / 64) new
 logical_done {w} m operation memory old new at first count v o n is_width param at_is first_is count_is few room long v_is o_is n_is new_is is =
     let room' : m.address % 64 + 2 ^ m.size ≤ 64 = omega arith in
     let v_as : v ≡ number_from memory m.address (2 ^ m.size) = v_is ∙ rw (at_is, count_is) (old_value m memory old room' is) in
     let o_as : o ≡ number_from (operand_of m) m.address (2 ^ m.size) = o_is ∙ rw (first_is, count_is) (operand_value m is_width) in
-    let number = stored m (by_param logical_result (logical_of m.param)) memory in
+    let number = number_stored m (by_param logical_result (logical_of m.param)) memory in
     let number_is : n ≡ number = n_is ∙ rw (← param, ← v_as, ← o_as) refl in
     number_put m memory old new at count n number at_is count_is few room long (ap (λ k. k % 2 ^ (8 * count)) number_is) new_is is
 
@@ -194,8 +195,9 @@ bytes_in_block memory old x at (suc n) le same =
     let more : (i : ℕ) → i < n → memory (x + 1 + i) ≡ get_or old (at + 1 + i) 0 = λ i lt. ap memory (omega arith) ∙ same (i + 1) (omega arith) ∙ ap (λ k. get_or old k 0) (omega arith) in
     rw (drop_more old at 0 (omega arith), first, bytes_in_block memory old (x + 1) (at + 1) n (omega arith) more) refl
 
-pub read_done : {w : ℕ} (m : MessageA w) (memory : Memory) (old out : List ℕ) (at first count : ℕ) → at ≡ m.address % 64 → first ≡ m.address % w → count ≡ 2 ^ m.size → at + count ≤ 64 → length old ≡ 64
-    → out ≡ as_payload first (take count (drop at old)) → IsBlock memory (m.address / 64) old → out ≡ as_payload (m.address % w) (bytes_from memory m.address (bytes_of m))
+pub read_done : {w : ℕ} (m : MessageA w) (memory : Memory) (old out : List ℕ) (at first count : ℕ) → at ≡ m.address % 64 → first ≡ m.address % w → count ≡ 2 ^ m.size → at + count ≤ 64
+    → length old ≡ 64
+    → out ≡ as_payload first (take count (drop at old)) → IsBlock memory (m.address / 64) old → out ≡ as_payload (m.address % w) (bytes_from memory m.address (byte_count m))
 read_done m memory old out at first count at_is first_is count_is room long out_is is =
     let bytes : bytes_from memory m.address count ≡ take count (drop at old) =
     bytes_in_block memory old m.address at count (omega arith) (λ i lt. let place : 64 * (m.address / 64) + (at + i) ≡ m.address + i = omega arith in ap memory (sym place) ∙ is (at + i) (omega arith)) in
@@ -219,7 +221,8 @@ carried_room w size address is room = go (cases_Bool (ltb w (2 ^ size)))
         rw more (omega arith)
     go (inr few) = rw few (omega (arith, room_of_base w address is))
 
-put_elsewhere : {w : ℕ} (m : MessageA w) (memory : Memory) (x : ℕ) → IsWidth w → a_carries_data m.opcode ≡ true → m.address % 64 + 2 ^ m.size ≤ 64 → m.mask < 2 ^ (w * data_beats w m.size) → x / 64 ≢ m.address / 64
+put_elsewhere : {w : ℕ} (m : MessageA w) (memory : Memory) (x : ℕ) → IsWidth w → a_carries_data m.opcode ≡ true → m.address % 64 + 2 ^ m.size ≤ 64 → m.mask < 2 ^ (w * data_beats w m.size)
+    → x / 64 ≢ m.address / 64
     → after a.PutFullData m memory x ≡ memory x
 put_elsewhere {w} m memory x is carries room blank ne =
     let start = base_in_memory w m.address is in
@@ -233,7 +236,8 @@ put_elsewhere {w} m memory x is carries room blank ne =
     ]
 
 -- a request changes no other block than its own
-pub effect_elsewhere : {w : ℕ} (m : Message w) → IsWidth w → illegal_message level.UH channel.A m ≡ None → IsBlankAfter (beats_of m) m → (memory : Memory) (x : ℕ) → x / 64 ≢ block_of m → (effect m memory).0 x ≡ memory x
+pub effect_elsewhere : {w : ℕ} (m : Message w) → IsWidth w → illegal_message level.UH channel.A m ≡ None → IsBlankAfter (beats_of m) m → (memory : Memory) (x : ℕ) → x / 64 ≢ request_block m
+    → (effect m memory).0 x ≡ memory x
 unfolding effect
 effect_elsewhere {w} (A m) is legal blank memory x ne = go m.opcode refl
   where
@@ -261,12 +265,12 @@ effect_elsewhere (E m) is legal blank memory x ne = refl
 
 pub message_memory : {w : ℕ} (m : Message w) (r : MessageA w) (old new : List ℕ) → m ≡ A r
     → ((memory : Memory) → IsBlock memory (r.address / 64) old → IsBlock (after r.opcode r memory) (r.address / 64) new)
-    → (memory : Memory) → IsBlock memory (block_of m) old → IsBlock (effect m memory).0 (block_of m) new
+    → (memory : Memory) → IsBlock memory (request_block m) old → IsBlock (effect m memory).0 (request_block m) new
 unfolding effect
 message_memory m r old new e h = rw e h
 
 pub message_answer : {w : ℕ} (m : Message w) (r : MessageA w) (old : List ℕ) (out : Answer) → m ≡ A r
-    → ((memory : Memory) → IsBlock memory (r.address / 64) old → out ≡ answer_at w r.address (reply r.opcode r memory))
-    → (memory : Memory) → IsBlock memory (block_of m) old → out ≡ answer_of m (effect m memory).1
+    → ((memory : Memory) → IsBlock memory (r.address / 64) old → out ≡ answer_at w r.address (access_result r.opcode r memory))
+    → (memory : Memory) → IsBlock memory (request_block m) old → out ≡ answer_of m (effect m memory).1
 unfolding effect
 message_answer m r old out e h = rw e h

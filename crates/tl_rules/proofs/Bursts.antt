@@ -1,68 +1,49 @@
 -- What the first rule of a message's beats says of its fields.
-use Rattle.std.proofs.Common.{◌≡◌, ℕ, zero, suc, ◌+◌, ◌^◌, ◌<◌, Bool, true, false, not, ltb, cond, ◌⊎◌, Option, Some, None, refl, sym, ◌∙◌, arith, inl, inr, lit<}
-use Rattle.std.proofs.lemmas.Bool.{cases_Bool, ltb-true, not-false, both_ways}
-use Rattle.std.proofs.lemmas.Nat.{le-div}
+use Rattle.std.proofs.Common.{◌≡◌, ℕ, zero, suc, ◌+◌, ◌<◌, Bool, true, false, not, Option, Some, None, refl, sym, ◌∙◌, arith}
+use Rattle.std.proofs.lemmas.Bool.{not-false, both_ways}
+use Rattle.std.specs.Option.{option_or}
 use Rattle.tl_beat.specs.declared.opcode.Channel.{Channel}
 use Rattle.tl_beat.specs.declared.opcode.Channel.TheVariants as channel
 use Rattle.tl_beat.specs.declared.opcode.OpA.{OpA}
 use Rattle.tl_beat.specs.declared.beat.Beat.{Beat}
-use Rattle.tl_beat.specs.Opcode.{a_carries_data, b_carries_data, c_carries_data, d_carries_data}
 use Rattle.tl_beat.specs.Width.{IsWidth}
+use Rattle.tl_beat.specs.First.{first_if}
 use Rattle.tl_burst.specs.declared.message.Message.{Message}
 use Rattle.tl_burst.specs.declared.message.Message.TheVariants.{A, B, C, D, E}
 use Rattle.tl_burst.specs.declared.message.MessageA.{MessageA}
-use Rattle.tl_burst.specs.Burst.{beats_of, beat_of, a_beat_of, data_beats}
+use Rattle.tl_burst.specs.Burst.{beats_of, beat_of, a_beat_of}
+use Rattle.tl_burst.proofs.Splitting.{beats-positive}
 use Rattle.tl_params.specs.declared.level.Level.{Level}
 use Rattle.tl_params.specs.declared.level.Level.TheVariants as level
 use Rattle.tl_params.specs.declared.rule.Rule.{Rule}
 use Rattle.tl_params.specs.declared.rule.Rule.TheVariants.{L1, L2, L3, L4}
-use Rattle.tl_rules.specs.Legality.{illegal, illegal_message, first_illegal, beats_from, or_else, breaks_l1, rule_if, a_of_level, a_has_param, a_has_size, is_aligned}
+use Rattle.tl_rules.specs.Legality.{illegal, illegal_message, first_illegal, beats_from, breaks_l1, a_of_level, a_has_param, a_has_size, is_aligned}
 use Rattle.tl_rules.specs.Control.{a_control, a_own}
 use Rattle.tl_rules.proofs.Verdicts.{illegal_a}
-use Rattle.tl_rules.proofs.Widths.{width-bounds}
-
-some_data_beats : (w size : ℕ) → 0 < w → 0 < data_beats w size
-some_data_beats w size pos = go (cases_Bool (ltb w (2 ^ size)))
-  where
-    go : (ltb w (2 ^ size) ≡ true) ⊎ (ltb w (2 ^ size) ≡ false) → 0 < data_beats w size
-    go (inl less) = rw less (le-div 1 (2 ^ size) w pos (omega (arith, ltb-true w (2 ^ size) less)))
-    go (inr more) = rw more (lit< tt)
-
-pub some_beats : (w size : ℕ) (carries : Bool) → 0 < w → 0 < cond carries (data_beats w size) 1
-some_beats w size true pos = some_data_beats w size pos
-some_beats w size false pos = lit< tt
-
--- a message has a beat
-pub has_beats : {w : ℕ} (m : Message w) → IsWidth w → 0 < beats_of m
-has_beats {w} (A m) is = some_beats w m.size (a_carries_data m.opcode) (omega (arith, (width-bounds w is).0))
-has_beats {w} (B m) is = some_beats w m.size (b_carries_data m.opcode) (omega (arith, (width-bounds w is).0))
-has_beats {w} (C m) is = some_beats w m.size (c_carries_data m.opcode) (omega (arith, (width-bounds w is).0))
-has_beats {w} (D m) is = some_beats w m.size (d_carries_data m.opcode) (omega (arith, (width-bounds w is).0))
-has_beats (E m) is = lit< tt
 
 first_of : {w : ℕ} (l : Level) (ch : Channel) (m : Message w) (n : ℕ) → 0 < n → first_illegal l ch (beats_from m 0 n) ≡ None → illegal l ch (beat_of m 0) ≡ None
 unfolding first_illegal beats_from
 first_of l ch m zero pos e = absurd (omega arith)
 first_of l ch m (suc n) pos e = go (illegal l ch (beat_of m 0)) e
   where
-    go : (o : Option Rule) → or_else o (first_illegal l ch (beats_from m (0 + 1) n)) ≡ None → o ≡ None
+    go : (o : Option Rule) → option_or o (first_illegal l ch (beats_from m (0 + 1) n)) ≡ None → o ≡ None
     go None e = refl
     go (Some r) e = absurd cc
 
 -- of a message that breaks no rule, the first beat breaks none
 pub first_is_legal : {w : ℕ} (l : Level) (ch : Channel) (m : Message w) → IsWidth w → illegal_message l ch m ≡ None → illegal l ch (beat_of m 0) ≡ None
-first_is_legal l ch m is e = first_of l ch m (beats_of m) (has_beats m is) e
+first_is_legal l ch m is e = first_of l ch m (beats_of m) (beats-positive m is) e
 
-left_of : (o rest : Option Rule) → or_else o rest ≡ None → o ≡ None
-left_of None rest e = refl
-left_of (Some r) rest e = absurd cc
+pub both_none : {T : Type 0} (o rest : Option T) → option_or o rest ≡ None → (o ≡ None) × (rest ≡ None)
+both_none None rest e = (refl, e)
+both_none (Some x) rest e = absurd cc
 
 pub control_of_legal : {w : ℕ} (l : Level) (m : MessageA w) → IsWidth w → illegal_message l channel.A (A m) ≡ None → a_control w l m.opcode m.param m.size m.address ≡ None
 control_of_legal {w} l m is e =
     let x = a_beat_of m 0 in
-    left_of (a_control w l m.opcode m.param m.size m.address) (a_own w x.opcode x.size x.address x.mask x.corrupt) (sym (illegal_a l x) ∙ first_is_legal l channel.A (A m) is e)
+    (both_none (a_control w l m.opcode m.param m.size m.address) (a_own w x.opcode x.size x.address x.mask x.corrupt) (sym (illegal_a l x) ∙ first_is_legal l channel.A (A m) is e)).0
 
-pub next_rule : (t : Bool) (r : Rule) (rest : Option Rule) → rule_if t r rest ≡ None → (t ≡ false) × (rest ≡ None)
+pub next_rule : {T : Type 0} (t : Bool) (r : T) (rest : Option T) → first_if t r rest ≡ None → (t ≡ false) × (rest ≡ None)
 next_rule true r rest e = absurd cc
 next_rule false r rest e = (refl, e)
 

@@ -1,17 +1,19 @@
 -- The first rule of a message's beats: that of its control fields, and otherwise the first of what
 -- each beat has of its own.
-use Rattle.std.proofs.Common.{◌≡◌, ℕ, zero, suc, ◌+◌, ◌*◌, ◌^◌, ◌<◌, ◌≤◌, ◌⊎◌, Bool, true, false, not, ltb, leb, cond, ◌&&◌, Option, Some, None, Ok, Err, refl, sym, ap, ◌∙◌, arith, inl, inr, lit<, add-zero}
-use Rattle.std.proofs.Math.Nat.{pow-le-pow_right, mul-le-mul_left, mul-le-mul_right}
+use Rattle.std.proofs.Common.{◌≡◌, ℕ, zero, suc, ◌+◌, ◌*◌, ◌^◌, ◌<◌, ◌≤◌, ◌⊎◌, Bool, true, false, not, ltb, cond, ◌&&◌, Option, Some, None, Ok, Err, refl, sym, ap, ◌∙◌, arith, inl, inr, lit<, add-zero}
+use Rattle.std.proofs.Math.Nat.{pow-le-pow_right}
 use Rattle.std.proofs.lemmas.Bool.{cases_Bool}
 use Rattle.std.proofs.lemmas.Nat.{div-add-mod'}
+use Rattle.std.specs.Option.{option_or}
 use Rattle.tl_beat.specs.declared.opcode.Channel.{Channel}
 use Rattle.tl_beat.specs.declared.opcode.Channel.TheVariants as channel
 use Rattle.tl_beat.specs.declared.beat.Beat.{Beat}
 use Rattle.tl_beat.specs.declared.beat.Beat.TheVariants as beat
 use Rattle.tl_beat.specs.declared.opcode.OpB.{OpB}
 use Rattle.tl_beat.specs.declared.opcode.OpB.TheVariants as b
-use Rattle.tl_beat.specs.Opcode.{a_carries_data, b_carries_data, c_carries_data, d_carries_data, b_code}
+use Rattle.tl_beat.specs.Opcode.{a_carries_data, b_carries_data, c_carries_data, d_carries_data}
 use Rattle.tl_beat.specs.Width.{IsWidth}
+use Rattle.tl_beat.specs.First.{first_if}
 use Rattle.tl_burst.specs.declared.message.Message.{Message}
 use Rattle.tl_burst.specs.declared.message.Message.TheVariants.{A, B, C, D, E}
 use Rattle.tl_burst.specs.declared.message.MessageA.{MessageA}
@@ -21,47 +23,45 @@ use Rattle.tl_burst.specs.declared.message.MessageD.{MessageD}
 use Rattle.tl_burst.specs.declared.message.MessageE.{MessageE}
 use Rattle.tl_burst.specs.Burst.{beats_of, beat_of, a_beat_of, b_beat_of, c_beat_of, d_beat_of, data_beats, mask_at, bit}
 use Rattle.tl_burst.specs.Messages.{on}
+use Rattle.tl_burst.proofs.Splitting.{beats-positive}
 use Rattle.tl_params.specs.declared.level.Level.{Level}
 use Rattle.tl_params.specs.declared.rule.Rule.{Rule}
 use Rattle.tl_params.specs.declared.rule.Rule.TheVariants.{L1, L6, L7}
-use Rattle.tl_rules.specs.Legality.{illegal, breaks_l1, illegal_message, first_illegal, beats_from, or_else, verdict, has_transfers, rule_if}
+use Rattle.tl_params.specs.Refusal.{ok_unless}
+use Rattle.tl_rules.specs.Legality.{illegal, breaks_l1, illegal_message, first_illegal, beats_from, has_transfers, is_forwarded}
 use Rattle.tl_rules.specs.Control.{a_control, a_own, b_control, b_own, c_control, c_own, d_control, d_own}
-use Rattle.tl_rules.proofs.Bursts.{has_beats, next_rule}
+use Rattle.tl_rules.proofs.Bursts.{next_rule, both_none}
 use Rattle.tl_rules.proofs.Verdicts.{illegal_a, illegal_b, illegal_c, illegal_d}
 use Rattle.tl_rules.proofs.Widths.{width-bounds}
 
 -- the first rule of n beats from beat j on
 unfoldable pub first_own : (ℕ → Option Rule) → ℕ → ℕ → Option Rule
 first_own own j zero = None
-first_own own j (suc n) = or_else (own j) (first_own own (j + 1) n)
+first_own own j (suc n) = option_or (own j) (first_own own (j + 1) n)
 
 pub none_yet : (own : ℕ → Option Rule) (j : ℕ) → first_own own j 0 ≡ None
 unfolding first_own
 none_yet own j = refl
 
-parts : (o rest : Option Rule) → or_else o rest ≡ None → (o ≡ None) × (rest ≡ None)
-parts None rest e = (refl, e)
-parts (Some r) rest e = absurd cc
-
-both : (o rest : Option Rule) → o ≡ None → rest ≡ None → or_else o rest ≡ None
+both : (o rest : Option Rule) → o ≡ None → rest ≡ None → option_or o rest ≡ None
 both o rest e f = rw e f
 
 none_at : (own : ℕ → Option Rule) (j n : ℕ) → first_own own j n ≡ None → own (j + n) ≡ None → first_own own j (n + 1) ≡ None
 unfolding first_own
 none_at own j zero e h = both (own j) None (rw add-zero at h) refl
 none_at own j (suc n) e h =
-    let p = parts (own j) (first_own own (j + 1) n) e in
+    let p = both_none (own j) (first_own own (j + 1) n) e in
     let place : j + suc n ≡ j + 1 + n = omega arith in
     let more : suc n + 1 ≡ suc (n + 1) = omega arith in
     rw more (both (own j) (first_own own (j + 1) (n + 1)) p.0 (none_at own (j + 1) n p.1 (rw place at h)))
 
 -- one more beat that breaks none
-pub none_more : (own : ℕ → Option Rule) (n : ℕ) → first_own own 0 n ≡ None → Ok tt ≡ verdict (own n) → first_own own 0 (n + 1) ≡ None
+pub none_more : (own : ℕ → Option Rule) (n : ℕ) → first_own own 0 n ≡ None → Ok tt ≡ ok_unless (own n) → first_own own 0 (n + 1) ≡ None
 none_more own n e h =
     let place : 0 + n ≡ n = omega arith in
     none_at own 0 n e (rw place (passes (own n) h))
   where
-    passes : (o : Option Rule) → Ok tt ≡ verdict o → o ≡ None
+    passes : (o : Option Rule) → Ok tt ≡ ok_unless o → o ≡ None
     passes None e = refl
     passes (Some r) e = absurd cc
 
@@ -70,47 +70,51 @@ unfolding first_own
 found own j i zero r e h lt = absurd (omega arith)
 found own j zero (suc n) r e h lt = rw (rw add-zero at h) refl
 found own j (suc i) (suc n) r e h lt =
-    let p = parts (own j) (first_own own (j + 1) i) e in
+    let p = both_none (own j) (first_own own (j + 1) i) e in
     let place : j + suc i ≡ j + 1 + i = omega arith in
     rw p.0 (found own (j + 1) i n r p.1 (rw place at h) (omega arith))
 
-fails : (o : Option Rule) (r : Rule) → Err r ≡ verdict o → o ≡ Some r
+fails : (o : Option Rule) (r : Rule) → Err r ≡ ok_unless o → o ≡ Some r
 fails None r e = absurd cc
-fails (Some s) r e = let same : verdict (Some s) ≡ verdict (Some r) = sym e in cc
+fails (Some s) r e = let same : ok_unless (Some s) ≡ ok_unless (Some r) = sym e in cc
 
 -- the first beat that breaks a rule gives it
-pub found_first : (own : ℕ → Option Rule) (i n : ℕ) (r : Rule) → first_own own 0 i ≡ None → Err r ≡ verdict (own i) → i < n → verdict (first_own own 0 n) ≡ Err r
+pub found_first : (own : ℕ → Option Rule) (i n : ℕ) (r : Rule) → first_own own 0 i ≡ None → Err r ≡ ok_unless (own i) → i < n → ok_unless (first_own own 0 n) ≡ Err r
 found_first own i n r e h lt =
     let place : 0 + i ≡ i = omega arith in
-    ap verdict (found own 0 i n r e (rw place (fails (own i) r h)) lt)
+    ap ok_unless (found own 0 i n r e (rw place (fails (own i) r h)) lt)
 
 -- ---- messages
 
 -- where the control fields break no rule
-later : {w : ℕ} (l : Level) (ch : Channel) (m : Message w) (control : Option Rule) (own : ℕ → Option Rule) (j n : ℕ) → ((i : ℕ) → illegal l ch (beat_of m i) ≡ or_else control (own i)) → control ≡ None
+later : {w : ℕ} (l : Level) (ch : Channel) (m : Message w) (control : Option Rule) (own : ℕ → Option Rule) (j n : ℕ) → ((i : ℕ) → illegal l ch (beat_of m i) ≡ option_or control (own i))
+    → control ≡ None
     → first_illegal l ch (beats_from m j n) ≡ first_own own j n
 unfolding first_illegal beats_from first_own
 later l ch m control own j zero is none = refl
 later l ch m control own j (suc n) is none = rw (is j, none, later l ch m control own (j + 1) n is none) refl
 
 -- where they do
-sooner : {w : ℕ} (l : Level) (ch : Channel) (m : Message w) (control : Option Rule) (own : ℕ → Option Rule) (n : ℕ) (r : Rule) → ((i : ℕ) → illegal l ch (beat_of m i) ≡ or_else control (own i)) → control ≡ Some r → 0 < n
+sooner : {w : ℕ} (l : Level) (ch : Channel) (m : Message w) (control : Option Rule) (own : ℕ → Option Rule) (n : ℕ) (r : Rule)
+    → ((i : ℕ) → illegal l ch (beat_of m i) ≡ option_or control (own i)) → control ≡ Some r → 0 < n
     → first_illegal l ch (beats_from m 0 n) ≡ Some r
 unfolding first_illegal beats_from
 sooner l ch m control own zero r is some pos = absurd (omega arith)
 sooner l ch m control own (suc n) r is some pos = rw (is 0, some) refl
 
-pub passed_control : {w : ℕ} (l : Level) (ch : Channel) (m : Message w) (control : Option Rule) (own : ℕ → Option Rule) → ((i : ℕ) → illegal l ch (beat_of m i) ≡ or_else control (own i)) → Ok tt ≡ verdict control
+pub passed_control : {w : ℕ} (l : Level) (ch : Channel) (m : Message w) (control : Option Rule) (own : ℕ → Option Rule) → ((i : ℕ) → illegal l ch (beat_of m i) ≡ option_or control (own i))
+    → Ok tt ≡ ok_unless control
     → illegal_message l ch m ≡ first_own own 0 (beats_of m)
 passed_control l ch m control own is e = later l ch m control own 0 (beats_of m) is (passes control e)
   where
-    passes : (o : Option Rule) → Ok tt ≡ verdict o → o ≡ None
+    passes : (o : Option Rule) → Ok tt ≡ ok_unless o → o ≡ None
     passes None e = refl
     passes (Some r) e = absurd cc
 
-pub broken_control : {w : ℕ} (l : Level) (ch : Channel) (m : Message w) (control : Option Rule) (own : ℕ → Option Rule) (r : Rule) → ((i : ℕ) → illegal l ch (beat_of m i) ≡ or_else control (own i)) → Err r ≡ verdict control → IsWidth w
-    → verdict (illegal_message l ch m) ≡ Err r
-broken_control l ch m control own r is e width = ap verdict (sooner l ch m control own (beats_of m) r is (fails control r e) (has_beats m width))
+pub broken_control : {w : ℕ} (l : Level) (ch : Channel) (m : Message w) (control : Option Rule) (own : ℕ → Option Rule) (r : Rule)
+    → ((i : ℕ) → illegal l ch (beat_of m i) ≡ option_or control (own i)) → Err r ≡ ok_unless control → IsWidth w
+    → ok_unless (illegal_message l ch m) ≡ Err r
+broken_control l ch m control own r is e width = ap ok_unless (sooner l ch m control own (beats_of m) r is (fails control r e) (beats-positive m width))
 
 breaks_first : {w : ℕ} (l : Level) (ch : Channel) (m : Message w) (n : ℕ) → 0 < n → breaks_l1 l ch (beat_of m 0) ≡ true → first_illegal l ch (beats_from m 0 n) ≡ Some L1
 unfolding illegal first_illegal beats_from
@@ -126,15 +130,15 @@ other_breaks l channel.E (beat.E x) e = absurd cc
 other_breaks l _ _ e = refl
 
 -- a message of another channel
-pub other_channel : {w : ℕ} (l : Level) (ch : Channel) (m : Message w) → IsWidth w → on ch (beat_of m 0) ≡ false → verdict (illegal_message l ch m) ≡ Err L1
-other_channel l ch m width e = ap verdict (breaks_first l ch m (beats_of m) (has_beats m width) (other_breaks l ch (beat_of m 0) e))
+pub other_channel : {w : ℕ} (l : Level) (ch : Channel) (m : Message w) → IsWidth w → on ch (beat_of m 0) ≡ false → ok_unless (illegal_message l ch m) ≡ Err L1
+other_channel l ch m width e = ap ok_unless (breaks_first l ch m (beats_of m) (beats-positive m width) (other_breaks l ch (beat_of m 0) e))
 
 -- the GrantAck, of one beat
-pub grant_ack : {w : ℕ} (l : Level) (ch : Channel) (m : Message w) (x : MessageE) → on ch (beat_of m 0) ≡ true → m ≡ E x → illegal_message l ch m ≡ rule_if (not (has_transfers l)) L1 None
+pub grant_ack : {w : ℕ} (l : Level) (ch : Channel) (m : Message w) (x : MessageE) → on ch (beat_of m 0) ≡ true → m ≡ E x → illegal_message l ch m ≡ first_if (not (has_transfers l)) L1 None
 unfolding illegal first_illegal beats_from
 grant_ack l channel.E (E m) x e is = go (has_transfers l)
   where
-    go : (t : Bool) → or_else (rule_if (not t) L1 None) None ≡ rule_if (not t) L1 None
+    go : (t : Bool) → option_or (first_if (not t) L1 None) None ≡ first_if (not t) L1 None
     go true = refl
     go false = refl
 grant_ack l _ (E m) x e is = absurd cc
@@ -154,16 +158,16 @@ c_owns m i = c_own m.opcode (bit m.corrupt i)
 abbrev pub d_owns : {w : ℕ} → MessageD w → ℕ → Option Rule
 d_owns m i = d_own m.opcode m.denied (bit m.corrupt i)
 
-pub a_beats : {w : ℕ} (l : Level) (m : MessageA w) (i : ℕ) → illegal l channel.A (beat_of (A m) i) ≡ or_else (a_control w l m.opcode m.param m.size m.address) (a_owns m i)
+pub a_beats : {w : ℕ} (l : Level) (m : MessageA w) (i : ℕ) → illegal l channel.A (beat_of (A m) i) ≡ option_or (a_control w l m.opcode m.param m.size m.address) (a_owns m i)
 a_beats l m i = illegal_a l (a_beat_of m i)
 
-pub b_beats : {w : ℕ} (l : Level) (m : MessageB w) (i : ℕ) → illegal l channel.B (beat_of (B m) i) ≡ or_else (b_control l m.opcode m.param m.size m.source m.address) (b_owns m i)
+pub b_beats : {w : ℕ} (l : Level) (m : MessageB w) (i : ℕ) → illegal l channel.B (beat_of (B m) i) ≡ option_or (b_control l m.opcode m.param m.size m.source m.address) (b_owns m i)
 b_beats l m i = illegal_b l (b_beat_of m i)
 
-pub c_beats : {w : ℕ} (l : Level) (m : MessageC w) (i : ℕ) → illegal l channel.C (beat_of (C m) i) ≡ or_else (c_control l m.opcode m.param m.size m.source m.address) (c_owns m i)
+pub c_beats : {w : ℕ} (l : Level) (m : MessageC w) (i : ℕ) → illegal l channel.C (beat_of (C m) i) ≡ option_or (c_control l m.opcode m.param m.size m.source m.address) (c_owns m i)
 c_beats l m i = illegal_c l (c_beat_of m i)
 
-pub d_beats : {w : ℕ} (l : Level) (m : MessageD w) (i : ℕ) → illegal l channel.D (beat_of (D m) i) ≡ or_else (d_control w l m.opcode m.param m.size m.sink) (d_owns m i)
+pub d_beats : {w : ℕ} (l : Level) (m : MessageD w) (i : ℕ) → illegal l channel.D (beat_of (D m) i) ≡ option_or (d_control w l m.opcode m.param m.size m.sink) (d_owns m i)
 d_beats l m i = illegal_d l (d_beat_of m i)
 
 -- ---- single beats
@@ -172,7 +176,7 @@ only_one : (own : ℕ → Option Rule) → first_own own 0 1 ≡ own 0
 unfolding first_own
 only_one own = go (own 0)
   where
-    go : (o : Option Rule) → or_else o None ≡ o
+    go : (o : Option Rule) → option_or o None ≡ o
     go None = refl
     go (Some r) = refl
 
@@ -181,7 +185,7 @@ unfolding first_own
 never own j zero none = refl
 never own j (suc n) none = rw (none j) (never own (j + 1) n none)
 
-probe_has_no_data : (opcode : OpB) → leb (b_code opcode) 5 ≡ false → b_carries_data opcode ≡ false
+probe_has_no_data : (opcode : OpB) → is_forwarded opcode ≡ false → b_carries_data opcode ≡ false
 probe_has_no_data b.PutFullData e = absurd cc
 probe_has_no_data b.PutPartialData e = absurd cc
 probe_has_no_data b.ArithmeticData e = absurd cc
@@ -192,26 +196,26 @@ probe_has_no_data b.ProbeBlock e = refl
 probe_has_no_data b.ProbePerm e = refl
 
 -- a message of channel B that passes its control rules is a Probe, of one beat
-pub b_single : {w : ℕ} (l : Level) (m : MessageB w) → Ok tt ≡ verdict (b_control l m.opcode m.param m.size m.source m.address) → illegal_message l channel.B (B m) ≡ b_owns m 0
+pub b_single : {w : ℕ} (l : Level) (m : MessageB w) → Ok tt ≡ ok_unless (b_control l m.opcode m.param m.size m.source m.address) → illegal_message l channel.B (B m) ≡ b_owns m 0
 b_single {w} l m e =
     let control = b_control l m.opcode m.param m.size m.source m.address in
     let one = next_rule (not (has_transfers l)) L1 _ (passes control e) in
-    let two = next_rule (leb (b_code m.opcode) 5) L7 _ one.1 in
+    let two = next_rule (is_forwarded m.opcode) L7 _ one.1 in
     let single : beats_of (B m) ≡ 1 = ap (λ t. cond t (data_beats w m.size) 1) (probe_has_no_data m.opcode two.0) in
     passed_control l channel.B (B m) control (b_owns m) (b_beats l m) e ∙ ap (first_own (b_owns m) 0) single ∙ only_one (b_owns m)
   where
-    passes : (o : Option Rule) → Ok tt ≡ verdict o → o ≡ None
+    passes : (o : Option Rule) → Ok tt ≡ ok_unless o → o ≡ None
     passes None e = refl
     passes (Some r) e = absurd cc
 
 -- of a message of channel C that passes its control rules the first beat decides
-pub c_single : {w : ℕ} (l : Level) (m : MessageC w) → Ok tt ≡ verdict (c_control l m.opcode m.param m.size m.source m.address) → illegal_message l channel.C (C m) ≡ c_owns m 0
+pub c_single : {w : ℕ} (l : Level) (m : MessageC w) → Ok tt ≡ ok_unless (c_control l m.opcode m.param m.size m.source m.address) → illegal_message l channel.C (C m) ≡ c_owns m 0
 c_single {w} l m e = passed_control l channel.C (C m) (c_control l m.opcode m.param m.size m.source m.address) (c_owns m) (c_beats l m) e ∙ go (cases_Bool (c_carries_data m.opcode))
   where
     with_data : c_carries_data m.opcode ≡ true → (i : ℕ) → c_owns m i ≡ None
     with_data carries i = rw carries (go' (bit m.corrupt i))
       where
-        go' : (t : Bool) → rule_if (t && false) L6 None ≡ None
+        go' : (t : Bool) → first_if (t && false) L6 None ≡ None
         go' true = refl
         go' false = refl
 
@@ -241,13 +245,3 @@ beats_room {w} (B m) is = data_room w m.size (b_carries_data m.opcode) is m.smal
 beats_room {w} (C m) is = data_room w m.size (c_carries_data m.opcode) is m.small
 beats_room {w} (D m) is = data_room w m.size (d_carries_data m.opcode) is m.small
 beats_room {w} (E m) is = omega (arith, (width-bounds w is).1)
-
-pub beat_room : {w : ℕ} (m : Message w) (i : ℕ) → IsWidth w → i < beats_of m → w * i + w ≤ 64
-beat_room {w} m i is lt =
-    let more : w * (i + 1) ≤ w * beats_of m = mul-le-mul_left w (omega arith) in
-    omega (arith, more, beats_room m is)
-
-pub few_beats : {w : ℕ} (m : Message w) (i : ℕ) → IsWidth w → i < beats_of m → i < 16
-few_beats {w} m i is lt =
-    let four : 4 * (i + 1) ≤ w * (i + 1) = mul-le-mul_right (i + 1) (width-bounds w is).0 in
-    omega (arith, four, beat_room m i is lt)

@@ -20,6 +20,7 @@ use Rattle.tl_rules.specs.History.{begins, ends, opens, closes, pending, request
 use Rattle.tl_rules.specs.Agent.{sent}
 use Rattle.tl_rules.specs.Handed.{pending_with, held_with, request_with, release_with, probe_with, sink_with}
 use Rattle.tl_rules.proofs.Sent.{begins-first, begins-later, ends-at, not_last, is_last, off_other, unfinished-sent, unfinished-sent_other, request_of-sent, request_of-other, release_of-other, held-sent_c, held-sent_d, held-sent_unsaid}
+use Rattle.tl_rules.proofs.Open.{never}
 
 -- ---- what is pending
 
@@ -41,7 +42,8 @@ record IsSteady {w : ℕ} (k : Key) (m : Message w) (t : History w) : Type 0 whe
   closes_same : (i : ℕ) → closes k (beat_of m i) (begun m i ++ t) ≡ closes k (beat_of m 0) t
   apart : (opens k (beat_of m 0) t && closes k (beat_of m 0) t) ≡ false
 
-begun_pending : {w : ℕ} (k : Key) (m : Message w) (t : History w) (n : ℕ) → unfinished (channel_in m) t ≡ [] → suc n < beats_of m → pending k (begun m (suc n) ++ t) ≡ (if opens k (beat_of m 0) t then true else pending k t)
+begun_pending : {w : ℕ} (k : Key) (m : Message w) (t : History w) (n : ℕ) → unfinished (channel_in m) t ≡ [] → suc n < beats_of m
+    → pending k (begun m (suc n) ++ t) ≡ (if opens k (beat_of m 0) t then true else pending k t)
 unfolding pending
 begun_pending k m t zero none lt =
     let first = begins-first m t none in
@@ -52,7 +54,8 @@ begun_pending k m t (suc n) none lt =
     let last : ends (beat_of m (suc n)) (begun m (suc n) ++ t) ≡ false = ends-at m t (suc n) none (omega arith) ∙ not_last (suc n) (beats_of m) (omega arith) in
     rw (later, last) (begun_pending k m t n none (omega arith))
 
-whole_pending : {w : ℕ} (k : Key) (m : Message w) (t : History w) (n : ℕ) → IsSteady k m t → unfinished (channel_in m) t ≡ [] → suc n ≡ beats_of m → pending k (begun m (suc n) ++ t) ≡ after_whole (opens k (beat_of m 0) t) (closes k (beat_of m 0) t) (pending k t)
+whole_pending : {w : ℕ} (k : Key) (m : Message w) (t : History w) (n : ℕ) → IsSteady k m t → unfinished (channel_in m) t ≡ [] → suc n ≡ beats_of m
+    → pending k (begun m (suc n) ++ t) ≡ after_whole (opens k (beat_of m 0) t) (closes k (beat_of m 0) t) (pending k t)
 unfolding pending
 whole_pending k m t zero steady none e =
     let first = begins-first m t none in
@@ -62,10 +65,6 @@ whole_pending k m t (suc n) steady none e =
     let later = begins-later m t n none (omega arith) in
     let last : ends (beat_of m (suc n)) (begun m (suc n) ++ t) ≡ true = ends-at m t (suc n) none (omega arith) ∙ is_last (suc n) (beats_of m) (omega arith) in
     rw (later, last, steady.closes_same (suc n), begun_pending k m t n none (omega arith)) (at_last (opens k (beat_of m 0) t) (closes k (beat_of m 0) t) (pending k t) steady.apart)
-
-never : (b : Bool) → (b && false) ≡ false
-never true = refl
-never false = refl
 
 never_both : {w : ℕ} (k : Key) (m : Message w) (t : History w) → closes k (beat_of m 0) t ≡ false → (opens k (beat_of m 0) t && closes k (beat_of m 0) t) ≡ false
 never_both k m t e = rw e (never (opens k (beat_of m 0) t))
@@ -131,7 +130,8 @@ probe_closes_nothing (key.GrantAckOf n) m t = refl
 probe_closes_nothing (key.ProbeOf n) m t = refl
 
 -- after a Probe, and after an answer or a Grant
-pub pending-sent_b : {w : ℕ} (k : Key) (m : MessageB w) (t : History w) → unfinished channel.B t ≡ [] → 0 < beats_of (B m) → pending k (sent (B m) t) ≡ (if opens k (beat_of (B m) 0) t then true else pending k t)
+pub pending-sent_b : {w : ℕ} (k : Key) (m : MessageB w) (t : History w) → unfinished channel.B t ≡ [] → 0 < beats_of (B m)
+    → pending k (sent (B m) t) ≡ (if opens k (beat_of (B m) 0) t then true else pending k t)
 pending-sent_b k m t none pos = pending-whole k (B m) t none pos ∙ rw (probe_closes_nothing k m t) refl
 
 pub pending-sent_d : {w : ℕ} (k : Key) (m : MessageD w) (t : History w) → unfinished channel.D t ≡ [] → 0 < beats_of (D m) → pending k (sent (D m) t) ≡ pending_with k (D m) t
@@ -182,34 +182,40 @@ held-whole k (E m) t none pos = held-sent_unsaid k (E m) t (λ i u. refl)
 
 -- ---- the message that another one names
 
-release_opened : {w : ℕ} (s : ℕ) (m : MessageC w) (t : History w) (i : ℕ) → unfinished channel.C t ≡ [] → i < beats_of (C m) → release_of s (begun (C m) (suc i) ++ t) ≡ (if is_release m.opcode && (m.source == s) then Some (c_beat_of m 0) else release_of s t)
+release_opened : {w : ℕ} (s : ℕ) (m : MessageC w) (t : History w) (i : ℕ) → unfinished channel.C t ≡ [] → i < beats_of (C m)
+    → release_of s (begun (C m) (suc i) ++ t) ≡ (if is_release m.opcode && (m.source == s) then Some (c_beat_of m 0) else release_of s t)
 unfolding release_of
 release_opened s m t zero none lt = rw none refl
 release_opened s m t (suc i) none lt =
     let later : begins (beat_of (C m) (suc i)) (begun (C m) (suc i) ++ t) ≡ false = begins-later (C m) t i none lt in
     rw later (release_opened s m t i none (omega arith))
 
-release_by : {w : ℕ} (s : ℕ) (m : MessageC w) (t : History w) (n : ℕ) → unfinished channel.C t ≡ [] → 0 < n → n ≡ beats_of (C m) → release_of s (begun (C m) n ++ t) ≡ (if is_release m.opcode && (m.source == s) then Some (c_beat_of m 0) else release_of s t)
+release_by : {w : ℕ} (s : ℕ) (m : MessageC w) (t : History w) (n : ℕ) → unfinished channel.C t ≡ [] → 0 < n → n ≡ beats_of (C m)
+    → release_of s (begun (C m) n ++ t) ≡ (if is_release m.opcode && (m.source == s) then Some (c_beat_of m 0) else release_of s t)
 release_by s m t zero none pos e = absurd (omega arith)
 release_by s m t (suc i) none pos e = release_opened s m t i none (omega arith)
 
 -- the Release with a source is the one that was handed out with it last
-release_of-sent : {w : ℕ} (s : ℕ) (m : MessageC w) (t : History w) → unfinished channel.C t ≡ [] → 0 < beats_of (C m) → release_of s (sent (C m) t) ≡ (if is_release m.opcode && (m.source == s) then Some (c_beat_of m 0) else release_of s t)
+release_of-sent : {w : ℕ} (s : ℕ) (m : MessageC w) (t : History w) → unfinished channel.C t ≡ [] → 0 < beats_of (C m)
+    → release_of s (sent (C m) t) ≡ (if is_release m.opcode && (m.source == s) then Some (c_beat_of m 0) else release_of s t)
 release_of-sent s m t none pos = release_by s m t (beats_of (C m)) none pos refl
 
-probe_opened : {w : ℕ} (n : ℕ) (m : MessageB w) (t : History w) (i : ℕ) → unfinished channel.B t ≡ [] → i < beats_of (B m) → probe_of n (begun (B m) (suc i) ++ t) ≡ (if is_probe m.opcode && (block_at m.address == n) then Some (b_beat_of m 0) else probe_of n t)
+probe_opened : {w : ℕ} (n : ℕ) (m : MessageB w) (t : History w) (i : ℕ) → unfinished channel.B t ≡ [] → i < beats_of (B m)
+    → probe_of n (begun (B m) (suc i) ++ t) ≡ (if is_probe m.opcode && (block_at m.address == n) then Some (b_beat_of m 0) else probe_of n t)
 unfolding probe_of
 probe_opened n m t zero none lt = rw none refl
 probe_opened n m t (suc i) none lt =
     let later : begins (beat_of (B m) (suc i)) (begun (B m) (suc i) ++ t) ≡ false = begins-later (B m) t i none lt in
     rw later (probe_opened n m t i none (omega arith))
 
-probe_by : {w : ℕ} (n : ℕ) (m : MessageB w) (t : History w) (i : ℕ) → unfinished channel.B t ≡ [] → 0 < i → i ≡ beats_of (B m) → probe_of n (begun (B m) i ++ t) ≡ (if is_probe m.opcode && (block_at m.address == n) then Some (b_beat_of m 0) else probe_of n t)
+probe_by : {w : ℕ} (n : ℕ) (m : MessageB w) (t : History w) (i : ℕ) → unfinished channel.B t ≡ [] → 0 < i → i ≡ beats_of (B m)
+    → probe_of n (begun (B m) i ++ t) ≡ (if is_probe m.opcode && (block_at m.address == n) then Some (b_beat_of m 0) else probe_of n t)
 probe_by n m t zero none pos e = absurd (omega arith)
 probe_by n m t (suc i) none pos e = probe_opened n m t i none (omega arith)
 
 -- the Probe of a block is the one that was handed out of it last
-probe_of-sent : {w : ℕ} (n : ℕ) (m : MessageB w) (t : History w) → unfinished channel.B t ≡ [] → 0 < beats_of (B m) → probe_of n (sent (B m) t) ≡ (if is_probe m.opcode && (block_at m.address == n) then Some (b_beat_of m 0) else probe_of n t)
+probe_of-sent : {w : ℕ} (n : ℕ) (m : MessageB w) (t : History w) → unfinished channel.B t ≡ [] → 0 < beats_of (B m)
+    → probe_of n (sent (B m) t) ≡ (if is_probe m.opcode && (block_at m.address == n) then Some (b_beat_of m 0) else probe_of n t)
 probe_of-sent n m t none pos = probe_by n m t (beats_of (B m)) none pos refl
 
 unprobed : {w : ℕ} (k : ℕ) (x : Beat w) (t : History w) → on channel.B x ≡ false → probe_of k (x ∷ t) ≡ probe_of k t

@@ -1,6 +1,7 @@
 -- A message that breaks no rule, beat by beat and from level to level.
-use Rattle.std.proofs.Common.{◌≡◌, ℕ, zero, suc, ◌+◌, ◌<◌, Bool, true, false, not, Option, Some, None, refl, sym, ◌∙◌, arith, add-zero, inl, inr}
+use Rattle.std.proofs.Common.{◌≡◌, ℕ, zero, suc, ◌+◌, ◌<◌, Bool, true, false, not, Option, None, refl, sym, ◌∙◌, arith, add-zero, inl, inr}
 use Rattle.std.proofs.lemmas.Bool.{le-leb, not-false, cases_lt}
+use Rattle.std.specs.Option.{option_or}
 use Rattle.tl_beat.specs.declared.opcode.Channel.{Channel}
 use Rattle.tl_beat.specs.declared.opcode.Channel.TheVariants as channel
 use Rattle.tl_beat.specs.declared.opcode.OpA.{OpA}
@@ -9,6 +10,7 @@ use Rattle.tl_beat.specs.declared.beat.BeatA.{BeatA}
 use Rattle.tl_beat.specs.declared.beat.Beat.TheVariants as beat
 use Rattle.tl_beat.specs.Opcode.{a_code}
 use Rattle.tl_beat.specs.Width.{IsWidth}
+use Rattle.tl_beat.specs.First.{first_if}
 use Rattle.tl_burst.specs.declared.message.Message.{Message}
 use Rattle.tl_burst.specs.declared.message.Message.TheVariants.{A}
 use Rattle.tl_burst.specs.declared.message.MessageA.{MessageA}
@@ -17,15 +19,11 @@ use Rattle.tl_params.specs.declared.level.Level.{Level}
 use Rattle.tl_params.specs.declared.level.Level.TheVariants as level
 use Rattle.tl_params.specs.declared.rule.Rule.{Rule}
 use Rattle.tl_params.specs.declared.rule.Rule.TheVariants.{L1, L2, L3}
-use Rattle.tl_rules.specs.Legality.{illegal, illegal_message, first_illegal, beats_from, or_else, rule_if, a_of_level, a_has_param, a_has_size, access_has_size}
+use Rattle.tl_rules.specs.Legality.{illegal, illegal_message, first_illegal, beats_from, a_of_level, a_has_param, a_has_size, access_has_size}
 use Rattle.tl_rules.specs.Control.{a_control, a_own}
-use Rattle.tl_rules.proofs.Bursts.{next_rule}
+use Rattle.tl_rules.proofs.Bursts.{next_rule, both_none}
 use Rattle.tl_rules.proofs.Verdicts.{illegal_a}
 use Rattle.tl_rules.proofs.Widths.{size_above_width}
-
-both_none : (o rest : Option Rule) → or_else o rest ≡ None → (o ≡ None) × (rest ≡ None)
-both_none None rest e = (refl, e)
-both_none (Some r) rest e = absurd cc
 
 from_beats : {w : ℕ} (l : Level) (ch : Channel) (m : Message w) (j n : ℕ) → ((i : ℕ) → i < n → illegal l ch (beat_of m (j + i)) ≡ None) → first_illegal l ch (beats_from m j n) ≡ None
 unfolding first_illegal beats_from
@@ -52,7 +50,7 @@ legal_beat l ch m i e lt = let place : 0 + i ≡ i = omega arith in rw place at 
 
 -- ---- accesses at TL-UH
 
-no_rule : (t : Bool) (r : Rule) (rest : Option Rule) → t ≡ true → rest ≡ None → rule_if (not t) r rest ≡ None
+no_rule : (t : Bool) (r : Rule) (rest : Option Rule) → t ≡ true → rest ≡ None → first_if (not t) r rest ≡ None
 no_rule t r rest e f = rw e f
 
 access_of_uh : (opcode : OpA) → a_code opcode < 6 → a_of_level level.UH opcode ≡ true
@@ -83,7 +81,8 @@ size_at_uh w l a.Intent size is e = access_size w l size is e
 size_at_uh w l a.AcquireBlock size is e = e
 size_at_uh w l a.AcquirePerm size is e = e
 
-control_at_uh : (w : ℕ) (l : Level) (opcode : OpA) (param size address : ℕ) → IsWidth w → a_code opcode < 6 → a_control w l opcode param size address ≡ None → a_control w level.UH opcode param size address ≡ None
+control_at_uh : (w : ℕ) (l : Level) (opcode : OpA) (param size address : ℕ) → IsWidth w → a_code opcode < 6 → a_control w l opcode param size address ≡ None
+    → a_control w level.UH opcode param size address ≡ None
 control_at_uh w l opcode param size address is access e =
     let one = next_rule (not (a_of_level l opcode)) L1 _ e in
     let two = next_rule (not (a_has_param opcode param)) L2 _ one.1 in
@@ -92,7 +91,7 @@ control_at_uh w l opcode param size address is access e =
     (no_rule (a_has_param opcode param) L2 _ (not-false (a_has_param opcode param) two.0)
     (no_rule (a_has_size w level.UH opcode size) L3 _ (size_at_uh w l opcode size is (not-false (a_has_size w l opcode size) three.0)) three.1))
 
-join_none : (o rest : Option Rule) → o ≡ None → rest ≡ None → or_else o rest ≡ None
+join_none : (o rest : Option Rule) → o ≡ None → rest ≡ None → option_or o rest ≡ None
 join_none o rest e f = rw e f
 
 beat_at_uh : {w : ℕ} (l : Level) (x : BeatA w) → IsWidth w → a_code x.opcode < 6 → illegal l channel.A (beat.A x) ≡ None → illegal level.UH channel.A (beat.A x) ≡ None

@@ -7,7 +7,7 @@ use Rattle.tl_burst.specs.declared.message.MessageA.{MessageA}
 use Rattle.tl_burst.specs.declared.message.Message.TheVariants.{A}
 use Rattle.tl_burst.specs.Burst.{byte_at}
 use Rattle.tl_params.specs.Param.{arithmetic_of, logical_of}
-use Rattle.tl_rules.specs.Effect.{Memory, bytes_from, number_from, operand_of, bytes_of, stored, with_number, by_param, arithmetic_result, logical_result, after, Bytes, reply, SameBlock}
+use Rattle.tl_rules.specs.Effect.{Memory, bytes_from, number_from, operand_of, byte_count, number_stored, with_number, by_param, arithmetic_result, logical_result, after, Bytes, access_result, SameBlock}
 use Rattle.tl_rules.proofs.Places.{number_same}
 
 bytes_same : (f g : Memory) (x n : ℕ) → ((i : ℕ) → i < n → f (x + i) ≡ g (x + i)) → bytes_from f x n ≡ bytes_from g x n
@@ -24,30 +24,31 @@ in_block address n i room lt = omega (arith, room, lt)
 reached_same : {w : ℕ} (m : MessageA w) (f g : Memory) → m.address % 64 + 2 ^ m.size ≤ 64 → SameBlock (m.address / 64) f g → (i : ℕ) → i < 2 ^ m.size → f (m.address + i) ≡ g (m.address + i)
 reached_same m f g room same i lt = same (m.address + i) (in_block m.address (2 ^ m.size) i room lt)
 
-stored_same : {w : ℕ} (m : MessageA w) (result : ℕ → ℕ → ℕ) (f g : Memory) → m.address % 64 + 2 ^ m.size ≤ 64 → SameBlock (m.address / 64) f g → stored m result f ≡ stored m result g
+stored_same : {w : ℕ} (m : MessageA w) (result : ℕ → ℕ → ℕ) (f g : Memory) → m.address % 64 + 2 ^ m.size ≤ 64 → SameBlock (m.address / 64) f g → number_stored m result f ≡ number_stored m result g
 stored_same m result f g room same =
-    ap (λ n. result n (number_from (operand_of m) m.address (bytes_of m))) (number_same f g m.address m.address (2 ^ m.size) (reached_same m f g room same))
+    ap (λ n. result n (number_from (operand_of m) m.address (byte_count m))) (number_same f g m.address m.address (2 ^ m.size) (reached_same m f g room same))
 
 number_kept : {w : ℕ} (m : MessageA w) (n k : ℕ) (f g : Memory) (x : ℕ) → n ≡ k → f x ≡ g x → with_number m n f x ≡ with_number m k g x
 number_kept m n k f g x e s = rw (e, s) refl
 
 -- the memory after a request, in its block
-pub after-local : {w : ℕ} (opcode : OpA) (m : MessageA w) (f g : Memory) → m.address % 64 + 2 ^ m.size ≤ 64 → SameBlock (m.address / 64) f g → SameBlock (m.address / 64) (after opcode m f) (after opcode m g)
+pub after-local : {w : ℕ} (opcode : OpA) (m : MessageA w) (f g : Memory) → m.address % 64 + 2 ^ m.size ≤ 64 → SameBlock (m.address / 64) f g
+    → SameBlock (m.address / 64) (after opcode m f) (after opcode m g)
 after-local a.PutFullData m f g room same x e = ap (unwrap_or (byte_at 0 (A m) x)) (same x e)
 after-local a.PutPartialData m f g room same x e = ap (unwrap_or (byte_at 0 (A m) x)) (same x e)
 after-local a.ArithmeticData m f g room same x e =
-    let result = by_param (λ o. arithmetic_result o (8 * bytes_of m)) (arithmetic_of m.param) in
-    number_kept m (stored m result f) (stored m result g) f g x (stored_same m result f g room same) (same x e)
+    let result = by_param (λ o. arithmetic_result o (8 * byte_count m)) (arithmetic_of m.param) in
+    number_kept m (number_stored m result f) (number_stored m result g) f g x (stored_same m result f g room same) (same x e)
 after-local a.LogicalData m f g room same x e =
     let result = by_param logical_result (logical_of m.param) in
-    number_kept m (stored m result f) (stored m result g) f g x (stored_same m result f g room same) (same x e)
+    number_kept m (number_stored m result f) (number_stored m result g) f g x (stored_same m result f g room same) (same x e)
 after-local a.Get m f g room same x e = same x e
 after-local a.Intent m f g room same x e = same x e
 after-local a.AcquireBlock m f g room same x e = same x e
 after-local a.AcquirePerm m f g room same x e = same x e
 
 -- and what it is answered
-pub reply-local : {w : ℕ} (opcode : OpA) (m : MessageA w) (f g : Memory) → m.address % 64 + 2 ^ m.size ≤ 64 → SameBlock (m.address / 64) f g → reply opcode m f ≡ reply opcode m g
+pub reply-local : {w : ℕ} (opcode : OpA) (m : MessageA w) (f g : Memory) → m.address % 64 + 2 ^ m.size ≤ 64 → SameBlock (m.address / 64) f g → access_result opcode m f ≡ access_result opcode m g
 reply-local a.PutFullData m f g room same = refl
 reply-local a.PutPartialData m f g room same = refl
 reply-local a.ArithmeticData m f g room same = ap Bytes (bytes_same f g m.address (2 ^ m.size) (reached_same m f g room same))

@@ -1,13 +1,13 @@
 -- Runs of ones, and masks compared by each of their bits.
 use Rattle.std.proofs.Common.{◌≡◌, ℕ, ◌+◌, ◌-◌, ◌*◌, ◌/◌, ◌%◌, ◌^◌, ◌<◌, ◌≤◌, min, Bool, true, false, not, ◌&&◌, ◌||◌, leb, ltb, eqb, bit_and, refl, sym, ap, ◌∙◌, arith, inl, inr, add-zero, lit<}
 use Rattle.std.specs.Int.{bit_at, w16}
-use Rattle.std.specs.Bool.{Decides}
+use Rattle.std.specs.Bool.{Decides, beq}
 use Rattle.std.proofs.lemmas.Bool.{cases_lt, cases_eq, or_right, lt-ltb, le-ltb, le-leb, lt-leb}
 use Rattle.std.proofs.lemmas.Bool.Decides.{nat_tests, same_from_decides, Decides-eqb, Decides-like, Decides-below_and}
 use Rattle.std.proofs.lemmas.Nat.{shr_split, pow_pos, and_le_l}
 use Rattle.std.proofs.lemmas.Nat.Bits.{ones_shr, bit_at_cat_low, bit_at_cat_high, bit_at-zero, bit_at_ones, bit_at_ones_above, bit_at-lt, bit_at_and, bit_at_not, same_from_bits_below}
+use Rattle.std.specs.Cmp.{booleans_Decides}
 use Rattle.tl_burst.specs.Burst.{bit}
-use Rattle.tl_burst.specs.Messages.{same_bool}
 use Rattle.tl_rules.specs.Legality.{each_below}
 
 -- ---- a run of ones
@@ -58,24 +58,18 @@ same_from_bit m n i e =
     let q : bit_at n i < 2 = bit_at-lt n i in
     grind (arith, nat_tests)
 
-Decides-same_bool : (x y : Bool) → Decides (same_bool x y) (x ≡ y)
-Decides-same_bool true true = (λ _. refl, λ _. refl)
-Decides-same_bool true false = (λ e. cc, λ e. cc)
-Decides-same_bool false true = (λ e. cc, λ e. cc)
-Decides-same_bool false false = (λ _. refl, λ _. refl)
-
 Decides-each_below : (test : ℕ → Bool) (P : ℕ → Type 0) (n : ℕ) → ((k : ℕ) → Decides (test k) (P k)) → Decides (each_below n test) ((k : ℕ) → k < n → P k)
 unfolding each_below
 Decides-each_below test P n each = Decides-below_and test P (λ k. each_below k test) each refl (λ _. refl) n
 
 -- masks of 16 bits are one where each bit is
-pub same_mask : (mask lanes : ℕ) (test : ℕ → Bool) → mask < 2 ^ 16 → lanes < 2 ^ 16 → ((i : ℕ) → i < 16 → bit lanes i ≡ test i) → eqb mask lanes ≡ each_below 16 (λ i. same_bool (bit mask i) (test i))
+pub same_mask : (mask lanes : ℕ) (test : ℕ → Bool) → mask < 2 ^ 16 → lanes < 2 ^ 16 → ((i : ℕ) → i < 16 → bit lanes i ≡ test i) → eqb mask lanes ≡ each_below 16 (λ i. beq (bit mask i) (test i))
 same_mask mask lanes test small small' is =
-    same_from_decides (eqb mask lanes) (each_below 16 (λ i. same_bool (bit mask i) (test i))) (Decides-eqb mask lanes)
-    (Decides-like (each_below 16 (λ i. same_bool (bit mask i) (test i)))
+    same_from_decides (eqb mask lanes) (each_below 16 (λ i. beq (bit mask i) (test i))) (Decides-eqb mask lanes)
+    (Decides-like (each_below 16 (λ i. beq (bit mask i) (test i)))
     (λ each. same_from_bits_below 16 mask lanes small small' (λ i lt. same_from_bit mask lanes i (each i lt ∙ sym (is i lt))))
     (λ e i lt. ap (λ m. bit m i) e ∙ is i lt)
-    (Decides-each_below (λ i. same_bool (bit mask i) (test i)) (λ i. bit mask i ≡ test i) 16 (λ i. Decides-same_bool (bit mask i) (test i))))
+    (Decides-each_below (λ i. beq (bit mask i) (test i)) (λ i. bit mask i ≡ test i) 16 (λ i. booleans_Decides (bit mask i) (test i))))
 
 no_bit_left : (x y : ℕ) → x < 2 → y < 2 → (not (eqb x 1) || eqb y 1) ≡ true → min x (1 - y) ≡ 0
 no_bit_left x y p q e = elim (cases_eq x 0) [

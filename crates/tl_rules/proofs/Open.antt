@@ -12,7 +12,6 @@ use Rattle.tl_params.specs.declared.rule.Rule.TheVariants.{H2, H3, H6, H7, H10, 
 use Rattle.tl_rules.specs.History.{begins, ends, closes, pending, request_of, release_of, probe_of, is_release, is_grant, is_release_ack, is_probe, block_at, held}
 use Rattle.tl_rules.specs.Conformance.{answers_wrong_probe, misreports, is_probe_block, is_report_at, answers, admits, size_of_request, broken_d, broken_probe_ack, comes_in_release, comes_in_request, misgrants}
 use Rattle.tl_rules.specs.Open.{open_request, open_release, open_probe, request_fields, release_size, probe_fields}
-use Rattle.tl_rules.specs.Legality.{rule_if}
 use Rattle.tl_rules.specs.declared.past.Probe.{Probe}
 use Rattle.tl_params.specs.declared.perm.Perm.{Perm}
 use Rattle.tl_params.specs.Param.{cap_of}
@@ -22,6 +21,7 @@ use Rattle.tl_rules.specs.declared.past.Request.{Request}
 use Rattle.tl_beat.specs.declared.opcode.Channel.TheVariants as channel
 use Rattle.tl_params.specs.declared.rule.Rule.{Rule}
 use Rattle.tl_beat.specs.declared.beat.BeatA.{BeatA}
+use Rattle.tl_beat.specs.First.{first_if}
 
 pub never : (b : Bool) → (b && false) ≡ false
 never true = refl
@@ -90,7 +90,7 @@ pub request-fields : {w : ℕ} (s : ℕ) (t : History w) (r : Request) → Some 
 request-fields s t r e = (fields_of (pending (RequestSource s) t && not (comes_in_request s (unfinished channel.A t))) (request_of s t) r e).1
 
 judged : {w : ℕ} (x : BeatD w) (before comes : Bool) (o : Option (BeatA w)) (r : Request) (rest : Option Rule) → (before && not comes) ≡ true → request_fields o ≡ Some r
-    → rule_if (not (before && (not comes && admits x.opcode o))) H2 (rule_if (not (x.size == size_of_request o)) H3 rest) ≡ rule_if (not (answers x.opcode r.opcode)) H2 (rule_if (not (x.size == r.size)) H3 rest)
+    → first_if (not (before && (not comes && admits x.opcode o))) H2 (first_if (not (x.size == size_of_request o)) H3 rest) ≡ first_if (not (answers x.opcode r.opcode)) H2 (first_if (not (x.size == r.size)) H3 rest)
 judged x true false (Some y) r rest both fields = let same : r ≡ record { opcode = y.opcode; param = y.param; size = y.size; block = block_at y.address } = cc in rw same refl
 judged x true false None r rest both fields = absurd cc
 judged x true true o r rest both fields = absurd cc
@@ -98,8 +98,8 @@ judged x false comes o r rest both fields = absurd cc
 
 -- what an answer to an open request breaks
 pub answered : {w : ℕ} (x : BeatD w) (t : History w) (p : Profile) (r : Request) → is_release_ack x.opcode ≡ false → Some r ≡ open_request x.source t
-    → broken_d p x t ≡ rule_if (not (answers x.opcode r.opcode)) H2 (rule_if (not (x.size == r.size)) H3
-    (rule_if (is_grant x.opcode && misgrants p x (request_of x.source t) t) H6 (rule_if (is_grant x.opcode && pending (GrantSink x.sink) t) H7 None)))
+    → broken_d p x t ≡ first_if (not (answers x.opcode r.opcode)) H2 (first_if (not (x.size == r.size)) H3
+    (first_if (is_grant x.opcode && misgrants p x (request_of x.source t) t) H6 (first_if (is_grant x.opcode && pending (GrantSink x.sink) t) H7 None)))
 answered x t p r ack e =
     let known = fields_of (pending (RequestSource x.source) t && not (comes_in_request x.source (unfinished channel.A t))) (request_of x.source t) r e in
     rw ack (judged x (pending (RequestSource x.source) t) (comes_in_request x.source (unfinished channel.A t)) (request_of x.source t) r _ known.0 known.1)
@@ -107,14 +107,14 @@ answered x t p r ack e =
 -- ---- where the Probe is open
 
 probed_by : {w : ℕ} (x : BeatC w) (before : Bool) (o : Option (BeatB w)) (q : Probe) (late : Bool) (p : Perm) → Some q ≡ (if before then probe_fields o else None)
-    → rule_if (not before || answers_wrong_probe x o) H10 (rule_if late H11 (rule_if (misreports x o p) H12 None))
-    ≡ rule_if (c_carries_data x.opcode && not (is_probe_block q.opcode)) H10 (rule_if late H11 (rule_if (not (is_report_at x.param (cap_of q.param) p)) H12 None))
+    → first_if (not before || answers_wrong_probe x o) H10 (first_if late H11 (first_if (misreports x o p) H12 None))
+    ≡ first_if (c_carries_data x.opcode && not (is_probe_block q.opcode)) H10 (first_if late H11 (first_if (not (is_report_at x.param (cap_of q.param) p)) H12 None))
 probed_by x true (Some y) q late p e = let same : q ≡ record { opcode = y.opcode; param = y.param } = cc in rw same refl
 probed_by x true None q late p e = absurd cc
 probed_by x false o q late p e = absurd cc
 
 -- what a ProbeAck of an open Probe breaks
 pub probed : {w : ℕ} (x : BeatC w) (k : ℕ) (t : History w) (q : Probe) → k ≡ block_at x.address → Some q ≡ open_probe k t
-    → broken_probe_ack x t ≡ rule_if (c_carries_data x.opcode && not (is_probe_block q.opcode)) H10
-    (rule_if (pending (ReleaseOf k) t) H11 (rule_if (not (is_report_at x.param (cap_of q.param) (held k t))) H12 None))
+    → broken_probe_ack x t ≡ first_if (c_carries_data x.opcode && not (is_probe_block q.opcode)) H10
+    (first_if (pending (ReleaseOf k) t) H11 (first_if (not (is_report_at x.param (cap_of q.param) (held k t))) H12 None))
 probed x k t q own e = rw (sym own) (probed_by x (pending (ProbeOf k) t) (probe_of k t) q (pending (ReleaseOf k) t) (held k t) e)

@@ -23,7 +23,8 @@ over_zeros_to_end at bytes new out le long new_is is =
     over_zeros at new out (omega arith) is ∙ rw (none, append-nil) (ap (λ xs. replicate at 0 ++ xs) new_is)
 
 -- a part of other bytes
-pub over_zeros_part : (at from count : ℕ) (bytes new out : List ℕ) → at + count ≤ 64 → from + count ≤ 64 → length bytes ≡ 64 → new ≡ take count (drop from bytes) → out ≡ take at (replicate 64 0) ++ new ++ drop (at + length new) (replicate 64 0)
+pub over_zeros_part : (at from count : ℕ) (bytes new out : List ℕ) → at + count ≤ 64 → from + count ≤ 64 → length bytes ≡ 64 → new ≡ take count (drop from bytes)
+    → out ≡ take at (replicate 64 0) ++ new ++ drop (at + length new) (replicate 64 0)
     → out ≡ replicate at 0 ++ take count (drop from bytes) ++ replicate (64 - at - length (take count (drop from bytes))) 0
 over_zeros_part at from count bytes new out le le' long new_is is =
     let n : length new ≡ count = ap length new_is ∙ length-take-le count (drop from bytes) (omega (arith, length-drop from bytes)) in
@@ -80,7 +81,8 @@ unfolding number_from
 eight_bytes f = omega arith
 
 low_byte : (low zeros : List ℕ) (count i : ℕ) → length low ≡ count → zeros ≡ replicate 8 0 → count ≤ i → get_or (low ++ drop count zeros) (0 + i) 0 ≡ 0
-low_byte low zeros count i long is le = rw (zero-add, is, drop-replicate {X = ℕ} count 8 0, get_or-append_right {X = ℕ} low (replicate (8 - count) 0) count i 0 long le) (get_or_zeros (8 - count) (i - count))
+low_byte low zeros count i long is le =
+    rw (zero-add, is, drop-replicate {X = ℕ} count 8 0, get_or-append_right {X = ℕ} low (replicate (8 - count) 0) count i 0 long le) (get_or_zeros (8 - count) (i - count))
 
 pub low_bytes : (bytes low eight : List ℕ) (at count n : ℕ) → count ≤ 8 → at + count ≤ length bytes → low ≡ take count (drop at bytes) → eight ≡ low ++ drop (length low) (replicate 8 0)
     → n ≡ from_le_bytes w64 eight → n ≡ number_from (λ i. get_or bytes i 0) at count

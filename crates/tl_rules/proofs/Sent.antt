@@ -1,6 +1,6 @@
 -- What a history says after a message was handed out on a channel where nothing was unfinished.
 use Rattle.std.proofs.Common.{◌≡◌, ℕ, zero, suc, ◌+◌, ◌==◌, ◌<◌, ◌≤◌, Bool, true, false, cond, ◌&&◌, [], ◌∷◌, ◌++◌, Some, None, refl, ap₂, ◌∙◌, arith}
-use Rattle.std.specs.Prelude.{Option, if◌then◌else◌}
+use Rattle.std.specs.Prelude.{Option, if◌then◌else◌, unwrap_or}
 use Rattle.std.proofs.lemmas.Bool.Decides.{nat_tests}
 use Rattle.tl_beat.specs.declared.beat.Beat.{Beat}
 use Rattle.tl_beat.specs.declared.beat.Beat.TheVariants as beat
@@ -12,12 +12,13 @@ use Rattle.tl_burst.specs.declared.message.MessageA.{MessageA}
 use Rattle.tl_burst.specs.declared.message.MessageC.{MessageC}
 use Rattle.tl_burst.specs.declared.message.MessageD.{MessageD}
 use Rattle.tl_burst.specs.Burst.{a_beat_of, beats_of, beat_of, begun}
-use Rattle.tl_burst.specs.Messages.{History, channel_of, channel_in, on, burst_length, grown, unfinished}
+use Rattle.tl_burst.specs.Messages.{History, channel_of, channel_in, on, grown, unfinished}
 use Rattle.tl_burst.proofs.Begun.{length-begun}
+use Rattle.tl_burst.proofs.Splitting.{length-of_beat}
 use Rattle.tl_params.specs.declared.key.Key.{Key}
 use Rattle.tl_params.specs.declared.key.Key.TheVariants as key
 use Rattle.tl_params.specs.declared.perm.Perm.{Perm}
-use Rattle.tl_rules.specs.History.{begins, ends, opens, closes, pending, request_of, release_of, asks_for, is_grant, capped, says_held, or_perm, held}
+use Rattle.tl_rules.specs.History.{begins, ends, opens, closes, pending, request_of, release_of, asks_for, is_grant, capped, says_held, held}
 use Rattle.tl_rules.specs.Agent.{sent}
 
 -- ---- beats of one message
@@ -36,13 +37,6 @@ on_own (C m) i = refl
 on_own (D m) i = refl
 on_own (E m) i = refl
 
-own_length : {w : ℕ} (m : Message w) (i : ℕ) → burst_length (beat_of m i) ≡ beats_of m
-own_length (A m) i = refl
-own_length (B m) i = refl
-own_length (C m) i = refl
-own_length (D m) i = refl
-own_length (E m) i = refl
-
 -- ---- what is unfinished
 
 pub not_last : (i n : ℕ) → i + 1 < n → (i + 1 == n) ≡ false
@@ -52,10 +46,10 @@ pub is_last : (i n : ℕ) → i + 1 ≡ n → (i + 1 == n) ≡ true
 is_last i n e = grind (arith, nat_tests)
 
 grown_more : {w : ℕ} (m : Message w) (i : ℕ) → i + 1 < beats_of m → grown (beat_of m i) (begun m i) ≡ begun m (suc i)
-grown_more m i lt = rw (length-begun m i, own_length m i, not_last i (beats_of m) lt) refl
+grown_more m i lt = rw (length-begun m i, length-of_beat m i, not_last i (beats_of m) lt) refl
 
 grown_last : {w : ℕ} (m : Message w) (i : ℕ) → i + 1 ≡ beats_of m → grown (beat_of m i) (begun m i) ≡ []
-grown_last m i e = rw (length-begun m i, own_length m i, is_last i (beats_of m) e) refl
+grown_last m i e = rw (length-begun m i, length-of_beat m i, is_last i (beats_of m) e) refl
 
 -- the beats of a message that isn't complete are unfinished
 pub unfinished-begun : {w : ℕ} (m : Message w) (t : History w) (i : ℕ) → unfinished (channel_in m) t ≡ [] → i < beats_of m → unfinished (channel_in m) (begun m i ++ t) ≡ begun m i
@@ -124,7 +118,7 @@ pub begins-later : {w : ℕ} (m : Message w) (t : History w) (i : ℕ) → unfin
 begins-later m t i none lt = rw (same_channel m (suc i), unfinished-begun m t (suc i) none lt) refl
 
 pub ends-at : {w : ℕ} (m : Message w) (t : History w) (i : ℕ) → unfinished (channel_in m) t ≡ [] → i < beats_of m → ends (beat_of m i) (begun m i ++ t) ≡ (i + 1 == beats_of m)
-ends-at m t i none lt = rw (same_channel m i, unfinished-begun m t i none lt, length-begun m i, own_length m i) refl
+ends-at m t i none lt = rw (same_channel m i, unfinished-begun m t i none lt, length-begun m i, length-of_beat m i) refl
 
 -- ---- what is pending
 
@@ -168,34 +162,40 @@ continuing k x t later none = go (ends x t)
     go true = rw (later, none) refl
     go false = rw later refl
 
-opened_at : {w : ℕ} (k : Key) (m : Message w) (t : History w) (i : ℕ) → unfinished (channel_in m) t ≡ [] → ClosesNothing k m → i < beats_of m → pending k (begun m (suc i) ++ t) ≡ cond (opens k (beat_of m 0) t) true (pending k t)
+opened_at : {w : ℕ} (k : Key) (m : Message w) (t : History w) (i : ℕ) → unfinished (channel_in m) t ≡ [] → ClosesNothing k m → i < beats_of m
+    → pending k (begun m (suc i) ++ t) ≡ cond (opens k (beat_of m 0) t) true (pending k t)
 opened_at k m t zero none closes_none lt = opening k (beat_of m 0) t (begins-first m t none) (closes_none 0 t)
 opened_at k m t (suc i) none closes_none lt =
     continuing k (beat_of m (suc i)) (begun m (suc i) ++ t) (begins-later m t i none lt) (closes_none (suc i) _) ∙ opened_at k m t i none closes_none (omega arith)
 
-opened_by : {w : ℕ} (k : Key) (m : Message w) (t : History w) (n : ℕ) → unfinished (channel_in m) t ≡ [] → ClosesNothing k m → 0 < n → n ≤ beats_of m → pending k (begun m n ++ t) ≡ cond (opens k (beat_of m 0) t) true (pending k t)
+opened_by : {w : ℕ} (k : Key) (m : Message w) (t : History w) (n : ℕ) → unfinished (channel_in m) t ≡ [] → ClosesNothing k m → 0 < n → n ≤ beats_of m
+    → pending k (begun m n ++ t) ≡ cond (opens k (beat_of m 0) t) true (pending k t)
 opened_by k m t zero none closes_none pos le = absurd (omega arith)
 opened_by k m t (suc i) none closes_none pos le = opened_at k m t i none closes_none (omega arith)
 
 -- what a message opens is pending
-pub pending-sent : {w : ℕ} (k : Key) (m : Message w) (t : History w) → unfinished (channel_in m) t ≡ [] → ClosesNothing k m → 0 < beats_of m → pending k (sent m t) ≡ cond (opens k (beat_of m 0) t) true (pending k t)
+pub pending-sent : {w : ℕ} (k : Key) (m : Message w) (t : History w) → unfinished (channel_in m) t ≡ [] → ClosesNothing k m → 0 < beats_of m
+    → pending k (sent m t) ≡ cond (opens k (beat_of m 0) t) true (pending k t)
 pending-sent k m t none closes_none pos = opened_by k m t (beats_of m) none closes_none pos (omega arith)
 
 -- ---- requests
 
-request_opened : {w : ℕ} (s : ℕ) (m : MessageA w) (t : History w) (i : ℕ) → unfinished channel.A t ≡ [] → i < beats_of (A m) → request_of s (begun (A m) (suc i) ++ t) ≡ cond (m.source == s) (Some (a_beat_of m 0)) (request_of s t)
+request_opened : {w : ℕ} (s : ℕ) (m : MessageA w) (t : History w) (i : ℕ) → unfinished channel.A t ≡ [] → i < beats_of (A m)
+    → request_of s (begun (A m) (suc i) ++ t) ≡ cond (m.source == s) (Some (a_beat_of m 0)) (request_of s t)
 unfolding request_of
 request_opened s m t zero none lt = rw none refl
 request_opened s m t (suc i) none lt =
     let later : begins (beat_of (A m) (suc i)) (begun (A m) (suc i) ++ t) ≡ false = begins-later (A m) t i none lt in
     rw later (request_opened s m t i none (omega arith))
 
-request_by : {w : ℕ} (s : ℕ) (m : MessageA w) (t : History w) (n : ℕ) → unfinished channel.A t ≡ [] → 0 < n → n ≤ beats_of (A m) → request_of s (begun (A m) n ++ t) ≡ cond (m.source == s) (Some (a_beat_of m 0)) (request_of s t)
+request_by : {w : ℕ} (s : ℕ) (m : MessageA w) (t : History w) (n : ℕ) → unfinished channel.A t ≡ [] → 0 < n → n ≤ beats_of (A m)
+    → request_of s (begun (A m) n ++ t) ≡ cond (m.source == s) (Some (a_beat_of m 0)) (request_of s t)
 request_by s m t zero none pos le = absurd (omega arith)
 request_by s m t (suc i) none pos le = request_opened s m t i none (omega arith)
 
 -- the request with a source is the one that was handed out with it last
-pub request_of-sent : {w : ℕ} (s : ℕ) (m : MessageA w) (t : History w) → unfinished channel.A t ≡ [] → 0 < beats_of (A m) → request_of s (sent (A m) t) ≡ cond (m.source == s) (Some (a_beat_of m 0)) (request_of s t)
+pub request_of-sent : {w : ℕ} (s : ℕ) (m : MessageA w) (t : History w) → unfinished channel.A t ≡ [] → 0 < beats_of (A m)
+    → request_of s (sent (A m) t) ≡ cond (m.source == s) (Some (a_beat_of m 0)) (request_of s t)
 request_of-sent s m t none pos = request_by s m t (beats_of (A m)) none pos (omega arith)
 
 -- a request closes nothing
@@ -241,7 +241,7 @@ pub held_unsaid : {w : ℕ} (k : ℕ) (x : Beat w) (t : History w) → says_held
 unfolding held
 held_unsaid k x t none = go (ends x t)
   where
-    go : (b : Bool) → cond b (or_perm (says_held k x t) (held k t)) (held k t) ≡ held k t
+    go : (b : Bool) → cond b (unwrap_or (says_held k x t) (held k t)) (held k t) ≡ held k t
     go true = rw none refl
     go false = refl
 
@@ -261,7 +261,7 @@ unended : {w : ℕ} (k : ℕ) (x : Beat w) (t : History w) → ends x t ≡ fals
 unfolding held
 unended k x t e = rw e refl
 
-ended : {w : ℕ} (k : ℕ) (x : Beat w) (t : History w) → ends x t ≡ true → held k (x ∷ t) ≡ or_perm (says_held k x t) (held k t)
+ended : {w : ℕ} (k : ℕ) (x : Beat w) (t : History w) → ends x t ≡ true → held k (x ∷ t) ≡ unwrap_or (says_held k x t) (held k t)
 unfolding held
 ended k x t e = rw e refl
 
@@ -270,15 +270,16 @@ held_before_last k m t zero none lt = refl
 held_before_last k m t (suc i) none lt =
     unended k (beat_of m i) (begun m i ++ t) (ends-at m t i none (omega arith) ∙ not_last i (beats_of m) (omega arith)) ∙ held_before_last k m t i none (omega arith)
 
-held_at_last : {w : ℕ} (k : ℕ) (m : Message w) (t : History w) (n : ℕ) (said : Option Perm) → unfinished (channel_in m) t ≡ [] → 0 < n → n ≡ beats_of m → ((i : ℕ) → says_held k (beat_of m i) (begun m i ++ t) ≡ said)
-    → held k (begun m n ++ t) ≡ or_perm said (held k t)
+held_at_last : {w : ℕ} (k : ℕ) (m : Message w) (t : History w) (n : ℕ) (said : Option Perm) → unfinished (channel_in m) t ≡ [] → 0 < n → n ≡ beats_of m
+    → ((i : ℕ) → says_held k (beat_of m i) (begun m i ++ t) ≡ said)
+    → held k (begun m n ++ t) ≡ unwrap_or said (held k t)
 held_at_last k m t zero said none pos e says = absurd (omega arith)
 held_at_last k m t (suc i) said none pos e says =
     ended k (beat_of m i) (begun m i ++ t) (ends-at m t i none (omega arith) ∙ is_last i (beats_of m) (omega arith))
-    ∙ ap₂ or_perm (says i) (held_before_last k m t i none (omega arith))
+    ∙ ap₂ unwrap_or (says i) (held_before_last k m t i none (omega arith))
 
 -- a message of channel C says what is held
-pub held-sent_c : {w : ℕ} (k : ℕ) (m : MessageC w) (t : History w) → unfinished channel.C t ≡ [] → 0 < beats_of (C m) → held k (sent (C m) t) ≡ or_perm (says_held k (beat_of (C m) 0) t) (held k t)
+pub held-sent_c : {w : ℕ} (k : ℕ) (m : MessageC w) (t : History w) → unfinished channel.C t ≡ [] → 0 < beats_of (C m) → held k (sent (C m) t) ≡ unwrap_or (says_held k (beat_of (C m) 0) t) (held k t)
 held-sent_c k m t none pos = held_at_last k (C m) t (beats_of (C m)) (says_held k (beat_of (C m) 0) t) none pos refl (λ i. refl)
 
 -- what a message of channel D says of a block, where it answers a request of this history
@@ -289,5 +290,5 @@ says-at : {w : ℕ} (k : ℕ) (m : MessageD w) (t : History w) (i : ℕ) → say
 says-at k m t i = rw (request_of-other m.source (D m) t i refl) refl
 
 -- a Grant makes what is held what its cap names
-pub held-sent_d : {w : ℕ} (k : ℕ) (m : MessageD w) (t : History w) → unfinished channel.D t ≡ [] → 0 < beats_of (D m) → held k (sent (D m) t) ≡ or_perm (says k m t) (held k t)
+pub held-sent_d : {w : ℕ} (k : ℕ) (m : MessageD w) (t : History w) → unfinished channel.D t ≡ [] → 0 < beats_of (D m) → held k (sent (D m) t) ≡ unwrap_or (says k m t) (held k t)
 held-sent_d k m t none pos = held_at_last k (D m) t (beats_of (D m)) (says k m t) none pos refl (says-at k m t)

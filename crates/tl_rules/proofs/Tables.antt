@@ -1,31 +1,26 @@
 -- The step from a history to one with one more beat, as far as what is kept of it goes.
 use Rattle.std.proofs.Common.{◌≡◌, ℕ, Bool, true, false, ◌&&◌, ◌||◌, refl, sym, ap, ◌∙◌, inl, inr}
-use Rattle.std.specs.Prelude.{if◌then◌else◌, [], ◌∷◌, not, Option, Some, None, is_some, ◌==◌}
+use Rattle.std.specs.Prelude.{if◌then◌else◌, [], ◌∷◌, not, Option, Some, None, is_some, ◌==◌, unwrap_or}
 use Rattle.std.proofs.lemmas.Bool.{cases_Bool}
 use Rattle.tl_beat.specs.declared.beat.Beat.{Beat}
 use Rattle.tl_beat.specs.declared.beat.Beat.TheVariants.{A, B, C, D, E}
-use Rattle.tl_beat.specs.declared.beat.BeatA.{BeatA}
-use Rattle.tl_beat.specs.declared.beat.BeatB.{BeatB}
 use Rattle.tl_beat.specs.declared.beat.BeatC.{BeatC}
-use Rattle.tl_beat.specs.declared.beat.BeatD.{BeatD}
-use Rattle.tl_beat.specs.declared.beat.BeatE.{BeatE}
 use Rattle.tl_beat.specs.declared.opcode.OpD.{OpD}
 use Rattle.tl_beat.specs.declared.opcode.OpD.TheVariants as d
 use Rattle.tl_burst.specs.Messages.{History}
 use Rattle.tl_params.specs.declared.key.Key.TheVariants.{RequestSource, ReleaseSource, AcquireOf, ReleaseOf, GrantSink, GrantAckOf, ProbeOf}
 use Rattle.tl_params.specs.declared.perm.Perm.{Perm}
-use Rattle.tl_rules.specs.declared.past.Request.{Request}
 use Rattle.tl_rules.specs.declared.past.Probe.{Probe}
 use Rattle.tl_rules.specs.declared.table.Release.{Release}
 use Rattle.tl_rules.specs.declared.table.Block.{Block}
-use Rattle.tl_rules.specs.History.{begins, ends, block_at, is_acquire, is_probe, is_probe_ack, is_release, is_grant, is_release_ack, asks_for, releases, is_sink, request_of, release_of, probe_of, grant_sink, grants, opens, closes, pending, held, reported, capped, says_held, or_perm}
+use Rattle.tl_rules.specs.History.{begins, ends, block_at, is_acquire, is_probe, is_probe_ack, is_release, is_grant, is_release_ack, asks_for, releases, is_sink, request_of, release_of, probe_of, grant_sink, grants, opens, closes, pending, held, reported, capped}
 use Rattle.tl_rules.proofs.Open.{never, still, release-begun, probe-begun}
 use Rattle.tl_rules.specs.Open.{request_fields, release_size, probe_fields, open_probe}
 use Rattle.tl_rules.specs.Tables.{release_fields, kept_request, kept_release, kept_grant, kept_block, request_next, release_next, sink_next, block_next, bears_on}
 
 -- ---- plain steps of what is pending
 
-neither : (first last before : Bool) → (if first && false then true else if last && false then false else before) ≡ before
+pub neither : (first last before : Bool) → (if first && false then true else if last && false then false else before) ≡ before
 neither true true before = refl
 neither true false before = refl
 neither false true before = refl
@@ -83,7 +78,8 @@ fields_if f false o p = refl
 
 pub request-next : {w : ℕ} (s : ℕ) (x : Beat w) (t : History w) → kept_request s (x ∷ t) ≡ request_next (begins x t) (ends x t) x s (kept_request s t)
 unfolding pending request_of
-request-next s (A x) t = rw (fields_if request_fields (begins (A x) t && (x.source == s)) (Some x) (request_of s t)) (opened (begins (A x) t) (x.source == s) (ends (A x) t) (pending (RequestSource s) t) (request_fields (Some x)) (request_fields (request_of s t)))
+request-next s (A x) t =
+    rw (fields_if request_fields (begins (A x) t && (x.source == s)) (Some x) (request_of s t)) (opened (begins (A x) t) (x.source == s) (ends (A x) t) (pending (RequestSource s) t) (request_fields (Some x)) (request_fields (request_of s t)))
 request-next s (B x) t = unmoved (begins (B x) t) (ends (B x) t) (pending (RequestSource s) t) (request_fields (request_of s t))
 request-next s (C x) t = unmoved (begins (C x) t) (ends (C x) t) (pending (RequestSource s) t) (request_fields (request_of s t))
 request-next s (D x) t = closed (begins (D x) t) (ends (D x) t) (not (is_release_ack x.opcode) && (x.source == s)) (pending (RequestSource s) t) (request_fields (request_of s t))
@@ -93,7 +89,8 @@ pub release-next : {w : ℕ} (s : ℕ) (x : Beat w) (t : History w) → kept_rel
 unfolding pending release_of
 release-next s (A x) t = unmoved (begins (A x) t) (ends (A x) t) (pending (ReleaseSource s) t) (release_fields (release_of s t))
 release-next s (B x) t = unmoved (begins (B x) t) (ends (B x) t) (pending (ReleaseSource s) t) (release_fields (release_of s t))
-release-next s (C x) t = rw (fields_if release_fields (begins (C x) t && (is_release x.opcode && (x.source == s))) (Some x) (release_of s t)) (opened (begins (C x) t) (is_release x.opcode && (x.source == s)) (ends (C x) t) (pending (ReleaseSource s) t) (release_fields (Some x)) (release_fields (release_of s t)))
+release-next s (C x) t =
+    rw (fields_if release_fields (begins (C x) t && (is_release x.opcode && (x.source == s))) (Some x) (release_of s t)) (opened (begins (C x) t) (is_release x.opcode && (x.source == s)) (ends (C x) t) (pending (ReleaseSource s) t) (release_fields (Some x)) (release_fields (release_of s t)))
 release-next s (D x) t = closed (begins (D x) t) (ends (D x) t) (is_release_ack x.opcode && (x.source == s)) (pending (ReleaseSource s) t) (release_fields (release_of s t))
 release-next s (E x) t = unmoved (begins (E x) t) (ends (E x) t) (pending (ReleaseSource s) t) (release_fields (release_of s t))
 
@@ -122,7 +119,7 @@ either : {X : Type 0} (here : Bool) (x : X) → x ≡ (if here then x else x)
 either true x = refl
 either false x = refl
 
-said : (last now here : Bool) (p h : Perm) → (if last then or_perm (if now && here then Some p else None) h else h) ≡ (if here then (if last && now then p else h) else h)
+said : (last now here : Bool) (p h : Perm) → (if last then unwrap_or (if now && here then Some p else None) h else h) ≡ (if here then (if last && now then p else h) else h)
 said true true true p h = refl
 said true true false p h = refl
 said true false true p h = refl
@@ -130,7 +127,7 @@ said true false false p h = refl
 said false now true p h = refl
 said false now false p h = refl
 
-unsaid : (last : Bool) (h : Perm) → (if last then or_perm None h else h) ≡ h
+unsaid : (last : Bool) (h : Perm) → (if last then unwrap_or None h else h) ≡ h
 unsaid true h = refl
 unsaid false h = refl
 
@@ -208,7 +205,7 @@ block-next k (D x) t =
     let granted : grants k x t ≡ (is_grant x.opcode && here) = grant_here x.opcode (releases k (release_of x.source t)) (asks_for k (request_of x.source t)) in
     let released : (is_release_ack x.opcode && releases k (release_of x.source t)) ≡ (is_release_ack x.opcode && here) = ack_here x.opcode (releases k (release_of x.source t)) (asks_for k (request_of x.source t)) in
     parts here (block_next (begins (D x) t) (ends (D x) t) (D x) (kept_block k t)) (kept_block k t) (kept_block k (D x ∷ t))
-    (ap (λ g. if ends (D x) t then or_perm (if g then Some (capped x.param) else None) (held k t) else held k t) granted ∙ said (ends (D x) t) (is_grant x.opcode) here (capped x.param) (held k t))
+    (ap (λ g. if ends (D x) t then unwrap_or (if g then Some (capped x.param) else None) (held k t) else held k t) granted ∙ said (ends (D x) t) (is_grant x.opcode) here (capped x.param) (held k t))
     (only_closed (begins (D x) t) (ends (D x) t) (grants k x t) (pending (AcquireOf k) t) ∙ ap (λ g. if ends (D x) t && g then false else pending (AcquireOf k) t) granted ∙ chosen (ends (D x) t) (is_grant x.opcode) here false (pending (AcquireOf k) t))
     (only_closed (begins (D x) t) (ends (D x) t) (is_release_ack x.opcode && releases k (release_of x.source t)) (pending (ReleaseOf k) t) ∙ ap (λ g. if ends (D x) t && g then false else pending (ReleaseOf k) t) released ∙ chosen (ends (D x) t) (is_release_ack x.opcode) here false (pending (ReleaseOf k) t))
     (unmoved (begins (D x) t) (ends (D x) t) (pending (ProbeOf k) t) (probe_fields (probe_of k t)) ∙ either here (open_probe k t))
@@ -234,7 +231,8 @@ request-begun s (A y ∷ t) p none = elim (cases_Bool (begins (A y) t && (y.sour
 ]
 request-begun s (B y ∷ t) p none = request-begun s t (sym (neither (begins (B y) t) (ends (B y) t) (pending (RequestSource s) t)) ∙ p) none
 request-begun s (C y ∷ t) p none = request-begun s t (sym (neither (begins (C y) t) (ends (C y) t) (pending (RequestSource s) t)) ∙ p) none
-request-begun s (D y ∷ t) p none = request-begun s t (still (begins (D y) t && false) (ends (D y) t && (not (is_release_ack y.opcode) && (y.source == s))) (pending (RequestSource s) t) (never (begins (D y) t)) p) none
+request-begun s (D y ∷ t) p none =
+    request-begun s t (still (begins (D y) t && false) (ends (D y) t && (not (is_release_ack y.opcode) && (y.source == s))) (pending (RequestSource s) t) (never (begins (D y) t)) p) none
 request-begun s (E y ∷ t) p none = request-begun s t (sym (neither (begins (E y) t) (ends (E y) t) (pending (RequestSource s) t)) ∙ p) none
 
 -- a GrantAck that is pending is of a Grant that has begun

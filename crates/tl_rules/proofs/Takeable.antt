@@ -1,13 +1,12 @@
 -- The mask of a beat has no bit past the beat's lanes.
 use Rattle.std.proofs.Common.{◌≡◌, ℕ, zero, suc, ◌+◌, ◌%◌, ◌^◌, ◌<◌, ◌≤◌, Bool, true, false, not, ◌&&◌, ◌||◌, leb, ltb, refl, sym, ◌∙◌, arith, inl, inr}
-use Rattle.std.specs.Bool.{OnTrue}
+use Rattle.std.specs.Bool.{OnTrue, beq}
 use Rattle.std.specs.Int.{bit_at}
 use Rattle.std.proofs.lemmas.Bool.{cases_lt, lt-leb, le-leb, ltb-true, eqb-true, and_parts}
 use Rattle.std.proofs.lemmas.Nat.{pow_pos, mod_below}
 use Rattle.std.proofs.lemmas.Nat.Bits.{bit_at-lt, bit_at_above, same_from_bits_below}
 use Rattle.tl_beat.specs.Width.{IsWidth}
 use Rattle.tl_burst.specs.Burst.{bit}
-use Rattle.tl_burst.specs.Messages.{same_bool}
 use Rattle.tl_rules.specs.Legality.{each_below, is_aligned, is_lane, is_full_mask, is_part_mask}
 use Rattle.tl_rules.proofs.Masks.{bit_at_mod}
 
@@ -16,10 +15,14 @@ room_in_beat : (w size address : ℕ) → IsWidth w → 2 ^ size < w → size �
 room_in_beat w zero address is short le e = elim is [ inl w_is ↦ rw w_is (omega arith) | inr more ↦ elim more [ inl w_is ↦ rw w_is (omega arith) | inr w_is ↦ rw w_is (omega arith) ] ]
 room_in_beat w (suc zero) address is short le e = elim is [ inl w_is ↦ rw w_is (omega arith) | inr more ↦ elim more [ inl w_is ↦ rw w_is (omega arith) | inr w_is ↦ rw w_is (omega arith) ] ]
 room_in_beat w (suc (suc zero)) address is short le e = elim is [ inl w_is ↦ rw w_is (omega arith) | inr more ↦ elim more [ inl w_is ↦ rw w_is (omega arith) | inr w_is ↦ rw w_is (omega arith) ] ]
-room_in_beat w (suc (suc (suc zero))) address is short le e = elim is [ inl w_is ↦ rw w_is (omega arith) | inr more ↦ elim more [ inl w_is ↦ rw w_is (omega arith) | inr w_is ↦ rw w_is (omega arith) ] ]
-room_in_beat w (suc (suc (suc (suc zero)))) address is short le e = elim is [ inl w_is ↦ rw w_is (omega arith) | inr more ↦ elim more [ inl w_is ↦ rw w_is (omega arith) | inr w_is ↦ rw w_is (omega arith) ] ]
-room_in_beat w (suc (suc (suc (suc (suc zero))))) address is short le e = elim is [ inl w_is ↦ rw w_is (omega arith) | inr more ↦ elim more [ inl w_is ↦ rw w_is (omega arith) | inr w_is ↦ rw w_is (omega arith) ] ]
-room_in_beat w (suc (suc (suc (suc (suc (suc zero)))))) address is short le e = elim is [ inl w_is ↦ rw w_is (omega arith) | inr more ↦ elim more [ inl w_is ↦ rw w_is (omega arith) | inr w_is ↦ rw w_is (omega arith) ] ]
+room_in_beat w (suc (suc (suc zero))) address is short le e =
+    elim is [ inl w_is ↦ rw w_is (omega arith) | inr more ↦ elim more [ inl w_is ↦ rw w_is (omega arith) | inr w_is ↦ rw w_is (omega arith) ] ]
+room_in_beat w (suc (suc (suc (suc zero)))) address is short le e =
+    elim is [ inl w_is ↦ rw w_is (omega arith) | inr more ↦ elim more [ inl w_is ↦ rw w_is (omega arith) | inr w_is ↦ rw w_is (omega arith) ] ]
+room_in_beat w (suc (suc (suc (suc (suc zero))))) address is short le e =
+    elim is [ inl w_is ↦ rw w_is (omega arith) | inr more ↦ elim more [ inl w_is ↦ rw w_is (omega arith) | inr w_is ↦ rw w_is (omega arith) ] ]
+room_in_beat w (suc (suc (suc (suc (suc (suc zero)))))) address is short le e =
+    elim is [ inl w_is ↦ rw w_is (omega arith) | inr more ↦ elim more [ inl w_is ↦ rw w_is (omega arith) | inr w_is ↦ rw w_is (omega arith) ] ]
 room_in_beat w (suc (suc (suc (suc (suc (suc (suc n))))))) address is short le e = absurd (omega arith)
 
 lane_in_beat : (w size address lane : ℕ) → IsWidth w → size ≤ 6 → is_aligned address size ≡ true → is_lane w size address lane ≡ true → lane < w
@@ -68,8 +71,9 @@ narrow w mask small within =
     ]) in
     omega arith
 
-full_bit : (b lane : Bool) → same_bool b lane ≡ true → b ≡ true → lane ≡ true
-full_bit true lane same e = same
+full_bit : (b lane : Bool) → beq b lane ≡ true → b ≡ true → lane ≡ true
+full_bit true true same e = refl
+full_bit true false same e = absurd cc
 full_bit false lane same e = absurd cc
 
 part_bit : (b lane : Bool) → (not b || lane) ≡ true → b ≡ true → lane ≡ true
@@ -78,7 +82,7 @@ part_bit false lane part e = absurd cc
 
 pub full_mask-narrow : (w size address mask : ℕ) → IsWidth w → size ≤ 6 → mask < 2 ^ 16 → is_aligned address size ≡ true → is_full_mask w size address mask ≡ true → mask < 2 ^ w
 full_mask-narrow w size address mask is le small aligned full =
-    narrow w mask small (λ i lt e. lane_in_beat w size address i is le aligned (full_bit (bit mask i) _ (each_at (λ lane. same_bool (bit mask lane) (is_lane w size address lane)) 16 i full lt) e))
+    narrow w mask small (λ i lt e. lane_in_beat w size address i is le aligned (full_bit (bit mask i) _ (each_at (λ lane. beq (bit mask lane) (is_lane w size address lane)) 16 i full lt) e))
 
 pub part_mask-narrow : (w size address mask : ℕ) → IsWidth w → size ≤ 6 → mask < 2 ^ 16 → is_aligned address size ≡ true → is_part_mask w size address mask ≡ true → mask < 2 ^ w
 part_mask-narrow w size address mask is le small aligned part =

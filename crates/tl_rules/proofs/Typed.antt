@@ -9,9 +9,9 @@ use Rattle.tl_beat.specs.Opcode.{a_carries_data, b_carries_data, c_carries_data,
 use Rattle.tl_burst.specs.declared.message.Message.{Message}
 use Rattle.tl_burst.specs.declared.message.Message.TheVariants.{A, B, C, D, E}
 use Rattle.tl_burst.specs.Burst.{beats_of, beat_of, lanes_at}
+use Rattle.tl_burst.proofs.Lanes.{within_payload}
 use Rattle.tl_rules.specs.Agent.{lanes_of, bytes_carried, payload_of}
 use Rattle.tl_rules.specs.Typed.{IsTyped, AreTyped, HasBlock}
-use Rattle.tl_rules.proofs.Checks.{beat_room}
 
 -- ---- the beats of a message
 
@@ -28,10 +28,10 @@ mask_fits w n (inr (inl e)) = rw e (omega arith)
 mask_fits w n (inr (inr e)) = rw e (omega arith)
 
 pub typed-beat : {w : ℕ} (m : Message w) (i : ℕ) → IsWidth w → HasBlock m → i < beats_of m → IsTyped (beat_of m i)
-typed-beat {w} (A m) i is long lt = (mask_fits w (m.mask / 2 ^ (w * i)) is, whole_lanes (a_carries_data m.opcode) w m.payload i long (beat_room (A m) i is lt))
-typed-beat {w} (B m) i is long lt = (mask_fits w (m.mask / 2 ^ (w * i)) is, whole_lanes (b_carries_data m.opcode) w m.payload i long (beat_room (B m) i is lt))
-typed-beat {w} (C m) i is long lt = whole_lanes (c_carries_data m.opcode) w m.payload i long (beat_room (C m) i is lt)
-typed-beat {w} (D m) i is long lt = whole_lanes (d_carries_data m.opcode) w m.payload i long (beat_room (D m) i is lt)
+typed-beat {w} (A m) i is long lt = (mask_fits w (m.mask / 2 ^ (w * i)) is, whole_lanes (a_carries_data m.opcode) w m.payload i long (within_payload (A m) i is lt))
+typed-beat {w} (B m) i is long lt = (mask_fits w (m.mask / 2 ^ (w * i)) is, whole_lanes (b_carries_data m.opcode) w m.payload i long (within_payload (B m) i is lt))
+typed-beat {w} (C m) i is long lt = whole_lanes (c_carries_data m.opcode) w m.payload i long (within_payload (C m) i is lt)
+typed-beat {w} (D m) i is long lt = whole_lanes (d_carries_data m.opcode) w m.payload i long (within_payload (D m) i is lt)
 typed-beat (E m) i is long lt = tt
 
 -- ---- the payload of beats

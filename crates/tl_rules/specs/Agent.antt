@@ -1,6 +1,7 @@
+-- What the two ends of a link share: what was handed out, the A rules, and the data of a message.
 use Rattle.std.specs.Prelude.{ℕ, Bool, false, List, [], ◌∷◌, ◌++◌, ◌||◌, ◌-◌, length, nat_le, replicate, unwrap_or, Option, Some, None}
 use Rattle.tl_beat.specs.declared.beat.Beat.{Beat}
-use Rattle.tl_beat.specs.declared.beat.Beat.TheVariants.{A, B, C, D, E}
+use Rattle.tl_beat.specs.declared.beat.Beat.TheVariants as beat
 use Rattle.tl_burst.specs.declared.message.Message.{Message}
 use Rattle.tl_burst.specs.Burst.{burst_of}
 use Rattle.tl_burst.specs.Messages.{History}
@@ -21,27 +22,27 @@ sent_if_any (Some m) t = sent m t
 
 -- A1: the address is outside a map of so many blocks
 abbrev pub is_outside : {w : ℕ} → ℕ → Beat w → Bool
-is_outside blocks (A x) = nat_le blocks (block_at x.address)
-is_outside blocks (B x) = nat_le blocks (block_at x.address)
-is_outside blocks (C x) = nat_le blocks (block_at x.address)
+is_outside blocks (beat.A x) = nat_le blocks (block_at x.address)
+is_outside blocks (beat.B x) = nat_le blocks (block_at x.address)
+is_outside blocks (beat.C x) = nat_le blocks (block_at x.address)
 is_outside blocks _ = false
 
 -- A2: corrupt or denied is set
 abbrev pub is_spoiled : {w : ℕ} → Beat w → Bool
-is_spoiled (A x) = x.corrupt
-is_spoiled (B x) = x.corrupt
-is_spoiled (C x) = x.corrupt
-is_spoiled (D x) = x.corrupt || x.denied
-is_spoiled (E x) = false
+is_spoiled (beat.A x) = x.corrupt
+is_spoiled (beat.B x) = x.corrupt
+is_spoiled (beat.C x) = x.corrupt
+is_spoiled (beat.D x) = x.corrupt || x.denied
+is_spoiled (beat.E x) = false
 
 -- ---- the data of a message, from its beats
 
 abbrev pub lanes_of : {w : ℕ} → Beat w → List ℕ
-lanes_of (A x) = unwrap_or x.lanes []
-lanes_of (B x) = unwrap_or x.lanes []
-lanes_of (C x) = unwrap_or x.lanes []
-lanes_of (D x) = unwrap_or x.lanes []
-lanes_of (E x) = []
+lanes_of (beat.A x) = unwrap_or x.lanes []
+lanes_of (beat.B x) = unwrap_or x.lanes []
+lanes_of (beat.C x) = unwrap_or x.lanes []
+lanes_of (beat.D x) = unwrap_or x.lanes []
+lanes_of (beat.E x) = []
 
 -- the bytes that these beats carry, the newest of which is first
 unfoldable pub bytes_carried : {w : ℕ} → List (Beat w) → List ℕ

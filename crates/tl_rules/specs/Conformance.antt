@@ -1,6 +1,8 @@
-use Rattle.std.specs.Prelude.{ℕ, Bool, true, false, not, List, [], ◌∷◌, ◌==◌, ◌&&◌, ◌||◌, if◌then◌else◌, length, nat_le, Option, Some, None, is_none, slice_get}
+-- The order of messages on a link: the H rules, which judge a message at its first beat against the
+-- history of its link, and all rules together over a link and over a recorded trace.
+use Rattle.std.specs.Prelude.{ℕ, Bool, true, false, not, List, [], ◌∷◌, ◌==◌, ◌&&◌, ◌||◌, if◌then◌else◌, length, Option, Some, None, is_none, slice_get}
 use Rattle.tl_beat.specs.declared.beat.Beat.{Beat}
-use Rattle.tl_beat.specs.declared.beat.Beat.TheVariants.{A, B, C, D, E}
+use Rattle.tl_beat.specs.declared.beat.Beat.TheVariants as beat
 use Rattle.tl_beat.specs.declared.beat.BeatA.{BeatA}
 use Rattle.tl_beat.specs.declared.beat.BeatB.{BeatB}
 use Rattle.tl_beat.specs.declared.beat.BeatC.{BeatC}
@@ -15,6 +17,7 @@ use Rattle.tl_beat.specs.declared.opcode.OpB.TheVariants as b
 use Rattle.tl_beat.specs.declared.opcode.OpD.{OpD}
 use Rattle.tl_beat.specs.declared.opcode.OpD.TheVariants as d
 use Rattle.tl_beat.specs.Opcode.{c_carries_data}
+use Rattle.tl_beat.specs.First.{first_if}
 use Rattle.tl_burst.specs.Messages.{History, channel_of, unfinished, breaks_burst}
 use Rattle.tl_params.specs.declared.level.Level.{Level}
 use Rattle.tl_params.specs.declared.perm.Perm.{Perm}
@@ -25,10 +28,12 @@ use Rattle.tl_params.specs.declared.rule.Rule.{Rule}
 use Rattle.tl_params.specs.declared.rule.Rule.TheVariants.{L1, S1, H1, H2, H3, H4, H5, H6, H7, H8, H9, H10, H11, H12, H13}
 use Rattle.tl_rules.specs.History.{begins, block_at, is_acquire, is_probe, is_probe_ack, is_release, is_grant, is_release_ack, request_of, release_of, probe_of, held, pending}
 use Rattle.tl_params.specs.declared.key.Key.TheVariants.{RequestSource, ReleaseSource, AcquireOf, ReleaseOf, GrantSink, GrantAckOf, ProbeOf}
-use Rattle.tl_rules.specs.Legality.{illegal, rule_if}
+use Rattle.tl_rules.specs.Legality.{illegal}
 use Rattle.tl_params.specs.declared.param.Cap.{Cap}
+use Rattle.tl_params.specs.declared.param.Cap.TheVariants as cap
+use Rattle.tl_params.specs.declared.param.Grow.TheVariants as grow
 use Rattle.tl_params.specs.declared.param.Prune.{Prune}
-use Rattle.tl_params.specs.Param.{cap_of, prune_of, prune_left, report_at, report_code}
+use Rattle.tl_params.specs.Param.{grow_code, cap_code, cap_of, prune_of, prune_left, report_at, report_code}
 
 abbrev pub same_perm : Perm → Perm → Bool
 same_perm perm.None perm.None = true
@@ -54,15 +59,15 @@ answers _ _ = false
 -- the unfinished burst, of channel A, C or D, is a request with this source, a Release with it, or a
 -- Grant with this sink, whose message so isn't complete
 abbrev pub comes_in_request : {w : ℕ} → ℕ → List (Beat w) → Bool
-comes_in_request s (A x ∷ burst) = x.source == s
+comes_in_request s (beat.A x ∷ burst) = x.source == s
 comes_in_request s _ = false
 
 abbrev pub comes_in_release : {w : ℕ} → ℕ → List (Beat w) → Bool
-comes_in_release s (C x ∷ burst) = is_release x.opcode && (x.source == s)
+comes_in_release s (beat.C x ∷ burst) = is_release x.opcode && (x.source == s)
 comes_in_release s _ = false
 
 abbrev pub comes_in_grant : {w : ℕ} → ℕ → List (Beat w) → Bool
-comes_in_grant s (D x ∷ burst) = is_grant x.opcode && (x.sink == s)
+comes_in_grant s (beat.D x ∷ burst) = is_grant x.opcode && (x.sink == s)
 comes_in_grant s _ = false
 
 -- the request, if there is one, may be answered so
@@ -92,15 +97,18 @@ size_asked x t = if is_release_ack x.opcode then size_of_release (release_of x.s
 
 -- ---- permissions
 
--- NtoB (0) and NtoT (1) grow from nothing held, BtoT (2) not from Trunk
+-- BtoT grows from all but Trunk, NtoB and NtoT grow from nothing held
 abbrev pub grows_from : ℕ → Perm → Bool
-grows_from grow p = if grow == 2 then not (same_perm p perm.Trunk) else same_perm p perm.None
+grows_from param p = if param == grow_code grow.BtoT then not (same_perm p perm.Trunk) else same_perm p perm.None
 
 -- the cap answers the grow: toB for NtoB, otherwise toT; under the second profile an AcquireBlock
 -- NtoB may have toT as well
 abbrev pub fits_grow : Profile → OpA → ℕ → ℕ → Bool
-fits_grow profile.Two a.AcquireBlock grow cap = if grow == 0 then nat_le cap 1 else cap == 0
-fits_grow _ opcode grow cap = if grow == 0 then cap == 1 else cap == 0
+fits_grow profile.Two a.AcquireBlock param given =
+    if param == grow_code grow.NtoB
+    then (given == cap_code cap.ToT) || (given == cap_code cap.ToB)
+    else given == cap_code cap.ToT
+fits_grow _ opcode param given = if param == grow_code grow.NtoB then given == cap_code cap.ToB else given == cap_code cap.ToT
 
 abbrev pub is_grant_without_data : OpD → Bool
 is_grant_without_data d.Grant = true
@@ -145,25 +153,25 @@ prunes_from (Some prune) p = same_perm (prune_left prune) p
 
 abbrev pub broken_a : {w : ℕ} → BeatA w → History w → Option Rule
 broken_a x t =
-    rule_if (pending (RequestSource x.source) t) H1
-    (rule_if (is_acquire x.opcode && (pending (AcquireOf (block_at x.address)) t || pending (ReleaseOf (block_at x.address)) t)) H4
-    (rule_if (is_acquire x.opcode && not (grows_from x.param (held (block_at x.address) t))) H5 None))
+    first_if (pending (RequestSource x.source) t) H1
+    (first_if (is_acquire x.opcode && (pending (AcquireOf (block_at x.address)) t || pending (ReleaseOf (block_at x.address)) t)) H4
+    (first_if (is_acquire x.opcode && not (grows_from x.param (held (block_at x.address) t))) H5 None))
 
 abbrev pub broken_b : {w : ℕ} → BeatB w → History w → Option Rule
 broken_b x t =
-    rule_if (is_probe x.opcode && (pending (ProbeOf (block_at x.address)) t || pending (GrantAckOf (block_at x.address)) t)) H9 None
+    first_if (is_probe x.opcode && (pending (ProbeOf (block_at x.address)) t || pending (GrantAckOf (block_at x.address)) t)) H9 None
 
 abbrev pub broken_release : {w : ℕ} → BeatC w → History w → Option Rule
 broken_release x t =
-    rule_if (pending (ReleaseSource x.source) t) H1
-    (rule_if (pending (AcquireOf (block_at x.address)) t
+    first_if (pending (ReleaseSource x.source) t) H1
+    (first_if (pending (AcquireOf (block_at x.address)) t
     || (pending (ReleaseOf (block_at x.address)) t || not (prunes_from (prune_of x.param) (held (block_at x.address) t)))) H13 None)
 
 abbrev pub broken_probe_ack : {w : ℕ} → BeatC w → History w → Option Rule
 broken_probe_ack x t =
-    rule_if (not (pending (ProbeOf (block_at x.address)) t) || answers_wrong_probe x (probe_of (block_at x.address) t)) H10
-    (rule_if (pending (ReleaseOf (block_at x.address)) t) H11
-    (rule_if (misreports x (probe_of (block_at x.address) t) (held (block_at x.address) t)) H12 None))
+    first_if (not (pending (ProbeOf (block_at x.address)) t) || answers_wrong_probe x (probe_of (block_at x.address) t)) H10
+    (first_if (pending (ReleaseOf (block_at x.address)) t) H11
+    (first_if (misreports x (probe_of (block_at x.address) t) (held (block_at x.address) t)) H12 None))
 
 abbrev pub broken_c : {w : ℕ} → BeatC w → History w → Option Rule
 broken_c x t =
@@ -172,20 +180,20 @@ broken_c x t =
 
 abbrev pub broken_d : {w : ℕ} → Profile → BeatD w → History w → Option Rule
 broken_d p x t =
-    rule_if (not (has_request x t)) H2
-    (rule_if (not (x.size == size_asked x t)) H3
-    (rule_if (is_grant x.opcode && misgrants p x (request_of x.source t) t) H6
-    (rule_if (is_grant x.opcode && pending (GrantSink x.sink) t) H7 None)))
+    first_if (not (has_request x t)) H2
+    (first_if (not (x.size == size_asked x t)) H3
+    (first_if (is_grant x.opcode && misgrants p x (request_of x.source t) t) H6
+    (first_if (is_grant x.opcode && pending (GrantSink x.sink) t) H7 None)))
 
 abbrev pub broken_e : {w : ℕ} → BeatE → History w → Option Rule
-broken_e x t = rule_if (not (pending (GrantSink x.sink) t) || comes_in_grant x.sink (unfinished channel.D t)) H8 None
+broken_e x t = first_if (not (pending (GrantSink x.sink) t) || comes_in_grant x.sink (unfinished channel.D t)) H8 None
 
 unfoldable pub broken_order : {w : ℕ} → Profile → Beat w → History w → Option Rule
-broken_order p (A x) t = broken_a x t
-broken_order p (B x) t = broken_b x t
-broken_order p (C x) t = broken_c x t
-broken_order p (D x) t = broken_d p x t
-broken_order p (E x) t = broken_e x t
+broken_order p (beat.A x) t = broken_a x t
+broken_order p (beat.B x) t = broken_b x t
+broken_order p (beat.C x) t = broken_c x t
+broken_order p (beat.D x) t = broken_d p x t
+broken_order p (beat.E x) t = broken_e x t
 
 -- ---- legality of a beat after a history
 
@@ -193,7 +201,7 @@ broken_order p (E x) t = broken_e x t
 abbrev pub broken_in_order : {w : ℕ} → Profile → Beat w → History w → Option Rule
 broken_in_order p x t =
     if begins x t then broken_order p x t
-    else rule_if (breaks_burst x (unfinished (channel_of x) t)) S1 None
+    else first_if (breaks_burst x (unfinished (channel_of x) t)) S1 None
 
 -- the first rule that the beat breaks after t, given the L rule that it breaks by itself
 abbrev pub broken_given : {w : ℕ} → Profile → Option Rule → Beat w → History w → Option Rule

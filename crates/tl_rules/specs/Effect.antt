@@ -1,9 +1,10 @@
+-- What a request does to a memory, and what it is answered.
 use Rattle.std.specs.Prelude.{ℕ, zero, suc, ◌+◌, ◌-◌, ◌*◌, ◌/◌, ◌%◌, ◌^◌, ◌<◌, ◌≡◌, nat_lt, min, max, ℤ, pos, ◌-ℤ◌, int_lt, bit_xor, bit_or, bit_and, if◌then◌else◌, List, [], ◌∷◌, ◌++◌, length, replicate, slice_index, Option, Some, None, unwrap_or}
 use Rattle.tl_beat.specs.declared.opcode.OpA.{OpA}
 use Rattle.tl_beat.specs.declared.opcode.OpA.TheVariants as a
 use Rattle.tl_burst.specs.declared.message.MessageA.{MessageA}
 use Rattle.tl_burst.specs.declared.message.Message.{Message}
-use Rattle.tl_burst.specs.declared.message.Message.TheVariants.{A}
+use Rattle.tl_burst.specs.declared.message.Message.TheVariants as message
 use Rattle.tl_burst.specs.Burst.{byte_at, reaches}
 use Rattle.tl_rules.specs.declared.answer.Answer.{Answer}
 use Rattle.tl_rules.specs.declared.answer.Answer.TheVariants as answer
@@ -58,16 +59,16 @@ by_param result (Some operation) old operand = result operation old operand
 -- ---- requests
 
 -- how many bytes a request reaches
-abbrev pub bytes_of : {w : ℕ} → MessageA w → ℕ
-bytes_of m = 2 ^ m.size
+abbrev pub byte_count : {w : ℕ} → MessageA w → ℕ
+byte_count m = 2 ^ m.size
 
 -- the bytes of the payload at their addresses
 abbrev pub operand_of : {w : ℕ} → MessageA w → Memory
 operand_of {w} m address = slice_index m.payload (address - w * (m.address / w))
 
 -- the number that an atomic stores, given what it makes of the old value and the operand
-abbrev pub stored : {w : ℕ} → MessageA w → (ℕ → ℕ → ℕ) → Memory → ℕ
-stored m result memory = result (number_from memory m.address (bytes_of m)) (number_from (operand_of m) m.address (bytes_of m))
+abbrev pub number_stored : {w : ℕ} → MessageA w → (ℕ → ℕ → ℕ) → Memory → ℕ
+number_stored m result memory = result (number_from memory m.address (byte_count m)) (number_from (operand_of m) m.address (byte_count m))
 
 -- the memory with this number in place of the bytes that the request reaches
 abbrev pub with_number : {w : ℕ} → MessageA w → ℕ → Memory → Memory
@@ -75,29 +76,29 @@ with_number m n memory address = if reaches m.address m.size address then byte_o
 
 -- the memory after a request
 abbrev pub after : {w : ℕ} → OpA → MessageA w → Memory → Memory
-after a.PutFullData m memory = λ address. unwrap_or (byte_at 0 (A m) address) (memory address)
-after a.PutPartialData m memory = λ address. unwrap_or (byte_at 0 (A m) address) (memory address)
-after a.ArithmeticData m memory = with_number m (stored m (by_param (λ o. arithmetic_result o (8 * bytes_of m)) (arithmetic_of m.param)) memory) memory
-after a.LogicalData m memory = with_number m (stored m (by_param logical_result (logical_of m.param)) memory) memory
+after a.PutFullData m memory = λ address. unwrap_or (byte_at 0 (message.A m) address) (memory address)
+after a.PutPartialData m memory = λ address. unwrap_or (byte_at 0 (message.A m) address) (memory address)
+after a.ArithmeticData m memory = with_number m (number_stored m (by_param (λ o. arithmetic_result o (8 * byte_count m)) (arithmetic_of m.param)) memory) memory
+after a.LogicalData m memory = with_number m (number_stored m (by_param logical_result (logical_of m.param)) memory) memory
 after _ m memory = memory
 
 -- what a request is answered
-pub data Reply : Type 0 where
-  Done : Reply
-  Hinted : Reply
-  Bytes : List ℕ → Reply
+pub data AccessResult : Type 0 where
+  Done : AccessResult
+  Hinted : AccessResult
+  Bytes : List ℕ → AccessResult
 
-abbrev pub reply : {w : ℕ} → OpA → MessageA w → Memory → Reply
-reply a.PutFullData m memory = Done
-reply a.PutPartialData m memory = Done
-reply a.ArithmeticData m memory = Bytes (bytes_from memory m.address (bytes_of m))
-reply a.LogicalData m memory = Bytes (bytes_from memory m.address (bytes_of m))
-reply a.Get m memory = Bytes (bytes_from memory m.address (bytes_of m))
-reply _ m memory = Hinted
+abbrev pub access_result : {w : ℕ} → OpA → MessageA w → Memory → AccessResult
+access_result a.PutFullData m memory = Done
+access_result a.PutPartialData m memory = Done
+access_result a.ArithmeticData m memory = Bytes (bytes_from memory m.address (byte_count m))
+access_result a.LogicalData m memory = Bytes (bytes_from memory m.address (byte_count m))
+access_result a.Get m memory = Bytes (bytes_from memory m.address (byte_count m))
+access_result _ m memory = Hinted
 
 -- the memory after a message, and what it is answered
-unfoldable pub effect : {w : ℕ} → Message w → Memory → Memory × Reply
-effect (A m) memory = (after m.opcode m memory, reply m.opcode m memory)
+unfoldable pub effect : {w : ℕ} → Message w → Memory → Memory × AccessResult
+effect (message.A m) memory = (after m.opcode m memory, access_result m.opcode m memory)
 effect _ memory = (memory, Hinted)
 
 -- ---- blocks
@@ -111,20 +112,20 @@ abbrev pub SameBlock : ℕ → Memory → Memory → Type 0
 SameBlock block f g = (address : ℕ) → address / 64 ≡ block → f address ≡ g address
 
 -- the block of a request
-abbrev pub block_of : {w : ℕ} → Message w → ℕ
-block_of (A m) = m.address / 64
-block_of _ = 0
+abbrev pub request_block : {w : ℕ} → Message w → ℕ
+request_block (message.A m) = m.address / 64
+request_block _ = 0
 
 -- these bytes as a payload from this place on, with zeros round them
 abbrev pub as_payload : ℕ → List ℕ → List ℕ
 as_payload first bytes = replicate first 0 ++ bytes ++ replicate (64 - first - length bytes) 0
 
 -- a reply to a request at this address, as it is handed out
-abbrev pub answer_at : ℕ → ℕ → Reply → Answer
+abbrev pub answer_at : ℕ → ℕ → AccessResult → Answer
 answer_at w address Done = answer.Ack
 answer_at w address Hinted = answer.Hint
 answer_at w address (Bytes bytes) = answer.Data (as_payload (address % w) bytes)
 
-abbrev pub answer_of : {w : ℕ} → Message w → Reply → Answer
-answer_of {w} (A m) r = answer_at w m.address r
+abbrev pub answer_of : {w : ℕ} → Message w → AccessResult → Answer
+answer_of {w} (message.A m) r = answer_at w m.address r
 answer_of {w} _ r = answer_at w 0 r

@@ -1,6 +1,7 @@
-use Rattle.std.specs.Prelude.{ℕ, Bool, true, false, not, [], ◌∷◌, ◌==◌, ◌&&◌, ◌||◌, ◌/◌, if◌then◌else◌, Option, Some, None}
+-- What the history of a link says: what began and is complete, what is pending, and what is held.
+use Rattle.std.specs.Prelude.{ℕ, Bool, true, false, not, [], ◌∷◌, ◌==◌, ◌&&◌, ◌||◌, ◌/◌, if◌then◌else◌, Option, Some, None, unwrap_or, option_map}
 use Rattle.tl_beat.specs.declared.beat.Beat.{Beat}
-use Rattle.tl_beat.specs.declared.beat.Beat.TheVariants.{A, B, C, D, E}
+use Rattle.tl_beat.specs.declared.beat.Beat.TheVariants as beat
 use Rattle.tl_beat.specs.declared.beat.BeatA.{BeatA}
 use Rattle.tl_beat.specs.declared.beat.BeatB.{BeatB}
 use Rattle.tl_beat.specs.declared.beat.BeatC.{BeatC}
@@ -71,19 +72,19 @@ is_release_ack _ = false
 -- the last request of channel A that began in t with this source
 unfoldable pub request_of : {w : ℕ} → ℕ → History w → Option (BeatA w)
 request_of s [] = None
-request_of s (A x ∷ t) = if begins (A x) t && (x.source == s) then Some x else request_of s t
+request_of s (beat.A x ∷ t) = if begins (beat.A x) t && (x.source == s) then Some x else request_of s t
 request_of s (_ ∷ t) = request_of s t
 
 -- the last Release that began in t with this source
 unfoldable pub release_of : {w : ℕ} → ℕ → History w → Option (BeatC w)
 release_of s [] = None
-release_of s (C x ∷ t) = if begins (C x) t && (is_release x.opcode && (x.source == s)) then Some x else release_of s t
+release_of s (beat.C x ∷ t) = if begins (beat.C x) t && (is_release x.opcode && (x.source == s)) then Some x else release_of s t
 release_of s (_ ∷ t) = release_of s t
 
 -- the last Probe of the block that began in t
 unfoldable pub probe_of : {w : ℕ} → ℕ → History w → Option (BeatB w)
 probe_of k [] = None
-probe_of k (B x ∷ t) = if begins (B x) t && (is_probe x.opcode && (block_at x.address == k)) then Some x else probe_of k t
+probe_of k (beat.B x ∷ t) = if begins (beat.B x) t && (is_probe x.opcode && (block_at x.address == k)) then Some x else probe_of k t
 probe_of k (_ ∷ t) = probe_of k t
 
 abbrev pub asks_for : {w : ℕ} → ℕ → Option (BeatA w) → Bool
@@ -101,7 +102,7 @@ grants k x t = is_grant x.opcode && asks_for k (request_of x.source t)
 -- the sink of the last Grant of the block that began in t
 unfoldable pub grant_sink : {w : ℕ} → ℕ → History w → Option ℕ
 grant_sink k [] = None
-grant_sink k (D x ∷ t) = if begins (D x) t && grants k x t then Some x.sink else grant_sink k t
+grant_sink k (beat.D x ∷ t) = if begins (beat.D x) t && grants k x t then Some x.sink else grant_sink k t
 grant_sink k (_ ∷ t) = grant_sink k t
 
 abbrev pub is_sink : ℕ → Option ℕ → Bool
@@ -112,24 +113,24 @@ is_sink s (Some n) = n == s
 
 -- a message that begins with this beat after t opens the key
 abbrev pub opens : {w : ℕ} → Key → Beat w → History w → Bool
-opens (RequestSource s) (A x) t = x.source == s
-opens (ReleaseSource s) (C x) t = is_release x.opcode && (x.source == s)
-opens (AcquireOf k) (A x) t = is_acquire x.opcode && (block_at x.address == k)
-opens (ReleaseOf k) (C x) t = is_release x.opcode && (block_at x.address == k)
-opens (GrantSink s) (D x) t = is_grant x.opcode && (x.sink == s)
-opens (GrantAckOf k) (D x) t = grants k x t
-opens (ProbeOf k) (B x) t = is_probe x.opcode && (block_at x.address == k)
+opens (RequestSource s) (beat.A x) t = x.source == s
+opens (ReleaseSource s) (beat.C x) t = is_release x.opcode && (x.source == s)
+opens (AcquireOf k) (beat.A x) t = is_acquire x.opcode && (block_at x.address == k)
+opens (ReleaseOf k) (beat.C x) t = is_release x.opcode && (block_at x.address == k)
+opens (GrantSink s) (beat.D x) t = is_grant x.opcode && (x.sink == s)
+opens (GrantAckOf k) (beat.D x) t = grants k x t
+opens (ProbeOf k) (beat.B x) t = is_probe x.opcode && (block_at x.address == k)
 opens _ _ t = false
 
 -- a message that is complete with this beat after t closes the key
 abbrev pub closes : {w : ℕ} → Key → Beat w → History w → Bool
-closes (RequestSource s) (D x) t = not (is_release_ack x.opcode) && (x.source == s)
-closes (ReleaseSource s) (D x) t = is_release_ack x.opcode && (x.source == s)
-closes (AcquireOf k) (D x) t = grants k x t
-closes (ReleaseOf k) (D x) t = is_release_ack x.opcode && releases k (release_of x.source t)
-closes (GrantSink s) (E x) t = x.sink == s
-closes (GrantAckOf k) (E x) t = is_sink x.sink (grant_sink k t)
-closes (ProbeOf k) (C x) t = is_probe_ack x.opcode && (block_at x.address == k)
+closes (RequestSource s) (beat.D x) t = not (is_release_ack x.opcode) && (x.source == s)
+closes (ReleaseSource s) (beat.D x) t = is_release_ack x.opcode && (x.source == s)
+closes (AcquireOf k) (beat.D x) t = grants k x t
+closes (ReleaseOf k) (beat.D x) t = is_release_ack x.opcode && releases k (release_of x.source t)
+closes (GrantSink s) (beat.E x) t = x.sink == s
+closes (GrantAckOf k) (beat.E x) t = is_sink x.sink (grant_sink k t)
+closes (ProbeOf k) (beat.C x) t = is_probe_ack x.opcode && (block_at x.address == k)
 closes _ _ t = false
 
 -- of all openings and closings of the key in t, the last is an opening
@@ -141,33 +142,21 @@ pending k (x ∷ t) =
 
 -- ---- what is held
 
-abbrev pub perm_or_none : Option Perm → Perm
-perm_or_none None = perm.None
-perm_or_none (Some p) = p
-
-abbrev pub option_right : {X : Type 0} → (X → Perm) → Option X → Option Perm
-option_right f None = None
-option_right f (Some x) = Some (f x)
-
 -- what a prune or report leaves
 abbrev pub reported : ℕ → Perm
-reported param = perm_or_none (option_right report_right (report_named param))
+reported param = unwrap_or (option_map report_right (report_named param)) perm.None
 
 -- what a cap gives
 abbrev pub capped : ℕ → Perm
-capped param = perm_or_none (option_right cap_right (cap_of param))
+capped param = unwrap_or (option_map cap_right (cap_of param)) perm.None
 
 -- a message that is complete with this beat after t says so of the block
 abbrev pub says_held : {w : ℕ} → ℕ → Beat w → History w → Option Perm
-says_held k (C x) t = if (is_probe_ack x.opcode || is_release x.opcode) && (block_at x.address == k) then Some (reported x.param) else None
-says_held k (D x) t = if grants k x t then Some (capped x.param) else None
+says_held k (beat.C x) t = if (is_probe_ack x.opcode || is_release x.opcode) && (block_at x.address == k) then Some (reported x.param) else None
+says_held k (beat.D x) t = if grants k x t then Some (capped x.param) else None
 says_held k _ t = None
-
-abbrev pub or_perm : Option Perm → Perm → Perm
-or_perm None p = p
-or_perm (Some q) p = q
 
 -- what the last complete Grant, ProbeAck or Release of the block leaves of it
 unfoldable pub held : {w : ℕ} → ℕ → History w → Perm
 held k [] = perm.None
-held k (x ∷ t) = if ends x t then or_perm (says_held k x t) (held k t) else held k t
+held k (x ∷ t) = if ends x t then unwrap_or (says_held k x t) (held k t) else held k t

@@ -1,3 +1,4 @@
+-- Bytes replaced where a mask says so.
 use Rattle.std.specs.Prelude.{ℕ, ◌+◌, List, [], ◌∷◌, if◌then◌else◌}
 use Rattle.tl_burst.specs.Burst.{bit}
 

@@ -1,9 +1,9 @@
 -- What the types of a beat's and a message's fields say.
-use Rattle.std.specs.Prelude.{ℕ, List, [], ◌∷◌, ◌≡◌, ◌<◌, ◌^◌, length, IfSome}
+use Rattle.std.specs.Prelude.{ℕ, List, [], ◌∷◌, ◌≡◌, ◌<◌, ◌^◌, length, IfSome, ⊤}
 use Rattle.tl_beat.specs.declared.beat.Beat.{Beat}
 use Rattle.tl_beat.specs.declared.beat.Beat.TheVariants as beat
 use Rattle.tl_burst.specs.declared.message.Message.{Message}
-use Rattle.tl_burst.specs.declared.message.Message.TheVariants.{A, B, C, D, E}
+use Rattle.tl_burst.specs.declared.message.Message.TheVariants as message
 
 -- 16 bits of mask, and a byte for each lane
 abbrev pub IsTyped : {w : ℕ} → Beat w → Type 0
@@ -11,16 +11,16 @@ IsTyped {w} (beat.A x) = (x.mask < 2 ^ 16) × IfSome x.lanes (λ lanes. length l
 IsTyped {w} (beat.B x) = (x.mask < 2 ^ 16) × IfSome x.lanes (λ lanes. length lanes ≡ w)
 IsTyped {w} (beat.C x) = IfSome x.lanes (λ lanes. length lanes ≡ w)
 IsTyped {w} (beat.D x) = IfSome x.lanes (λ lanes. length lanes ≡ w)
-IsTyped (beat.E x) = Unit {0}
+IsTyped (beat.E x) = ⊤
 
 abbrev pub AreTyped : {w : ℕ} → List (Beat w) → Type 0
-AreTyped [] = Unit {0}
+AreTyped [] = ⊤
 AreTyped (x ∷ beats) = IsTyped x × AreTyped beats
 
 -- the payload, which a GrantAck lacks, has 64 bytes
 abbrev pub HasBlock : {w : ℕ} → Message w → Type 0
-HasBlock (A m) = length m.payload ≡ 64
-HasBlock (B m) = length m.payload ≡ 64
-HasBlock (C m) = length m.payload ≡ 64
-HasBlock (D m) = length m.payload ≡ 64
-HasBlock (E m) = Unit {0}
+HasBlock (message.A m) = length m.payload ≡ 64
+HasBlock (message.B m) = length m.payload ≡ 64
+HasBlock (message.C m) = length m.payload ≡ 64
+HasBlock (message.D m) = length m.payload ≡ 64
+HasBlock (message.E m) = ⊤

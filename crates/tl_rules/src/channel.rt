@@ -2,8 +2,9 @@
 //! beats of a burst share, then those of what each beat has of its own.
 
 ghost use Rattle.std.specs.Prelude.{◌≡◌, ◌<◌, ◌≤◌, ◌^◌, IsTrue, OnOk};
+ghost use Rattle.tl_params.specs.Refusal.{ok_unless};
 ghost use Rattle.tl_beat.specs.Width.{IsWidth};
-ghost use Rattle.tl_rules.specs.Legality.{is_aligned, verdict};
+ghost use Rattle.tl_rules.specs.Legality.{is_aligned};
 ghost use Rattle.tl_rules.specs.Control.{a_control, b_control, c_control, d_control};
 ghost use Rattle.tl_rules.specs.Control.{a_own, b_own, c_own, d_own};
 
@@ -22,7 +23,7 @@ pub fn control_of_a<const W: usize>(
     address: u32,
 ) -> Result<(), Rule>
     requires { IsWidth W }
-    ensures value { result ≡ verdict (a_control W level opcode param size address) }
+    ensures value { result ≡ ok_unless (a_control W level opcode param size address) }
     ensures small { OnOk result (size ≤ 6) }
     ensures aligned { OnOk result (IsTrue (is_aligned address size)) }
 {
@@ -51,7 +52,7 @@ pub fn own_of_a<const W: usize>(
 ) -> Result<(), Rule>
     requires width { IsWidth W }
     requires small { size ≤ 6 }
-    ensures value { result ≡ verdict (a_own W opcode size address mask corrupt) }
+    ensures value { result ≡ ok_unless (a_own W opcode size address mask corrupt) }
     ensures narrow { IsTrue (is_aligned address size) → OnOk result (mask < 2 ^ W) }
 {
     let fits = match opcode {
@@ -76,7 +77,7 @@ pub fn control_of_b(
     source: u8,
     address: u32,
 ) -> Result<(), Rule>
-    ensures value { result ≡ verdict (b_control level opcode param size source address) }
+    ensures value { result ≡ ok_unless (b_control level opcode param size source address) }
     ensures small { OnOk result (size ≤ 6) }
     ensures aligned { OnOk result (IsTrue (is_aligned address size)) }
 {
@@ -108,7 +109,7 @@ pub fn own_of_b<const W: usize>(
 ) -> Result<(), Rule>
     requires width { IsWidth W }
     requires small { size ≤ 6 }
-    ensures value { result ≡ verdict (b_own W opcode size address mask corrupt) }
+    ensures value { result ≡ ok_unless (b_own W opcode size address mask corrupt) }
     ensures narrow { IsTrue (is_aligned address size) → OnOk result (mask < 2 ^ W) }
 {
     if !mask::is_full::<W>(size, address, mask) {
@@ -129,7 +130,7 @@ pub fn control_of_c(
     source: u8,
     address: u32,
 ) -> Result<(), Rule>
-    ensures value { result ≡ verdict (c_control level opcode param size source address) }
+    ensures value { result ≡ ok_unless (c_control level opcode param size source address) }
     ensures small { OnOk result (size ≤ 6) }
 {
     if !field::transfers(level) {
@@ -152,7 +153,7 @@ pub fn control_of_c(
 
 /// L6 of channel C.
 pub fn own_of_c(opcode: OpC, corrupt: bool) -> Result<(), Rule>
-    ensures { result ≡ verdict (c_own opcode corrupt) }
+    ensures { result ≡ ok_unless (c_own opcode corrupt) }
 {
     if corrupt && !opcode.carries_data() {
         return Err(Rule::L6);
@@ -169,7 +170,7 @@ pub fn control_of_d<const W: usize>(
     sink: u8,
 ) -> Result<(), Rule>
     requires { IsWidth W }
-    ensures value { result ≡ verdict (d_control W level opcode param size sink) }
+    ensures value { result ≡ ok_unless (d_control W level opcode param size sink) }
     ensures small { OnOk result (size ≤ 6) }
 {
     if !field::d_opcode_fits(level, opcode) {
@@ -186,7 +187,7 @@ pub fn control_of_d<const W: usize>(
 
 /// L6 of channel D.
 pub fn own_of_d(opcode: OpD, denied: bool, corrupt: bool) -> Result<(), Rule>
-    ensures { result ≡ verdict (d_own opcode denied corrupt) }
+    ensures { result ≡ ok_unless (d_own opcode denied corrupt) }
 {
     if corrupt && !opcode.carries_data() || denied && !field::may_be_denied(opcode, corrupt) {
         return Err(Rule::L6);

@@ -1,11 +1,13 @@
 //! Legality of a message by level and channel alone.
 
 ghost use Rattle.std.specs.Prelude.{◌≡◌, not};
+ghost use Rattle.tl_params.specs.Refusal.{ok_unless};
 ghost use Rattle.tl_beat.specs.Width.{IsWidth};
+ghost use Rattle.tl_beat.specs.First.{first_if};
 ghost use Rattle.tl_burst.specs.Burst;
 ghost use Rattle.tl_burst.specs.Burst.{beat_of};
 ghost use Rattle.tl_burst.specs.Messages.{on};
-ghost use Rattle.tl_rules.specs.Legality.{verdict, illegal_message, rule_if, has_transfers};
+ghost use Rattle.tl_rules.specs.Legality.{illegal_message, has_transfers};
 
 use crate::{channel, field};
 use tl_beat::opcode::Channel;
@@ -22,7 +24,7 @@ pub fn check<const W: usize>(
     message: &Message<W>,
 ) -> Result<(), Rule>
     requires { IsWidth W }
-    ensures { result ≡ verdict (illegal_message level channel message.now) }
+    ensures { result ≡ ok_unless (illegal_message level channel message.now) }
 {
     if !is_on(channel, message) {
         return Err(Rule::L1);
@@ -50,7 +52,7 @@ fn is_on<const W: usize>(channel: Channel, message: &Message<W>) -> bool
 }
 
 fn check_e(level: Level) -> Result<(), Rule>
-    ensures { result ≡ verdict (rule_if (not (has_transfers level)) Rule.L1 None) }
+    ensures { result ≡ ok_unless (first_if (not (has_transfers level)) Rule.L1 None) }
 {
     if field::transfers(level) {
         Ok(())
@@ -62,7 +64,7 @@ fn check_e(level: Level) -> Result<(), Rule>
 fn check_a<const W: usize>(level: Level, message: &MessageA<W>, beats: u8) -> Result<(), Rule>
     requires width { IsWidth W }
     requires beats { beats ≡ Burst.beats_of (Message.A message.now) }
-    ensures { result ≡ verdict (illegal_message level Channel.A (Message.A message.now)) }
+    ensures { result ≡ ok_unless (illegal_message level Channel.A (Message.A message.now)) }
 {
     let (opcode, size, address) = (message.opcode, message.size, message.address);
     channel::control_of_a::<W>(level, opcode, message.param, size, address)?;
@@ -76,7 +78,7 @@ fn check_a<const W: usize>(level: Level, message: &MessageA<W>, beats: u8) -> Re
 /// A Probe has one beat.
 fn check_b<const W: usize>(level: Level, message: &MessageB<W>) -> Result<(), Rule>
     requires { IsWidth W }
-    ensures { result ≡ verdict (illegal_message level Channel.B (Message.B message.now)) }
+    ensures { result ≡ ok_unless (illegal_message level Channel.B (Message.B message.now)) }
 {
     let (opcode, size, address) = (message.opcode, message.size, message.address);
     channel::control_of_b(level, opcode, message.param, size, message.source, address)?;
@@ -87,7 +89,7 @@ fn check_b<const W: usize>(level: Level, message: &MessageB<W>) -> Result<(), Ru
 /// Only a message without data, which has one beat, may not be corrupt.
 fn check_c<const W: usize>(level: Level, message: &MessageC<W>) -> Result<(), Rule>
     requires { IsWidth W }
-    ensures { result ≡ verdict (illegal_message level Channel.C (Message.C message.now)) }
+    ensures { result ≡ ok_unless (illegal_message level Channel.C (Message.C message.now)) }
 {
     channel::control_of_c(
         level,
@@ -103,7 +105,7 @@ fn check_c<const W: usize>(level: Level, message: &MessageC<W>) -> Result<(), Ru
 fn check_d<const W: usize>(level: Level, message: &MessageD<W>, beats: u8) -> Result<(), Rule>
     requires width { IsWidth W }
     requires beats { beats ≡ Burst.beats_of (Message.D message.now) }
-    ensures { result ≡ verdict (illegal_message level Channel.D (Message.D message.now)) }
+    ensures { result ≡ ok_unless (illegal_message level Channel.D (Message.D message.now)) }
 {
     channel::control_of_d::<W>(
         level,

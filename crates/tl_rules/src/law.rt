@@ -74,5 +74,5 @@ pub fn acts_on_its_block<const W: usize>()
     ensures after { (m : MessageA W) (f g : Memory) → m.address % 64 + 2 ^ m.size ≤ 64 → SameBlock (m.address / 64) f g →
         SameBlock (m.address / 64) (Effect.after m.opcode m f) (Effect.after m.opcode m g) }
     ensures reply { (m : MessageA W) (f g : Memory) → m.address % 64 + 2 ^ m.size ≤ 64 → SameBlock (m.address / 64) f g →
-        Effect.reply m.opcode m f ≡ Effect.reply m.opcode m g }
+        Effect.access_result m.opcode m f ≡ Effect.access_result m.opcode m g }
 {}

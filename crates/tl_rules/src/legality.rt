@@ -2,9 +2,10 @@
 //! taxonomy" and the chapters on the three levels).
 
 ghost use Rattle.std.specs.Prelude.{◌≡◌, OnOk};
+ghost use Rattle.tl_params.specs.Refusal.{ok_unless};
 ghost use Rattle.tl_beat.specs.Width.{IsWidth};
 ghost use Rattle.tl_burst.specs.Part.{IsTakeable};
-ghost use Rattle.tl_rules.specs.Legality.{verdict, illegal};
+ghost use Rattle.tl_rules.specs.Legality.{illegal};
 
 use crate::{channel, field};
 use tl_beat::beat::{Beat, BeatA, BeatB, BeatC, BeatD};
@@ -21,7 +22,7 @@ pub fn check_beat<const W: usize>(
     beat: &Beat<W>,
 ) -> Result<(), Rule>
     requires { IsWidth W }
-    ensures value { result ≡ verdict (illegal level channel beat.now) }
+    ensures value { result ≡ ok_unless (illegal level channel beat.now) }
     ensures takeable { OnOk result (IsTakeable beat.now) }
 {
     match (channel, beat) {
@@ -37,7 +38,7 @@ pub fn check_beat<const W: usize>(
 #[tactic(auto, unfolding(crate::specs::Legality::illegal))]
 fn check_a<const W: usize>(level: Level, beat: &BeatA<W>) -> Result<(), Rule>
     requires { IsWidth W }
-    ensures value { result ≡ verdict (illegal level Channel.A (Beat.A beat.now)) }
+    ensures value { result ≡ ok_unless (illegal level Channel.A (Beat.A beat.now)) }
     ensures takeable { OnOk result (IsTakeable (Beat.A beat.now)) }
 {
     channel::control_of_a::<W>(level, beat.opcode, beat.param, beat.size, beat.address)?;
@@ -53,7 +54,7 @@ fn check_a<const W: usize>(level: Level, beat: &BeatA<W>) -> Result<(), Rule>
 #[tactic(auto, unfolding(crate::specs::Legality::illegal))]
 fn check_b<const W: usize>(level: Level, beat: &BeatB<W>) -> Result<(), Rule>
     requires { IsWidth W }
-    ensures value { result ≡ verdict (illegal level Channel.B (Beat.B beat.now)) }
+    ensures value { result ≡ ok_unless (illegal level Channel.B (Beat.B beat.now)) }
     ensures takeable { OnOk result (IsTakeable (Beat.B beat.now)) }
 {
     channel::control_of_b(
@@ -76,7 +77,7 @@ fn check_b<const W: usize>(level: Level, beat: &BeatB<W>) -> Result<(), Rule>
 #[tactic(auto, unfolding(crate::specs::Legality::illegal))]
 fn check_c<const W: usize>(level: Level, beat: &BeatC<W>) -> Result<(), Rule>
     requires { IsWidth W }
-    ensures value { result ≡ verdict (illegal level Channel.C (Beat.C beat.now)) }
+    ensures value { result ≡ ok_unless (illegal level Channel.C (Beat.C beat.now)) }
     ensures takeable { OnOk result (IsTakeable (Beat.C beat.now)) }
 {
     channel::control_of_c(
@@ -93,7 +94,7 @@ fn check_c<const W: usize>(level: Level, beat: &BeatC<W>) -> Result<(), Rule>
 #[tactic(auto, unfolding(crate::specs::Legality::illegal))]
 fn check_d<const W: usize>(level: Level, beat: &BeatD<W>) -> Result<(), Rule>
     requires { IsWidth W }
-    ensures value { result ≡ verdict (illegal level Channel.D (Beat.D beat.now)) }
+    ensures value { result ≡ ok_unless (illegal level Channel.D (Beat.D beat.now)) }
     ensures takeable { OnOk result (IsTakeable (Beat.D beat.now)) }
 {
     channel::control_of_d::<W>(level, beat.opcode, beat.param, beat.size, beat.sink)?;

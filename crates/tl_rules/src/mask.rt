@@ -1,4 +1,5 @@
-//! Masks: which lanes of a beat carry a byte of its message.
+//! Masks: which lanes of a beat carry a byte of its message (SiFive TileLink Specification 1.8,
+//! "Serialization" on byte lanes). Addresses count bytes.
 
 ghost use Rattle.std.specs.Prelude.{◌≡◌, ◌<◌, ◌≤◌, ◌^◌, ℕ, IsTrue};
 ghost use Rattle.std.specs.Bool.{OnTrue};

@@ -27,7 +27,7 @@ fn eight_at(bytes: &[u8; 64], at: usize) -> [u8; 8]
     eight
 }
 
-fn put_eight(bytes: &mut [u8; 64], at: usize, eight: &[u8; 8])
+fn write_eight(bytes: &mut [u8; 64], at: usize, eight: &[u8; 8])
     requires { at + 8 ≤ 64 }
     ensures { bytes.new ≡ take at bytes.old ++ eight.now ++ drop (at + 8) bytes.old }
 {
@@ -43,6 +43,6 @@ pub fn merge_masked(old: &mut [u8; 64], new: &[u8; 64], mask: u64)
         let mut eight = eight_at(old, at);
         let other = eight_at(new, at);
         merge_eight(&mut eight, &other, ((mask >> at) % 256) as u8);
-        put_eight(old, at, &eight);
+        write_eight(old, at, &eight);
     }
 }

@@ -17,8 +17,8 @@ use crate::kind::{
 use crate::past::{Past, Request};
 use tl_beat::beat::{Beat, BeatA, BeatB, BeatC, BeatD, BeatE};
 use tl_beat::opcode::{OpA, OpB, OpC, OpD};
-use tl_params::key::{Key, block_of};
-use tl_params::param::{Cap, Prune};
+use tl_params::key::{Key, block_at};
+use tl_params::param::{Cap, Grow, Prune};
 use tl_params::perm::Perm;
 use tl_params::profile::Profile;
 use tl_params::report::report_of;
@@ -30,11 +30,11 @@ fn either_pending<const W: usize, P: Past<W>>(one: Key, other: Key, past: &P) ->
     past.is_pending(one) || past.is_pending(other)
 }
 
-/// Whether an Acquire of this number grows from what is held.
-fn grows_from(grow: u8, perm: Perm) -> bool
-    ensures { result ≡ Conformance.grows_from grow perm }
+/// Whether an Acquire with this param grows from what is held.
+fn grows_from(param: u8, perm: Perm) -> bool
+    ensures { result ≡ Conformance.grows_from param perm }
 {
-    if grow == 2 {
+    if param == Grow::BtoT.param() {
         perm != Perm::Trunk
     } else {
         perm == Perm::None
@@ -44,7 +44,7 @@ fn grows_from(grow: u8, perm: Perm) -> bool
 fn broken_a<const W: usize, P: Past<W>>(x: &BeatA<W>, past: &P) -> Option<Rule>
     ensures { (t : History W) → P.knows past.now t → result ≡ Conformance.broken_a x.now t }
 {
-    let block = block_of(x.address);
+    let block = block_at(x.address);
     if past.is_pending(Key::RequestSource(x.source)) {
         return Some(Rule::H1);
     }
@@ -63,7 +63,7 @@ fn broken_a<const W: usize, P: Past<W>>(x: &BeatA<W>, past: &P) -> Option<Rule>
 fn broken_b<const W: usize, P: Past<W>>(x: &BeatB<W>, past: &P) -> Option<Rule>
     ensures { (t : History W) → P.knows past.now t → result ≡ Conformance.broken_b x.now t }
 {
-    let block = block_of(x.address);
+    let block = block_at(x.address);
     if !is_probe(x.opcode) {
         return None;
     }
@@ -73,11 +73,11 @@ fn broken_b<const W: usize, P: Past<W>>(x: &BeatB<W>, past: &P) -> Option<Rule>
     None
 }
 
-/// Whether a Release of this number gives up what is held.
-fn prunes_from(prune: u8, perm: Perm) -> bool
-    ensures { result ≡ Conformance.prunes_from (prune_of prune) perm }
+/// Whether a Release with this param gives up what is held.
+fn prunes_from(param: u8, perm: Perm) -> bool
+    ensures { result ≡ Conformance.prunes_from (prune_of param) perm }
 {
-    match Prune::from_param(prune) {
+    match Prune::from_param(param) {
         None => false,
         Some(prune) => prune.left() == perm,
     }
@@ -86,7 +86,7 @@ fn prunes_from(prune: u8, perm: Perm) -> bool
 fn broken_release<const W: usize, P: Past<W>>(x: &BeatC<W>, past: &P) -> Option<Rule>
     ensures { (t : History W) → P.knows past.now t → result ≡ Conformance.broken_release x.now t }
 {
-    let block = block_of(x.address);
+    let block = block_at(x.address);
     if past.is_pending(Key::ReleaseSource(x.source)) {
         return Some(Rule::H1);
     }
@@ -119,7 +119,7 @@ fn answers_wrong_probe(answer: OpC, probe: OpB) -> bool
 fn broken_probe_ack<const W: usize, P: Past<W>>(x: &BeatC<W>, past: &P) -> Option<Rule>
     ensures { (t : History W) → P.knows past.now t → result ≡ Conformance.broken_probe_ack x.now t }
 {
-    let block = block_of(x.address);
+    let block = block_at(x.address);
     let Some(probe) = past.probe(block) else {
         return Some(Rule::H10);
     };
@@ -147,14 +147,18 @@ fn broken_c<const W: usize, P: Past<W>>(x: &BeatC<W>, past: &P) -> Option<Rule>
     }
 }
 
-/// Whether a cap answers an Acquire that asks for this grow.
-fn fits_grow(profile: Profile, opcode: OpA, grow: u8, cap: u8) -> bool
-    ensures { result ≡ Conformance.fits_grow profile opcode grow cap }
+/// Whether a Grant with the param `given` answers an Acquire with this param.
+fn fits_grow(profile: Profile, opcode: OpA, param: u8, given: u8) -> bool
+    ensures { result ≡ Conformance.fits_grow profile opcode param given }
 {
+    if param != Grow::NtoB.param() {
+        return given == Cap::ToT.param();
+    }
     match (profile, opcode) {
-        (Profile::Two, OpA::AcquireBlock) if grow == 0 => cap <= 1,
-        _ if grow == 0 => cap == 1,
-        _ => cap == 0,
+        (Profile::Two, OpA::AcquireBlock) => {
+            given == Cap::ToT.param() || given == Cap::ToB.param()
+        }
+        _ => given == Cap::ToB.param(),
     }
 }
 

@@ -7,7 +7,7 @@ ghost use Rattle.tl_burst.specs.Burst.{beats_of, IsBlankAfter};
 ghost use Rattle.tl_rules.specs.Legality.{illegal_message, is_aligned};
 ghost use Rattle.tl_rules.specs.Control.{a_control};
 ghost use Rattle.tl_beat.specs.Opcode.{a_carries_data};
-ghost use Rattle.tl_rules.specs.Effect.{IsBlock, number_from, effect, block_of, answer_of, after, reply, answer_at, as_payload, bytes_from, bytes_of};
+ghost use Rattle.tl_rules.specs.Effect.{IsBlock, number_from, effect, request_block, answer_of, after, access_result, answer_at, as_payload, bytes_from, byte_count};
 ghost use Rattle.tl_params.specs.Param.{arithmetic_of, logical_of};
 
 use crate::answer::Answer;
@@ -24,7 +24,7 @@ fn read<const W: usize>(block: &[u8; 64], request: &MessageA<W>) -> [u8; 64]
     requires width { IsWidth W }
     requires aligned { IsTrue (is_aligned request.now.address request.now.size) }
     ensures { (memory : ℕ → ℕ) → IsBlock memory (request.now.address / 64) block.now
-        → result ≡ as_payload (request.now.address % W) (bytes_from memory request.now.address (bytes_of request.now)) }
+        → result ≡ as_payload (request.now.address % W) (bytes_from memory request.now.address (byte_count request.now)) }
 {
     place::payload_at(block, Span::new::<W>(request.address, request.size))
 }
@@ -66,7 +66,7 @@ fn arithmetic<const W: usize>(block: &mut [u8; 64], request: &MessageA<W>)
     let old = place::number_at(block, span.in_block, span.count);
     let operand = operand(request, span);
     let new = atomic::arithmetic(operation, span.count, old, operand);
-    place::put_number(block, span.in_block, span.count, new);
+    place::write_number(block, span.in_block, span.count, new);
 }
 
 /// Performs LogicalData.
@@ -85,7 +85,7 @@ fn logical<const W: usize>(block: &mut [u8; 64], request: &MessageA<W>)
     let old = place::number_at(block, span.in_block, span.count);
     let operand = operand(request, span);
     let new = atomic::logical(operation, old, operand);
-    place::put_number(block, span.in_block, span.count, new);
+    place::write_number(block, span.in_block, span.count, new);
 }
 
 /// Performs an access on its block.
@@ -95,7 +95,7 @@ fn access<const W: usize>(block: &mut [u8; 64], request: &MessageA<W>) -> Answer
     ensures memory { (memory : ℕ → ℕ) → IsBlock memory (request.now.address / 64) block.old
         → IsBlock (after request.now.opcode request.now memory) (request.now.address / 64) block.new }
     ensures answer { (memory : ℕ → ℕ) → IsBlock memory (request.now.address / 64) block.old
-        → result ≡ answer_at W request.now.address (reply request.now.opcode request.now memory) }
+        → result ≡ answer_at W request.now.address (access_result request.now.opcode request.now memory) }
 {
     match request.opcode {
         OpA::PutFullData | OpA::PutPartialData => {
@@ -123,12 +123,12 @@ fn access<const W: usize>(block: &mut [u8; 64], request: &MessageA<W>) -> Answer
 pub fn perform<const W: usize>(block: &mut [u8; 64], message: &Message<W>) -> Answer
     requires width { IsWidth W }
     requires legal { illegal_message Level.UH Channel.A message.now ≡ None }
-    ensures memory { (memory : ℕ → ℕ) → IsBlock memory (block_of message.now) block.old
-        → IsBlock (effect message.now memory).0 (block_of message.now) block.new }
-    ensures answer { (memory : ℕ → ℕ) → IsBlock memory (block_of message.now) block.old
+    ensures memory { (memory : ℕ → ℕ) → IsBlock memory (request_block message.now) block.old
+        → IsBlock (effect message.now memory).0 (request_block message.now) block.new }
+    ensures answer { (memory : ℕ → ℕ) → IsBlock memory (request_block message.now) block.old
         → result ≡ answer_of message.now (effect message.now memory).1 }
     ensures elsewhere { IsBlankAfter (beats_of message.now) message.now
-        → (memory : ℕ → ℕ) (address : ℕ) → address / 64 ≢ block_of message.now → (effect message.now memory).0 address ≡ memory address }
+        → (memory : ℕ → ℕ) (address : ℕ) → address / 64 ≢ request_block message.now → (effect message.now memory).0 address ≡ memory address }
 {
     let Message::A(request) = message else {
         unreachable!()

@@ -49,7 +49,7 @@ pub fn base<const W: usize>(address: u32) -> usize
 }
 
 /// Writes bytes from a place on.
-fn put(bytes: &mut [u8; 64], at: usize, new: &[u8])
+fn write_at(bytes: &mut [u8; 64], at: usize, new: &[u8])
     requires { at + length new.now ≤ 64 }
     ensures { bytes.new ≡ take at bytes.old ++ new.now ++ drop (at + length new.now) bytes.old }
 {
@@ -65,7 +65,7 @@ pub fn move_up(bytes: &[u8; 64], by: usize) -> [u8; 64]
     ensures long { length bytes.now ≡ 64 }
 {
     let mut moved = [0; 64];
-    put(&mut moved, by, &bytes[..64 - by]);
+    write_at(&mut moved, by, &bytes[..64 - by]);
     moved
 }
 
@@ -75,12 +75,12 @@ pub fn payload_at(block: &[u8; 64], span: Span) -> [u8; 64]
 {
     let mut payload = [0; 64];
     let bytes = &block[span.in_block..span.in_block + span.count];
-    put(&mut payload, span.in_payload, bytes);
+    write_at(&mut payload, span.in_payload, bytes);
     payload
 }
 
 /// Writes over the first of eight bytes.
-fn put_low(eight: &mut [u8; 8], low: &[u8])
+fn write_low(eight: &mut [u8; 8], low: &[u8])
     requires { length low.now ≤ 8 }
     ensures { eight.new ≡ low.now ++ drop (length low.now) eight.old }
 {
@@ -95,15 +95,15 @@ pub fn number_at(bytes: &[u8; 64], at: usize, count: usize) -> u64
     ensures below { result < 2 ^ (8 * count) }
 {
     let mut eight = [0; 8];
-    put_low(&mut eight, &bytes[at..at + count]);
+    write_low(&mut eight, &bytes[at..at + count]);
     u64::from_le_bytes(eight)
 }
 
 /// Writes the lowest `count` bytes of a number from a place on.
-pub fn put_number(bytes: &mut [u8; 64], at: usize, count: usize, number: u64)
+pub fn write_number(bytes: &mut [u8; 64], at: usize, count: usize, number: u64)
     requires count { count ≤ 8 }
     requires inside { at + count ≤ 64 }
     ensures { bytes.new ≡ take at bytes.old ++ take count (to_le_bytes w64 number) ++ drop (at + count) bytes.old }
 {
-    put(bytes, at, &number.to_le_bytes()[..count]);
+    write_at(bytes, at, &number.to_le_bytes()[..count]);
 }

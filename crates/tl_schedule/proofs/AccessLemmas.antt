@@ -7,9 +7,6 @@ use Rattle.tl_schedule.specs.EventLine.{filled}
 use Rattle.tl_schedule.specs.FieldReading.{bytes_in, last}
 use Rattle.tl_schedule.proofs.FieldLaws.{bytes_taken, last_taken}
 
-pub small_power : (size : ℕ) → size ≤ 6 → 2 ^ size ≤ 64
-small_power size le = pow-le-pow_right {n = 2} (lit< tt) {i = size} {j = 6} le
-
 pub smaller_power : (size : ℕ) → size ≤ 3 → 2 ^ size ≤ 8
 smaller_power size le = pow-le-pow_right {n = 2} (lit< tt) {i = size} {j = 3} le
 

@@ -1,6 +1,7 @@
 -- What a line says is read.
 use Rattle.std.proofs.Common.{◌≡◌, ℕ, zero, suc, ◌+◌, ◌*◌, ◌/◌, ◌%◌, ◌^◌, ◌≤◌, Bool, true, false, cond, List, [], ◌∷◌, ◌++◌, length, refl, arith, length-append, inl, inr}
 use Rattle.std.specs.Prelude.{nat_lt, Some}
+use Rattle.tl_burst.proofs.Lanes.{block_size}
 use Rattle.tl_beat.specs.Digits.{digits, lane_digits}
 use Rattle.tl_beat.specs.Line.{letter, spaced}
 use Rattle.tl_beat.specs.Width.{IsWidth}
@@ -18,10 +19,11 @@ use Rattle.tl_params.specs.declared.param.Logical.{Logical}
 use Rattle.tl_params.specs.declared.param.Logical.TheVariants as logical
 use Rattle.tl_params.specs.declared.param.Prune.{Prune}
 use Rattle.tl_params.specs.declared.param.Prune.TheVariants as prune
+use Rattle.tl_params.specs.Names.{arithmetic_name, grow_name, intent_name, logical_name, prune_name}
 use Rattle.tl_schedule.specs.EventLine.{Asked, Said, Get, Put, Part, Arith, Logic, Hint, Load, Store, Acquire, Whole, Release, Access, Deliver, AskedFits, Fits, asked_fields, asked_name, mask_digits, said_fields}
 use Rattle.tl_schedule.specs.EventReading.{ask_at}
-use Rattle.tl_schedule.specs.NameReading.{arithmetic_in, arithmetic_name, grow_in, grow_name, intent_in, intent_name, logical_in, logical_name, prune_in, prune_name}
-use Rattle.tl_schedule.proofs.AccessLemmas.{small_power, smaller_power}
+use Rattle.tl_schedule.specs.NameReading.{arithmetic_in, grow_in, intent_in, logical_in, prune_in}
+use Rattle.tl_schedule.proofs.AccessLemmas.{smaller_power}
 use Rattle.tl_schedule.proofs.FieldLaws.{number_again, size_again, bytes_again, channel_again}
 
 -- ---- names
@@ -57,12 +59,14 @@ intent_again intent.PrefetchWrite = refl
 
 pub ask_again : (w : ℕ) (said : Said) → Fits w said → ask_at w (said_fields w said) ≡ Some said
 ask_again w (Load client size address) fits = rw (number_again 2 client fits.0, size_again 3 size (omega arith) fits.1, number_again 8 address fits.2) refl
-ask_again w (Store client size address value) fits = rw (number_again 2 client fits.0, size_again 3 size (omega arith) fits.1, number_again 8 address fits.2, number_again (2 * 2 ^ size) value fits.3) refl
+ask_again w (Store client size address value) fits =
+    rw (number_again 2 client fits.0, size_again 3 size (omega arith) fits.1, number_again 8 address fits.2, number_again (2 * 2 ^ size) value fits.3) refl
 ask_again w (Acquire client block g) fits = rw (number_again 2 client fits.0, number_again 3 block fits.1, grow_again g) refl
 ask_again w (Whole client block bytes) fits = rw (number_again 2 client fits.0, number_again 3 block fits.1, bytes_again 64 bytes fits.2) refl
 ask_again w (Release client block p) fits = rw (number_again 2 client fits.0, number_again 3 block fits.1, prune_again p) refl
 ask_again w (Access client size address Get) fits = rw (number_again 2 client fits.0, size_again 6 size (omega arith) fits.1, number_again 8 address fits.2) refl
-ask_again w (Access client size address (Put bytes)) fits = rw (number_again 2 client fits.0, size_again 6 size (omega arith) fits.1, number_again 8 address fits.2, bytes_again (2 ^ size) bytes fits.3) refl
+ask_again w (Access client size address (Put bytes)) fits =
+    rw (number_again 2 client fits.0, size_again 6 size (omega arith) fits.1, number_again 8 address fits.2, bytes_again (2 ^ size) bytes fits.3) refl
 ask_again w (Access client size address (Part mask bytes)) fits =
     rw (number_again 2 client fits.0, size_again 6 size (omega arith) fits.1, number_again 8 address fits.2, number_again (mask_digits w size) mask fits.3.0, bytes_again (2 ^ size) bytes fits.3.1) refl
 ask_again w (Access client size address (Arith o bytes)) fits =
@@ -145,7 +149,8 @@ asked-no_spaces w size (Hint i) = ((intent_is i).no_space, tt)
 
 pub said-no_spaces : (w : ℕ) (said : Said) → NoSpaces (said_fields w said)
 said-no_spaces w (Load client size address) = (no_space-digits 2 client, ((refl, (refl, (refl, (refl, tt)))), (no_space-digits 1 size, (no_space-digits 8 address, tt))))
-said-no_spaces w (Store client size address value) = (no_space-digits 2 client, ((refl, (refl, (refl, (refl, (refl, tt))))), (no_space-digits 1 size, (no_space-digits 8 address, (no_space-digits (2 * 2 ^ size) value, tt)))))
+said-no_spaces w (Store client size address value) =
+    (no_space-digits 2 client, ((refl, (refl, (refl, (refl, (refl, tt))))), (no_space-digits 1 size, (no_space-digits 8 address, (no_space-digits (2 * 2 ^ size) value, tt)))))
 said-no_spaces w (Acquire client block g) = (no_space-digits 2 client, ((refl, (refl, (refl, (refl, (refl, (refl, (refl, tt))))))), (no_space-digits 3 block, ((grow_is g).no_space, tt))))
 said-no_spaces w (Whole client block bytes) = (no_space-digits 2 client, ((refl, (refl, (refl, (refl, (refl, tt))))), (no_space-digits 3 block, (no_space-bytes bytes, tt))))
 said-no_spaces w (Release client block p) = (no_space-digits 2 client, ((refl, (refl, (refl, (refl, (refl, (refl, (refl, tt))))))), (no_space-digits 3 block, ((prune_is p).no_space, tt))))
@@ -178,12 +183,12 @@ sixteen_short bytes true le = omega arith
 sixteen_short bytes false le = omega arith
 
 mask-short : (w size : ℕ) → IsWidth w → size ≤ 6 → mask_digits w size ≤ 16
-mask-short w size (inl e) small = rw e (four_short (2 ^ size) (nat_lt 4 (2 ^ size)) (small_power size small))
-mask-short w size (inr (inl e)) small = rw e (eight_short (2 ^ size) (nat_lt 8 (2 ^ size)) (small_power size small))
-mask-short w size (inr (inr e)) small = rw e (sixteen_short (2 ^ size) (nat_lt 16 (2 ^ size)) (small_power size small))
+mask-short w size (inl e) small = rw e (four_short (2 ^ size) (nat_lt 4 (2 ^ size)) (block_size size small))
+mask-short w size (inr (inl e)) small = rw e (eight_short (2 ^ size) (nat_lt 8 (2 ^ size)) (block_size size small))
+mask-short w size (inr (inr e)) small = rw e (sixteen_short (2 ^ size) (nat_lt 16 (2 ^ size)) (block_size size small))
 
 data-short : (size : ℕ) (bytes : List ℕ) → size ≤ 6 → length bytes ≡ 2 ^ size → length (lane_digits bytes) ≤ 128
-data-short size bytes small all = omega (arith, length-lane_digits bytes, small_power size small)
+data-short size bytes small all = omega (arith, length-lane_digits bytes, block_size size small)
 
 asked-short : (w size : ℕ) (x : Asked) → IsWidth w → size ≤ 6 → AskedFits w size x → total (asked_fields w size x) ≤ 146
 asked-short w size Get width small fits = omega arith
@@ -195,11 +200,13 @@ asked-short w size (Hint i) width small fits = omega (arith, (intent_is i).short
 
 pub said-short : (w : ℕ) (said : Said) → IsWidth w → Fits w said → total (said_fields w said) ≤ 255
 said-short w (Load client size address) width fits = omega (arith, length-digits 2 client, length-digits 1 size, length-digits 8 address)
-said-short w (Store client size address value) width fits = omega (arith, length-digits 2 client, length-digits 1 size, length-digits 8 address, length-digits (2 * 2 ^ size) value, smaller_power size fits.1)
+said-short w (Store client size address value) width fits =
+    omega (arith, length-digits 2 client, length-digits 1 size, length-digits 8 address, length-digits (2 * 2 ^ size) value, smaller_power size fits.1)
 said-short w (Acquire client block g) width fits = omega (arith, length-digits 2 client, length-digits 3 block, (grow_is g).short)
 said-short w (Whole client block bytes) width fits = omega (arith, length-digits 2 client, length-digits 3 block, length-lane_digits bytes, fits.2.0)
 said-short w (Release client block p) width fits = omega (arith, length-digits 2 client, length-digits 3 block, (prune_is p).short)
-said-short w (Access client size address x) width fits = omega (arith, length-digits 2 client, (asked_is x).short, length-digits 1 size, length-digits 8 address, asked-short w size x width fits.1 fits.3)
+said-short w (Access client size address x) width fits =
+    omega (arith, length-digits 2 client, (asked_is x).short, length-digits 1 size, length-digits 8 address, asked-short w size x width fits.1 fits.3)
 said-short w (Deliver link c) width fits = omega (arith, length-digits 2 link, (letter_is c).short)
 
 pub said-some : (w : ℕ) (said : Said) → 2 ≤ length (said_fields w said)

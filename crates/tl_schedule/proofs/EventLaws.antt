@@ -1,21 +1,22 @@
 -- Whole lines of events: what is read is said by the line, and what the line says is read.
 use Rattle.std.proofs.Common.{◌≡◌, ℕ, suc, ◌-◌, ◌<◌, ◌≤◌, Bool, true, false, cond, List, [], ◌∷◌, ◌++◌, length, get_or, take, drop, refl, sym, ap, ap₂, ◌∙◌, arith, length-append}
-use Rattle.std.proofs.Math.Seq.{drop-cons, get_or-append_seam, take-append_seam}
-use Rattle.std.proofs.lemmas.Bool.{eqb-true, le-ltb, lt-ltb, ltb-true, and_parts}
+use Rattle.std.proofs.Math.Seq.{drop-cons}
+use Rattle.std.proofs.lemmas.Bool.{eqb-true, le-ltb, ltb-true, and_parts}
 use Rattle.std.proofs.lemmas.List.{drop_all, take-append-drop}
 use Rattle.std.proofs.lemmas.Slice.Eq.{bytes_eq-Decides}
-use Rattle.std.specs.Prelude.{not, ◌==◌, ◌&&◌, ◌||◌, nat_lt, bytes_eq, codes, IfErr, IfOk, Option, Some, None, option_map, Result, Ok, Err}
+use Rattle.std.specs.Prelude.{not, ◌==◌, ◌||◌, nat_lt, bytes_eq, codes, IfErr, IfOk, Option, Some, None, option_map, Result, Ok, Err, ok_or}
 use Rattle.std.specs.Io.BufRead.{ends_with_byte}
 use Rattle.tl_beat.specs.Line.{pieces, spaced}
 use Rattle.tl_beat.specs.Width.{IsWidth}
 use Rattle.tl_beat.proofs.Pieces.{pieces-spaced, spaced-pieces}
+use Rattle.tl_beat.proofs.SpelledLaws.{ends_with_byte-line, without_last-line}
 use Rattle.tl_world.specs.declared.event.Event.{Event}
 use Rattle.tl_schedule.specs.declared.line.EventFault.{EventFault}
 use Rattle.tl_schedule.specs.declared.line.EventFault.TheVariants.{F1, F8}
 use Rattle.tl_schedule.specs.declared.line.Line.{Line}
 use Rattle.tl_schedule.specs.declared.line.Line.TheVariants as line_of
 use Rattle.tl_schedule.specs.EventLine.{Said, SpellsEvent, SpellsLine, event_of, drain_line, event_fault, said_fields}
-use Rattle.tl_schedule.specs.EventReading.{ask_at, event_at, line_at, meant, meant_by, or_else}
+use Rattle.tl_schedule.specs.EventReading.{ask_at, event_at, line_at, meant, meant_by}
 use Rattle.tl_schedule.proofs.EventAgain.{ask_again, length-fields, said-no_spaces, said-short, said-some}
 use Rattle.tl_schedule.proofs.EventMeant.{meant-event}
 use Rattle.tl_schedule.proofs.EventTaken.{ask_taken}
@@ -31,22 +32,10 @@ line-whole line e =
     let rest : drop (length line - 1) line ≡ 10 ∷ [] = drop-cons line (length line - 1) 0 (omega arith) ∙ ap₂ (λ (x : ℕ) (xs : List ℕ). x ∷ xs) last (drop_all (suc (length line - 1)) line (omega arith)) in
     sym (take-append-drop (length line - 1) line) ∙ ap (λ (xs : List ℕ). take (length line - 1) line ++ xs) rest
 
-before_last : (body : List ℕ) → take (length (body ++ 10 ∷ []) - 1) (body ++ 10 ∷ []) ≡ body
-before_last body =
-    let len : length (body ++ 10 ∷ []) - 1 ≡ length body = omega (arith, length-append body (10 ∷ [])) in
-    ap (λ (n : ℕ). take n (body ++ 10 ∷ [])) len ∙ take-append_seam body (10 ∷ [])
-
-ends : (body : List ℕ) → ends_with_byte 10 (body ++ 10 ∷ []) ≡ true
-ends body =
-    let len : length (body ++ 10 ∷ []) - 1 ≡ length body = omega (arith, length-append body (10 ∷ [])) in
-    let some : nat_lt 0 (length (body ++ 10 ∷ [])) ≡ true = lt-ltb 0 (length (body ++ 10 ∷ [])) (omega (arith, length-append body (10 ∷ []))) in
-    let last : (get_or (body ++ 10 ∷ []) (length (body ++ 10 ∷ []) - 1) 0 == 10) ≡ true = ap (λ (i : ℕ). get_or (body ++ 10 ∷ []) i 0 == 10) len ∙ ap (λ (b : ℕ). b == 10) (get_or-append_seam body 10 [] 0) in
-    ap₂ (λ (p q : Bool). p && q) some last
-
-event_at-line : (w : ℕ) (body : List ℕ) → length body ≤ 255 → event_at {w = w} (body ++ 10 ∷ []) ≡ or_else (line_at body)
+event_at-line : (w : ℕ) (body : List ℕ) → length body ≤ 255 → event_at {w = w} (body ++ 10 ∷ []) ≡ ok_or (line_at body) F8
 event_at-line w body short =
     let fits : nat_lt 256 (length (body ++ 10 ∷ [])) ≡ false = le-ltb 256 (length (body ++ 10 ∷ [])) (omega (arith, length-append body (10 ∷ []))) in
-    rw (fits, ends body, before_last body) refl
+    rw (fits, ends_with_byte-line body, without_last-line body) refl
 
 -- ---- what is read is said by the line
 
@@ -87,17 +76,17 @@ line_taken {w} line body read whole e = go (bytes_eq body (codes "drain")) refl 
         let (event, found, same) = map_taken event_line_of (meant_by (ask_at w (pieces body))) read f in
         rw (← same) (meant_said line body event whole found)
 
-or_else-ok : {w : ℕ} (o : Option (Line w)) (read : Line w) → or_else o ≡ Ok read → o ≡ Some read
-or_else-ok None read e = absurd cc
-or_else-ok (Some x) read e = cc
+ok_or-ok : {w : ℕ} (o : Option (Line w)) (read : Line w) → ok_or o F8 ≡ Ok read → o ≡ Some read
+ok_or-ok None read e = absurd cc
+ok_or-ok (Some x) read e = cc
 
 event_taken : {w : ℕ} (line : List ℕ) (read : Line w) → event_at line ≡ Ok read → SpellsLine line read
 event_taken {w} line read e = go (nat_lt 256 (length line)) (ends_with_byte 10 line) refl e
   where
-    go : (long ended : Bool) → ends_with_byte 10 line ≡ ended → cond (long || not ended) (Err F1) (or_else (line_at (take (length line - 1) line))) ≡ Ok read → SpellsLine line read
+    go : (long ended : Bool) → ends_with_byte 10 line ≡ ended → cond (long || not ended) (Err F1) (ok_or (line_at (take (length line - 1) line)) F8) ≡ Ok read → SpellsLine line read
     go true ended is f = absurd cc
     go false false is f = absurd cc
-    go false true is f = line_taken line (take (length line - 1) line) read (line-whole line is) (or_else-ok (line_at (take (length line - 1) line)) read f)
+    go false true is f = line_taken line (take (length line - 1) line) read (line-whole line is) (ok_or-ok (line_at (take (length line - 1) line)) read f)
 
 pub read_said : {w : ℕ} (r : Result (Line w) EventFault) (line : List ℕ) → r ≡ event_at line → IfOk r (SpellsLine line)
 read_said (Err fault) line e = tt
@@ -126,7 +115,7 @@ event_again {w} line e width s =
     let short : length body ≤ 255 = omega (arith, length-fields fields, said-short w s.said width s.fits) in
     let cut : pieces body ≡ fields = pieces-spaced fields (omega (arith, said-some w s.said)) (said-no_spaces w s.said) in
     let read = line_again s.said body e cut (ask_again w s.said s.fits) (meant-event s.said s.fits ∙ ap (λ (x : Event w). Some x) s.means) in
-    ap event_at s.is_line ∙ event_at-line w body short ∙ ap or_else read
+    ap event_at s.is_line ∙ event_at-line w body short ∙ ap (λ o. ok_or o F8) read
 
 drain_again : {w : ℕ} → event_at {w = w} drain_line ≡ Ok line_of.Drain
 drain_again = refl
@@ -137,7 +126,7 @@ said_read r line width e line_of.Drain s = e ∙ ap event_at s ∙ drain_again
 
 -- ---- the fault of a line that says nothing
 
-fault_is : {w : ℕ} (long : Bool) (o : Option (Line w)) (fault : EventFault) → Err fault ≡ cond long (Err F1) (or_else o) → fault ≡ cond long F1 F8
+fault_is : {w : ℕ} (long : Bool) (o : Option (Line w)) (fault : EventFault) → Err fault ≡ cond long (Err F1) (ok_or o F8) → fault ≡ cond long F1 F8
 fault_is true o fault e = cc
 fault_is false None fault e = cc
 fault_is false (Some read) fault e = absurd cc

@@ -37,7 +37,8 @@ abbrev made : {w : ℕ} (size address : ℕ) → Request → size ≤ 6 → Mess
 made size address r small = record { opcode = r.opcode; param = r.param; size = size; source = 0; address = address; payload = r.payload; mask = r.mask; corrupt = 0; small = small }
 
 -- the access that was read is the one that is meant
-pub access_meant : {w : ℕ} (k : Word) (client size address : ℕ) (fields others rest : List (List ℕ)) (r : Request) (small : size ≤ 6) → front (size_in 6) fields ≡ Some (size, others) → front (number_in 0 8) others ≡ Some (address, rest)
+pub access_meant : {w : ℕ} (k : Word) (client size address : ℕ) (fields others rest : List (List ℕ)) (r : Request) (small : size ≤ 6) → front (size_in 6) fields ≡ Some (size, others)
+    → front (number_in 0 8) others ≡ Some (address, rest)
     → Some r ≡ option_map (request_of w size address) (asked_at w k size rest)
     → Some (event.Ask client (op.Access (message.A (made {w = w} size address r small)))) ≡ meant_by (access_at w k client fields)
 access_meant {w} k client size address fields others rest r small e f h = go (asked_at w k size rest) refl h

@@ -75,7 +75,8 @@ zeros n = replicate n 0
 
 -- so many bytes of so many have been read
 abbrev pub Reads : ℕ → ℕ → List ℕ → List ℕ → List ℕ → Type 0
-Reads count i bytes field rest = (done : List ℕ) × (length done ≡ i) × (bytes ≡ replicate (count - i) 0 ++ (done ++ replicate (64 - count) 0)) × (pairs_in [] count field ≡ pairs_in done (count - i) rest)
+Reads count i bytes field rest =
+    (done : List ℕ) × (length done ≡ i) × (bytes ≡ replicate (count - i) 0 ++ (done ++ replicate (64 - count) 0)) × (pairs_in [] count field ≡ pairs_in done (count - i) rest)
 
 pub data-init : (count : ℕ) (field : List ℕ) → count ≤ 64 → Reads count 0 (replicate 64 0) field field
 data-init count field le =
@@ -83,7 +84,8 @@ data-init count field le =
     let none : count ≡ count - 0 = omega arith in
     ([], refl, ap zeros whole ∙ sym (replicate-append-replicate (count - 0) (64 - count) 0), ap (λ (k : ℕ). pairs_in [] k field) none)
 
-pub data-step : (count i byte : ℕ) (bytes field rest after : List ℕ) → i < count → Reads count i bytes field rest → pair_at rest ≡ Some (byte, after) → Reads count (i + 1) (set bytes (count - 1 - i) byte) field after
+pub data-step : (count i byte : ℕ) (bytes field rest after : List ℕ) → i < count → Reads count i bytes field rest → pair_at rest ≡ Some (byte, after)
+    → Reads count (i + 1) (set bytes (count - 1 - i) byte) field after
 unfolding pairs_in
 data-step count i byte bytes field rest after lt (done, len, is, same) read =
     let one : count - i ≡ suc (count - (i + 1)) = omega arith in

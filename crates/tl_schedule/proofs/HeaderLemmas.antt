@@ -4,6 +4,7 @@ use Rattle.std.proofs.lemmas.Bool.Decides.{nat_tests}
 use Rattle.std.specs.Fmt.{decimal}
 use Rattle.std.specs.Prelude.{Bool, ◌&&◌, IfSome, Option, Some, None, option_map}
 use Rattle.std.proofs.lemmas.List.{append-nil}
+use Rattle.std.proofs.lemmas.Bool.{and_parts}
 use Rattle.tl_params.specs.declared.config.ClientConfig.{ClientConfig}
 use Rattle.tl_params.specs.declared.level.Level.{Level}
 use Rattle.tl_params.specs.declared.level.Level.TheVariants as level
@@ -42,7 +43,8 @@ clients_at-full : (n : ℕ) (bytes : List ℕ) → n ≡ 0 → is_end bytes ≡ 
 unfolding clients_at
 clients_at-full n bytes full more = rw (full, more) refl
 
-clients_at-step : (m n : ℕ) (bytes rest : List ℕ) (client : ClientConfig) → m ≡ suc n → is_end bytes ≡ false → client_at bytes ≡ Some (client, rest) → clients_at m bytes ≡ onto_clients client (clients_at n rest)
+clients_at-step : (m n : ℕ) (bytes rest : List ℕ) (client : ClientConfig) → m ≡ suc n → is_end bytes ≡ false → client_at bytes ≡ Some (client, rest)
+    → clients_at m bytes ≡ onto_clients client (clients_at n rest)
 unfolding clients_at
 clients_at-step m n bytes rest client one more is = rw (one, more, is) refl
 
@@ -185,7 +187,8 @@ no_clients n bytes clients end e =
 both_true : (a b : Bool) → a ≡ true → b ≡ true → (a && b) ≡ true
 both_true a b p q = rw (p, q) refl
 
-one_client_more : (n : ℕ) (bytes rest : List ℕ) (client : ClientConfig) (clients : List ClientConfig) → IsClient bytes rest client → SpellsClients n rest clients → SpellsClients (suc n) bytes (client ∷ clients)
+one_client_more : (n : ℕ) (bytes rest : List ℕ) (client : ClientConfig) (clients : List ClientConfig) → IsClient bytes rest client → SpellsClients n rest clients
+    → SpellsClients (suc n) bytes (client ∷ clients)
 one_client_more n bytes rest client clients first others = record {
   is_text = first.is_text ∙ rw others.is_text (simp append_assoc);
   few = omega (arith, others.few);
@@ -233,11 +236,13 @@ record AreNamed (version : Version) (blocks trackers : ℕ) (clients : List Clie
   some : 0 < length clients
   same : name_all version blocks trackers clients ≡ named
 
-some_clients-taken : (version : Version) (blocks trackers : ℕ) (clients : List ClientConfig) (named : Named) → some_clients version blocks trackers clients ≡ Some named → AreNamed version blocks trackers clients named
+some_clients-taken : (version : Version) (blocks trackers : ℕ) (clients : List ClientConfig) (named : Named) → some_clients version blocks trackers clients ≡ Some named
+    → AreNamed version blocks trackers clients named
 some_clients-taken version blocks trackers [] named e = absurd cc
 some_clients-taken version blocks trackers (client ∷ clients) named e = record { some = omega arith; same = cc }
 
-whole_line : (line bytes a b c d e : List ℕ) (version : Version) (blocks trackers : ℕ) (clients : List ClientConfig) → line ≡ schedule_word ++ bytes → bytes ≡ version_text version ++ a → a ≡ 32 ∷ b → b ≡ decimal blocks ++ c → c ≡ 32 ∷ d
+whole_line : (line bytes a b c d e : List ℕ) (version : Version) (blocks trackers : ℕ) (clients : List ClientConfig) → line ≡ schedule_word ++ bytes → bytes ≡ version_text version ++ a
+    → a ≡ 32 ∷ b → b ≡ decimal blocks ++ c → c ≡ 32 ∷ d
     → d ≡ decimal trackers ++ e → e ≡ clients_text clients ++ 10 ∷ [] → line ≡ schedule_line version blocks trackers clients
 whole_line line bytes a b c d e version blocks trackers clients p q r s t u v = rw (p, q, r, s, t, u, v) (simp append_assoc)
 
@@ -260,7 +265,8 @@ named_taken line bytes named word e =
     let trackers = number_taken 8 n.0 t n.1 (omega arith) is_n in
     let clients = clients_taken 16 n.1 cs is_cs in
     same_named line (name_all v.0 b.0 n.0 cs) named found.same (record {
-      is_line = whole_line line bytes v.1 s b.1 t n.1 v.0 b.0 n.0 cs word (version_taken bytes v.1 v.0 is_v) (space_taken v.1 s is_s) blocks.is_text (space_taken b.1 t is_t) trackers.is_text clients.is_text;
+      is_line =
+          whole_line line bytes v.1 s b.1 t n.1 v.0 b.0 n.0 cs word (version_taken bytes v.1 v.0 is_v) (space_taken v.1 s is_s) blocks.is_text (space_taken b.1 t is_t) trackers.is_text clients.is_text;
       blocks_fit = blocks.fits;
       trackers_fit = trackers.fits;
       clients_fit = count_fits cs found.some clients.few;
@@ -302,16 +308,12 @@ no_digit : (clients : List ClientConfig) → digit_at (clients_text clients ++ 1
 no_digit [] = refl
 no_digit (client ∷ clients) = refl
 
-both_parts : (a b : Bool) → (a && b) ≡ true → (a ≡ true) × (b ≡ true)
-both_parts true b e = (refl, e)
-both_parts false b e = absurd cc
-
 clients_again : (n : ℕ) (clients : List ClientConfig) → length clients ≤ n → all_sources_fit clients ≡ true → clients_at n (clients_text clients ++ 10 ∷ []) ≡ Some clients
 clients_again n [] few fits = clients_at-end n (10 ∷ []) refl
 clients_again zero (client ∷ clients) few fits = absurd (omega arith)
 clients_again (suc n) (client ∷ clients) few fits =
     let rest = clients_text clients ++ 10 ∷ [] in
-    let (one, others) = both_parts (sources_fit client) (all_sources_fit clients) fits in
+    let (one, others) = and_parts (sources_fit client) (all_sources_fit clients) fits in
     let text : clients_text (client ∷ clients) ++ 10 ∷ [] ≡ 32 ∷ (level_text client.level ++ 58 ∷ (decimal client.sources ++ rest)) = simp append_assoc in
     let number = number_again 8 client.sources rest (omega arith) one (no_digit clients) in
     let read : client_at (32 ∷ (level_text client.level ++ 58 ∷ (decimal client.sources ++ rest))) ≡ Some (with_client client rest) =
@@ -322,14 +324,16 @@ clients_again (suc n) (client ∷ clients) few fits =
 count_parts : (clients : List ClientConfig) → is_from_to 1 16 (length clients) ≡ true → (0 < length clients) × (length clients ≤ 16)
 count_parts clients e = (grind (arith, nat_tests), grind (arith, nat_tests))
 
-named_again : (version : Version) (blocks trackers : ℕ) (clients : List ClientConfig) → blocks_fit blocks ≡ true → trackers_fit trackers ≡ true → is_from_to 1 16 (length clients) ≡ true → all_sources_fit clients ≡ true
+named_again : (version : Version) (blocks trackers : ℕ) (clients : List ClientConfig) → blocks_fit blocks ≡ true → trackers_fit trackers ≡ true → is_from_to 1 16 (length clients) ≡ true
+    → all_sources_fit clients ≡ true
     → named_at (version_text version ++ 32 ∷ (decimal blocks ++ 32 ∷ (decimal trackers ++ (clients_text clients ++ 10 ∷ [])))) ≡ Some (name_all version blocks trackers clients)
 named_again version blocks trackers [] b t c s = absurd cc
 named_again version blocks trackers (client ∷ clients) b t c s =
     let few = count_parts (client ∷ clients) c in
     rw (version_again version _, number_again 1024 blocks _ (omega arith) b refl, number_again 8 trackers _ (omega arith) t (no_digit (client ∷ clients)), clients_again 16 (client ∷ clients) few.1 s) refl
 
-header_again : (line : List ℕ) (version : Version) (blocks trackers : ℕ) (clients : List ClientConfig) → SpellsSchedule line version blocks trackers clients → header_at line ≡ Some (name_all version blocks trackers clients)
+header_again : (line : List ℕ) (version : Version) (blocks trackers : ℕ) (clients : List ClientConfig) → SpellsSchedule line version blocks trackers clients
+    → header_at line ≡ Some (name_all version blocks trackers clients)
 header_again line version blocks trackers clients h =
     let text : schedule_line version blocks trackers clients ≡ schedule_word ++ (version_text version ++ 32 ∷ (decimal blocks ++ 32 ∷ (decimal trackers ++ (clients_text clients ++ 10 ∷ [])))) = simp append_assoc in
     ap header_at (h.is_line ∙ text) ∙ named_again version blocks trackers clients h.blocks_fit h.trackers_fit h.clients_fit h.sources_fit
@@ -340,7 +344,8 @@ pub read_spelled : (r : Option Schedule) (line : List ℕ) → GivesSchedule r (
 read_spelled None line gives = tt
 read_spelled (Some s) line gives = header_taken line (named_by s) gives.0
 
-pub spelled_read : (r : Option Schedule) (line : List ℕ) → GivesSchedule r (header_at line) → (version : Version) (blocks trackers : ℕ) (clients : List ClientConfig) → SpellsSchedule line version blocks trackers clients → IsSchedule r version blocks trackers clients
+pub spelled_read : (r : Option Schedule) (line : List ℕ) → GivesSchedule r (header_at line) → (version : Version) (blocks trackers : ℕ) (clients : List ClientConfig)
+    → SpellsSchedule line version blocks trackers clients → IsSchedule r version blocks trackers clients
 spelled_read None line gives = λ version blocks trackers clients h. let e = header_again line version blocks trackers clients h in absurd cc
 spelled_read (Some s) line gives = λ version blocks trackers clients h.
     let e : Some (named_by s) ≡ Some (name_all version blocks trackers clients) = sym gives.0 ∙ header_again line version blocks trackers clients h in

@@ -165,7 +165,8 @@ from_again n lt = decimal_by_steps (λ m ds. (rest : List ℕ) → decimal_from 
         let same : 10 * 0 + m ≡ m = omega arith in
         digit-step 0 m ((48 + m) ∷ rest) rest (digit_read m rest small) ∙ ap (λ (k : ℕ). decimal_from k rest) same
 
-    more : (m : ℕ) (ds : List ℕ) → 10 ≤ m → ((rest : List ℕ) → decimal_from 0 (ds ++ rest) ≡ decimal_from (m / 10) rest) → (rest : List ℕ) → decimal_from 0 ((ds ++ (48 + m % 10) ∷ []) ++ rest) ≡ decimal_from m rest
+    more : (m : ℕ) (ds : List ℕ) → 10 ≤ m → ((rest : List ℕ) → decimal_from 0 (ds ++ rest) ≡ decimal_from (m / 10) rest) → (rest : List ℕ)
+        → decimal_from 0 ((ds ++ (48 + m % 10) ∷ []) ++ rest) ≡ decimal_from m rest
     more m ds le front rest =
         let same : 10 * (m / 10) + m % 10 ≡ m = omega arith in
         let low : m % 10 < 10 = omega arith in

@@ -1,12 +1,11 @@
 -- The line of an event in a schedule.
-use Rattle.std.specs.Prelude.{◌≡◌, ◌≤◌, ◌<◌, ℕ, ◌-◌, ◌*◌, ◌/◌, ◌%◌, ◌^◌, List, [], ◌∷◌, ◌++◌, length, take, replicate, codes, All, nat_lt, not, ◌||◌, if◌then◌else◌, slice_index_or}
+use Rattle.std.specs.Prelude.{◌≡◌, ◌≤◌, ◌<◌, ℕ, ◌-◌, ◌*◌, ◌/◌, ◌%◌, ◌^◌, List, [], ◌∷◌, ◌++◌, length, take, replicate, codes, All, nat_lt, not, ◌||◌, if◌then◌else◌, ⊤}
 use Rattle.std.specs.Io.BufRead.{ends_with_byte}
 use Rattle.tl_beat.specs.declared.opcode.Channel.{Channel}
 use Rattle.tl_beat.specs.declared.opcode.OpA.{OpA}
 use Rattle.tl_beat.specs.declared.opcode.OpA.TheVariants as a
 use Rattle.tl_beat.specs.Digits.{digits, lane_digits}
 use Rattle.tl_beat.specs.Line.{letter, spaced}
-use Rattle.tl_beat.specs.Names.{arithmetic_names, grow_names, intent_names, logical_names, prune_names}
 use Rattle.tl_burst.specs.declared.message.Message.TheVariants as message
 use Rattle.tl_burst.specs.declared.message.MessageA.{MessageA}
 use Rattle.tl_burst.specs.Burst.{data_beats}
@@ -15,7 +14,8 @@ use Rattle.tl_params.specs.declared.param.Grow.{Grow}
 use Rattle.tl_params.specs.declared.param.Intent.{Intent}
 use Rattle.tl_params.specs.declared.param.Logical.{Logical}
 use Rattle.tl_params.specs.declared.param.Prune.{Prune}
-use Rattle.tl_params.specs.Param.{arithmetic_code, grow_code, intent_code, logical_code, prune_code}
+use Rattle.tl_params.specs.Names.{arithmetic_name, grow_name, intent_name, logical_name, prune_name}
+use Rattle.tl_params.specs.Param.{arithmetic_code, intent_code, logical_code}
 use Rattle.tl_client.specs.declared.operation.Op.TheVariants as op
 use Rattle.tl_world.specs.declared.event.Event.{Event}
 use Rattle.tl_world.specs.declared.event.Event.TheVariants as event
@@ -47,10 +47,6 @@ pub data Said : Type 0 where
 
 -- ---- its one spelling
 
--- the name with this number
-abbrev pub named : List (List ℕ) → ℕ → List ℕ
-named names number = slice_index_or names number []
-
 abbrev pub asked_name : Asked → List ℕ
 asked_name Get = codes "get"
 asked_name (Put bytes) = codes "put"
@@ -68,17 +64,17 @@ abbrev pub asked_fields : ℕ → ℕ → Asked → List (List ℕ)
 asked_fields w size Get = []
 asked_fields w size (Put bytes) = lane_digits bytes ∷ []
 asked_fields w size (Part mask bytes) = digits (mask_digits w size) mask ∷ lane_digits bytes ∷ []
-asked_fields w size (Arith operation bytes) = named arithmetic_names (arithmetic_code operation) ∷ lane_digits bytes ∷ []
-asked_fields w size (Logic operation bytes) = named logical_names (logical_code operation) ∷ lane_digits bytes ∷ []
-asked_fields w size (Hint intent) = named intent_names (intent_code intent) ∷ []
+asked_fields w size (Arith operation bytes) = arithmetic_name operation ∷ lane_digits bytes ∷ []
+asked_fields w size (Logic operation bytes) = logical_name operation ∷ lane_digits bytes ∷ []
+asked_fields w size (Hint intent) = intent_name intent ∷ []
 
 -- the fields of a line, where beats have w bytes
 abbrev pub said_fields : ℕ → Said → List (List ℕ)
 said_fields w (Load client size address) = digits 2 client ∷ codes "load" ∷ digits 1 size ∷ digits 8 address ∷ []
 said_fields w (Store client size address value) = digits 2 client ∷ codes "store" ∷ digits 1 size ∷ digits 8 address ∷ digits (2 * 2 ^ size) value ∷ []
-said_fields w (Acquire client block grow) = digits 2 client ∷ codes "acquire" ∷ digits 3 block ∷ named grow_names (grow_code grow) ∷ []
+said_fields w (Acquire client block grow) = digits 2 client ∷ codes "acquire" ∷ digits 3 block ∷ grow_name grow ∷ []
 said_fields w (Whole client block bytes) = digits 2 client ∷ codes "whole" ∷ digits 3 block ∷ lane_digits bytes ∷ []
-said_fields w (Release client block prune) = digits 2 client ∷ codes "release" ∷ digits 3 block ∷ named prune_names (prune_code prune) ∷ []
+said_fields w (Release client block prune) = digits 2 client ∷ codes "release" ∷ digits 3 block ∷ prune_name prune ∷ []
 said_fields w (Access client size address asked) = digits 2 client ∷ asked_name asked ∷ digits 1 size ∷ digits 8 address ∷ asked_fields w size asked
 said_fields w (Deliver link channel) = digits 2 link ∷ codes "deliver" ∷ letter channel ∷ []
 
@@ -100,12 +96,12 @@ abbrev pub AreBytes : ℕ → List ℕ → Type 0
 AreBytes n bytes = (length bytes ≡ n) × All (λ byte. byte < 2 ^ 8) bytes
 
 abbrev pub AskedFits : ℕ → ℕ → Asked → Type 0
-AskedFits w size Get = Unit {0}
+AskedFits w size Get = ⊤
 AskedFits w size (Put bytes) = AreBytes (2 ^ size) bytes
 AskedFits w size (Part mask bytes) = HasRoom (mask_digits w size) mask × AreBytes (2 ^ size) bytes
 AskedFits w size (Arith operation bytes) = AreBytes (2 ^ size) bytes
 AskedFits w size (Logic operation bytes) = AreBytes (2 ^ size) bytes
-AskedFits w size (Hint intent) = Unit {0}
+AskedFits w size (Hint intent) = ⊤
 
 -- each part has room in its field: sizes are 3 at most of a Load or Store, and else 6
 abbrev pub Fits : ℕ → Said → Type 0

@@ -1,5 +1,5 @@
 -- The line of an event read from left to right, as the code goes; only private clauses cite this.
-use Rattle.std.specs.Prelude.{◌≡◌, ◌≤◌, ℕ, ◌*◌, ◌-◌, ◌^◌, Bool, true, false, not, ◌||◌, List, length, take, codes, bytes_eq, nat_le, nat_lt, refl, if◌then◌else◌, Option, Some, None, option_map, Result, Ok, Err}
+use Rattle.std.specs.Prelude.{◌≡◌, ◌≤◌, ℕ, ◌*◌, ◌-◌, ◌^◌, Bool, true, false, not, ◌||◌, List, length, take, codes, bytes_eq, nat_le, nat_lt, refl, if◌then◌else◌, Option, Some, None, option_map, Result, Err, ok_or}
 use Rattle.std.specs.Io.BufRead.{ends_with_byte}
 use Rattle.std.proofs.lemmas.Bool.{leb-true}
 use Rattle.tl_beat.specs.declared.opcode.OpA.{OpA}
@@ -81,7 +81,8 @@ abbrev pub release_at : ℕ → List (List ℕ) → Option Said
 release_at client fields = front (number_in 0 3) fields >>= λ b. front prune_in b.1 >>= λ p. at_end p.1 (Release client b.0 p.0)
 
 abbrev pub access_at : ℕ → Word → ℕ → List (List ℕ) → Option Said
-access_at w k client fields = front (size_in 6) fields >>= λ s. front (number_in 0 8) s.1 >>= λ a. option_map (λ x. Access client s.0 a.0 x) (asked_at w k s.0 a.1)
+access_at w k client fields =
+    front (size_in 6) fields >>= λ s. front (number_in 0 8) s.1 >>= λ a. option_map (λ x. Access client s.0 a.0 x) (asked_at w k s.0 a.1)
 
 abbrev pub deliver_at : ℕ → List (List ℕ) → Option Said
 deliver_at link fields = front channel_named fields >>= λ c. at_end c.1 (Deliver link c.0)
@@ -126,10 +127,6 @@ meant_by (Some said) = meant said
 abbrev pub line_at : {w : ℕ} → List ℕ → Option (Line w)
 line_at {w} body = if bytes_eq body (codes "drain") then Some line.Drain else option_map (λ e. line.Event e) (meant_by (ask_at w (pieces body)))
 
-abbrev pub or_else : {w : ℕ} → Option (Line w) → Result (Line w) EventFault
-or_else None = Err F8
-or_else (Some read) = Ok read
-
 -- a line with its line feed
 abbrev pub event_at : {w : ℕ} → List ℕ → Result (Line w) EventFault
-event_at line = if nat_lt 256 (length line) || not (ends_with_byte 10 line) then Err F1 else or_else (line_at (take (length line - 1) line))
+event_at line = if nat_lt 256 (length line) || not (ends_with_byte 10 line) then Err F1 else ok_or (line_at (take (length line - 1) line)) F8

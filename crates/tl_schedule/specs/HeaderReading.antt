@@ -25,7 +25,8 @@ Gives (Some x) read = read ≡ Some (x.0, x.1.now)
 abbrev pub width_at : List ℕ → Option (Width × List ℕ)
 width_at [] = None
 width_at (a ∷ []) = if a == 52 then Some (Four, []) else if a == 56 then Some (Eight, []) else None
-width_at (a ∷ b ∷ rest) = if a == 52 then Some (Four, b ∷ rest) else if a == 56 then Some (Eight, b ∷ rest) else if (a == 49) && (b == 54) then Some (Sixteen, rest) else None
+width_at (a ∷ b ∷ rest) =
+    if a == 52 then Some (Four, b ∷ rest) else if a == 56 then Some (Eight, b ∷ rest) else if (a == 49) && (b == 54) then Some (Sixteen, rest) else None
 
 -- a profile at the front, behind a space
 abbrev pub profile_at : List ℕ → Option (Profile × List ℕ)

@@ -6,4 +6,3 @@ pub mod EventLine
 pub mod FieldReading
 pub mod NameReading
 pub mod EventReading
-pub mod Played

@@ -1,7 +1,6 @@
 -- The names that a line has; only private clauses cite this.
 use Rattle.std.specs.Prelude.{ℕ, List, [], ◌∷◌, codes, bytes_eq, Option}
 use Rattle.std.specs.List.{find}
-use Rattle.tl_beat.specs.Names.{arithmetic_names, grow_names, intent_names, logical_names, prune_names}
 use Rattle.tl_params.specs.declared.param.Arithmetic.{Arithmetic}
 use Rattle.tl_params.specs.declared.param.Arithmetic.TheVariants as arithmetic
 use Rattle.tl_params.specs.declared.param.Grow.{Grow}
@@ -12,10 +11,9 @@ use Rattle.tl_params.specs.declared.param.Logical.{Logical}
 use Rattle.tl_params.specs.declared.param.Logical.TheVariants as logical
 use Rattle.tl_params.specs.declared.param.Prune.{Prune}
 use Rattle.tl_params.specs.declared.param.Prune.TheVariants as prune
-use Rattle.tl_params.specs.Param.{arithmetic_code, grow_code, intent_code, logical_code, prune_code}
+use Rattle.tl_params.specs.Names.{arithmetic_name, grow_name, intent_name, logical_name, prune_name}
 use Rattle.tl_schedule.specs.declared.name.Word.{Word}
 use Rattle.tl_schedule.specs.declared.name.Word.TheVariants as word
-use Rattle.tl_schedule.specs.EventLine.{named}
 
 abbrev pub word_name : Word → List ℕ
 word_name word.Load = codes "load"
@@ -36,13 +34,12 @@ abbrev pub with_name : {A : Type 0} → (A → List ℕ) → List A → List ℕ
 with_name name all field = find (λ x. bytes_eq field (name x)) all
 
 abbrev pub words : List Word
-words = word.Load ∷ word.Store ∷ word.Acquire ∷ word.Whole ∷ word.Release ∷ word.Get ∷ word.Put ∷ word.Part ∷ word.Arith ∷ word.Logic ∷ word.Hint ∷ word.Deliver ∷ []
+words =
+    word.Load ∷ word.Store ∷ word.Acquire ∷ word.Whole ∷ word.Release ∷ word.Get ∷ word.Put ∷ word.Part ∷ word.Arith ∷ word.Logic ∷ word.Hint
+    ∷ word.Deliver ∷ []
 
 abbrev pub word_in : List ℕ → Option Word
 word_in = with_name word_name words
-
-abbrev pub grow_name : Grow → List ℕ
-grow_name g = named grow_names (grow_code g)
 
 abbrev pub grows : List Grow
 grows = grow.NtoB ∷ grow.NtoT ∷ grow.BtoT ∷ []
@@ -50,17 +47,11 @@ grows = grow.NtoB ∷ grow.NtoT ∷ grow.BtoT ∷ []
 abbrev pub grow_in : List ℕ → Option Grow
 grow_in = with_name grow_name grows
 
-abbrev pub prune_name : Prune → List ℕ
-prune_name p = named prune_names (prune_code p)
-
 abbrev pub prunes : List Prune
 prunes = prune.TtoB ∷ prune.TtoN ∷ prune.BtoN ∷ []
 
 abbrev pub prune_in : List ℕ → Option Prune
 prune_in = with_name prune_name prunes
-
-abbrev pub arithmetic_name : Arithmetic → List ℕ
-arithmetic_name o = named arithmetic_names (arithmetic_code o)
 
 abbrev pub arithmetics : List Arithmetic
 arithmetics = arithmetic.Min ∷ arithmetic.Max ∷ arithmetic.MinU ∷ arithmetic.MaxU ∷ arithmetic.Add ∷ []
@@ -68,17 +59,11 @@ arithmetics = arithmetic.Min ∷ arithmetic.Max ∷ arithmetic.MinU ∷ arithmet
 abbrev pub arithmetic_in : List ℕ → Option Arithmetic
 arithmetic_in = with_name arithmetic_name arithmetics
 
-abbrev pub logical_name : Logical → List ℕ
-logical_name o = named logical_names (logical_code o)
-
 abbrev pub logicals : List Logical
 logicals = logical.Xor ∷ logical.Or ∷ logical.And ∷ logical.Swap ∷ []
 
 abbrev pub logical_in : List ℕ → Option Logical
 logical_in = with_name logical_name logicals
-
-abbrev pub intent_name : Intent → List ℕ
-intent_name i = named intent_names (intent_code i)
 
 abbrev pub intents : List Intent
 intents = intent.PrefetchRead ∷ intent.PrefetchWrite ∷ []

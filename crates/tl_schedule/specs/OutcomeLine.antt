@@ -1,5 +1,5 @@
 -- The line of an outcome, and what a trace shows of it.
-use Rattle.std.specs.Prelude.{ℕ, ◌^◌, List, [], ◌∷◌, ◌++◌, take, codes}
+use Rattle.std.specs.Prelude.{ℕ, ◌^◌, List, [], ◌∷◌, ◌++◌, take, codes, ⊤}
 use Rattle.std.specs.Fmt.{decimal}
 use Rattle.std.specs.Int.{to_le_bytes, w64}
 use Rattle.tl_beat.specs.declared.beat.Link.{Link}
@@ -94,4 +94,4 @@ drained_line count = codes "drained " ++ decimal count ++ codes "\n"
 abbrev pub HasLine : {w : ℕ} → Outcome w → Type 0
 HasLine (outcome.Moved beat) = IsWritable beat
 HasLine (outcome.Done beat source finish) = IsWritable beat
-HasLine _ = Unit {0}
+HasLine _ = ⊤

@@ -69,4 +69,5 @@ pub record SpellsSchedule (line : List ℕ) (version : Version) (blocks trackers
 -- the header names these
 abbrev pub IsSchedule : Option Schedule → Version → ℕ → ℕ → List ClientConfig → Type 0
 IsSchedule None version blocks trackers clients = ⊥
-IsSchedule (Some s) version blocks trackers clients = (s.version ≡ version) × (s.config.blocks ≡ blocks) × (s.config.trackers ≡ trackers) × (s.config.clients.items ≡ clients)
+IsSchedule (Some s) version blocks trackers clients =
+    (s.version ≡ version) × (s.config.blocks ≡ blocks) × (s.config.trackers ≡ trackers) × (s.config.clients.items ≡ clients)

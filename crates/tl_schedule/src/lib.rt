@@ -10,4 +10,3 @@ pub mod name;
 pub mod outcome;
 #[cfg(test)]
 mod tests;
-pub mod trace;

@@ -9,21 +9,6 @@ use crate::field::next;
 use tl_beat::opcode::Channel;
 use tl_params::param::{Arithmetic, Grow, Intent, Logical, Prune};
 
-/// The names of what an Acquire asks for, by number.
-pub const GROW: [&str; 3] = ["NtoB", "NtoT", "BtoT"];
-
-/// The names of what a Release gives up, by number.
-pub const PRUNE: [&str; 3] = ["TtoB", "TtoN", "BtoN"];
-
-/// The names of the operations of ArithmeticData, by number.
-pub const ARITHMETIC: [&str; 5] = ["MIN", "MAX", "MINU", "MAXU", "ADD"];
-
-/// The names of the operations of LogicalData, by number.
-pub const LOGICAL: [&str; 4] = ["XOR", "OR", "AND", "SWAP"];
-
-/// The names of intents, by number.
-pub const INTENT: [&str; 2] = ["PrefetchRead", "PrefetchWrite"];
-
 /// What a line asks for.
 #[derive(Clone, Copy)]
 pub(crate) enum Word {
@@ -82,12 +67,11 @@ fn word_of(field: &[u8]) -> Option<Word>
 fn grow(field: &[u8]) -> Option<Grow>
     ensures { result ≡ grow_in field.now }
 {
-    let [n_to_b, n_to_t, b_to_t] = GROW;
-    if is(field, n_to_b) {
+    if is(field, Grow::NtoB.name()) {
         Some(Grow::NtoB)
-    } else if is(field, n_to_t) {
+    } else if is(field, Grow::NtoT.name()) {
         Some(Grow::NtoT)
-    } else if is(field, b_to_t) {
+    } else if is(field, Grow::BtoT.name()) {
         Some(Grow::BtoT)
     } else {
         None
@@ -97,12 +81,11 @@ fn grow(field: &[u8]) -> Option<Grow>
 fn prune(field: &[u8]) -> Option<Prune>
     ensures { result ≡ prune_in field.now }
 {
-    let [t_to_b, t_to_n, b_to_n] = PRUNE;
-    if is(field, t_to_b) {
+    if is(field, Prune::TtoB.name()) {
         Some(Prune::TtoB)
-    } else if is(field, t_to_n) {
+    } else if is(field, Prune::TtoN.name()) {
         Some(Prune::TtoN)
-    } else if is(field, b_to_n) {
+    } else if is(field, Prune::BtoN.name()) {
         Some(Prune::BtoN)
     } else {
         None
@@ -112,16 +95,15 @@ fn prune(field: &[u8]) -> Option<Prune>
 fn arithmetic(field: &[u8]) -> Option<Arithmetic>
     ensures { result ≡ arithmetic_in field.now }
 {
-    let [min, max, min_u, max_u, add] = ARITHMETIC;
-    if is(field, min) {
+    if is(field, Arithmetic::Min.name()) {
         Some(Arithmetic::Min)
-    } else if is(field, max) {
+    } else if is(field, Arithmetic::Max.name()) {
         Some(Arithmetic::Max)
-    } else if is(field, min_u) {
+    } else if is(field, Arithmetic::MinU.name()) {
         Some(Arithmetic::MinU)
-    } else if is(field, max_u) {
+    } else if is(field, Arithmetic::MaxU.name()) {
         Some(Arithmetic::MaxU)
-    } else if is(field, add) {
+    } else if is(field, Arithmetic::Add.name()) {
         Some(Arithmetic::Add)
     } else {
         None
@@ -131,14 +113,13 @@ fn arithmetic(field: &[u8]) -> Option<Arithmetic>
 fn logical(field: &[u8]) -> Option<Logical>
     ensures { result ≡ logical_in field.now }
 {
-    let [xor, or, and, swap] = LOGICAL;
-    if is(field, xor) {
+    if is(field, Logical::Xor.name()) {
         Some(Logical::Xor)
-    } else if is(field, or) {
+    } else if is(field, Logical::Or.name()) {
         Some(Logical::Or)
-    } else if is(field, and) {
+    } else if is(field, Logical::And.name()) {
         Some(Logical::And)
-    } else if is(field, swap) {
+    } else if is(field, Logical::Swap.name()) {
         Some(Logical::Swap)
     } else {
         None
@@ -148,10 +129,9 @@ fn logical(field: &[u8]) -> Option<Logical>
 fn intent(field: &[u8]) -> Option<Intent>
     ensures { result ≡ intent_in field.now }
 {
-    let [read, write] = INTENT;
-    if is(field, read) {
+    if is(field, Intent::PrefetchRead.name()) {
         Some(Intent::PrefetchRead)
-    } else if is(field, write) {
+    } else if is(field, Intent::PrefetchWrite.name()) {
         Some(Intent::PrefetchWrite)
     } else {
         None

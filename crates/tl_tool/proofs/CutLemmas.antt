@@ -1,6 +1,6 @@
 -- The fields of a beat line stand at their places.
 use Rattle.std.proofs.Common.{get_or-append-add, ◌≡◌, ℕ, ◌+◌, ◌-◌, ◌/◌, List, [], ◌∷◌, ◌++◌, length, take, drop, refl, ap, ◌∙◌, arith, append_assoc, length-append, codes, inl, inr}
-use Rattle.std.specs.Prelude.{slice_range, slice_get, unwrap_or, Option, Bool, true, false, slice_index}
+use Rattle.std.specs.Prelude.{slice_range, unwrap_or, Option, Bool, true, false, slice_index}
 use Rattle.std.proofs.lemmas.List.{length-drop, take_all}
 use Rattle.std.proofs.Math.Seq.{take-append_seam}
 use Rattle.tl_beat.specs.Digits.{digits, bit_text}
@@ -46,29 +46,29 @@ abbrev pub request_line : ℕ → ℕ → ℕ → ℕ → ℕ → ℕ → ℕ �
 request_line m letter link opcode param size source address mask d corrupt =
     spaced (digits 2 link ∷ (letter ∷ []) ∷ digits 1 opcode ∷ digits 1 param ∷ digits 1 size ∷ digits 2 source ∷ digits 8 address ∷ digits m mask ∷ d ∷ bit_text corrupt ∷ []) ++ 10 ∷ []
 
-abbrev request_words : ℕ → ℕ → ℕ → List ℕ → List (List ℕ) → ℕ → ℕ → ℕ → ℕ → ℕ → List ℕ → Bool → List ℕ
-request_words m letter link name names param size source address mask d corrupt =
-    spaced (digits 2 link ∷ (letter ∷ []) ∷ name ∷ param_text names param ∷ (codes "size=" ++ digits 1 size) ∷ (codes "source=" ++ digits 2 source) ∷ (codes "address=" ++ digits 8 address)
+abbrev request_words : ℕ → ℕ → ℕ → List ℕ → Option (List ℕ) → ℕ → ℕ → ℕ → ℕ → ℕ → List ℕ → Bool → List ℕ
+request_words m letter link name known param size source address mask d corrupt =
+    spaced (digits 2 link ∷ (letter ∷ []) ∷ name ∷ param_text known param ∷ (codes "size=" ++ digits 1 size) ∷ (codes "source=" ++ digits 2 source) ∷ (codes "address=" ++ digits 8 address)
     ∷ (codes "mask=" ++ digits m mask) ∷ (codes "data=" ++ d) ∷ (codes "corrupt=" ++ bit_text corrupt) ∷ []) ++ 10 ∷ []
 
 abbrev RequestIs : ℕ → Type 0
-RequestIs m = (letter link opcode : ℕ) (name : List ℕ) (names : List (List ℕ)) (param size source address mask : ℕ) (d : List ℕ) (corrupt : Bool)
-    → request_text m (request_line m letter link opcode param size source address mask d corrupt) name (slice_get names param) ≡ request_words m letter link name names param size source address mask d corrupt
+RequestIs m = (letter link opcode : ℕ) (name : List ℕ) (known : Option (List ℕ)) (param size source address mask : ℕ) (d : List ℕ) (corrupt : Bool)
+    → request_text m (request_line m letter link opcode param size source address mask d corrupt) name known ≡ request_words m letter link name known param size source address mask d corrupt
 
 request_one : RequestIs 1
 unfolding digits spaced size_and_source address_text
-request_one letter link opcode name names param size source address mask d corrupt =
-    request_then 1 (request_line 1 letter link opcode param size source address mask d corrupt) name (slice_get names param) ∙ rw (tail_is d corrupt, append_assoc name, append_assoc (param_text names param), append_assoc d) refl
+request_one letter link opcode name known param size source address mask d corrupt =
+    request_then 1 (request_line 1 letter link opcode param size source address mask d corrupt) name known ∙ rw (tail_is d corrupt, append_assoc name, append_assoc (param_text known param), append_assoc d) refl
 
 request_two : RequestIs 2
 unfolding digits spaced size_and_source address_text
-request_two letter link opcode name names param size source address mask d corrupt =
-    request_then 2 (request_line 2 letter link opcode param size source address mask d corrupt) name (slice_get names param) ∙ rw (tail_is d corrupt, append_assoc name, append_assoc (param_text names param), append_assoc d) refl
+request_two letter link opcode name known param size source address mask d corrupt =
+    request_then 2 (request_line 2 letter link opcode param size source address mask d corrupt) name known ∙ rw (tail_is d corrupt, append_assoc name, append_assoc (param_text known param), append_assoc d) refl
 
 request_four : RequestIs 4
 unfolding digits spaced size_and_source address_text
-request_four letter link opcode name names param size source address mask d corrupt =
-    request_then 4 (request_line 4 letter link opcode param size source address mask d corrupt) name (slice_get names param) ∙ rw (tail_is d corrupt, append_assoc name, append_assoc (param_text names param), append_assoc d) refl
+request_four letter link opcode name known param size source address mask d corrupt =
+    request_then 4 (request_line 4 letter link opcode param size source address mask d corrupt) name known ∙ rw (tail_is d corrupt, append_assoc name, append_assoc (param_text known param), append_assoc d) refl
 
 pub request_is : (w : ℕ) → IsWidth w → RequestIs (w / 4)
 request_is w (inl four) = rw four request_one
@@ -81,14 +81,14 @@ release_then : (line name : List ℕ) (param : Option (List ℕ))
 unfolding release_text
 release_then line name param = append_assoc (head_text line name param) _ _ ∙ head_then line name param _ ∙ rw (to_end 23 line) refl
 
-pub release_is : (link opcode : ℕ) (name : List ℕ) (names : List (List ℕ)) (param size source address : ℕ) (d : List ℕ) (corrupt : Bool)
-    → release_text (spaced (digits 2 link ∷ (67 ∷ []) ∷ digits 1 opcode ∷ digits 1 param ∷ digits 1 size ∷ digits 2 source ∷ digits 8 address ∷ d ∷ bit_text corrupt ∷ []) ++ 10 ∷ []) name (slice_get names param)
-    ≡ spaced (digits 2 link ∷ (67 ∷ []) ∷ name ∷ param_text names param ∷ (codes "size=" ++ digits 1 size) ∷ (codes "source=" ++ digits 2 source) ∷ (codes "address=" ++ digits 8 address)
+pub release_is : (link opcode : ℕ) (name : List ℕ) (known : Option (List ℕ)) (param size source address : ℕ) (d : List ℕ) (corrupt : Bool)
+    → release_text (spaced (digits 2 link ∷ (67 ∷ []) ∷ digits 1 opcode ∷ digits 1 param ∷ digits 1 size ∷ digits 2 source ∷ digits 8 address ∷ d ∷ bit_text corrupt ∷ []) ++ 10 ∷ []) name known
+    ≡ spaced (digits 2 link ∷ (67 ∷ []) ∷ name ∷ param_text known param ∷ (codes "size=" ++ digits 1 size) ∷ (codes "source=" ++ digits 2 source) ∷ (codes "address=" ++ digits 8 address)
     ∷ (codes "data=" ++ d) ∷ (codes "corrupt=" ++ bit_text corrupt) ∷ []) ++ 10 ∷ []
 unfolding digits spaced size_and_source address_text
-release_is link opcode name names param size source address d corrupt =
-    release_then (spaced (digits 2 link ∷ (67 ∷ []) ∷ digits 1 opcode ∷ digits 1 param ∷ digits 1 size ∷ digits 2 source ∷ digits 8 address ∷ d ∷ bit_text corrupt ∷ []) ++ 10 ∷ []) name (slice_get names param)
-    ∙ rw (tail_is d corrupt, append_assoc name, append_assoc (param_text names param), append_assoc d) refl
+release_is link opcode name known param size source address d corrupt =
+    release_then (spaced (digits 2 link ∷ (67 ∷ []) ∷ digits 1 opcode ∷ digits 1 param ∷ digits 1 size ∷ digits 2 source ∷ digits 8 address ∷ d ∷ bit_text corrupt ∷ []) ++ 10 ∷ []) name known
+    ∙ rw (tail_is d corrupt, append_assoc name, append_assoc (param_text known param), append_assoc d) refl
 
 -- of channel D
 response_then : (line name : List ℕ) (param : Option (List ℕ))
@@ -97,17 +97,17 @@ response_then : (line name : List ℕ) (param : Option (List ℕ))
 unfolding response_text
 response_then line name param = append_assoc (head_text line name param) _ _ ∙ head_then line name param _ ∙ rw (to_end 19 line) refl
 
-pub response_is : (link opcode : ℕ) (name : List ℕ) (names : List (List ℕ)) (param size source sink : ℕ) (denied : Bool) (d : List ℕ) (corrupt : Bool)
-    → response_text (spaced (digits 2 link ∷ (68 ∷ []) ∷ digits 1 opcode ∷ digits 1 param ∷ digits 1 size ∷ digits 2 source ∷ digits 2 sink ∷ bit_text denied ∷ d ∷ bit_text corrupt ∷ []) ++ 10 ∷ []) name (slice_get names param)
-    ≡ spaced (digits 2 link ∷ (68 ∷ []) ∷ name ∷ param_text names param ∷ (codes "size=" ++ digits 1 size) ∷ (codes "source=" ++ digits 2 source) ∷ (codes "sink=" ++ digits 2 sink)
+pub response_is : (link opcode : ℕ) (name : List ℕ) (known : Option (List ℕ)) (param size source sink : ℕ) (denied : Bool) (d : List ℕ) (corrupt : Bool)
+    → response_text (spaced (digits 2 link ∷ (68 ∷ []) ∷ digits 1 opcode ∷ digits 1 param ∷ digits 1 size ∷ digits 2 source ∷ digits 2 sink ∷ bit_text denied ∷ d ∷ bit_text corrupt ∷ []) ++ 10 ∷ []) name known
+    ≡ spaced (digits 2 link ∷ (68 ∷ []) ∷ name ∷ param_text known param ∷ (codes "size=" ++ digits 1 size) ∷ (codes "source=" ++ digits 2 source) ∷ (codes "sink=" ++ digits 2 sink)
     ∷ (codes "denied=" ++ bit_text denied) ∷ (codes "data=" ++ d) ∷ (codes "corrupt=" ++ bit_text corrupt) ∷ []) ++ 10 ∷ []
 unfolding digits spaced size_and_source
-response_is link opcode name names param size source sink false d corrupt =
-    response_then (spaced (digits 2 link ∷ (68 ∷ []) ∷ digits 1 opcode ∷ digits 1 param ∷ digits 1 size ∷ digits 2 source ∷ digits 2 sink ∷ (48 ∷ []) ∷ d ∷ bit_text corrupt ∷ []) ++ 10 ∷ []) name (slice_get names param)
-    ∙ rw (tail_is d corrupt, append_assoc name, append_assoc (param_text names param), append_assoc d) refl
-response_is link opcode name names param size source sink true d corrupt =
-    response_then (spaced (digits 2 link ∷ (68 ∷ []) ∷ digits 1 opcode ∷ digits 1 param ∷ digits 1 size ∷ digits 2 source ∷ digits 2 sink ∷ (49 ∷ []) ∷ d ∷ bit_text corrupt ∷ []) ++ 10 ∷ []) name (slice_get names param)
-    ∙ rw (tail_is d corrupt, append_assoc name, append_assoc (param_text names param), append_assoc d) refl
+response_is link opcode name known param size source sink false d corrupt =
+    response_then (spaced (digits 2 link ∷ (68 ∷ []) ∷ digits 1 opcode ∷ digits 1 param ∷ digits 1 size ∷ digits 2 source ∷ digits 2 sink ∷ (48 ∷ []) ∷ d ∷ bit_text corrupt ∷ []) ++ 10 ∷ []) name known
+    ∙ rw (tail_is d corrupt, append_assoc name, append_assoc (param_text known param), append_assoc d) refl
+response_is link opcode name known param size source sink true d corrupt =
+    response_then (spaced (digits 2 link ∷ (68 ∷ []) ∷ digits 1 opcode ∷ digits 1 param ∷ digits 1 size ∷ digits 2 source ∷ digits 2 sink ∷ (49 ∷ []) ∷ d ∷ bit_text corrupt ∷ []) ++ 10 ∷ []) name known
+    ∙ rw (tail_is d corrupt, append_assoc name, append_assoc (param_text known param), append_assoc d) refl
 
 -- and of channel E
 pub acknowledgement_is : (link sink : ℕ) → acknowledgement_text (spaced (digits 2 link ∷ (69 ∷ []) ∷ digits 2 sink ∷ []) ++ 10 ∷ [])

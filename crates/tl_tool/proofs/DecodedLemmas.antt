@@ -6,7 +6,7 @@ use Rattle.tl_beat.specs.declared.beat.Link.{Link}
 use Rattle.tl_beat.specs.declared.beat.Beat.{Beat}
 use Rattle.tl_beat.specs.declared.fault.LineFault.{LineFault}
 use Rattle.std.specs.Io.BufRead.{ends_with_byte}
-use Rattle.tl_beat.specs.Line.{Spells, line_fault, fault_if, fields_fault, pieces, without_last}
+use Rattle.tl_beat.specs.Line.{Spells, line_fault, fields_fault, pieces, without_last}
 use Rattle.tl_tool.specs.declared.fault.Fault.TheVariants.{Line}
 use Rattle.tl_tool.specs.declared.status.Status.{Status}
 use Rattle.tl_tool.specs.declared.status.Status.TheVariants.{Clean, Broken}
@@ -16,6 +16,7 @@ use Rattle.tl_beat.specs.Reading.{reading}
 use Rattle.tl_beat.specs.Width.{IsWidth}
 use Rattle.tl_beat.proofs.Faults.{reading-fault}
 use Rattle.tl_beat.proofs.ReadLaws.{reading-spells}
+use Rattle.tl_beat.specs.First.{first_if}
 use Rattle.std.specs.Result.{result_err}
 use Rattle.tl_tool.specs.Lines.{IsOpen}
 use Rattle.tl_tool.specs.Fault.{fault_text}
@@ -46,7 +47,7 @@ abbrev pub Judged : ℕ → List ℕ → Type 0
 Judged w line = ((link : Link) × (beat : Beat w) × Spells line link beat) ⊎ ((fault : LineFault) × (line_fault w line ≡ Some fault))
 
 -- so lines have a text
-decodes : (w n : ℕ) → ((line : List ℕ) → Judged w line) → (lines : List (List ℕ)) → (text : List ℕ) × (status : Status) × Decodes w n lines text status
+pub decodes : (w n : ℕ) → ((line : List ℕ) → Judged w line) → (lines : List (List ℕ)) → (text : List ℕ) × (status : Status) × Decodes w n lines text status
 unfolding Decodes
 decodes w n judged [] = ([], Clean, (refl, refl))
 decodes w n judged (line ∷ lines) = go (judged line) (decodes w (n + 1) judged lines)
@@ -81,7 +82,7 @@ judged_line w width line = go (reading w line) refl (reading-fault w line)
 pub open_fault : (w : ℕ) (line : List ℕ) → IsOpen line → line_fault w line ≡ Some F1
 open_fault w line (inl ends) = go (nat_lt 256 (length line))
   where
-    go : (b : Bool) → fault_if (b || not (ends_with_byte 10 line)) F1 (fields_fault w (pieces (without_last line))) ≡ Some F1
+    go : (b : Bool) → first_if (b || not (ends_with_byte 10 line)) F1 (fields_fault w (pieces (without_last line))) ≡ Some F1
     go true = refl
     go false = rw ends refl
 open_fault w line (inr long) = rw (lt-ltb 256 (length line) long) refl

@@ -205,7 +205,7 @@ good_width width.Four = refl
 good_width width.Eight = refl
 good_width width.Sixteen = refl
 
-judged_whole : (lines : List (List ℕ)) → (text : List ℕ) × (status : Status) × Judged lines text status
+pub judged_whole : (lines : List (List ℕ)) → (text : List ℕ) × (status : Status) × Judged lines text status
 unfolding Judged
 judged_whole [] = (fault_text 1 Header, Broken, (refl, refl))
 judged_whole (line ∷ lines) = go (header_or_none line)

@@ -11,6 +11,10 @@ pub mod JudgedLemmas
 pub mod OnceLemmas
 pub mod OpeningLemmas
 pub mod PlayedLemmas
+mod PlayedOnce
 pub mod PlayerLemmas
 pub mod SaidLemmas
 pub mod WritableLemmas
+mod ToldLemmas
+mod TraceClean
+mod Unended

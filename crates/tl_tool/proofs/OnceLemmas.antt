@@ -25,7 +25,7 @@ use Rattle.tl_tool.specs.Width.{bytes_of}
 use Rattle.tl_tool.proofs.HeaderLemmas.{one_header}
 
 -- the texts and the statuses are the same
-abbrev AreOne : List ℕ → List ℕ → Status → Status → Type 0
+abbrev pub AreOne : List ℕ → List ℕ → Status → Status → Type 0
 AreOne text other status another = (text ≡ other) × (status ≡ another)
 
 -- a line that spells a beat is no line at fault

@@ -20,7 +20,8 @@ use Rattle.tl_schedule.specs.declared.line.Line.{Line}
 use Rattle.tl_schedule.specs.declared.line.Line.TheVariants as line_of
 use Rattle.tl_schedule.specs.OutcomeLine.{drained_line}
 use Rattle.tl_tool.specs.Played.{delivery_text, deliveries_text, event_text, number_text, outcome_after}
-use Rattle.tl_tool.specs.Playing.{Contained, Drains, Happens, PlaysOn, Reaches}
+use Rattle.tl_tool.specs.Playing.{Drains, Happens, PlaysOn}
+use Rattle.tl_tool.specs.Stage.{Contained, Reaches}
 
 -- ---- deliveries
 
@@ -54,6 +55,12 @@ module _ {w : ℕ} (config : Config) where
       let all : drained config n log ≡ drained config m log = ap (λ (i : ℕ). drained config i log) split ∙ drained-add m (n - m) (m + (n - m)) log refl ∙ stays (n - m) (drained config m log) none in
       let lengths : length (drained config n log) ≡ length (drained config m log) = ap (λ (l : Log w). length l) all in
       omega (arith, lengths, count, counted)
+
+  pub drained-once : (n m : ℕ) (log : Log w) → IsDrained config log n → IsDrained config log m → n ≡ m
+  drained-once n m log d e = elim (cases_lt m n) [
+    | inl less ↦ same n m log d.so_many e.stands e.so_many (omega (arith, less))
+    | inr more ↦ sym (same m n log e.so_many d.stands d.so_many more)
+  ]
 
   pub ended : (n : ℕ) (log : Log w) → IsGiven config log → length (drained config n log) ≡ n + length log → next (drained config n log) ≡ None → IsDrained config log n
   ended n log given count none =

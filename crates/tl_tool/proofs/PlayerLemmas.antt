@@ -33,7 +33,8 @@ use Rattle.tl_tool.specs.Fault.{fault_text}
 use Rattle.tl_tool.specs.Judging.{Finishes, IsTotal, Judges, Stops}
 use Rattle.tl_tool.specs.Lines.{IsOpen}
 use Rattle.tl_tool.specs.Played.{HeadsSchedule, Played, PlayedAfter, Plays, deliveries_text, event_text, header_text, number_text, outcome_after, width_like}
-use Rattle.tl_tool.specs.Playing.{Contained, KnowsPlay, KnowsSchedule, Opens, PlaysLine, Reaches, is_trace}
+use Rattle.tl_tool.specs.Playing.{KnowsPlay, KnowsSchedule, Opens, PlaysLine, is_trace}
+use Rattle.tl_tool.specs.Stage.{Contained, Reaches}
 use Rattle.tl_tool.specs.Width.{bytes_of}
 use Rattle.tl_tool.proofs.OnceLemmas.{is_width_of}
 use Rattle.tl_tool.proofs.OpeningLemmas.{header-unopened}
@@ -179,14 +180,14 @@ played-after {w} trace config n log (line ∷ lines) given = go (says-or-not lin
 pub header-fits : (line : List ℕ) (version : Version) (config : Config) → SpellsSchedule line version config.blocks config.trackers config.clients.items → config_fault config ≡ None
 header-fits line version config s = rw (s.clients_fit, s.blocks_fit, s.trackers_fit, s.sources_fit) refl
 
-given-first : {w : ℕ} (config : Config) → IsWidth w → config_fault config ≡ None → IsGiven {w = w} config []
+pub given-first : {w : ℕ} (config : Config) → IsWidth w → config_fault config ≡ None → IsGiven {w = w} config []
 unfolding AreTyped IsLog
 given-first config wide fits = record { width = wide; fits = fits; typed = tt; is_log = tt }
 
 abbrev IsHeaded : List ℕ → Type 0
 IsHeaded line = ((version : Version) × (config : Config) × HeadsSchedule line version config) ⊎ ((version : Version) (config : Config) → ¬ HeadsSchedule line version config)
 
-abbrev schedule_of : Named → Schedule
+abbrev pub schedule_of : Named → Schedule
 schedule_of x = record { version = x.version; config = record { blocks = x.blocks; trackers = x.trackers; clients = record { items = x.clients }; profile = profile_of x.version } }
 
 headed-or-not : (line : List ℕ) → IsHeaded line
@@ -196,7 +197,7 @@ headed-or-not line = go (header_at line) refl
     go None e = inr (λ version config heads. spelled_read None line e version config.blocks config.trackers config.clients.items heads.spelled)
     go (Some x) e = inl (x.version, (schedule_of x).config, record { spelled = read_spelled (Some (schedule_of x)) line (e, refl); of_profile = refl })
 
-played-whole : (trace : Bool) (lines : List (List ℕ)) → (text : List ℕ) × (status : Status) × Played trace lines text status
+pub played-whole : (trace : Bool) (lines : List (List ℕ)) → (text : List ℕ) × (status : Status) × Played trace lines text status
 unfolding Played
 played-whole trace [] = (fault_text 1 Header, Broken, (refl, refl))
 played-whole trace (line ∷ lines) = go (headed-or-not line)

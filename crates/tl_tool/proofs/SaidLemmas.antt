@@ -1,17 +1,20 @@
 -- What is said in a line has the sizes of its types, and each line says something or nothing.
 use Rattle.std.proofs.Common.{◌≡◌, ◌<◌, ◌≤◌, ℕ, ◌-◌, ◌%◌, ◌^◌, Bool, true, false, cond, List, ◌++◌, length, take, refl, sym, subst, arith, inl, inr, length-append, lt-ltb, lit<}
-use Rattle.std.specs.Prelude.{◌⊎◌, ◌||◌, not, nat_lt, replicate, if◌then◌else◌, Result, Ok, Err}
+use Rattle.std.specs.Prelude.{◌⊎◌, ◌||◌, not, nat_lt, replicate, if◌then◌else◌, Result, Ok, Err, ok_or}
 use Rattle.std.specs.Io.BufRead.{ends_with_byte}
 use Rattle.std.proofs.Math.Nat.{pow-le-pow_right}
 use Rattle.std.proofs.lemmas.List.{length-take, length-replicate}
+use Rattle.std.proofs.lemmas.List.Elements.{All-append, All-take}
 use Rattle.tl_beat.specs.Width.{IsWidth}
 use Rattle.tl_world.specs.declared.event.Event.{Event}
 use Rattle.tl_world.specs.Headline.{IsTyped}
+use Rattle.tl_world.specs.Ranged.{AreBytes, IsRanged}
+use Rattle.tl_world.proofs.Ranges.{zeros-bytes}
 use Rattle.tl_schedule.specs.declared.line.EventFault.{EventFault}
-use Rattle.tl_schedule.specs.declared.line.EventFault.TheVariants.{F1}
+use Rattle.tl_schedule.specs.declared.line.EventFault.TheVariants.{F1, F8}
 use Rattle.tl_schedule.specs.declared.line.Line.{Line}
 use Rattle.tl_schedule.specs.EventLine.{Asked, Get, Put, Part, Arith, Logic, Hint, AskedFits, Fits, Said, Load, Store, Acquire, Whole, Release, Access, Deliver, SpellsEvent, SpellsLine, asked_payload, event_fault, event_of, payload_of}
-use Rattle.tl_schedule.specs.EventReading.{event_at, line_at, or_else}
+use Rattle.tl_schedule.specs.EventReading.{event_at, line_at}
 use Rattle.tl_schedule.proofs.EventLaws.{read_said, said_read}
 use Rattle.tl_tool.specs.Lines.{IsOpen}
 
@@ -67,6 +70,43 @@ typed-said (Deliver link channel) fits width = tt
 pub typed-spelled : {w : ℕ} (line : List ℕ) (e : Event w) → IsWidth w → SpellsEvent line e → IsTyped e
 typed-spelled {w} line e width s = subst (λ (x : Event w). IsTyped x) s.means (typed-said s.said s.fits width)
 
+-- ---- bytes
+
+payload-bytes : (w size address : ℕ) (bytes : List ℕ) → AreBytes bytes → AreBytes (payload_of w size address bytes)
+payload-bytes w size address bytes are = go (nat_lt (2 ^ size) w)
+  where
+    filled : List ℕ
+    filled = bytes ++ replicate (64 - length bytes) 0
+
+    all : AreBytes filled
+    all = All-append (λ byte. byte < 2 ^ 8) bytes (replicate (64 - length bytes) 0) are (zeros-bytes (64 - length bytes))
+
+    go : (b : Bool) → AreBytes (if b then replicate (address % w) 0 ++ (take (w - address % w) filled ++ replicate (64 - w) 0) else filled)
+    go true =
+        All-append (λ byte. byte < 2 ^ 8) (replicate (address % w) 0) (take (w - address % w) filled ++ replicate (64 - w) 0) (zeros-bytes (address % w))
+        (All-append (λ byte. byte < 2 ^ 8) (take (w - address % w) filled) (replicate (64 - w) 0) (All-take (λ byte. byte < 2 ^ 8) (w - address % w) filled all) (zeros-bytes (64 - w)))
+    go false = all
+
+asked-bytes : (w size address : ℕ) (asked : Asked) → AskedFits w size asked → AreBytes (asked_payload w size address asked)
+asked-bytes w size address Get fits = zeros-bytes 64
+asked-bytes w size address (Put bytes) (long, each) = payload-bytes w size address bytes each
+asked-bytes w size address (Part mask bytes) (room, are) = payload-bytes w size address bytes are.1
+asked-bytes w size address (Arith operation bytes) (long, each) = payload-bytes w size address bytes each
+asked-bytes w size address (Logic operation bytes) (long, each) = payload-bytes w size address bytes each
+asked-bytes w size address (Hint intent) fits = zeros-bytes 64
+
+ranged-said : (w : ℕ) (said : Said) (fits : Fits w said) → IsRanged {w = w} (event_of said fits)
+ranged-said w (Load client size address) fits = tt
+ranged-said w (Store client size address value) fits = tt
+ranged-said w (Acquire client block grow) fits = tt
+ranged-said w (Whole client block bytes) (room, other, are) = are.1
+ranged-said w (Release client block prune) fits = tt
+ranged-said w (Access client size address asked) (room, small, other, fits) = asked-bytes w size address asked fits
+ranged-said w (Deliver link channel) fits = tt
+
+pub ranged-spelled : {w : ℕ} (line : List ℕ) (e : Event w) → SpellsEvent line e → IsRanged e
+ranged-spelled {w} line e s = subst (λ (x : Event w). IsRanged x) s.means (ranged-said w s.said s.fits)
+
 -- ---- lines
 
 -- a line that is read otherwise says nothing
@@ -98,6 +138,6 @@ open-fault line is = rw (is-open line is) refl
 pub open-none : {w : ℕ} (line : List ℕ) → IsWidth w → IsOpen line → (said : Line w) → ¬ SpellsLine line said
 open-none {w} line width is = says-none line F1 width (read (nat_lt 256 (length line) || not (ends_with_byte 10 line)) (is-open line is))
   where
-    read : (b : Bool) → b ≡ true → cond b (Err F1) (or_else (line_at {w = w} (take (length line - 1) line))) ≡ Err F1
+    read : (b : Bool) → b ≡ true → cond b (Err F1) (ok_or (line_at {w = w} (take (length line - 1) line)) F8) ≡ Err F1
     read true e = refl
     read false e = absurd cc

@@ -1,6 +1,6 @@
 -- The text of a beat, from the line that spells it.
 use Rattle.std.proofs.Common.{◌≡◌, ℕ, ◌+◌, ◌≤◌, ◌/◌, List, [], ◌∷◌, ◌++◌, length, refl, arith, length-append, inl, inr, ◌*◌}
-use Rattle.std.specs.Prelude.{slice_get, Bool, true, false, Option, None, Some}
+use Rattle.std.specs.Prelude.{Bool, true, false, Option, None, Some}
 use Rattle.tl_beat.specs.declared.beat.Link.{Link}
 use Rattle.tl_beat.specs.declared.beat.BeatA.{BeatA}
 use Rattle.tl_beat.specs.declared.beat.BeatB.{BeatB}
@@ -10,32 +10,33 @@ use Rattle.tl_beat.specs.declared.beat.BeatE.{BeatE}
 use Rattle.tl_beat.specs.declared.beat.Beat.TheVariants.{A, B, C, D, E}
 use Rattle.tl_beat.specs.Digits.{digits, lane_digits, lanes_text, bit_text}
 use Rattle.tl_beat.specs.Line.{AreLanes, Spells, spaced}
-use Rattle.tl_beat.specs.Names.{a_name, b_name, c_name, d_name, a_param_names, b_param_names, c_param_names, d_param_names}
+use Rattle.tl_beat.specs.Names.{a_name, b_name, c_name, d_name}
 use Rattle.tl_beat.specs.Opcode.{a_code, b_code, c_code, d_code}
 use Rattle.tl_beat.specs.Width.{IsWidth}
 use Rattle.tl_tool.specs.Cuts.{request_text, release_text, response_text, acknowledgement_text}
+use Rattle.tl_tool.specs.ParamNames.{a_param_name, b_param_name, c_param_name, d_param_name}
 use Rattle.tl_tool.specs.Text.{text_of}
 use Rattle.tl_tool.proofs.CutLemmas.{request_line, request_is, release_is, response_is, acknowledgement_is}
 
 pub text_a : {w : ℕ} (line : List ℕ) (link : Link) (x : BeatA w) → IsWidth w → Spells line link (A x)
-    → request_text (w / 4) line (a_name x.opcode) (slice_get (a_param_names x.opcode) x.param) ≡ text_of link (A x)
+    → request_text (w / 4) line (a_name x.opcode) (a_param_name x.opcode x.param) ≡ text_of link (A x)
 text_a {w} line link x width s =
-    rw s.is_line (request_is w width 65 link.0 (a_code x.opcode) (a_name x.opcode) (a_param_names x.opcode) x.param x.size x.source x.address x.mask (lanes_text x.lanes) x.corrupt)
+    rw s.is_line (request_is w width 65 link.0 (a_code x.opcode) (a_name x.opcode) (a_param_name x.opcode x.param) x.param x.size x.source x.address x.mask (lanes_text x.lanes) x.corrupt)
 
 pub text_b : {w : ℕ} (line : List ℕ) (link : Link) (x : BeatB w) → IsWidth w → Spells line link (B x)
-    → request_text (w / 4) line (b_name x.opcode) (slice_get (b_param_names x.opcode) x.param) ≡ text_of link (B x)
+    → request_text (w / 4) line (b_name x.opcode) (b_param_name x.opcode x.param) ≡ text_of link (B x)
 text_b {w} line link x width s =
-    rw s.is_line (request_is w width 66 link.0 (b_code x.opcode) (b_name x.opcode) (b_param_names x.opcode) x.param x.size x.source x.address x.mask (lanes_text x.lanes) x.corrupt)
+    rw s.is_line (request_is w width 66 link.0 (b_code x.opcode) (b_name x.opcode) (b_param_name x.opcode x.param) x.param x.size x.source x.address x.mask (lanes_text x.lanes) x.corrupt)
 
 pub text_c : {w : ℕ} (line : List ℕ) (link : Link) (x : BeatC w) → Spells line link (C x)
-    → release_text line (c_name x.opcode) (slice_get (c_param_names x.opcode) x.param) ≡ text_of link (C x)
+    → release_text line (c_name x.opcode) (c_param_name x.opcode x.param) ≡ text_of link (C x)
 text_c {w} line link x s =
-    rw s.is_line (release_is link.0 (c_code x.opcode) (c_name x.opcode) (c_param_names x.opcode) x.param x.size x.source x.address (lanes_text x.lanes) x.corrupt)
+    rw s.is_line (release_is link.0 (c_code x.opcode) (c_name x.opcode) (c_param_name x.opcode x.param) x.param x.size x.source x.address (lanes_text x.lanes) x.corrupt)
 
 pub text_d : {w : ℕ} (line : List ℕ) (link : Link) (x : BeatD w) → Spells line link (D x)
-    → response_text line (d_name x.opcode) (slice_get (d_param_names x.opcode) x.param) ≡ text_of link (D x)
+    → response_text line (d_name x.opcode) (d_param_name x.opcode x.param) ≡ text_of link (D x)
 text_d {w} line link x s =
-    rw s.is_line (response_is link.0 (d_code x.opcode) (d_name x.opcode) (d_param_names x.opcode) x.param x.size x.source x.sink x.denied (lanes_text x.lanes) x.corrupt)
+    rw s.is_line (response_is link.0 (d_code x.opcode) (d_name x.opcode) (d_param_name x.opcode x.param) x.param x.size x.source x.sink x.denied (lanes_text x.lanes) x.corrupt)
 
 pub text_e : {w : ℕ} (line : List ℕ) (link : Link) (x : BeatE) → Spells {w = w} line link (E x) → acknowledgement_text line ≡ text_of {w = w} link (E x)
 text_e {w} line link x s = rw s.is_line (acknowledgement_is link.0 x.sink)

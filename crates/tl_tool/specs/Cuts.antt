@@ -1,10 +1,10 @@
 -- The readable line, from the places of the fields in the beat line. A field before the data stands at
 -- a fixed place.
-use Rattle.std.specs.Prelude.{ℕ, ◌+◌, ◌-◌, List, [], ◌∷◌, ◌++◌, length, take, codes, unwrap_or, slice_index, slice_range, ◌≤◌, Option, None, Some}
+use Rattle.std.specs.Prelude.{⊤, ℕ, ◌+◌, ◌-◌, List, [], ◌∷◌, ◌++◌, length, take, codes, unwrap_or, slice_index, slice_range, ◌≤◌, Option, None, Some}
 
 -- at most 13 bytes, where there are some
 abbrev pub IsShort : Option (List ℕ) → Type 0
-IsShort None = Unit {0}
+IsShort None = ⊤
 IsShort (Some name) = length name ≤ 13
 
 -- the link and the letter, a name and a param

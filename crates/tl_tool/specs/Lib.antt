@@ -1,4 +1,5 @@
 pub mod Exit
+pub mod ParamNames
 pub mod Parts
 pub mod Fault
 pub mod Lines
@@ -15,4 +16,6 @@ pub mod Judged
 pub mod Watching
 pub mod Played
 pub mod Playing
+pub mod Stage
 pub mod Told
+pub mod Clean

@@ -1,48 +1,20 @@
 -- What a judge of schedules knows.
-use Rattle.std.specs.Prelude.{◌≡◌, ◌<◌, ℕ, ◌+◌, ◌^◌, Bool, ◌==◌, List, [], ◌∷◌, ◌++◌, length, Option, Some, None}
-use Rattle.tl_beat.specs.declared.beat.Beat.{Beat}
-use Rattle.tl_beat.specs.declared.beat.Beat.TheVariants.{A, B}
-use Rattle.tl_client.specs.declared.any.AnyClient.{AnyClient}
-use Rattle.tl_client.specs.KnowsAny.{KnowsAny, any_terms}
-use Rattle.tl_manager.specs.declared.bits.BitDirectory.{BitDirectory}
-use Rattle.tl_manager.specs.Held.{perm_of_words}
+use Rattle.std.specs.Prelude.{◌≡◌, ℕ, ◌+◌, Bool, ◌==◌, List, [], ◌∷◌, ◌++◌, length, Option, Some, None}
 use Rattle.tl_params.specs.declared.config.Config.{Config}
 use Rattle.tl_schedule.specs.declared.header.Version.{Version}
 use Rattle.tl_schedule.specs.declared.line.Line.{Line}
 use Rattle.tl_schedule.specs.EventLine.{SpellsLine, event_fault}
-use Rattle.tl_world.specs.declared.contents.Contents.{Contents}
 use Rattle.tl_world.specs.declared.event.Event.{Event}
-use Rattle.tl_world.specs.declared.event.Outcome.{Outcome}
-use Rattle.tl_world.specs.declared.event.Outcome.TheVariants.{Moved, Done}
 use Rattle.tl_world.specs.Draining.{IsDrained}
 use Rattle.tl_world.specs.Log.{Log}
 use Rattle.tl_world.specs.Movable.{drained}
-use Rattle.tl_world.specs.World.{IsReached}
 use Rattle.tl_tool.specs.declared.fault.Fault.{Fault}
 use Rattle.tl_tool.specs.declared.fault.Fault.TheVariants.{Event as NoEvent}
 use Rattle.tl_tool.specs.declared.player.Player.{Player}
 use Rattle.tl_tool.specs.declared.player.Player.TheVariants.{Waiting, Four, Eight, Sixteen}
 use Rattle.tl_tool.specs.declared.status.Status.{Status}
 use Rattle.tl_tool.specs.Played.{HeadsSchedule, Played, PlayedAfter, Plays, deliveries_text, event_text, outcome_after}
-
--- the mask of a beat that was taken has 16 bits
-abbrev pub HasMask : {w : ℕ} → Beat w → Type 0
-HasMask (A x) = x.mask < 2 ^ 16
-HasMask (B x) = x.mask < 2 ^ 16
-HasMask _ = Unit {0}
-
-abbrev pub HasMaskIn : {w : ℕ} → Outcome w → Type 0
-HasMaskIn (Moved beat) = HasMask beat
-HasMaskIn (Done beat source finish) = HasMask beat
-HasMaskIn _ = Unit {0}
-
--- a world of clients of any level, whose records are a directory of bits
-abbrev pub Contained : ℕ → Type 0
-Contained w = Contents w (AnyClient w) BitDirectory
-
--- all this has happened to the world
-abbrev pub Reaches : {w : ℕ} → Config → Contained w → Log w → Type 0
-Reaches config world log = IsReached KnowsAny any_terms (λ d. perm_of_words d.words.items) config world log
+use Rattle.tl_tool.specs.Stage.{Contained, Reaches}
 
 -- An event has happened to a world, and what came of it stands behind the text.
 abbrev pub Happens : {w : ℕ} → Bool → Contained w → Contained w → Event w → List ℕ → List ℕ → Type 0

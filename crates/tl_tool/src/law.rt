@@ -1,17 +1,24 @@
-//! That `decode` and `monitor` tell one text of their lines, as a law.
+//! What the commands tell of their lines, as laws.
 
-ghost use Rattle.std.specs.Prelude.{◌≡◌, ℕ, List};
-ghost use Rattle.tl_tool.specs.Decoded.{DecodesTo};
-ghost use Rattle.tl_tool.specs.Judged.{Judged};
-ghost use Rattle.tl_tool.specs.Width.{bytes_of};
+ghost use Rattle.std.specs.Prelude.{◌≡◌, ℕ, true, List};
+ghost use Rattle.tl_tool.specs.Clean.{IsCleanUpTo};
+ghost use Rattle.tl_tool.specs.Told.{text_told};
 ghost use Rattle.tl_tool.specs.declared.status.Status.{Status};
-ghost use Rattle.tl_words.specs.declared.command.Width.{Width};
+ghost use Rattle.tl_words.specs.declared.command.Command.{Command};
+ghost use Rattle.tl_words.specs.declared.command.Command.TheVariants.{Run};
 
-/// Two texts that the same lines decode to are one, with one status, and so are two that the same
-/// lines are judged.
+/// Two texts that a command tells of the same lines are one, with one status.
 pub fn told_once()
-    ensures decoded { (width : Width) (lines : List (List ℕ)) (text other : List ℕ) (status another : Status) →
-        DecodesTo (bytes_of width) lines text status → DecodesTo (bytes_of width) lines other another → (text ≡ other) × (status ≡ another) }
-    ensures judged { (lines : List (List ℕ)) (text other : List ℕ) (status another : Status) →
-        Judged lines text status → Judged lines other another → (text ≡ other) × (status ≡ another) }
+    ensures { (command : Command) (lines : List (List ℕ)) (text other : List ℕ) (status another : Status) →
+        text_told command lines text status → text_told command lines other another → (text ≡ other) × (status ≡ another) }
+{}
+
+/// A command tells a text of whatever lines there are.
+pub fn always_told()
+    ensures { (command : Command) (lines : List (List ℕ)) → (text : List ℕ) × (status : Status) × text_told command lines text status }
+{}
+
+/// What `run --trace` writes is a trace in which `monitor` finds no fault, up to the fault that ends it.
+pub fn traces_without_fault()
+    ensures { (lines : List (List ℕ)) (text : List ℕ) (status : Status) → text_told (Run true) lines text status → IsCleanUpTo text status }
 {}

@@ -4,7 +4,7 @@ ghost use Rattle.std.specs.Prelude.{◌≡◌, ◌++◌, [], map, IfOk, OnOk, No
 ghost use Rattle.tl_beat.specs.Width.{IsWidth};
 ghost use Rattle.tl_params.specs.Config.{config_fault};
 ghost use Rattle.tl_tool.specs.Played.{header_text, version_like, width_like};
-ghost use Rattle.tl_tool.specs.Playing.{Reaches};
+ghost use Rattle.tl_tool.specs.Stage.{Reaches};
 ghost use Rattle.tl_tool.specs.Trace.{header_line, level_text, levels_text, profile_text, version_text, width_text};
 
 use std::alloc::{AllocError, Global};

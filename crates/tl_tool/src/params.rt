@@ -1,70 +1,58 @@
 //! The names of params by opcode, with param names on channel B as on A.
 
-ghost use Rattle.std.specs.Prelude.{◌≡◌, option_map, slice_get};
-ghost use Rattle.tl_beat.specs.Names.{arithmetic_names, cap_names, grow_names, intent_names, logical_names, prune_names, report_names};
-ghost use Rattle.tl_beat.specs.Names.{a_param_names, b_param_names, c_param_names, d_param_names};
+ghost use Rattle.std.specs.Prelude.{◌≡◌, option_map};
+ghost use Rattle.tl_params.specs.Names.{arithmetic_name, cap_name, grow_name, intent_name, logical_name, prune_name, report_name};
+ghost use Rattle.tl_params.specs.Param.{arithmetic_of, cap_of, grow_of, intent_of, logical_of, prune_of, report_named};
+ghost use Rattle.tl_tool.specs.ParamNames.{a_param_name, b_param_name, c_param_name, d_param_name};
 
 use tl_beat::opcode::{OpA, OpB, OpC, OpD};
-
-const ARITHMETIC: [&str; 5] = ["MIN", "MAX", "MINU", "MAXU", "ADD"];
-
-const LOGICAL: [&str; 4] = ["XOR", "OR", "AND", "SWAP"];
-
-const INTENT: [&str; 2] = ["PrefetchRead", "PrefetchWrite"];
-
-const GROW: [&str; 3] = ["NtoB", "NtoT", "BtoT"];
-
-const CAP: [&str; 3] = ["toT", "toB", "toN"];
-
-const PRUNE: [&str; 3] = ["TtoB", "TtoN", "BtoN"];
-
-const REPORT: [&str; 6] = ["TtoB", "TtoN", "BtoN", "TtoT", "BtoB", "NtoN"];
+use tl_params::param::{Arithmetic, Cap, Grow, Intent, Logical, Prune, Report};
 
 fn arithmetic(param: u8) -> Option<&'static str>
-    ensures { option_map (λ s. s.now) result ≡ slice_get arithmetic_names param }
+    ensures { option_map (λ s. s.now) result ≡ option_map arithmetic_name (arithmetic_of param) }
 {
-    ARITHMETIC.get(usize::from(param)).copied()
+    Some(Arithmetic::from_param(param)?.name())
 }
 
 fn logical(param: u8) -> Option<&'static str>
-    ensures { option_map (λ s. s.now) result ≡ slice_get logical_names param }
+    ensures { option_map (λ s. s.now) result ≡ option_map logical_name (logical_of param) }
 {
-    LOGICAL.get(usize::from(param)).copied()
+    Some(Logical::from_param(param)?.name())
 }
 
 fn intent(param: u8) -> Option<&'static str>
-    ensures { option_map (λ s. s.now) result ≡ slice_get intent_names param }
+    ensures { option_map (λ s. s.now) result ≡ option_map intent_name (intent_of param) }
 {
-    INTENT.get(usize::from(param)).copied()
+    Some(Intent::from_param(param)?.name())
 }
 
 fn grow(param: u8) -> Option<&'static str>
-    ensures { option_map (λ s. s.now) result ≡ slice_get grow_names param }
+    ensures { option_map (λ s. s.now) result ≡ option_map grow_name (grow_of param) }
 {
-    GROW.get(usize::from(param)).copied()
+    Some(Grow::from_param(param)?.name())
 }
 
 fn cap(param: u8) -> Option<&'static str>
-    ensures { option_map (λ s. s.now) result ≡ slice_get cap_names param }
+    ensures { option_map (λ s. s.now) result ≡ option_map cap_name (cap_of param) }
 {
-    CAP.get(usize::from(param)).copied()
+    Some(Cap::from_param(param)?.name())
 }
 
 fn prune(param: u8) -> Option<&'static str>
-    ensures { option_map (λ s. s.now) result ≡ slice_get prune_names param }
+    ensures { option_map (λ s. s.now) result ≡ option_map prune_name (prune_of param) }
 {
-    PRUNE.get(usize::from(param)).copied()
+    Some(Prune::from_param(param)?.name())
 }
 
 fn report(param: u8) -> Option<&'static str>
-    ensures { option_map (λ s. s.now) result ≡ slice_get report_names param }
+    ensures { option_map (λ s. s.now) result ≡ option_map report_name (report_named param) }
 {
-    REPORT.get(usize::from(param)).copied()
+    Some(Report::from_param(param)?.name())
 }
 
 /// The name of a param on channel A, where the opcode has one for it.
 pub fn name_on_a(opcode: OpA, param: u8) -> Option<&'static str>
-    ensures { option_map (λ s. s.now) result ≡ slice_get (a_param_names opcode) param }
+    ensures { option_map (λ s. s.now) result ≡ a_param_name opcode param }
 {
     match opcode {
         OpA::PutFullData | OpA::PutPartialData | OpA::Get => None,
@@ -77,7 +65,7 @@ pub fn name_on_a(opcode: OpA, param: u8) -> Option<&'static str>
 
 /// The name of a param on channel B, where the opcode has one for it.
 pub fn name_on_b(opcode: OpB, param: u8) -> Option<&'static str>
-    ensures { option_map (λ s. s.now) result ≡ slice_get (b_param_names opcode) param }
+    ensures { option_map (λ s. s.now) result ≡ b_param_name opcode param }
 {
     match opcode {
         OpB::PutFullData | OpB::PutPartialData | OpB::Get => None,
@@ -90,7 +78,7 @@ pub fn name_on_b(opcode: OpB, param: u8) -> Option<&'static str>
 
 /// The name of a param on channel C, where the opcode has one for it.
 pub fn name_on_c(opcode: OpC, param: u8) -> Option<&'static str>
-    ensures { option_map (λ s. s.now) result ≡ slice_get (c_param_names opcode) param }
+    ensures { option_map (λ s. s.now) result ≡ c_param_name opcode param }
 {
     match opcode {
         OpC::AccessAck | OpC::AccessAckData | OpC::HintAck => None,
@@ -101,7 +89,7 @@ pub fn name_on_c(opcode: OpC, param: u8) -> Option<&'static str>
 
 /// The name of a param on channel D, where the opcode has one for it.
 pub fn name_on_d(opcode: OpD, param: u8) -> Option<&'static str>
-    ensures { option_map (λ s. s.now) result ≡ slice_get (d_param_names opcode) param }
+    ensures { option_map (λ s. s.now) result ≡ d_param_name opcode param }
 {
     match opcode {
         OpD::AccessAck | OpD::AccessAckData | OpD::HintAck | OpD::ReleaseAck => None,

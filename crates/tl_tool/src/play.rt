@@ -1,60 +1,24 @@
 //! Plays the lines of a schedule behind its header.
 
-ghost use Rattle.std.specs.Prelude.{◌≡◌, ◌<◌, ◌≤◌, ◌^◌, ◌++◌, ◌+◌, true, length, IfOk, OnOk};
-ghost use Rattle.tl_beat.specs.Line.{IsWritable};
+ghost use Rattle.std.specs.Prelude.{◌≡◌, ◌++◌, [], IfOk, OnOk, None};
 ghost use Rattle.tl_beat.specs.Width.{IsWidth};
+ghost use Rattle.tl_params.specs.Config.{config_fault};
 ghost use Rattle.tl_schedule.specs.OutcomeLine.{HasLine};
 ghost use Rattle.tl_tool.specs.Played.{event_text};
-ghost use Rattle.tl_tool.specs.Playing.{Drains, Happens, HasMask, HasMaskIn, PlaysLine, PlaysOn};
+ghost use Rattle.tl_tool.specs.Playing.{Drains, Happens, PlaysLine, PlaysOn};
+ghost use Rattle.tl_tool.specs.Stage.{IsPlayable, Reaches};
 
 use crate::fault::Fault;
-use std::alloc::AllocError;
-use tl_beat::beat::Beat;
+use crate::opening::world_of;
+use std::alloc::{AllocError, Global};
+use std::marker::Model;
 use tl_client::any::AnyClient;
 use tl_manager::bits::BitDirectory;
+use tl_rules::config::Config;
 use tl_schedule::line::{Line, read_event};
 use tl_schedule::outcome::{put_drained, put_outcome, put_trace};
 use tl_world::event::{Event, Outcome};
 use tl_world::world::World;
-
-/// Whether a mask has no bit past a beat's lanes.
-fn fits<const W: usize>(mask: u16) -> bool
-    requires { IsWidth W }
-    ensures yes { result ≡ true → mask < 2 ^ W }
-    ensures no { mask < 2 ^ W → result ≡ true }
-    ensures small { mask < 2 ^ 16 }
-{
-    u32::from(mask) < 1 << W
-}
-
-/// Whether a beat has room in its line.
-fn is_writable<const W: usize>(beat: &Beat<W>) -> bool
-    requires { IsWidth W }
-    ensures yes { result ≡ true → IsWritable beat.now }
-    ensures no { IsWritable beat.now → result ≡ true }
-    ensures mask { HasMask beat.now }
-{
-    match beat {
-        Beat::A(beat) => fits::<W>(beat.mask) && beat.param < 8 && beat.size < 16,
-        Beat::B(beat) => fits::<W>(beat.mask) && beat.param < 8 && beat.size < 16,
-        Beat::C(beat) => beat.param < 8 && beat.size < 16,
-        Beat::D(beat) => beat.param < 4 && beat.size < 16,
-        Beat::E(_) => true,
-    }
-}
-
-/// Whether the beat that was taken, if one was, has room in its line.
-fn has_line<const W: usize>(outcome: &Outcome<W>) -> bool
-    requires { IsWidth W }
-    ensures yes { result ≡ true → HasLine outcome.now }
-    ensures no { HasLine outcome.now → result ≡ true }
-    ensures mask { HasMaskIn outcome.now }
-{
-    match outcome {
-        Outcome::Moved { beat } | Outcome::Done { beat, .. } => is_writable(beat),
-        _ => true,
-    }
-}
 
 /// Appends what is written of an event, or shown of it by a trace.
 fn put_event<const W: usize>(
@@ -74,23 +38,20 @@ fn put_event<const W: usize>(
     }
 }
 
-/// An event happens, and what comes of it is appended. The beats of a world always have room in their
-/// lines.
+/// An event happens, and what comes of it is appended.
 fn happen<const W: usize>(
     trace: bool,
     world: &mut World<W, AnyClient<W>, BitDirectory>,
     event: Event<W>,
     out: &mut Vec<u8>,
 ) -> Result<(), AllocError>
-    requires { IsWidth W }
-    ensures { OnOk result (Happens trace world.old world.new event.entry out.old.items out.new.items) }
+    requires width { IsWidth W }
+    requires playable { IsPlayable world.old }
+    ensures happens { OnOk result (Happens trace world.old world.new event.entry out.old.items out.new.items) }
+    ensures still { IsPlayable world.new }
 {
     let outcome = world.step(event);
-    if has_line(&outcome) {
-        put_event(trace, &event, &outcome, out)
-    } else {
-        Ok(())
-    }
+    put_event(trace, &event, &outcome, out)
 }
 
 /// What is next is delivered until nothing is, and what comes of each delivery is appended: the number
@@ -100,8 +61,10 @@ fn deliver_all<const W: usize>(
     world: &mut World<W, AnyClient<W>, BitDirectory>,
     out: &mut Vec<u8>,
 ) -> Result<u64, AllocError>
-    requires { IsWidth W }
-    ensures { IfOk result (Drains trace world.old world.new out.old.items out.new.items) }
+    requires width { IsWidth W }
+    requires playable { IsPlayable world.old }
+    ensures drains { IfOk result (Drains trace world.old world.new out.old.items out.new.items) }
+    ensures still { IsPlayable world.new }
 {
     let load = world.load();
     for count in 0..load {
@@ -122,8 +85,10 @@ fn play_said<const W: usize>(
     said: Line<W>,
     out: &mut Vec<u8>,
 ) -> Result<(), AllocError>
-    requires { IsWidth W }
-    ensures { OnOk result (PlaysOn trace world.old world.new said.entry out.old.items out.new.items) }
+    requires width { IsWidth W }
+    requires playable { IsPlayable world.old }
+    ensures plays { OnOk result (PlaysOn trace world.old world.new said.entry out.old.items out.new.items) }
+    ensures still { IsPlayable world.new }
 {
     match said {
         Line::Event(event) => happen(trace, world, event, out),
@@ -139,14 +104,16 @@ fn play_said<const W: usize>(
 }
 
 /// Plays a line behind the header, its line feed included, or answers its fault.
-pub fn play<const W: usize>(
+fn play<const W: usize>(
     trace: bool,
     world: &mut World<W, AnyClient<W>, BitDirectory>,
     line: &[u8],
     out: &mut Vec<u8>,
 ) -> Result<Option<Fault>, AllocError>
-    requires { IsWidth W }
-    ensures { IfOk result (PlaysLine trace world.old world.new line.now out.old.items out.new.items) }
+    requires width { IsWidth W }
+    requires playable { IsPlayable world.old }
+    ensures plays { IfOk result (PlaysLine trace world.old world.new line.now out.old.items out.new.items) }
+    ensures still { IsPlayable world.new }
 {
     match read_event(line) {
         Ok(said) => {
@@ -154,5 +121,47 @@ pub fn play<const W: usize>(
             Ok(None)
         }
         Err(fault) => Ok(Some(Fault::Event(fault))),
+    }
+}
+
+/// A world to which only events have happened since it was made: so each beat that it delivers has room
+/// in its line.
+#[derive(Drop)]
+pub struct Stage<const W: usize> {
+    world: World<W, AnyClient<W>, BitDirectory>,
+}
+
+impl<const W: usize> Model for Stage<W> {
+    ghost use Rattle.tl_tool.specs.Stage.{Contained, IsPlayable};
+
+    ghost Value = { Contained W };
+
+    ghost view = { λ s. s.world };
+
+    ghost invariant = { λ s. IsPlayable s.world };
+}
+
+impl<const W: usize> Stage<W> {
+    /// A world of the clients of a configuration, to which nothing has happened.
+    pub fn new(alloc: Global, config: Config) -> Result<Self, AllocError>
+        requires width { IsWidth W }
+        requires fits { config_fault config ≡ None }
+        ensures { IfOk result (λ stage. Reaches config stage []) }
+    {
+        let world = world_of(alloc, config)?;
+        Ok(Stage { world })
+    }
+
+    /// Plays a line behind the header, its line feed included, or answers its fault.
+    pub fn play(
+        &mut self,
+        trace: bool,
+        line: &[u8],
+        out: &mut Vec<u8>,
+    ) -> Result<Option<Fault>, AllocError>
+        requires { IsWidth W }
+        ensures { IfOk result (PlaysLine trace self.old self.new line.now out.old.items out.new.items) }
+    {
+        play(trace, &mut self.world, line, out)
     }
 }

@@ -6,14 +6,11 @@ ghost use Rattle.tl_tool.specs.Playing.{KnowsSchedule, Opens, is_trace};
 
 use crate::fault::Fault;
 use crate::judge::Judge;
-use crate::opening::{put_header, world_of};
-use crate::play::play;
+use crate::opening::put_header;
+use crate::play::Stage;
 use std::alloc::{AllocError, Global};
-use tl_client::any::AnyClient;
-use tl_manager::bits::BitDirectory;
 use tl_schedule::header::{Width, read_schedule};
 use tl_schedule::line::EventFault;
-use tl_world::world::World;
 
 /// Plays the lines of a schedule: the header, and then what happens to a world of the clients that it
 /// names. What comes of it is written, or the trace of it where `TRACES` is 1.
@@ -21,9 +18,9 @@ use tl_world::world::World;
 pub enum Player<const TRACES: usize> {
     /// The header hasn't been read.
     Waiting(Global),
-    Four(World<4, AnyClient<4>, BitDirectory>),
-    Eight(World<8, AnyClient<8>, BitDirectory>),
-    Sixteen(World<16, AnyClient<16>, BitDirectory>),
+    Four(Stage<4>),
+    Eight(Stage<8>),
+    Sixteen(Stage<16>),
 }
 
 /// A world of the clients that a header names. A line of another form names none.
@@ -39,9 +36,9 @@ fn open<const TRACES: usize>(
     };
     put_header(TRACES == 1, schedule.version, &schedule.config, out)?;
     let player = match schedule.version.width() {
-        Width::Four => Player::Four(world_of(alloc, schedule.config)?),
-        Width::Eight => Player::Eight(world_of(alloc, schedule.config)?),
-        Width::Sixteen => Player::Sixteen(world_of(alloc, schedule.config)?),
+        Width::Four => Player::Four(Stage::new(alloc, schedule.config)?),
+        Width::Eight => Player::Eight(Stage::new(alloc, schedule.config)?),
+        Width::Sixteen => Player::Sixteen(Stage::new(alloc, schedule.config)?),
     };
     Ok(Some(player))
 }
@@ -60,9 +57,9 @@ impl<const TRACES: usize> Judge for Player<TRACES> {
                     Ok(None)
                 }
             },
-            Player::Four(world) => play(TRACES == 1, world, line, out),
-            Player::Eight(world) => play(TRACES == 1, world, line, out),
-            Player::Sixteen(world) => play(TRACES == 1, world, line, out),
+            Player::Four(stage) => stage.play(TRACES == 1, line, out),
+            Player::Eight(stage) => stage.play(TRACES == 1, line, out),
+            Player::Sixteen(stage) => stage.play(TRACES == 1, line, out),
         }
     }
 

@@ -92,7 +92,7 @@ bytes_come {w} o m bytes beats width lawful long burst =
 
 -- ---- how the client ends an access that is answered
 
-ends_answered : {w : ℕ} (o : Option Level) (m : MessageA w) (d : MessageD w) (r : memory.Reply) (beats : List (Beat w)) → IsWidth w → illegal_message_at o (message.A m) ≡ None
+ends_answered : {w : ℕ} (o : Option Level) (m : MessageA w) (d : MessageD w) (r : memory.AccessResult) (beats : List (Beat w)) → IsWidth w → illegal_message_at o (message.A m) ≡ None
     → message.D d ≡ access_answer m (answer_of (message.A m) r) → IsReach m r → beats ≡ burst_of (message.D d) → finish_of w d.opcode d.param d.size m.address (payload_of beats) ≡ finish_with (message.A m) r
 ends_answered {w} o m d memory.Done beats width lawful answer reach burst =
     ap (λ (i : MessageD w). finish_of w i.opcode i.param i.size m.address (payload_of beats)) (same-response d (answer_message opd.AccessAck no_payload m) answer)
@@ -104,7 +104,7 @@ ends_answered {w} o m d (memory.Bytes bytes) beats width lawful answer reach bur
     ∙ ap (λ (b : List ℕ). finish.Data m.size (padded b)) (bytes_come o m bytes beats width lawful reach (burst ∙ ap (λ (i : MessageD w). burst_of (message.D i)) same))
 
 -- the source makes no difference
-finish_sourced : {w : ℕ} (source : ℕ) (m : MessageA w) (r : memory.Reply) → finish_with (message.A (sourced source m)) r ≡ finish_with (message.A m) r
+finish_sourced : {w : ℕ} (source : ℕ) (m : MessageA w) (r : memory.AccessResult) → finish_with (message.A (sourced source m)) r ≡ finish_with (message.A m) r
 finish_sourced source m memory.Done = refl
 finish_sourced source m memory.Hinted = refl
 finish_sourced source m (memory.Bytes bytes) = refl
@@ -112,7 +112,7 @@ finish_sourced source m (memory.Bytes bytes) = refl
 -- ---- as the machine allows
 
 -- what is open ends with its reply
-open_ends : {w : ℕ} (c source : ℕ) (m : Machine w) (a : MessageA w) (r : memory.Reply) (x : Beat w) → m.opened c Requests source ≡ Some (record { asked = Access (message.A a); answer = Some r })
+open_ends : {w : ℕ} (c source : ℕ) (m : Machine w) (a : MessageA w) (r : memory.AccessResult) (x : Beat w) → m.opened c Requests source ≡ Some (record { asked = Access (message.A a); answer = Some r })
     → Ends (m.opened c (pool_of (finish_with (message.A a) r)) source) x (finish_with (message.A a) r)
 open_ends c source m a memory.Done x e = rw e refl
 open_ends c source m a memory.Hinted x e = rw e refl
@@ -135,7 +135,7 @@ asked_replied u m acquire e = rw e refl
 -- what is open of an access that was answered
 record IsOver {w : ℕ} (config : Config) (log : Log w) (c source : ℕ) (h : Shadow w) : Type 0 where
   pub asked : MessageA w
-  pub reply : memory.Reply
+  pub reply : memory.AccessResult
   pub request : h.mail.request c source ≡ message.A (sourced source asked)
   pub lawful : illegal_message_at (level_of config c) (message.A (sourced source asked)) ≡ None
   pub opened : (remembered config log).opened c Requests source ≡ Some (record { asked = Access (message.A asked); answer = Some reply })

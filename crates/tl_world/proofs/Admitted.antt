@@ -28,9 +28,10 @@ use Rattle.tl_rules.specs.History.{pending, block_at, is_acquire, held}
 use Rattle.tl_client.specs.Send.{acquisition, probe_ack, release}
 use Rattle.tl_client.proofs.HeldAfter.{same_block}
 use Rattle.tl_rules.specs.Agent.{is_outside, is_spoiled}
-use Rattle.tl_rules.specs.Legality.{illegal, rule_if, is_one_of}
+use Rattle.tl_rules.specs.Legality.{illegal, is_one_of}
 use Rattle.tl_rules.proofs.Later.{later-legal}
 use Rattle.tl_beat.specs.declared.beat.Link.{Link}
+use Rattle.tl_beat.specs.First.{first_if}
 use Rattle.tl_params.specs.declared.level.Level.{Level}
 use Rattle.tl_params.specs.declared.rule.Rule.TheVariants.{H4, H5}
 use Rattle.tl_manager.specs.Kept.{IsSound, IsTyped}
@@ -39,7 +40,7 @@ use Rattle.tl_manager.specs.Slave.{End, Passes, level_of, open_level, before_sta
 use Rattle.tl_manager.proofs.Judged.{judged-passes}
 use Rattle.tl_manager.proofs.Sound.{leveled}
 use Rattle.tl_manager.specs.Releases.{comes_of}
-use Rattle.tl_manager.specs.Service.{services, serving, is_in_service, least_free, trackers_of}
+use Rattle.tl_manager.specs.Service.{services, serving, is_in_service, least_untaken, trackers_of}
 use Rattle.tl_manager.proofs.Free.{least_free-is_free}
 use Rattle.tl_manager.proofs.Serving.{tracker_among}
 use Rattle.tl_world.specs.Follow.{acquire_opcode}
@@ -211,11 +212,11 @@ unserved-free {w} request s t n is none = go (s.block n).service (ap is_some (sy
     go (GrantTaken q) e = absurd cc
 
 -- the tracker of the next service is of no block
-pub free-untracked : {w : ℕ} {X : Type 0} (caching : ℕ → Bool) (request : ℕ → MessageA w) (s : State X) (t : Trace w) → IsInvariant caching s → IsManaged request s t → s.tracked (least_free (trackers_of (services t))) ≡ None
+pub free-untracked : {w : ℕ} {X : Type 0} (caching : ℕ → Bool) (request : ℕ → MessageA w) (s : State X) (t : Trace w) → IsInvariant caching s → IsManaged request s t → s.tracked (least_untaken (trackers_of (services t))) ≡ None
 free-untracked {w} caching request s t inv is = go (s.tracked i) refl
   where
     i : ℕ
-    i = least_free (trackers_of (services t))
+    i = least_untaken (trackers_of (services t))
 
     among : (n r : ℕ) → serving n (services t) ≡ service_with (Some r) (s.block n).tracker (request n) → i ≡ (s.block n).tracker → ⊥
     among n r found same =
@@ -282,7 +283,7 @@ pub waits-first : {w : ℕ} (config : Config) (c : ℕ) (x : BeatA w) (sys : Sys
 waits-first config c x sys live is order waits = rw (open-level config is.level c sys.manager live is.level_is) (waits_at config is.level (link_of c) x sys.manager.trace is.lawful order waits)
 
 -- what is judged before the stall is none of an Acquire either
-early_none : (x y : Bool) → before_stall (rule_if x H4 (rule_if y H5 None)) ≡ None
+early_none : (x y : Bool) → before_stall (first_if x H4 (first_if y H5 None)) ≡ None
 early_none true y = refl
 early_none false true = refl
 early_none false false = refl

@@ -16,7 +16,7 @@ use Rattle.tl_params.specs.declared.param.Report.{Report}
 use Rattle.tl_params.specs.declared.profile.Profile.{Profile}
 use Rattle.tl_rules.specs.Conformance.{answers}
 use Rattle.tl_rules.specs.Effect as memory
-use Rattle.tl_rules.specs.Effect.{Memory, effect, answer_of, as_payload, bytes_from, bytes_of}
+use Rattle.tl_rules.specs.Effect.{Memory, effect, answer_of, as_payload, bytes_from, byte_count}
 use Rattle.tl_rules.specs.History.{block_at, is_acquire}
 use Rattle.tl_client.specs.declared.operation.Op.{Op}
 use Rattle.tl_client.specs.declared.operation.Op.TheVariants as op
@@ -54,13 +54,13 @@ IsAnswerTo {w} o m y = (x : MessageD w) × (y ≡ message.D x) × (is_access_ans
 abbrev pub answer_message : {w : ℕ} → OpD → List ℕ → MessageA w → MessageD w
 answer_message opcode payload m = record { opcode = opcode; param = 0; size = m.size; source = m.source; sink = 0; denied = false; payload = payload; corrupt = 0; small = m.small }
 
-answer_kind : {w : ℕ} (o : OpA) (m : MessageA w) (f : Memory) → is_acquire o ≡ false → IsAnswerTo o m (access_answer m (answer_of (message.A m) (memory.reply o m f)))
+answer_kind : {w : ℕ} (o : OpA) (m : MessageA w) (f : Memory) → is_acquire o ≡ false → IsAnswerTo o m (access_answer m (answer_of (message.A m) (memory.access_result o m f)))
 unfolding IsAnswerTo
 answer_kind a.PutFullData m f e = (answer_message opd.AccessAck no_payload m, refl, refl, refl, refl, refl)
 answer_kind a.PutPartialData m f e = (answer_message opd.AccessAck no_payload m, refl, refl, refl, refl, refl)
-answer_kind {w} a.ArithmeticData m f e = (answer_message opd.AccessAckData (as_payload (m.address % w) (bytes_from f m.address (bytes_of m))) m, refl, refl, refl, refl, refl)
-answer_kind {w} a.LogicalData m f e = (answer_message opd.AccessAckData (as_payload (m.address % w) (bytes_from f m.address (bytes_of m))) m, refl, refl, refl, refl, refl)
-answer_kind {w} a.Get m f e = (answer_message opd.AccessAckData (as_payload (m.address % w) (bytes_from f m.address (bytes_of m))) m, refl, refl, refl, refl, refl)
+answer_kind {w} a.ArithmeticData m f e = (answer_message opd.AccessAckData (as_payload (m.address % w) (bytes_from f m.address (byte_count m))) m, refl, refl, refl, refl, refl)
+answer_kind {w} a.LogicalData m f e = (answer_message opd.AccessAckData (as_payload (m.address % w) (bytes_from f m.address (byte_count m))) m, refl, refl, refl, refl, refl)
+answer_kind {w} a.Get m f e = (answer_message opd.AccessAckData (as_payload (m.address % w) (bytes_from f m.address (byte_count m))) m, refl, refl, refl, refl, refl)
 answer_kind a.Intent m f e = (answer_message opd.HintAck no_payload m, refl, refl, refl, refl, refl)
 answer_kind a.AcquireBlock m f e = absurd cc
 answer_kind a.AcquirePerm m f e = absurd cc

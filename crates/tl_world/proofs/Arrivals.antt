@@ -1,6 +1,6 @@
 -- A beat of a request that comes to the manager: what the manager makes of it.
 use Rattle.std.proofs.Common.{◌≡◌, subst, ℕ, zero, suc, ◌+◌, ◌-◌, ◌*◌, ◌<◌, ◌≤◌, ◌==◌, Bool, true, false, ◌&&◌, List, [], ◌∷◌, Option, Some, None, length, refl, sym, ◌∙◌, ap, arith}
-use Rattle.std.specs.Prelude.{if◌then◌else◌, replicate, drop, option_map, slice_range, min}
+use Rattle.std.specs.Prelude.{if◌then◌else◌, replicate, drop, option_map, slice_range, min, ⊤}
 use Rattle.std.proofs.lemmas.List.{length-take, length-drop, length-replicate}
 use Rattle.tl_beat.specs.Width.{IsWidth}
 use Rattle.tl_beat.specs.Opcode.{a_carries_data}
@@ -23,7 +23,7 @@ use Rattle.tl_rules.proofs.Sent.{is_last}
 use Rattle.tl_burst.proofs.Begun.{length-begun}
 use Rattle.tl_manager.specs.Kept.{IsKept}
 use Rattle.tl_manager.specs.Request.{request_carried}
-use Rattle.tl_manager.specs.Service.{Service, services, least_free, trackers_of}
+use Rattle.tl_manager.specs.Service.{Service, services, least_untaken, trackers_of}
 use Rattle.tl_manager.specs.Slave.{End, Passes, judged}
 use Rattle.tl_manager.proofs.Assembled.{request-again}
 use Rattle.tl_manager.proofs.Judged.{passed}
@@ -50,7 +50,7 @@ oldest (x ∷ y ∷ beats) = oldest (y ∷ beats)
 -- it is the last request that began with its source
 abbrev IsOpened : {w : ℕ} → History w → Option (Beat w) → Type 0
 IsOpened t (Some (beat.A x)) = request_of x.source t ≡ Some x
-IsOpened t _ = Unit {0}
+IsOpened t _ = ⊤
 
 opened-other : {w : ℕ} (t u : History w) (o : Option (Beat w)) → ((s : ℕ) → request_of s u ≡ request_of s t) → IsOpened t o → IsOpened u o
 opened-other t u None same ok = tt
@@ -160,7 +160,7 @@ ends-coming config c k m e is = rw (is.burst, length-begun (A m) k) refl
 
 -- the service of the request that it completes
 abbrev pub service_for : {w : ℕ} → ℕ → MessageA w → Trace w → Service w
-service_for c m t = record { tracker = least_free (trackers_of (services t)); link = link_of c; request = m }
+service_for c m t = record { tracker = least_untaken (trackers_of (services t)); link = link_of c; request = m }
 
 pub served-last : {w : ℕ} (config : Config) (c k : ℕ) (m : MessageA w) (e : End w) → IsComing config c k m e → beats_of (A m) ≡ suc k → IsServed (link_of c) (a_beat_of m k) (service_for c m e.trace) e.trace
 served-last {w} config c k m e is last = record {
@@ -169,7 +169,7 @@ served-last {w} config c k m e is last = record {
 }
   where
     with_tracker : MessageA w → Service w
-    with_tracker r = record { tracker = least_free (trackers_of (services e.trace)); link = link_of c; request = r }
+    with_tracker r = record { tracker = least_untaken (trackers_of (services e.trace)); link = link_of c; request = r }
 
 -- and it may be performed
 pub ready-last : {w : ℕ} (config : Config) (c k : ℕ) (m : MessageA w) (e : End w) → IsComing config c k m e → beats_of (A m) ≡ suc k → IsReady config (block_at m.address) (service_for c m e.trace) (with_beat c m k e.trace)

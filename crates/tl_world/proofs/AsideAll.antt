@@ -13,7 +13,7 @@ use Rattle.tl_client.specs.declared.operation.Op.{Op}
 use Rattle.tl_client.specs.declared.operation.Op.TheVariants as op
 use Rattle.tl_client.specs.declared.reply.Reply.{Reply}
 use Rattle.tl_client.specs.declared.reply.Reply.TheVariants as reply
-use Rattle.tl_client.specs.Ask.{stored, whole_grow}
+use Rattle.tl_client.specs.Ask.{copy_stored, whole_grow}
 use Rattle.tl_client.specs.Send.{access}
 use Rattle.tl_manager.specs.Holders.{cap_probed}
 use Rattle.tl_world.specs.Follow.{Shadow, with_state, asked, answers, performs, probes_some, some_below, access_taken, request_taken, is_unheld, gift, acquire_taken, granted_after, last_taken, ack_taken, is_whole, taken_by_client, kind_taken}
@@ -170,7 +170,7 @@ leaves-at_client config tracker c GrantAck n rest h d for ne = absurd cc
 
 pub leaves-asked : {w : ℕ} (c : ℕ) (o : Op w) (r : Reply) (h : Shadow w) (d : ℕ) → (d ≡ c → ⊥) → Leaves d h (asked c o r h)
 leaves-asked c (op.Load address size) r h d ne = leaves-none d h
-leaves-asked c (op.Store address size value) reply.Stored h d ne = aside-block_stored c (block_at address) d (stored address size value ((h.state.block (block_at address)).copy c)) h.mail h.state ne
+leaves-asked c (op.Store address size value) reply.Stored h d ne = aside-block_stored c (block_at address) d (copy_stored address size value ((h.state.block (block_at address)).copy c)) h.mail h.state ne
 leaves-asked c (op.Store address size value) (reply.Value v) h d ne = leaves-none d h
 leaves-asked c (op.Store address size value) reply.Miss h d ne = leaves-none d h
 leaves-asked c (op.Store address size value) (reply.Started source) h d ne = leaves-none d h

@@ -30,7 +30,7 @@ use Rattle.tl_client.specs.declared.operation.Op.TheVariants as op
 use Rattle.tl_client.specs.declared.busy.Busy.{Busy}
 use Rattle.tl_client.specs.declared.reply.Reply.{Reply}
 use Rattle.tl_client.specs.declared.reply.Reply.TheVariants as reply
-use Rattle.tl_client.specs.Ask.{Asked, asked, done, only, load, store, loaded, is_word, is_clean, is_formed, block_of, free_request, free_release, source_or_0, whole_grow}
+use Rattle.tl_client.specs.Ask.{Asked, asked, done, only, load, store, loaded, is_word, is_clean, is_formed, op_block, free_request, free_release, source_or_0, whole_grow}
 use Rattle.tl_client.specs.End.{Terms, End, zeros, copy_at, held_at}
 use Rattle.tl_client.specs.Send.{access, acquisition, release}
 use Rattle.tl_client.proofs.Cases.{NotBusy, asked-cases}
@@ -181,7 +181,7 @@ asked-well {w} config log h sys c terms o width is known = asked-cases terms o e
     copy_is n some = ap (λ (x : Option (List ℕ)). unwrap_or x zeros) (is.copies c n some) ∙ (is.invariant.blocks n).copies c some
 
     formed : (i : Op w) → NotBusy terms i e → is_formed terms.level i ≡ true
-    formed i free = not-false (is_formed terms.level i) (or_parts (nat_le terms.blocks (block_of i)) (not (is_formed terms.level i)) free.b5).1
+    formed i free = not-false (is_formed terms.level i) (or_parts (nat_le terms.blocks (op_block i)) (not (is_formed terms.level i)) free.b5).1
 
     free_source : is_none (free_request terms e.past) ≡ false → s.uses c (source_or_0 (free_request terms e.past)) ≡ Closed
     free_source one = unused config log h.mail h.request s sys c (source_or_0 (free_request terms e.past)) is (least_free-some (λ i. pending (RequestSource i) e.past) 0 terms.sources one).0

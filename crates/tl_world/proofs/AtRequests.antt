@@ -16,8 +16,8 @@ use Rattle.tl_rules.proofs.Sent.{not_last}
 use Rattle.tl_manager.specs.Handing.{Deed, nothing, with_handed, probes, performed}
 use Rattle.tl_manager.specs.Holders.{is_nobody, probed, cap_probed}
 use Rattle.tl_manager.specs.Kept.{IsKept, illegal_message_at}
-use Rattle.tl_manager.specs.Service.{services, least_free, trackers_of}
-use Rattle.tl_manager.specs.Slave.{End, Answer, level_of, deed, taken}
+use Rattle.tl_manager.specs.Service.{services, least_untaken, trackers_of}
+use Rattle.tl_manager.specs.Slave.{End, Reception, level_of, deed, taken}
 use Rattle.tl_manager.proofs.Events.{deed-part, deed-probes, performed-access, performed-acquire}
 use Rattle.tl_manager.proofs.Keeping.{kept-offered}
 use Rattle.tl_manager.proofs.Memories.{memory-elsewhere}
@@ -48,13 +48,13 @@ end_with c k m d e = taken (link_of c) (beat.A (a_beat_of m k)) d e
 
 pub kept-coming : {w : ℕ} (config : Config) (c k : ℕ) (m : MessageA w) (e : End w) → IsComing config c k m e → IsKept config (end_after config c k m e)
 kept-coming {w} config c k m e is =
-    subst (λ (p : Answer w × End w). IsKept config p.1) (offered-taken config (link_of c) channel.A (beat.A (a_beat_of m k)) e is.passes) (kept-offered config (link_of c) channel.A (beat.A (a_beat_of m k)) e is.width is.typed is.kept)
+    subst (λ (p : Reception w × End w). IsKept config p.1) (offered-taken config (link_of c) channel.A (beat.A (a_beat_of m k)) e is.passes) (kept-offered config (link_of c) channel.A (beat.A (a_beat_of m k)) e is.width is.typed is.kept)
 
 -- other blocks of the memory stay
 pub memory-coming : {w : ℕ} (config : Config) (c k i : ℕ) (m : MessageA w) (e : End w) → IsComing config c k m e → (i ≡ block_at m.address → ⊥) → bytes_from (end_after config c k m e).memory (64 * i) 64 ≡ bytes_from e.memory (64 * i) 64
 memory-coming {w} config c k i m e is other =
     block-same (end_after config c k m e).memory e.memory i (λ x f.
-    sym (ap (λ (p : Answer w × End w). p.1.memory x) (offered-taken config (link_of c) channel.A (beat.A (a_beat_of m k)) e is.passes))
+    sym (ap (λ (p : Reception w × End w). p.1.memory x) (offered-taken config (link_of c) channel.A (beat.A (a_beat_of m k)) e is.passes))
     ∙ memory-elsewhere config (link_of c) channel.A (beat.A (a_beat_of m k)) e x is.width is.typed is.kept (ne_eqb (block_at m.address) (block_at x) (λ g. other (sym (g ∙ f)))))
 
 -- ---- a beat that isn't the last
@@ -85,7 +85,7 @@ deed-probing {w} config c k n j m e is last block caps someone =
 
 pub at_manager-probing : {w : ℕ} (caching : ℕ → Bool) (config : Config) (mail : Mail w) (request : ℕ → MessageA w) (c k n : ℕ) (own : Bool) (source : ℕ) (j : Cap) (m : MessageA w) (s u : State (List ℕ)) (e : End w)
     → IsInvariant caching u
-    → ((i : ℕ) → u.block i ≡ set n (served_block c own source (least_free (trackers_of (services e.trace))) j (s.block n)) s.block i)
+    → ((i : ℕ) → u.block i ≡ set n (served_block c own source (least_untaken (trackers_of (services e.trace))) j (s.block n)) s.block i)
     → IsProbing config c k n own source j m s e → is_nobody (probed config (service_for c m e.trace) j (with_beat c m k e.trace)) ≡ false → IsServedWith mail (Waits c own source j) m
     → IsAtManager config mail request s e → IsAtManager config mail (set n m request) u (end_after config c k m e)
 at_manager-probing {w} caching config mail request c k n own source j m s u e inv blocks is someone with known =
@@ -100,7 +100,7 @@ at_manager-probing {w} caching config mail request c k n own source j m s u e in
     probing = record { handed = probes n j (probed config (service_for c m e.trace) j (with_beat c m k e.trace)); memory = e.memory }
 
     new : Block (List ℕ)
-    new = served_block c own source (least_free (trackers_of (services e.trace))) j (s.block n)
+    new = served_block c own source (least_untaken (trackers_of (services e.trace))) j (s.block n)
 
     served_now : (i : ℕ) → IsServedWith mail (u.block i).service (set n m request i)
     served_now i = elim (cases_eq i n) [
@@ -150,7 +150,7 @@ at_manager-answered {w} caching config mail request c k n m s u e inv blocks is 
 -- ---- the last one: the Acquire is granted
 
 pub at_manager-granted : {w : ℕ} (caching : ℕ → Bool) (config : Config) (mail : Mail w) (request : ℕ → MessageA w) (c k n : ℕ) (b : Bool) (j : Cap) (m : MessageA w) (s u : State (List ℕ)) (e : End w)
-    → IsInvariant caching u → ((i : ℕ) → u.block i ≡ set n (granted_at_once c (least_free (trackers_of (services e.trace))) b j (s.block n)) s.block i)
+    → IsInvariant caching u → ((i : ℕ) → u.block i ≡ set n (granted_at_once c (least_untaken (trackers_of (services e.trace))) b j (s.block n)) s.block i)
     → IsGranting config c k n j m s e
     → deed config (link_of c) (beat.A (a_beat_of m k)) e ≡ performed config (service_for c m e.trace) (with_beat c m k e.trace) e.memory
     → IsAtManager config mail request s e → IsAtManager config mail (set n m request) u (end_after config c k m e)
@@ -164,7 +164,7 @@ at_manager-granted {w} caching config mail request c k n b j m s u e inv blocks 
     granting = performed config (service_for c m e.trace) (with_beat c m k e.trace) e.memory
 
     new : Block (List ℕ)
-    new = granted_at_once c (least_free (trackers_of (services e.trace))) b j (s.block n)
+    new = granted_at_once c (least_untaken (trackers_of (services e.trace))) b j (s.block n)
 
     served_now : (i : ℕ) → IsServedWith mail (u.block i).service (set n m request i)
     served_now i = elim (cases_eq i n) [

@@ -1,6 +1,6 @@
 -- The one-memory machine beside the protocol, after events: what is open at each source, and the memory.
 use Rattle.std.proofs.Common.{◌≡◌, ℕ, Bool, true, false, ◌&&◌, List, [], ◌∷◌, Option, Some, None, refl, sym, ◌∙◌, subst, ◌⊎◌, inl, inr}
-use Rattle.std.specs.Prelude.{◌==◌, if◌then◌else◌}
+use Rattle.std.specs.Prelude.{◌==◌, if◌then◌else◌, ⊤}
 use Rattle.std.proofs.lemmas.Bool.{cases_eq, ne_eqb}
 use Rattle.tl_burst.specs.declared.message.Message.{Message}
 use Rattle.tl_rules.specs.Effect.{IsBlock, effect}
@@ -74,12 +74,12 @@ open-requests {w} c source o m d i = go (d == c)
 -- the Acquire that a source is of is as before
 abbrev pub IsSameAcquire : ℕ → State (List ℕ) → State (List ℕ) → Use → Type 0
 IsSameAcquire c s s' (Acquires n) = (((s'.block n).pair c).acquiring ≡ ((s.block n).pair c).acquiring) × ((s'.block n).waiting c ≡ (s.block n).waiting c)
-IsSameAcquire c s s' u = Unit {0}
+IsSameAcquire c s s' u = ⊤
 
 -- an answer is as before, where there is one
 abbrev pub IsSameAnswer : {w : ℕ} → Use → Message w → Message w → Type 0
 IsSameAnswer Replied x y = y ≡ x
-IsSameAnswer u x y = Unit {0}
+IsSameAnswer u x y = ⊤
 
 pub opened-still : {w : ℕ} (c source : ℕ) (mail mail' : Mail w) (s s' : State (List ℕ)) (u : Use) (o : Option (Open w)) → mail'.request c source ≡ mail.request c source → IsSameAnswer u (mail.answer c source) (mail'.answer c source)
     → IsSameAcquire c s s' u → IsOpened c source mail s u o → IsOpened c source mail' s' u o

@@ -1,6 +1,6 @@
 -- The one-memory machine beside the protocol, after an operation that a client is asked for.
 use Rattle.std.proofs.Common.{◌≡◌, ℕ, Bool, true, false, ◌&&◌, List, Option, Some, None, length, refl, sym, ◌∙◌, ap, subst, ◌⊎◌, inl, inr}
-use Rattle.std.specs.Prelude.{◌==◌}
+use Rattle.std.specs.Prelude.{◌==◌, ⊤}
 use Rattle.std.proofs.lemmas.Bool.{cases_eq}
 use Rattle.tl_burst.specs.declared.message.Message.TheVariants as message
 use Rattle.tl_burst.specs.declared.message.MessageA.{MessageA}
@@ -14,7 +14,7 @@ use Rattle.tl_client.specs.declared.operation.Op.{Op}
 use Rattle.tl_client.specs.declared.operation.Op.TheVariants as op
 use Rattle.tl_client.specs.declared.reply.Reply.{Reply}
 use Rattle.tl_client.specs.declared.reply.Reply.TheVariants as reply
-use Rattle.tl_client.specs.Ask.{stored, is_word, whole_grow}
+use Rattle.tl_client.specs.Ask.{copy_stored, is_word, whole_grow}
 use Rattle.tl_client.specs.Send.{access}
 use Rattle.tl_client.proofs.Stores.{word_room}
 use Rattle.tl_world.specs.Beside.{op_of, IsBeside}
@@ -84,7 +84,7 @@ IsReply (op.Access (message.B m)) (reply.Started source) = ⊥
 IsReply (op.Access (message.C m)) (reply.Started source) = ⊥
 IsReply (op.Access (message.D m)) (reply.Started source) = ⊥
 IsReply (op.Access (message.E m)) (reply.Started source) = ⊥
-IsReply o r = Unit {0}
+IsReply o r = ⊤
 
 truth_as : (f : Memory) (n i : ℕ) (new : Block (List ℕ)) (block : ℕ → Block (List ℕ)) → new.truth ≡ (block n).truth → IsBlock f i (block i).truth → IsBlock f i (set n new block i).truth
 truth_as f n i new block e h = subst (λ (bytes : List ℕ). IsBlock f i bytes) (sym (set-part (λ (b : Block (List ℕ)). b.truth) n new block e i)) h
@@ -161,7 +161,7 @@ beside-access_asked {w} c source a mail s m h =
 
 pub beside-block_stored : {w : ℕ} (caching : ℕ → Bool) (c address size value : ℕ) (mail : Mail w) (s : State (List ℕ)) (m : Machine w) → IsInvariant caching s → AreSized (s.block (block_at address)) → is_word address size ≡ true
     → same_perm ((s.block (block_at address)).pair c).held perm.Trunk ≡ true → IsBeside mail s m
-    → IsBeside mail (block_stored c (block_at address) (stored address size value ((s.block (block_at address)).copy c)) s) (record m { memory = with_number address size value m.memory })
+    → IsBeside mail (block_stored c (block_at address) (copy_stored address size value ((s.block (block_at address)).copy c)) s) (record m { memory = with_number address size value m.memory })
 beside-block_stored {w} caching c address size value mail s m inv sized word trunk h =
     beside-still mail s s' m (record m { memory = with_number address size value m.memory }) (record {
       memory = λ i. bytes i (cases_eq i n);
@@ -178,15 +178,15 @@ beside-block_stored {w} caching c address size value mail s m inv sized word tru
     copy = (s.block n).copy c
 
     new : Block (List ℕ)
-    new = stored_block c (stored address size value copy) (s.block n)
+    new = stored_block c (copy_stored address size value copy) (s.block n)
 
     s' : State (List ℕ)
-    s' = block_stored c n (stored address size value copy) s
+    s' = block_stored c n (copy_stored address size value copy) s
 
     same : copy ≡ (s.block n).truth
     same = (inv.blocks n).copies c (trunk-some ((s.block n).pair c).held trunk)
 
-    here : IsBlock (with_number address size value m.memory) n (stored address size value copy)
+    here : IsBlock (with_number address size value m.memory) n (copy_stored address size value copy)
     here = block-stored address size value copy m.memory (word_room address size word) (ap length same ∙ sized.truth) (subst (λ (b : List ℕ). IsBlock m.memory n b) (sym same) (h.memory n))
 
     bytes : (i : ℕ) → (i ≡ n) ⊎ (i ≡ n → ⊥) → IsBlock (with_number address size value m.memory) i (set n new s.block i).truth

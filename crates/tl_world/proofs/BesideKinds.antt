@@ -1,6 +1,6 @@
 -- The one-memory machine beside the protocol, after each message that is taken.
 use Rattle.std.proofs.Common.{◌≡◌, subst, ℕ, ◌≤◌, Bool, true, false, not, ◌&&◌, List, [], ◌∷◌, Option, Some, None, length, refl, sym, ◌∙◌, ap, ◌⊎◌, inl, inr}
-use Rattle.std.specs.Prelude.{◌==◌, if◌then◌else◌}
+use Rattle.std.specs.Prelude.{◌==◌, if◌then◌else◌, ⊤}
 use Rattle.std.proofs.lemmas.Bool.{cases_eq, ne_eqb}
 use Rattle.std.proofs.Math.Bool.{and-false}
 use Rattle.tl_burst.specs.declared.message.Message.{Message}
@@ -176,7 +176,7 @@ beside-acquire {w} clients p c n (Wants whole g) tracker rest h m beside =
 -- the access that waits, with what its source has open
 abbrev pub IsWaiting : {w : ℕ} → Config → ℕ → Service → Shadow w → Machine w → Type 0
 IsWaiting config n (Waits q false source k) h m = IsPerformed config q source (h.request n) h.mail h.state m × (block_at (h.request n).address ≡ n)
-IsWaiting config n _ h m = Unit {0}
+IsWaiting config n _ h m = ⊤
 
 beside_ended : {w : ℕ} (caching : ℕ → Bool) (config : Config) (c q n source : ℕ) (r : Report) (k : Cap) (rest : List Token) (h : Shadow w) (m : Machine w) → IsInvariant caching h.state
     → (h.state.block n).service ≡ Waits q false source k → ((h.state.block n).pair c).probing ≡ Answered r → ((d : ℕ) → (d ≡ c → ⊥) → is_quiet ((h.state.block n).pair d).probing ≡ true)

@@ -126,7 +126,7 @@ reply_reach : {w : ℕ} (x : MessageA w) (f : Memory) → IsReach x (effect (mes
 unfolding effect
 reply_reach {w} x f = go x.opcode
   where
-    go : (o : OpA) → IsReach x (memory.reply o x f)
+    go : (o : OpA) → IsReach x (memory.access_result o x f)
     go a.Get = length-bytes f x.address (2 ^ x.size)
     go a.ArithmeticData = length-bytes f x.address (2 ^ x.size)
     go a.LogicalData = length-bytes f x.address (2 ^ x.size)
@@ -182,16 +182,16 @@ beside-performed {w} config c source a bytes mail s s' m is same_reply others ch
     block_now : (i : ℕ) → (i ≡ n) ⊎ (i ≡ n → ⊥) → IsBlock (effect (message.A is.opened.0) m.memory).0 i (s'.block i).truth
     block_now i (inl same) =
         subst (λ (j : ℕ). IsBlock (effect (message.A is.opened.0) m.memory).0 j (s'.block j).truth) (sym same)
-        (subst (λ (y : Memory × memory.Reply). IsBlock y.0 n (s'.block n).truth) (sym effect_is) (subst (λ (z : List ℕ). IsBlock (effect (message.A a) m.memory).0 n z) (sym changed) blocks.0))
+        (subst (λ (y : Memory × memory.AccessResult). IsBlock y.0 n (s'.block n).truth) (sym effect_is) (subst (λ (z : List ℕ). IsBlock (effect (message.A a) m.memory).0 n z) (sym changed) blocks.0))
     block_now i (inr other) =
-        subst (λ (y : Memory × memory.Reply). IsBlock y.0 i (s'.block i).truth) (sym effect_is) (subst (λ (z : List ℕ). IsBlock (effect (message.A a) m.memory).0 i z) (sym (others i other)) (blocks.1 i other))
+        subst (λ (y : Memory × memory.AccessResult). IsBlock y.0 i (s'.block i).truth) (sym effect_is) (subst (λ (z : List ℕ). IsBlock (effect (message.A a) m.memory).0 i z) (sym (others i other)) (blocks.1 i other))
 
     reply_is : (effect (message.A is.opened.0) m.memory).1 ≡ (effect (message.A a) (bytes_at n bytes)).1
     reply_is =
-        ap (λ (y : Memory × memory.Reply). y.1) effect_is ∙ reply-performed (level_of config c) a m.memory (s.block n).truth is.width is.sent.1 (h.memory n) is.long ∙ same_reply m.memory (h.memory n)
+        ap (λ (y : Memory × memory.AccessResult). y.1) effect_is ∙ reply-performed (level_of config c) a m.memory (s.block n).truth is.width is.sent.1 (h.memory n) is.long ∙ same_reply m.memory (h.memory n)
 
     reaches : IsReach a (effect (message.A is.opened.0) m.memory).1
-    reaches = subst (λ (y : Memory × memory.Reply). IsReach a y.1) (sym effect_is) (reply_reach a m.memory)
+    reaches = subst (λ (y : Memory × memory.AccessResult). IsReach a y.1) (sym effect_is) (reply_reach a m.memory)
 
     same_acquires : (d : ℕ) (u : Use) → IsSameAcquire d s s' u
     same_acquires d Closed = tt
@@ -205,7 +205,7 @@ pub intent-reply : {w : ℕ} (x : MessageA w) (f g : Memory) → cap_probed x.op
 unfolding effect
 intent-reply {w} x f g e = go x.opcode refl e
   where
-    go : (o : OpA) → x.opcode ≡ o → cap_probed o x.param ≡ None → memory.reply x.opcode x f ≡ memory.reply x.opcode x g
+    go : (o : OpA) → x.opcode ≡ o → cap_probed o x.param ≡ None → memory.access_result x.opcode x f ≡ memory.access_result x.opcode x g
     go a.Intent e h = rw e refl
     go a.Get e h = absurd cc
     go a.PutFullData e h = absurd cc

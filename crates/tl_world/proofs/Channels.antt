@@ -1,7 +1,7 @@
 -- The channels after any event: where the tokens that stay show the same messages, and the beats move with the tokens,
 -- the channels carry the messages of the tokens.
 use Rattle.std.proofs.Common.{◌≡◌, ℕ, Bool, true, false, ◌≤◌, List, [], ◌∷◌, ◌++◌, refl, sym, ◌∙◌, ap, ap₂, ◌⊎◌, inl, inr, arith}
-use Rattle.std.specs.Prelude.{◌==◌, ◌&&◌, if◌then◌else◌, map, Option, Some, None}
+use Rattle.std.specs.Prelude.{◌==◌, ◌&&◌, if◌then◌else◌, map, Option, Some, None, ⊤}
 use Rattle.std.proofs.lemmas.Bool.{cases_eq, ne_eqb}
 use Rattle.tl_beat.specs.Width.{IsWidth}
 use Rattle.tl_beat.specs.declared.beat.Beat.{Beat}
@@ -205,8 +205,8 @@ carried-event caching n moves mail mail' s s' sys sys' width event queued h d ch
 
 -- what a channel loses and gains, as its tokens do
 abbrev pub Fits : {w : ℕ} → Bool → Option (Message w) → Move → (Kind → ℕ → Message w) → Type 0
-Fits true None (Pops k n) render = Unit {0}
-Fits false None Stays render = Unit {0}
+Fits true None (Pops k n) render = ⊤
+Fits false None Stays render = ⊤
 Fits false (Some m) (Pushes k n) render = render k n ≡ m
 Fits _ _ _ render = ⊥
 

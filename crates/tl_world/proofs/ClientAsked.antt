@@ -28,7 +28,7 @@ use Rattle.tl_client.specs.declared.operation.Op.{Op}
 use Rattle.tl_client.specs.declared.operation.Op.TheVariants as op
 use Rattle.tl_client.specs.declared.reply.Reply.TheVariants as reply
 use Rattle.tl_client.specs.Ask as ask
-use Rattle.tl_client.specs.Ask.{done, only, load, store, stored, whole_grow, free_request, free_release, source_or_0, is_access_of}
+use Rattle.tl_client.specs.Ask.{done, only, load, store, copy_stored, whole_grow, free_request, free_release, source_or_0, is_access_of}
 use Rattle.tl_client.specs.End.{Terms, End, zeros, copy_at, held_at, with_copy, with_waiting, sending, kept_for}
 use Rattle.tl_client.specs.Kept.{holds}
 use Rattle.tl_client.specs.Send.{sourced, acquisition, about, release}
@@ -337,9 +337,9 @@ end_store c address size value perm.Branch h e is end kept = end
 end_store {w} c address size value perm.Trunk h e is end kept =
     let n = block_at address in
     let same : copy_at e n ≡ (h.state.block n).copy c = ap (λ (o : Option (List ℕ)). unwrap_or o zeros) (end.copies n (rw is refl)) in
-    let bytes : stored address size value (copy_at e n) ≡ stored address size value ((h.state.block n).copy c) = ap (stored address size value) same in
-    subst (λ (x : List ℕ). IsWellKept (with_copy n (Some x) e) → IsEnd (asked_by h.mail (block_stored c n (stored address size value ((h.state.block n).copy c)) h.state) c) c (block_stored c n (stored address size value ((h.state.block n).copy c)) h.state) (with_copy n (Some x) e))
-    (sym bytes) (λ k. end-stored c n (stored address size value ((h.state.block n).copy c)) h.mail h.state e k end) kept
+    let bytes : copy_stored address size value (copy_at e n) ≡ copy_stored address size value ((h.state.block n).copy c) = ap (copy_stored address size value) same in
+    subst (λ (x : List ℕ). IsWellKept (with_copy n (Some x) e) → IsEnd (asked_by h.mail (block_stored c n (copy_stored address size value ((h.state.block n).copy c)) h.state) c) c (block_stored c n (copy_stored address size value ((h.state.block n).copy c)) h.state) (with_copy n (Some x) e))
+    (sym bytes) (λ k. end-stored c n (copy_stored address size value ((h.state.block n).copy c)) h.mail h.state e k end) kept
 
 end_done : {w : ℕ} (terms : Terms) (c : ℕ) (o : Op w) (h : Shadow w) (e : End w) → IsWidth w → AreNamed h.state → IsEndOf c h e → NotBusy terms o e → IsAfter c o h (done terms o e)
 end_done terms c (op.Load address size) h e width named end free kept = end_load c address size (held_at e (block_at address)) h e end kept

@@ -11,11 +11,11 @@ use Rattle.tl_beat.specs.declared.opcode.Channel.TheVariants as channel
 use Rattle.tl_burst.specs.declared.message.Message.TheVariants.{E}
 use Rattle.tl_burst.specs.declared.message.MessageE.{MessageE}
 use Rattle.tl_burst.specs.Messages.{History, unfinished}
+use Rattle.tl_burst.proofs.Splitting.{beats-positive}
 use Rattle.tl_params.specs.declared.key.Key.TheVariants.{RequestSource, ReleaseSource, AcquireOf, ReleaseOf}
 use Rattle.tl_params.specs.declared.perm.Perm.{Perm}
 use Rattle.tl_rules.specs.Agent.{sent}
 use Rattle.tl_rules.specs.History.{block_at, ends, grants, releases, capped, is_grant, is_release_ack, held, pending, request_of, release_of}
-use Rattle.tl_rules.proofs.Bursts.{has_beats}
 use Rattle.tl_rules.proofs.Handed.{held-whole, pending-whole, release_of-whole}
 use Rattle.tl_rules.proofs.Sent.{pending-closed}
 use Rattle.tl_client.specs.End.{End}
@@ -85,7 +85,7 @@ echo-none x t = record { held_is = λ k. refl; acquires = λ k. refl; releases =
 pub echo-e : {w : ℕ} (x : BeatD w) (m : MessageE) (t : History w) → IsWidth w → unfinished channel.E t ≡ [] → IsEcho x t (sent (E m) (beat.D x ∷ t))
 echo-e {w} x m t width whole =
     let none = (unfinished-d x t).3 ∙ whole in
-    let some = has_beats {w = w} (E m) width in
+    let some = beats-positive {w = w} (E m) width in
     record {
       held_is = λ k. held-whole k (E m) (beat.D x ∷ t) none some;
       acquires = λ k. pending-whole (AcquireOf k) (E m) (beat.D x ∷ t) none some;

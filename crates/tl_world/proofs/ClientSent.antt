@@ -10,11 +10,11 @@ use Rattle.tl_burst.specs.declared.message.MessageA.{MessageA}
 use Rattle.tl_burst.specs.declared.message.MessageC.{MessageC}
 use Rattle.tl_burst.specs.Burst.{a_beat_of, c_beat_of}
 use Rattle.tl_burst.specs.Messages.{History, unfinished}
+use Rattle.tl_burst.proofs.Splitting.{beats-positive}
 use Rattle.tl_params.specs.declared.key.Key.TheVariants.{RequestSource, ReleaseSource, AcquireOf, ReleaseOf}
 use Rattle.tl_params.specs.declared.perm.Perm.{Perm}
 use Rattle.tl_rules.specs.Agent.{sent}
 use Rattle.tl_rules.specs.History.{block_at, is_acquire, is_release, held, pending, release_of}
-use Rattle.tl_rules.proofs.Bursts.{has_beats}
 use Rattle.tl_rules.proofs.Handed.{held-whole, pending-whole, release_of-whole}
 use Rattle.tl_client.specs.End.{End}
 use Rattle.tl_client.specs.Requests.{open_beat}
@@ -38,7 +38,7 @@ pub record IsRequested {w : ℕ} (c : ℕ) (m : MessageA w) (asked asked' : ℕ 
 pub known-requested : {w : ℕ} (c : ℕ) (m : MessageA w) (asked asked' : ℕ → Option (BeatA w)) (s s' : State (List ℕ)) (t : History w) (f : End w) → IsWidth w → f.past ≡ sent (A m) t → unfinished channel.A t ≡ []
     → IsWellKept f → IsRequested c m asked asked' s s' → IsKnown asked (unfinished channel.D t) c s t → IsKnown asked' (unfinished channel.D f.past) c s' f.past
 known-requested {w} c m asked asked' s s' t f width past none well event known =
-    let some = has_beats (A m) width in
+    let some = beats-positive (A m) width in
     known-kept asked' c s' f well
     (λ n. ap (held n) past ∙ held-whole n (A m) t none some ∙ known.held_is n ∙ sym (event.held n))
     (λ n. ap (pending (AcquireOf n)) past ∙ pending-whole (AcquireOf n) (A m) t none some ∙ ap (λ (b : Bool). cond (is_acquire m.opcode && (block_at m.address == n)) true b) (known.acquires n) ∙ sym (event.acquiring n))
@@ -52,7 +52,7 @@ some_cond false x o = refl
 pub opened-requested : {w : ℕ} (c : ℕ) (m : MessageA w) (asked asked' : ℕ → Option (BeatA w)) (s s' : State (List ℕ)) (t : History w) → IsWidth w → unfinished channel.A t ≡ []
     → IsRequested c m asked asked' s s' → AreOpen asked c s t → AreOpen asked' c s' (sent (A m) t)
 opened-requested {w} c m asked asked' s s' t width none event open_ =
-    let some = has_beats (A m) width in
+    let some = beats-positive (A m) width in
     record {
       requests = λ source. pending-whole (RequestSource source) (A m) t none some ∙ ap (λ (b : Bool). cond (m.source == source) true b) (open_.requests source) ∙ sym (some_cond (m.source == source) (a_beat_of m 0) (asked source)) ∙ sym (ap is_some (event.asks source));
       releases = λ source. pending-whole (ReleaseSource source) (A m) t none some ∙ open_.releases source ∙ sym (ap is_some (event.lets source));
@@ -77,7 +77,7 @@ pub known-released : {w : ℕ} (c i : ℕ) (m : MessageC w) (p : Perm) (asked as
     → unfinished channel.C t ≡ [] → ((n : ℕ) → held n (sent (C m) t) ≡ cond (n == i) p (held n t))
     → IsWellKept f → IsReleased c i m p asked asked' s s' → IsKnown asked (unfinished channel.D t) c s t → IsKnown asked' (unfinished channel.D f.past) c s' f.past
 known-released {w} c i m p asked asked' s s' t f width past none left well event known =
-    let some = has_beats (C m) width in
+    let some = beats-positive (C m) width in
     known-kept asked' c s' f well
     (λ n. ap (held n) past ∙ left n ∙ ap (λ (q : Perm). cond (n == i) p q) (known.held_is n) ∙ sym (event.held n))
     (λ n. ap (pending (AcquireOf n)) past ∙ pending-whole (AcquireOf n) (C m) t none some ∙ known.acquires n ∙ sym (event.acquiring n))
@@ -90,7 +90,7 @@ known-released {w} c i m p asked asked' s s' t f width past none left well event
 pub opened-released : {w : ℕ} (c i : ℕ) (m : MessageC w) (p : Perm) (asked asked' : ℕ → Option (BeatA w)) (s s' : State (List ℕ)) (t : History w) → IsWidth w → unfinished channel.C t ≡ []
     → IsReleased c i m p asked asked' s s' → AreOpen asked c s t → AreOpen asked' c s' (sent (C m) t)
 opened-released {w} c i m p asked asked' s s' t width none event open_ =
-    let some = has_beats (C m) width in
+    let some = beats-positive (C m) width in
     record {
       requests = λ source. pending-whole (RequestSource source) (C m) t none some ∙ open_.requests source ∙ sym (ap is_some (event.asks source));
       releases = λ source. pending-whole (ReleaseSource source) (C m) t none some ∙ opens source ∙ ap (λ (b : Bool). cond (m.source == source) true b) (open_.releases source)

@@ -27,7 +27,7 @@ use Rattle.tl_client.specs.Ask as ask
 use Rattle.tl_client.specs.End.{Terms, End, with_past}
 use Rattle.tl_client.specs.Offer.{Offered, offered, taken, ended, silent, is_stalled}
 use Rattle.tl_client.proofs.Stalls.{taken_now}
-use Rattle.tl_manager.specs.Service.{services, least_free, trackers_of}
+use Rattle.tl_manager.specs.Service.{services, least_untaken, trackers_of}
 use Rattle.tl_manager.specs.Slave as manager
 use Rattle.tl_world.specs.declared.event.Event.{Event}
 use Rattle.tl_world.specs.declared.event.Event.TheVariants.{Ask, Deliver}
@@ -202,7 +202,7 @@ manager_leaves {w} caching config tracker c ch h d sys x queue down inv first =
     subst (λ (xs : List Token). Leaves d h (token_taken config tracker c xs h)) (sym first.tokens)
     (leaves-at_manager caching config tracker c first.kind first.number first.rest h d (manager_kind ch first.kind down first.own) inv (on_same ch first.kind (h.state.link c) first.own ∙ first.tokens))
 
-manager_ends : {w : ℕ} (config : Config) (log : Log w) (mail : Mail w) (request : ℕ → MessageA w) (s : State (List ℕ)) (sys : System w) (link : Link) (ch : Channel) (k : ℕ) (x : Beat w) (queue : List (Beat w)) (a : manager.Answer w × manager.End w) → IsWidth w
+manager_ends : {w : ℕ} (config : Config) (log : Log w) (mail : Mail w) (request : ℕ → MessageA w) (s : State (List ℕ)) (sys : System w) (link : Link) (ch : Channel) (k : ℕ) (x : Beat w) (queue : List (Beat w)) (a : manager.Reception w × manager.End w) → IsWidth w
     → IsMatched config log mail request s sys → sys.channels link.0 ch ≡ x ∷ queue → is_to_client ch ≡ false → AreEnds config (Deliver link ch) sys (shadow_of mail request s) k (manager_took link.0 ch x queue a sys)
 manager_ends config log mail request s sys link ch k x queue (manager.Refused rule, e) width h beats down = end-matched config log mail request s sys h k
 manager_ends config log mail request s sys link ch k x queue (manager.Stalled, e) width h beats down = end-matched config log mail request s sys h k
@@ -212,7 +212,7 @@ manager_ends {w} config log mail request s sys link ch k x queue (manager.Sent h
     before = shadow_of mail request s
 
     tracker : ℕ
-    tracker = least_free (trackers_of (services sys.manager.trace))
+    tracker = least_untaken (trackers_of (services sys.manager.trace))
 
     same : (with_messages handed (with_manager e (with_channel link.0 ch queue sys))).clients k ≡ sys.clients k
     same = ap (λ (f : ℕ → End w). f k) (clients-with_messages handed (with_manager e (with_channel link.0 ch queue sys)))
@@ -263,7 +263,7 @@ taken_ends : {w : ℕ} (config : Config) (log : Log w) (mail : Mail w) (request 
     → IsMatched config log mail request s sys → sys.channels link.0 ch ≡ x ∷ queue → is_to_client ch ≡ true → o ≡ taken x (sys.clients link.0)
     → (completes x (unfinished ch (receiver ch link.0 sys)) ≡ false → IsEndOf link.0 (shadow_of mail request s) (taken x (sys.clients link.0)).after)
     → (completes x (unfinished ch (receiver ch link.0 sys)) ≡ true
-    → IsEndOf link.0 (token_taken config (least_free (trackers_of (services sys.manager.trace))) link.0 (tokens_on ch (s.link link.0)) (shadow_of mail request s)) (taken x (sys.clients link.0)).after)
+    → IsEndOf link.0 (token_taken config (least_untaken (trackers_of (services sys.manager.trace))) link.0 (tokens_on ch (s.link link.0)) (shadow_of mail request s)) (taken x (sys.clients link.0)).after)
     → AreEnds config (Deliver link ch) sys (shadow_of mail request s) k (client_took link.0 ch x queue o sys)
 taken_ends {w} config log mail request s sys link ch k x queue o width h beats up takes more last =
     subst (λ (y : Offered w). AreEnds config (Deliver link ch) sys before k (client_took link.0 ch x queue y sys)) (sym takes)
@@ -278,7 +278,7 @@ taken_ends {w} config log mail request s sys link ch k x queue o width h beats u
     rest_now = unfinished ch (receiver ch link.0 sys)
 
     event : Shadow w
-    event = token_taken config (least_free (trackers_of (services sys.manager.trace))) link.0 (tokens_on ch (s.link link.0)) before
+    event = token_taken config (least_untaken (trackers_of (services sys.manager.trace))) link.0 (tokens_on ch (s.link link.0)) before
 
     t : Offered w
     t = taken x (sys.clients link.0)
@@ -300,14 +300,14 @@ taken_ends {w} config log mail request s sys link ch k x queue o width h beats u
     go false goes (inl same) = subst (λ (e : End w). IsEndOf k before e) (sym (own same)) (subst (λ (i : ℕ). IsEndOf i before t.after) (sym same) (more goes))
     go true done (inr ne) =
         left_alone k before event (sys.clients k) (after.clients k)
-        (client_leaves config (least_free (trackers_of (services sys.manager.trace))) link.0 ch before k sys x queue up ne (first-token (is_caching config) ch link.0 mail s sys x queue width h.invariant h.carried beats)) (others ne) (end-matched config log mail request s sys h k)
+        (client_leaves config (least_untaken (trackers_of (services sys.manager.trace))) link.0 ch before k sys x queue up ne (first-token (is_caching config) ch link.0 mail s sys x queue width h.invariant h.carried beats)) (others ne) (end-matched config log mail request s sys h k)
     go false goes (inr ne) = left_alone k before before (sys.clients k) (after.clients k) (leaves-none k before) (others ne) (end-matched config log mail request s sys h k)
 
 d_ends : {w : ℕ} (config : Config) (log : Log w) (mail : Mail w) (request : ℕ → MessageA w) (s : State (List ℕ)) (sys : System w) (terms : Terms) (link : Link) (k : ℕ) (x : Beat w) (queue : List (Beat w)) → IsWidth w
     → IsMatched config log mail request s sys → terms_at config link.0 ≡ Some terms → sys.channels link.0 channel.D ≡ x ∷ queue
     → AreEnds config (Deliver link channel.D) sys (shadow_of mail request s) k (client_took link.0 channel.D x queue (offered terms channel.D x (sys.clients link.0)) sys)
 d_ends {w} config log mail request s sys terms link k x queue width h at beats =
-    let is = delivered-d config log mail request s sys terms (least_free (trackers_of (services sys.manager.trace))) link.0 x queue width h at beats in
+    let is = delivered-d config log mail request s sys terms (least_untaken (trackers_of (services sys.manager.trace))) link.0 x queue width h at beats in
     taken_ends config log mail request s sys link channel.D k x queue (offered terms channel.D x (sys.clients link.0)) width h beats refl is.takes is.more is.last
 
 b_ends : {w : ℕ} (config : Config) (log : Log w) (mail : Mail w) (request : ℕ → MessageA w) (s : State (List ℕ)) (sys : System w) (terms : Terms) (link : Link) (k : ℕ) (x : Beat w) (queue : List (Beat w)) → IsWidth w
@@ -315,8 +315,8 @@ b_ends : {w : ℕ} (config : Config) (log : Log w) (mail : Mail w) (request : �
     → AreEnds config (Deliver link channel.B) sys (shadow_of mail request s) k (client_took link.0 channel.B x queue (offered terms channel.B x (sys.clients link.0)) sys)
 b_ends {w} config log mail request s sys terms link k x queue width h at beats = go (is_kept ((s.block comes.0).pair link.0).letting) refl
   where
-    comes : (n : ℕ) × IsProbed config terms (least_free (trackers_of (services sys.manager.trace))) link.0 n (shadow_of mail request s) x (sys.clients link.0)
-    comes = delivered-b config log mail request s sys terms (least_free (trackers_of (services sys.manager.trace))) link.0 x queue width h at beats
+    comes : (n : ℕ) × IsProbed config terms (least_untaken (trackers_of (services sys.manager.trace))) link.0 n (shadow_of mail request s) x (sys.clients link.0)
+    comes = delivered-b config log mail request s sys terms (least_untaken (trackers_of (services sys.manager.trace))) link.0 x queue width h at beats
 
     go : (b : Bool) → is_kept ((s.block comes.0).pair link.0).letting ≡ b
         → AreEnds config (Deliver link channel.B) sys (shadow_of mail request s) k (client_took link.0 channel.B x queue (offered terms channel.B x (sys.clients link.0)) sys)

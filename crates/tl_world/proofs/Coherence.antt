@@ -124,7 +124,7 @@ moved_opened (Deliver link ch) outcome.NoSuchClient m c pool source = refl
 op_opened : {w : ℕ} (client n : ℕ) (o : Open w) (m : Machine w) (c : ℕ) (pool : Pool) (source : ℕ) → m.opened client Requests n ≡ Some o → asked_at c pool source (unwrap_or (performed_open client n (Some o) m) m) ≡ asked_at c pool source m
 op_opened {w} client n o m c pool source e = go o.asked o.answer (ap (option_map (λ i. i.asked)) e)
   where
-    go : (x : Op w) (r : Option memory.Reply) → asked_at client Requests n m ≡ Some x → asked_at c pool source (unwrap_or (performed_op client n x r m) m) ≡ asked_at c pool source m
+    go : (x : Op w) (r : Option memory.AccessResult) → asked_at client Requests n m ≡ Some x → asked_at c pool source (unwrap_or (performed_op client n x r m) m) ≡ asked_at c pool source m
     go (op.Access a) None f =
         opened_with client Requests n (Some (record { asked = op.Access a; answer = Some (memory.effect a m.memory).1 })) (with_memory (memory.effect a m.memory).0 m) c pool source
         ∙ sym (same_there client Requests n (Some (op.Access a)) m c pool source f)

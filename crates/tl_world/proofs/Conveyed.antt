@@ -1,6 +1,6 @@
 -- Channels lose nothing and keep order, whatever happens.
 use Rattle.std.proofs.Common.{◌≡◌, ℕ, Bool, true, false, List, [], ◌∷◌, Option, Some, None, refl, sym, ◌∙◌, ap, subst, inl, inr}
-use Rattle.std.specs.Prelude.{◌++◌, ◌==◌, if◌then◌else◌, All, map, Ok}
+use Rattle.std.specs.Prelude.{◌++◌, ◌==◌, if◌then◌else◌, All, map, Ok, ⊤}
 use Rattle.std.proofs.lemmas.Bool.{cases_eq, ne_eqb}
 use Rattle.std.proofs.lemmas.List.Elements.{All-head}
 use Rattle.tl_beat.specs.Width.{IsWidth}
@@ -71,7 +71,7 @@ ours_from (message.B m) is = absurd is
 ours_from (message.D m) is = absurd is
 
 abbrev IsOurs : {w : ℕ} → Option (Message w) → Type 0
-IsOurs None = Unit {0}
+IsOurs None = ⊤
 IsOurs (Some m) = is_from_client (beat_of m 0) ≡ true
 
 -- the client's end is then with all beats of it

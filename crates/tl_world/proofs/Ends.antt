@@ -43,7 +43,7 @@ module _ {w : ℕ} (config : Config) (P : ℕ → End w → Type 0) (keep : AreK
   judged-kept (Ok (verdict.Taken, m)) k ch x rest e s here all c = rw (clients-with_messages (handed_by k m) (with_client k e (with_channel k ch rest s))) (other_end k e (with_channel k ch rest s) here all c)
   judged-kept (Ok (verdict.Done source f, m)) k ch x rest e s here all c = rw (clients-with_messages (handed_by k m) (with_client k e (with_channel k ch rest s))) (other_end k e (with_channel k ch rest s) here all c)
 
-  managed-kept : (a : manager.Answer w × manager.End w) (k : ℕ) (ch : Channel) (x : Beat w) (rest : List (Beat w)) (s : System w) → ((c : ℕ) → P c (s.clients c))
+  managed-kept : (a : manager.Reception w × manager.End w) (k : ℕ) (ch : Channel) (x : Beat w) (rest : List (Beat w)) (s : System w) → ((c : ℕ) → P c (s.clients c))
       → (c : ℕ) → P c ((manager_took k ch x rest a s).after.clients c)
   managed-kept (manager.Refused rule, e) k ch x rest s all c = all c
   managed-kept (manager.Stalled, e) k ch x rest s all c = all c

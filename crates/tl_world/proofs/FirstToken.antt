@@ -6,7 +6,7 @@ use Rattle.tl_beat.specs.declared.beat.Beat.{Beat}
 use Rattle.tl_beat.specs.declared.opcode.Channel.{Channel}
 use Rattle.tl_burst.specs.declared.message.Message.{Message}
 use Rattle.tl_burst.specs.Messages.{unfinished}
-use Rattle.tl_rules.proofs.Bursts.{has_beats}
+use Rattle.tl_burst.proofs.Splitting.{beats-positive}
 use Rattle.tl_world.specs.Carried.{IsCarried}
 use Rattle.tl_world.specs.Invariant.{IsInvariant}
 use Rattle.tl_world.specs.Matched.{AreCarried, receiver}
@@ -60,6 +60,6 @@ first-token {w} caching ch c mail s sys x queue width inv carried beats = go (to
       rest = ys;
       tokens = e;
       own = own_kind caching s c ch y.kind y.number ys inv e;
-      next = carried-next x (unfinished ch (receiver ch c sys)) (message_of_kind y.kind mail s c y.number) (map (message_of mail s c) ys) queue (λ m. has_beats m width)
+      next = carried-next x (unfinished ch (receiver ch c sys)) (message_of_kind y.kind mail s c y.number) (map (message_of mail s c) ys) queue (λ m. beats-positive m width)
           (same_carried (unfinished ch (receiver ch c sys)) (map (message_of mail s c) (tokens_on ch (s.link c))) (message_of mail s c y ∷ map (message_of mail s c) ys) (sys.channels c ch) (x ∷ queue) (ap (map (message_of mail s c)) e) beats (carried c ch));
     }

@@ -104,7 +104,7 @@ unrefused_up : {w : ℕ} (a : Result (Verdict × Option (Message w)) Rule) → i
 unrefused_up (Ok v) e = tt
 unrefused_up (Err rule) e = absurd cc
 
-taken_in : {w : ℕ} (a b : manager.Answer w × manager.End w) → a ≡ b → IsTakenIn b → IsTakenIn a
+taken_in : {w : ℕ} (a b : manager.Reception w × manager.End w) → a ≡ b → IsTakenIn b → IsTakenIn a
 taken_in a b e is = subst IsTakenIn (sym e) is
 
 taken_up : {w : ℕ} (a b : Offered w) → a ≡ b → IsTakenUp b.answer → IsTakenUp a.answer

@@ -1,6 +1,6 @@
 -- What is delivered on a link, as a beat of an access's answer or a ReleaseAck is.
 use Rattle.std.proofs.Common.{◌≡◌, ℕ, Bool, true, false, not, ◌&&◌, ◌||◌, ◌∷◌, Option, Some, None, refl, sym, ◌∙◌, ap, List}
-use Rattle.std.specs.Prelude.{◌==◌, if◌then◌else◌, option_map}
+use Rattle.std.specs.Prelude.{◌==◌, if◌then◌else◌, option_map, unwrap_or}
 use Rattle.std.proofs.lemmas.Bool.{ne_eqb, eqb-true}
 use Rattle.tl_beat.specs.declared.beat.Beat.{Beat}
 use Rattle.tl_beat.specs.declared.beat.Beat.TheVariants as beat
@@ -13,7 +13,7 @@ use Rattle.tl_burst.specs.Messages.{History}
 use Rattle.tl_params.specs.declared.key.Key.TheVariants.{ReleaseSource}
 use Rattle.tl_params.specs.declared.perm.Perm.{Perm}
 use Rattle.tl_rules.specs.Conformance.{comes_in_grant}
-use Rattle.tl_rules.specs.History.{begins, ends, block_at, pending, is_grant, is_release_ack, asks_for, request_of, release_of, probe_of, grant_sink, releases, capped, or_perm}
+use Rattle.tl_rules.specs.History.{begins, ends, block_at, pending, is_grant, is_release_ack, asks_for, request_of, release_of, probe_of, grant_sink, releases, capped}
 use Rattle.tl_client.proofs.Opens.{request_of-d}
 use Rattle.tl_client.proofs.AccountedResponse.{release_of-d}
 use Rattle.tl_world.specs.Flowed.{IsFlowed, is_requested, is_let, is_let_by, is_sunk}
@@ -48,7 +48,7 @@ sunk-of {w} n y t e = go (begins (beat.D y) t) (is_grant y.opcode) (asks_for n (
 pub unclosed : (first last g q p : Bool) → g ≡ false → step first last false (g && q) p ≡ p
 unclosed first last g q p e = rw e (step_quiet first last p)
 
-pub unsaid : (last g q : Bool) (v p : Perm) → g ≡ false → (if last then or_perm (if g && q then Some v else None) p else p) ≡ p
+pub unsaid : (last g q : Bool) (v p : Perm) → g ≡ false → (if last then unwrap_or (if g && q then Some v else None) p else p) ≡ p
 unsaid true g q v p e = rw e refl
 unsaid false g q v p e = refl
 

@@ -16,7 +16,7 @@ use Rattle.tl_client.specs.declared.operation.Op.{Op}
 use Rattle.tl_client.specs.declared.operation.Op.TheVariants as op
 use Rattle.tl_client.specs.declared.reply.Reply.{Reply}
 use Rattle.tl_client.specs.declared.reply.Reply.TheVariants as reply
-use Rattle.tl_client.specs.Ask.{stored, whole_grow}
+use Rattle.tl_client.specs.Ask.{copy_stored, whole_grow}
 use Rattle.tl_client.specs.Send.{access}
 use Rattle.tl_world.specs.Flowed.{IsFlowed}
 use Rattle.tl_world.specs.Follow.{Shadow, asked}
@@ -73,7 +73,7 @@ module _ {w : ℕ} (config : Config) (log : Log w) (h : Shadow w) (sys : System 
   own-stored : (t : History w) (address size value : ℕ) → IsAskedOn c t (op.Store address size value) reply.Stored
   own-stored t address size value may =
       let n = block_at address in
-      let bytes = stored address size value ((h.state.block n).copy c) in
+      let bytes = copy_stored address size value ((h.state.block n).copy c) in
       let asks : (i : ℕ) → asked_by h.mail (block_stored c n bytes h.state) c i ≡ asked_by h.mail h.state c i =
       λ i. asks-same c i h.mail h.mail h.state (block_stored c n bytes h.state) refl (inl refl) (λ j used. set-part (λ b. (b.pair c).acquiring) n _ h.state.block refl j) (λ j used. set-part (λ b. b.source c) n _ h.state.block refl j) in
       flowed-aside (asked_by h.mail h.state c) (asked_by h.mail (block_stored c n bytes h.state) c) (unfinished_at sys c) c h.state (block_stored c n bytes h.state) t
@@ -142,7 +142,7 @@ module _ {w : ℕ} (config : Config) (log : Log w) (h : Shadow w) (sys : System 
 
   asked-other : (d : ℕ) (t : History w) (o : Op w) (r : Reply) → (d ≡ c → ⊥) → IsReply o r → IsAskedOn d t o r
   asked-other d t o r ne may_be = reply-cases (IsAskedOn d t) o r may_be
-      (λ address size value may. left (op.Store address size value) reply.Stored (λ asks. left-block_stored d before (after (op.Store address size value) reply.Stored) (unfinished_at sys d) h.state asks coming c (block_at address) (stored address size value ((h.state.block (block_at address)).copy c))))
+      (λ address size value may. left (op.Store address size value) reply.Stored (λ asks. left-block_stored d before (after (op.Store address size value) reply.Stored) (unfinished_at sys d) h.state asks coming c (block_at address) (copy_stored address size value ((h.state.block (block_at address)).copy c))))
       (λ n g source may. left (op.Acquire n g) (reply.Started source) (λ asks. left-acquire_asked d before (after (op.Acquire n g) (reply.Started source)) (unfinished_at sys d) h.state asks coming c n source false g ((h.state.block n).waiting c) ne))
       (λ n bytes source may. left (op.AcquireWhole n bytes) (reply.Started source) (λ asks. left-acquire_asked d before (after (op.AcquireWhole n bytes) (reply.Started source)) (unfinished_at sys d) h.state asks coming c n source true (whole_grow ((h.state.block n).pair c).held) bytes ne))
       (λ n p source may. left (op.Release n p) (reply.Started source) (λ asks. left-release_asked d before (after (op.Release n p) (reply.Started source)) (unfinished_at sys d) h.state asks coming c n source p ne))

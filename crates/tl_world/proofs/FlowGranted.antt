@@ -1,6 +1,6 @@
 -- What is delivered on a link, as a beat of a Grant is.
 use Rattle.std.proofs.Common.{◌≡◌, ℕ, Bool, true, false, not, ◌&&◌, ◌||◌, ◌∷◌, Option, Some, None, refl, sym, ◌∙◌, ap, List}
-use Rattle.std.specs.Prelude.{◌==◌, if◌then◌else◌, option_map}
+use Rattle.std.specs.Prelude.{◌==◌, if◌then◌else◌, option_map, unwrap_or}
 use Rattle.std.proofs.lemmas.Bool.{ne_eqb, and_right}
 use Rattle.tl_beat.specs.declared.beat.Beat.{Beat}
 use Rattle.tl_beat.specs.declared.beat.Beat.TheVariants as beat
@@ -14,7 +14,7 @@ use Rattle.tl_params.specs.declared.param.Cap.{Cap}
 use Rattle.tl_params.specs.declared.perm.Perm.{Perm}
 use Rattle.tl_params.specs.Param.{cap_right}
 use Rattle.tl_rules.specs.Conformance.{comes_in_request, comes_in_grant}
-use Rattle.tl_rules.specs.History.{begins, ends, block_at, pending, is_grant, is_release_ack, asks_for, request_of, release_of, probe_of, grant_sink, releases, capped, or_perm}
+use Rattle.tl_rules.specs.History.{begins, ends, block_at, pending, is_grant, is_release_ack, asks_for, request_of, release_of, probe_of, grant_sink, releases, capped}
 use Rattle.tl_client.proofs.Opens.{request_of-d}
 use Rattle.tl_client.proofs.AccountedResponse.{release_of-d}
 use Rattle.tl_world.specs.Flowed.{IsFlowed, is_requested, is_let_by, is_sunk}
@@ -67,11 +67,11 @@ pub record IsGranting {w : ℕ} {X : Type 0} (c n : ℕ) (d : Bool) (k : Cap) (y
   pub tracker : (s'.block n).tracker ≡ (s.block n).tracker
   pub answered : is_answered ((s'.block n).pair c).probing ≡ is_answered ((s.block n).pair c).probing
 
-said : (last g : Bool) (v p : Perm) → g ≡ true → (if last then or_perm (if g then Some v else None) p else p) ≡ (if last then v else p)
+said : (last g : Bool) (v p : Perm) → g ≡ true → (if last then unwrap_or (if g then Some v else None) p else p) ≡ (if last then v else p)
 said true g v p e = rw e refl
 said false g v p e = refl
 
-unsaid : (last g : Bool) (v p : Perm) → g ≡ false → (if last then or_perm (if g then Some v else None) p else p) ≡ p
+unsaid : (last g : Bool) (v p : Perm) → g ≡ false → (if last then unwrap_or (if g then Some v else None) p else p) ≡ p
 unsaid true g v p e = rw e refl
 unsaid false g v p e = refl
 
@@ -143,7 +143,7 @@ flowed-grant {w} {X} c n d k y first last asked asked' rest rest' s s' t first_i
       first_is = first_is;
       last_is = last_is;
       rests = rests;
-      held_is = each-block (λ m z. held_by c z ≡ (if last then or_perm (if is_grant y.opcode && asks_for m (request_of y.source t) then Some (capped y.param) else None) (held_by c (s.block m)) else held_by c (s.block m))) n s s' is.elsewhere
+      held_is = each-block (λ m z. held_by c z ≡ (if last then unwrap_or (if is_grant y.opcode && asks_for m (request_of y.source t) then Some (capped y.param) else None) (held_by c (s.block m)) else held_by c (s.block m))) n s s' is.elsewhere
           (is.held_is ∙ ap (λ (q : Perm). if last then q else held_by c b) (sym is.says) ∙ sym (said last (grants_at n) (capped y.param) (held_by c b) (names n ∙ same_number n)))
           (λ m ne. sym (unsaid last (grants_at m) (capped y.param) (held_by c (s.block m)) (apart m ne)));
       requests = λ i. use_at i ∙ requests i last (y.source == i) refl refl;

@@ -10,6 +10,7 @@ use Rattle.tl_beat.specs.declared.beat.BeatC.{BeatC}
 use Rattle.tl_beat.specs.declared.beat.BeatE.{BeatE}
 use Rattle.tl_beat.specs.declared.opcode.Channel.{Channel}
 use Rattle.tl_beat.specs.declared.opcode.Channel.TheVariants as channel
+use Rattle.tl_beat.specs.First.{first_if}
 use Rattle.tl_burst.specs.declared.message.Message.{Message}
 use Rattle.tl_burst.specs.Burst.{beat_of, begun}
 use Rattle.tl_burst.specs.Messages.{History, channel_of, channel_in, unfinished}
@@ -24,7 +25,7 @@ use Rattle.tl_params.specs.declared.rule.Rule.TheVariants.{H1, H9, H13}
 use Rattle.tl_params.specs.Param.{prune_code, prune_of, prune_left, report_code, report_at}
 use Rattle.tl_rules.specs.Conformance.{broken_order, broken_in_order, broken_after, grows_from, prunes_from, comes_in_request, comes_in_release, comes_in_grant, same_perm}
 use Rattle.tl_rules.specs.History.{block_at, is_acquire, is_probe, is_probe_ack, is_release, held, pending}
-use Rattle.tl_rules.specs.Legality.{illegal, rule_if}
+use Rattle.tl_rules.specs.Legality.{illegal}
 use Rattle.tl_rules.proofs.Later.{later-legal}
 use Rattle.tl_world.specs.Flowed.{IsFlowed, is_requested, is_let, is_let_by, is_sunk}
 use Rattle.tl_world.specs.Known.{comes_granting}
@@ -60,7 +61,7 @@ acquire-flows {w} p c n x asked rest s t flowed whole acquires block used idle k
 
 -- ---- channel B
 
-unprobed : (probes a b : Bool) → a ≡ false → b ≡ false → rule_if (probes && (a || b)) H9 None ≡ None
+unprobed : (probes a b : Bool) → a ≡ false → b ≡ false → first_if (probes && (a || b)) H9 None ≡ None
 unprobed true a b e f = rw (e, f) refl
 unprobed false a b e f = refl
 
@@ -96,7 +97,7 @@ prune_again prune.TtoB = refl
 prune_again prune.TtoN = refl
 prune_again prune.BtoN = refl
 
-releases : (taken acquires again prunes : Bool) → taken ≡ false → acquires ≡ false → again ≡ false → prunes ≡ true → rule_if taken H1 (rule_if (acquires || (again || not prunes)) H13 None) ≡ None
+releases : (taken acquires again prunes : Bool) → taken ≡ false → acquires ≡ false → again ≡ false → prunes ≡ true → first_if taken H1 (first_if (acquires || (again || not prunes)) H13 None) ≡ None
 releases taken acquires again prunes e f g h = rw (e, f, g, h) refl
 
 pub release-flows : {w : ℕ} {X : Type 0} (p : Profile) (c n : ℕ) (r : Prune) (x : BeatC w) (asked : ℕ → Option (BeatA w)) (rest : Channel → List (Beat w)) (s : State X) (t : History w) → IsFlowed asked rest c s t → rest channel.C ≡ []

@@ -1,6 +1,6 @@
 -- What is delivered on a link, as the beats of a Release are.
 use Rattle.std.proofs.Common.{◌≡◌, ℕ, Bool, true, false, not, ◌&&◌, ◌||◌, ◌∷◌, Option, Some, None, refl, sym, ◌∙◌, ap, List, ◌⊎◌, inl, inr}
-use Rattle.std.specs.Prelude.{◌==◌, if◌then◌else◌, option_map}
+use Rattle.std.specs.Prelude.{◌==◌, if◌then◌else◌, option_map, unwrap_or}
 use Rattle.std.proofs.lemmas.Bool.{cases_eq, ne_eqb, and_right}
 use Rattle.tl_beat.specs.declared.beat.Beat.{Beat}
 use Rattle.tl_beat.specs.declared.beat.Beat.TheVariants as beat
@@ -14,7 +14,7 @@ use Rattle.tl_params.specs.declared.param.Prune.{Prune}
 use Rattle.tl_params.specs.declared.perm.Perm.{Perm}
 use Rattle.tl_params.specs.Param.{prune_right}
 use Rattle.tl_rules.specs.Conformance.{comes_in_release, comes_in_grant}
-use Rattle.tl_rules.specs.History.{begins, ends, block_at, pending, is_probe_ack, is_release, release_of, reported, or_perm}
+use Rattle.tl_rules.specs.History.{begins, ends, block_at, pending, is_probe_ack, is_release, release_of, reported}
 use Rattle.tl_world.specs.Flowed.{IsFlowed, is_requested, is_let, is_let_by, is_sunk}
 use Rattle.tl_world.specs.Known.{comes_granting}
 use Rattle.tl_world.specs.Invariant.{is_of, releases_with}
@@ -75,12 +75,12 @@ pub record IsReleased {w : ℕ} {X : Type 0} (c n : ℕ) (r : Prune) (y : BeatC 
   pub probing : ((s'.block n).pair c).probing ≡ ((s.block n).pair c).probing
   pub letting_is : ((s'.block n).pair c).letting ≡ letting_after last r
 
-said : (last ack let_go here : Bool) (q p : Perm) → let_go ≡ true → here ≡ true → (if last then or_perm (if (ack || let_go) && here then Some q else None) p else p) ≡ (if last then q else p)
+said : (last ack let_go here : Bool) (q p : Perm) → let_go ≡ true → here ≡ true → (if last then unwrap_or (if (ack || let_go) && here then Some q else None) p else p) ≡ (if last then q else p)
 said true true let_go here q p e f = rw f refl
 said true false let_go here q p e f = rw (e, f) refl
 said false ack let_go here q p e f = refl
 
-unsaid_any : (last ack let_go here : Bool) (q p : Perm) → here ≡ false → (if last then or_perm (if (ack || let_go) && here then Some q else None) p else p) ≡ p
+unsaid_any : (last ack let_go here : Bool) (q p : Perm) → here ≡ false → (if last then unwrap_or (if (ack || let_go) && here then Some q else None) p else p) ≡ p
 unsaid_any true ack let_go here q p e = unsaid ack let_go here q p e
 unsaid_any false ack let_go here q p e = refl
 
@@ -137,7 +137,7 @@ flowed-release {w} {X} c n r y first last asked rest rest' s s' t first_is last_
       first_is = first_is;
       last_is = last_is;
       rests = rests;
-      held_is = each-block (λ m z. held_by c z ≡ (if last then or_perm (if (is_probe_ack y.opcode || is_release y.opcode) && (block_at y.address == m) then Some (reported y.param) else None) (held_by c (s.block m)) else held_by c (s.block m))) n s s' is.elsewhere
+      held_is = each-block (λ m z. held_by c z ≡ (if last then unwrap_or (if (is_probe_ack y.opcode || is_release y.opcode) && (block_at y.address == m) then Some (reported y.param) else None) (held_by c (s.block m)) else held_by c (s.block m))) n s s' is.elsewhere
           (is.held_is ∙ ap (λ (q : Perm). if last then q else held_by c b) (sym is.says) ∙ sym (said last (is_probe_ack y.opcode) (is_release y.opcode) (block_at y.address == n) (reported y.param) (held_by c b) is.release here_at))
           (λ m ne. sym (unsaid_any last (is_probe_ack y.opcode) (is_release y.opcode) (block_at y.address == m) (reported y.param) (held_by c (s.block m)) (apart m ne)));
       requests = λ i. requests i ∙ sym (step_quiet first last (is_requested c i (rest channel.A) (s.uses c i) s));

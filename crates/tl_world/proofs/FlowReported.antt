@@ -1,6 +1,6 @@
 -- What is delivered on a link, as the last beat of a ProbeAck is.
 use Rattle.std.proofs.Common.{◌≡◌, ℕ, Bool, true, false, not, ◌&&◌, ◌||◌, ◌∷◌, Option, Some, None, refl, sym, ◌∙◌, ap, List}
-use Rattle.std.specs.Prelude.{◌==◌, if◌then◌else◌, option_map}
+use Rattle.std.specs.Prelude.{◌==◌, if◌then◌else◌, option_map, unwrap_or}
 use Rattle.std.proofs.lemmas.Bool.{ne_eqb}
 use Rattle.tl_beat.specs.declared.beat.Beat.{Beat}
 use Rattle.tl_beat.specs.declared.beat.Beat.TheVariants as beat
@@ -13,7 +13,7 @@ use Rattle.tl_params.specs.declared.param.Report.{Report}
 use Rattle.tl_params.specs.declared.perm.Perm.{Perm}
 use Rattle.tl_params.specs.Param.{report_right}
 use Rattle.tl_rules.specs.Conformance.{comes_in_release, comes_in_grant}
-use Rattle.tl_rules.specs.History.{begins, ends, block_at, is_probe_ack, is_release, probe_of, reported, or_perm}
+use Rattle.tl_rules.specs.History.{begins, ends, block_at, is_probe_ack, is_release, probe_of, reported}
 use Rattle.tl_world.specs.Flowed.{IsFlowed, is_requested, is_let, is_let_by, is_sunk}
 use Rattle.tl_world.specs.Phase.{Pair}
 use Rattle.tl_world.specs.PhaseSteps.{after_report}
@@ -39,10 +39,10 @@ elsewhere true false here p e = refl
 elsewhere false true here p e = rw e refl
 elsewhere false false here p e = refl
 
-said : (ack let_go here : Bool) (q p : Perm) → ack ≡ true → here ≡ true → or_perm (if (ack || let_go) && here then Some q else None) p ≡ q
+said : (ack let_go here : Bool) (q p : Perm) → ack ≡ true → here ≡ true → unwrap_or (if (ack || let_go) && here then Some q else None) p ≡ q
 said ack let_go here q p e f = rw (e, f) refl
 
-pub unsaid : (ack let_go here : Bool) (q p : Perm) → here ≡ false → or_perm (if (ack || let_go) && here then Some q else None) p ≡ p
+pub unsaid : (ack let_go here : Bool) (q p : Perm) → here ≡ false → unwrap_or (if (ack || let_go) && here then Some q else None) p ≡ p
 unsaid true let_go here q p e = rw e refl
 unsaid false true here q p e = rw e refl
 unsaid false false here q p e = refl
@@ -57,7 +57,7 @@ flowed-report {w} {X} c n r toks y first asked rest rest' s t first_is last_is r
       first_is = first_is;
       last_is = last_is;
       rests = rests;
-      held_is = set-each (λ m z. held_by c z ≡ or_perm (if (is_probe_ack y.opcode || is_release y.opcode) && (block_at y.address == m) then Some (reported y.param) else None) (held_by c (s.block m))) n new s.block
+      held_is = set-each (λ m z. held_by c z ≡ unwrap_or (if (is_probe_ack y.opcode || is_release y.opcode) && (block_at y.address == m) then Some (reported y.param) else None) (held_by c (s.block m))) n new s.block
           (ap (λ (g : Bool). if g then (new.pair c).held else (new.pair c).recorded) alone ∙ recorded ∙ sym says ∙ sym (said (is_probe_ack y.opcode) (is_release y.opcode) (block_at y.address == n) (reported y.param) (held_by c b) ack (rw at (same_number n))))
           (λ m ne. sym (unsaid (is_probe_ack y.opcode) (is_release y.opcode) (block_at y.address == m) (reported y.param) (held_by c (s.block m)) (apart m ne)));
       requests = λ i. requests i ∙ sym (step_quiet first true (is_requested c i (rest channel.A) (s.uses c i) s));

@@ -1,6 +1,6 @@
 -- What is delivered on a link, with one more beat: each value of it is as the beat leaves it.
 use Rattle.std.proofs.Common.{◌≡◌, ℕ, Bool, true, false, not, ◌&&◌, ◌||◌, ◌∷◌, Option, Some, refl, sym, ◌∙◌, ap, List}
-use Rattle.std.specs.Prelude.{if◌then◌else◌, option_map}
+use Rattle.std.specs.Prelude.{if◌then◌else◌, option_map, unwrap_or}
 use Rattle.tl_beat.specs.declared.beat.Beat.{Beat}
 use Rattle.tl_beat.specs.declared.beat.BeatA.{BeatA}
 use Rattle.tl_beat.specs.declared.opcode.Channel.{Channel}
@@ -9,7 +9,7 @@ use Rattle.tl_burst.specs.Messages.{History, unfinished, on, grown}
 use Rattle.tl_params.specs.declared.key.Key.{Key}
 use Rattle.tl_params.specs.declared.key.Key.TheVariants.{RequestSource, ReleaseSource, AcquireOf, ReleaseOf, GrantSink, GrantAckOf, ProbeOf}
 use Rattle.tl_params.specs.declared.perm.Perm.{Perm}
-use Rattle.tl_rules.specs.History.{begins, ends, opens, closes, pending, held, says_held, or_perm, block_at, request_of, release_of, probe_of, grant_sink}
+use Rattle.tl_rules.specs.History.{begins, ends, opens, closes, pending, held, says_held, block_at, request_of, release_of, probe_of, grant_sink}
 use Rattle.tl_world.specs.Flowed.{IsFlowed, is_requested, is_let, is_let_by, is_sunk}
 use Rattle.tl_world.specs.Known.{comes_granting}
 use Rattle.tl_world.specs.Protocol.{Block, State, view, is_granting, is_acknowledging, is_answered, is_wanting, is_unserved}
@@ -37,7 +37,7 @@ pending-next : {w : ℕ} (k : Key) (x : Beat w) (t : History w) (first last : Bo
 unfolding pending
 pending-next k x t first last e f = rw (e, f) refl
 
-held-next : {w : ℕ} (n : ℕ) (x : Beat w) (t : History w) (last : Bool) → ends x t ≡ last → held n (x ∷ t) ≡ (if last then or_perm (says_held n x t) (held n t) else held n t)
+held-next : {w : ℕ} (n : ℕ) (x : Beat w) (t : History w) (last : Bool) → ends x t ≡ last → held n (x ∷ t) ≡ (if last then unwrap_or (says_held n x t) (held n t) else held n t)
 unfolding held
 held-next n x t last f = rw f refl
 
@@ -64,7 +64,7 @@ pub record IsStepped {w : ℕ} {X : Type 0} (x : Beat w) (first last : Bool) (as
   pub first_is : begins x t ≡ first
   pub last_is : ends x t ≡ last
   pub rests : (ch : Channel) → rest' ch ≡ (if on ch x then grown x (rest ch) else rest ch)
-  pub held_is : (n : ℕ) → held_by c (s'.block n) ≡ (if last then or_perm (says_held n x t) (held_by c (s.block n)) else held_by c (s.block n))
+  pub held_is : (n : ℕ) → held_by c (s'.block n) ≡ (if last then unwrap_or (says_held n x t) (held_by c (s.block n)) else held_by c (s.block n))
   pub requests : (i : ℕ) → is_requested c i (rest' channel.A) (s'.uses c i) s' ≡ step first last (opens (RequestSource i) x t) (closes (RequestSource i) x t) (is_requested c i (rest channel.A) (s.uses c i) s)
   pub asked_is : (i : ℕ) → is_requested c i (rest' channel.A) (s'.uses c i) s' ≡ true → request_of i (x ∷ t) ≡ asked' i
   pub acquires : (n : ℕ) → acquired_by c (s'.block n) ≡ step first last (opens (AcquireOf n) x t) (closes (AcquireOf n) x t) (acquired_by c (s.block n))
@@ -81,8 +81,8 @@ pub record IsStepped {w : ℕ} {X : Type 0} (x : Beat w) (first last : Bool) (as
 stepped : {w : ℕ} (k : Key) (x : Beat w) (t : History w) (first last p p' : Bool) → begins x t ≡ first → ends x t ≡ last → pending k t ≡ p → p' ≡ step first last (opens k x t) (closes k x t) p → pending k (x ∷ t) ≡ p'
 stepped k x t first last p p' e f before after = pending-next k x t first last e f ∙ ap (step first last (opens k x t) (closes k x t)) before ∙ sym after
 
-held_stepped : {w : ℕ} (n : ℕ) (x : Beat w) (t : History w) (last : Bool) (p p' : Perm) → ends x t ≡ last → held n t ≡ p → p' ≡ (if last then or_perm (says_held n x t) p else p) → held n (x ∷ t) ≡ p'
-held_stepped n x t last p p' f before after = held-next n x t last f ∙ ap (λ (q : Perm). if last then or_perm (says_held n x t) q else q) before ∙ sym after
+held_stepped : {w : ℕ} (n : ℕ) (x : Beat w) (t : History w) (last : Bool) (p p' : Perm) → ends x t ≡ last → held n t ≡ p → p' ≡ (if last then unwrap_or (says_held n x t) p else p) → held n (x ∷ t) ≡ p'
+held_stepped n x t last p p' f before after = held-next n x t last f ∙ ap (λ (q : Perm). if last then unwrap_or (says_held n x t) q else q) before ∙ sym after
 
 pub flowed-next : {w : ℕ} {X : Type 0} (x : Beat w) (first last : Bool) (asked asked' : ℕ → Option (BeatA w)) (rest rest' : Channel → List (Beat w)) (c : ℕ) (s s' : State X) (t : History w)
     → IsStepped x first last asked asked' rest rest' c s s' t → IsFlowed asked rest c s t → IsFlowed asked' rest' c s' (x ∷ t)

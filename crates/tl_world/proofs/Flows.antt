@@ -143,7 +143,7 @@ moved-to_client {w} config log link ch h terms x queue width is known up beats m
     on_ch : IsOn ch x
     on_ch = subst (λ (i : Channel). IsOn i x) (first-of config log h link.0 terms ch x queue width is known beats).on (on_it x)
 
-moved-on : {w : ℕ} (config : Config) (log : Log w) (link : Link) (ch : Channel) (h : Shadow w) (x : Beat w) (queue : List (Beat w)) (terms : Terms) → IsWidth w → IsMatched config log h.mail h.request h.state (after config log)
+pub moved-on : {w : ℕ} (config : Config) (log : Log w) (link : Link) (ch : Channel) (h : Shadow w) (x : Beat w) (queue : List (Beat w)) (terms : Terms) → IsWidth w → IsMatched config log h.mail h.request h.state (after config log)
     → (after config log).channels link.0 ch ≡ x ∷ queue → terms_at config link.0 ≡ Some terms → is_moving (stepped config (Deliver link ch) (after config log)).outcome ≡ true → (b : Bool) → is_to_client ch ≡ b → IsMovedOn config log link ch h x queue
 moved-on config log link ch h x queue terms width is beats known moving true e = moved-to_client config log link ch h terms x queue width is known e beats moving
 moved-on config log link ch h x queue terms width is beats known moving false e = moved-to_manager config log link ch h terms x queue width is known e beats moving
@@ -288,7 +288,7 @@ unbroken config log h link channel.D l x queue width is values moving beats leve
 unbroken config log h link channel.E l x queue width is values moving beats level = flows-e config log h.mail h.request h.state (after config log) link.0 l x queue width is values beats level
 
 -- who is asked moves no beat
-asked-still : {w : ℕ} (config : Config) (log : Log w) (c : ℕ) (o : Op w) → is_moving (stepped config (Ask c o) (after config log)).outcome ≡ false
+pub asked-still : {w : ℕ} (config : Config) (log : Log w) (c : ℕ) (o : Op w) → is_moving (stepped config (Ask c o) (after config log)).outcome ≡ false
 asked-still {w} config log c o = go (terms_at config c) refl
   where
     go : (i : Option Terms) → terms_at config c ≡ i → is_moving (stepped config (Ask c o) (after config log)).outcome ≡ false

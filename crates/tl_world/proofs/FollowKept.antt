@@ -1,7 +1,7 @@
 -- The protocol keeps its invariant as it follows the world: at each message that is taken, the first token and the
 -- invariant give what its event asks for.
 use Rattle.std.proofs.Common.{◌≡◌, subst, ℕ, zero, suc, ◌*◌, ◌<◌, ◌≤◌, Bool, true, false, not, ◌&&◌, ◌||◌, List, ◌∷◌, Option, Some, None, length, refl, sym, ◌∙◌, ap, ◌⊎◌, inl, inr, arith}
-use Rattle.std.specs.Prelude.{◌==◌, if◌then◌else◌, slice_index}
+use Rattle.std.specs.Prelude.{◌==◌, if◌then◌else◌, slice_index, ⊤}
 use Rattle.std.proofs.lemmas.Bool.{cases_lt, ne_eqb, eqb-true, not-true, not-false}
 use Rattle.std.proofs.lemmas.Option.{same_Some}
 use Rattle.tl_beat.specs.declared.opcode.OpA.{OpA}
@@ -26,7 +26,7 @@ use Rattle.tl_client.specs.declared.operation.Op.{Op}
 use Rattle.tl_client.specs.declared.operation.Op.TheVariants as op
 use Rattle.tl_client.specs.declared.reply.Reply.{Reply}
 use Rattle.tl_client.specs.declared.reply.Reply.TheVariants as reply
-use Rattle.tl_client.specs.Ask.{stored, whole_grow}
+use Rattle.tl_client.specs.Ask.{copy_stored, whole_grow}
 use Rattle.tl_manager.specs.Holders.{cap_probed}
 use Rattle.tl_manager.proofs.Written.{bytes_are}
 use Rattle.tl_world.specs.Follow.{Shadow, with_state, asked, some_below, bytes_at, performs, probes_some, access_taken, request_taken, is_unheld, gift, acquire_taken, granted_after, last_taken, ack_taken, is_whole, taken_by_client, kind_taken}
@@ -247,7 +247,7 @@ acquire_taken-kept {w} caching clients p c n tracker rest h inv plain first free
 -- the access that has a block in service is one, and probes with the cap of the service
 abbrev pub IsServing : {w : ℕ} → Service → MessageA w → Type 0
 IsServing (Waits q false source k) m = (is_acquire m.opcode ≡ false) × (cap_probed m.opcode m.param ≡ Some k)
-IsServing _ m = Unit {0}
+IsServing _ m = ⊤
 
 pub ack_taken-kept : {w : ℕ} (caching : ℕ → Bool) (clients : ℕ) (p : Profile) (c n : ℕ) (rest : List Token) (h : Shadow w) → IsInvariant caching h.state → ((d : ℕ) → clients ≤ d → caching d ≡ false)
     → (h.state.link c).c ≡ token ProbeAck n ∷ rest → length (h.state.block n).truth ≡ 64 → IsServing (h.state.block n).service (h.request n)
@@ -370,7 +370,7 @@ IsReady {w} tracker c Request source h =
     (m : MessageA w) × (h.mail.request c source ≡ message.A m) × (is_acquire m.opcode ≡ false) × ((h.state.block (block_at m.address)).service ≡ Free) × (h.state.tracked tracker ≡ None)
 IsReady tracker c Acquire n h = ((h.state.block n).service ≡ Free) × (h.state.tracked tracker ≡ None)
 IsReady tracker c Probe n h = ((h.state.block n).pair c).letting ≡ Kept
-IsReady tracker c _ n h = Unit {0}
+IsReady tracker c _ n h = ⊤
 
 pub kind_taken-kept : {w : ℕ} (caching : ℕ → Bool) (config : Config) (tracker c : ℕ) (k : Kind) (i : ℕ) (rest : List Token) (h : Shadow w) → IsInvariant caching h.state
     → ((d : ℕ) → length config.clients.items ≤ d → caching d ≡ false) → ((n : ℕ) → length (h.state.block n).truth ≡ 64) → ((n : ℕ) → IsServing (h.state.block n).service (h.request n))
@@ -410,7 +410,7 @@ IsAskable caching c (op.AcquireWhole n bytes) (reply.Started source) h =
 IsAskable caching c (op.Release n r) (reply.Started source) h =
     (caching c ≡ true) × (h.state.lets c source ≡ None) × (((h.state.block n).pair c).acquiring ≡ Calm) × (((h.state.block n).pair c).letting ≡ Kept) × (same_perm ((h.state.block n).pair c).held (prune_left r) ≡ true)
 IsAskable caching c (op.Access m) (reply.Started source) h = h.state.uses c source ≡ Closed
-IsAskable caching c o r h = Unit {0}
+IsAskable caching c o r h = ⊤
 
 begins_fit : (g : Grow) (p : Perm) → same_perm (grow_left g) p ≡ true → grow_fits p (Wants false g) ≡ true
 begins_fit grow.NtoB perm.None e = refl
@@ -431,7 +431,7 @@ whole_fits perm.Trunk e = absurd cc
 pub asked-kept : {w : ℕ} (caching : ℕ → Bool) (c : ℕ) (o : Op w) (r : Reply) (h : Shadow w) → IsInvariant caching h.state → IsAskable caching c o r h → IsInvariant caching (asked c o r h).state
 asked-kept caching c (op.Load address size) r h inv is = inv
 asked-kept caching c (op.Store address size value) reply.Stored h inv may =
-    block_stored-kept caching c (block_at address) (stored address size value ((h.state.block (block_at address)).copy c)) h.state inv may
+    block_stored-kept caching c (block_at address) (copy_stored address size value ((h.state.block (block_at address)).copy c)) h.state inv may
 asked-kept caching c (op.Acquire n g) (reply.Started source) h inv is =
     acquire_asked-kept caching c n source false g ((h.state.block n).waiting c) h.state inv is.0 is.1 is.2 is.3 (begins_fit g ((h.state.block n).pair c).held is.4)
 asked-kept caching c (op.AcquireWhole n bytes) (reply.Started source) h inv is =

@@ -3,6 +3,7 @@
 -- that fail are listed.
 use Rattle.std.proofs.Common.{◌≡◌, refl, lit≤}
 use Rattle.std.specs.Prelude.{ℕ, zero, suc, Bool, true, false, not, List, [], ◌∷◌, ◌++◌, ◌==◌, ◌&&◌, ◌||◌, ◌*◌, replicate, reverse, Option, Some, None, is_some, option_map, length, if◌then◌else◌}
+use Rattle.std.specs.Bool.{beq}
 use Rattle.tl_beat.specs.declared.beat.Beat.{Beat}
 use Rattle.tl_beat.specs.declared.beat.Beat.TheVariants as beat
 use Rattle.tl_beat.specs.declared.beat.BeatA.{BeatA}
@@ -13,7 +14,7 @@ use Rattle.tl_beat.specs.declared.opcode.Channel.TheVariants as channel
 use Rattle.tl_beat.specs.declared.opcode.OpA.TheVariants as a
 use Rattle.tl_burst.specs.declared.message.MessageA.{MessageA}
 use Rattle.tl_burst.specs.Burst.{a_beat_of}
-use Rattle.tl_burst.specs.Messages.{same_bool, same_control, unfinished}
+use Rattle.tl_burst.specs.Messages.{same_control, unfinished}
 use Rattle.tl_params.specs.declared.config.Config.{Config}
 use Rattle.tl_params.specs.declared.key.Key.TheVariants.{RequestSource, ReleaseSource, AcquireOf, ReleaseOf, GrantSink, GrantAckOf, ProbeOf}
 use Rattle.tl_params.specs.declared.level.Level.TheVariants as level
@@ -85,19 +86,19 @@ abbrev pub known : {w : ℕ} → ℕ → ℕ → Mail w → State (List ℕ) →
 known blocks sources mail s sys c =
     all_below blocks (λ n.
     same_perm (held n (sys.clients c).past) ((s.block n).pair c).held
-    && (same_bool (pending (AcquireOf n) (sys.clients c).past) (is_wanting ((s.block n).pair c).acquiring)
-    && (same_bool (pending (ReleaseOf n) (sys.clients c).past) (not (is_kept ((s.block n).pair c).letting))
+    && (beq (pending (AcquireOf n) (sys.clients c).past) (is_wanting ((s.block n).pair c).acquiring)
+    && (beq (pending (ReleaseOf n) (sys.clients c).past) (not (is_kept ((s.block n).pair c).letting))
     && (not (pending (ProbeOf n) (sys.clients c).past)
-    && same_bool (pending (GrantAckOf n) (sys.clients c).past) (comes_granting n (asked_by mail s c) (unfinished channel.D (sys.clients c).past))))))
+    && beq (pending (GrantAckOf n) (sys.clients c).past) (comes_granting n (asked_by mail s c) (unfinished channel.D (sys.clients c).past))))))
     && all_below sources (λ i.
     same_a (open_beat i (sys.clients c).past) (asked_by mail s c i)
-    && same_bool (pending (GrantSink i) (sys.clients c).past) (comes_in_grant i (unfinished channel.D (sys.clients c).past)))
+    && beq (pending (GrantSink i) (sys.clients c).past) (comes_in_grant i (unfinished channel.D (sys.clients c).past)))
 
 abbrev pub opened : {w : ℕ} → ℕ → Mail w → State (List ℕ) → System w → ℕ → Bool
 opened sources mail s sys c =
     all_below sources (λ i.
-    same_bool (pending (RequestSource i) (sys.clients c).past) (is_some (asked_by mail s c i))
-    && (same_bool (pending (ReleaseSource i) (sys.clients c).past) (is_some (s.lets c i))
+    beq (pending (RequestSource i) (sys.clients c).past) (is_some (asked_by mail s c i))
+    && (beq (pending (ReleaseSource i) (sys.clients c).past) (is_some (s.lets c i))
     && released (s.lets c i) (option_map (λ x. block_at x.address) (release_of i (sys.clients c).past))))
   where
     released : Option ℕ → Option ℕ → Bool
@@ -120,9 +121,9 @@ abbrev pub managed : {w : ℕ} → ℕ → State (List ℕ) → Trace w → ℕ 
 managed blocks s t c =
     all_below blocks (λ n.
     same_perm (recorded c n t) ((s.block n).pair c).recorded
-    && (same_bool (pending (ProbeOf n) (on_link c t)) (not (is_quiet ((s.block n).pair c).probing))
-    && (same_bool (pending (AcquireOf n) (on_link c t)) (is_own (view (s.block n).service c))
-    && same_bool (pending (GrantAckOf n) (on_link c t)) (is_granting (view (s.block n).service c) || is_acknowledging (view (s.block n).service c)))))
+    && (beq (pending (ProbeOf n) (on_link c t)) (not (is_quiet ((s.block n).pair c).probing))
+    && (beq (pending (AcquireOf n) (on_link c t)) (is_own (view (s.block n).service c))
+    && beq (pending (GrantAckOf n) (on_link c t)) (is_granting (view (s.block n).service c) || is_acknowledging (view (s.block n).service c)))))
 
 abbrev pub same_service : {w : ℕ} → Option (service.Service w) → Option ℕ → ℕ → MessageA w → Bool
 same_service None None tracker m = true
@@ -136,7 +137,7 @@ same_option_cap (Some j) k = same_cap j k
 abbrev pub is_for : {w : ℕ} → Service → ℕ → MessageA w → Trace w → Bool
 is_for Free n m t = true
 is_for (Waits r own source k) n m t =
-    same_bool (is_acquire m.opcode) own
+    beq (is_acquire m.opcode) own
     && ((m.source == source) && ((block_at m.address == n) && (same_option_cap (cap_probed m.opcode m.param) k && same_a (request_of source (on_link r t)) (Some (a_beat_of m 0)))))
 is_for (GrantSent q d k) n m t = is_acquire m.opcode && (block_at m.address == n)
 is_for (GrantTaken q) n m t = is_acquire m.opcode && (block_at m.address == n)
@@ -150,11 +151,11 @@ in_service blocks h t =
 abbrev pub served : {w : ℕ} → ℕ → ℕ → ℕ → State (List ℕ) → Trace w → ℕ → Bool
 served blocks sources trackers s t c =
     all_below sources (λ i.
-    same_bool (pending (RequestSource i) (on_link c t)) (is_served c (s.uses c i) s || comes_in_request i (unfinished channel.A (on_link c t)))
-    && same_bool (pending (ReleaseSource i) (on_link c t)) (comes_with i (unfinished channel.C (on_link c t))))
-    && (all_below trackers (λ i. same_bool (pending (GrantSink i) (on_link c t)) (is_granted c (s.tracked i) s))
+    beq (pending (RequestSource i) (on_link c t)) (is_served c (s.uses c i) s || comes_in_request i (unfinished channel.A (on_link c t)))
+    && beq (pending (ReleaseSource i) (on_link c t)) (comes_with i (unfinished channel.C (on_link c t))))
+    && (all_below trackers (λ i. beq (pending (GrantSink i) (on_link c t)) (is_granted c (s.tracked i) s))
     && all_below blocks (λ n.
-    same_bool (pending (ReleaseOf n) (on_link c t)) (comes_of n (unfinished channel.C (on_link c t)))
+    beq (pending (ReleaseOf n) (on_link c t)) (comes_of n (unfinished channel.C (on_link c t)))
     && implies (not (is_quiet ((s.block n).pair c).probing)) (same_b (probe_of n (on_link c t)) (Some (probe_beat n (cap_waited (s.block n).service))))))
 
 -- ---- the flow
@@ -163,18 +164,18 @@ abbrev pub flowed : {w : ℕ} → ℕ → ℕ → ℕ → Mail w → State (List
 flowed {w} blocks sources trackers mail s sys t c =
     all_below blocks (λ n.
     same_perm (held n t) (if is_granting (view (s.block n).service c) then ((s.block n).pair c).held else ((s.block n).pair c).recorded)
-    && (same_bool (pending (AcquireOf n) t) (is_wanting ((s.block n).pair c).acquiring && not (is_unserved (view (s.block n).service c)))
-    && (same_bool (pending (ReleaseOf n) t) (is_let ((s.block n).release_source c) (rest channel.C) ((s.block n).pair c).letting)
-    && (same_bool (pending (GrantAckOf n) t) (is_acknowledging (view (s.block n).service c) || comes_granting n (asked_by mail s c) (rest channel.D))
-    && (same_bool (pending (ProbeOf n) t) (is_answered ((s.block n).pair c).probing)
+    && (beq (pending (AcquireOf n) t) (is_wanting ((s.block n).pair c).acquiring && not (is_unserved (view (s.block n).service c)))
+    && (beq (pending (ReleaseOf n) t) (is_let ((s.block n).release_source c) (rest channel.C) ((s.block n).pair c).letting)
+    && (beq (pending (GrantAckOf n) t) (is_acknowledging (view (s.block n).service c) || comes_granting n (asked_by mail s c) (rest channel.D))
+    && (beq (pending (ProbeOf n) t) (is_answered ((s.block n).pair c).probing)
     && (implies (is_answered ((s.block n).pair c).probing) (same_b (probe_of n t) (Some (probe_beat n (cap_waited (s.block n).service))))
     && implies (pending (GrantAckOf n) t) (is_of (s.block n).tracker (grant_sink n t))))))))
     && (all_below sources (λ i.
-    same_bool (pending (RequestSource i) t) (is_requested c i (rest channel.A) (s.uses c i) s)
+    beq (pending (RequestSource i) t) (is_requested c i (rest channel.A) (s.uses c i) s)
     && (implies (pending (RequestSource i) t) (same_a (request_of i t) (asked_by mail s c i))
-    && (same_bool (pending (ReleaseSource i) t) (is_let_by c i (rest channel.C) (s.lets c i) s)
+    && (beq (pending (ReleaseSource i) t) (is_let_by c i (rest channel.C) (s.lets c i) s)
     && implies (pending (ReleaseSource i) t) (is_of 6 (option_map (λ x. x.size) (release_of i t))))))
-    && (all_below trackers (λ i. same_bool (pending (GrantSink i) t) (is_sunk c i (rest channel.D) (s.tracked i) s))
+    && (all_below trackers (λ i. beq (pending (GrantSink i) t) (is_sunk c i (rest channel.D) (s.tracked i) s))
     && (still channel.A && (still channel.B && (still channel.C && (still channel.D && still channel.E))))))
   where
     rest : Channel → List (Beat w)
@@ -197,9 +198,9 @@ named blocks sources trackers s c =
     all_below blocks (λ n.
     ok ((s.block n).pair c) (view (s.block n).service c)
     && (all_below sources (λ i.
-    same_bool (acquires_of n (s.uses c i)) (acquires_with c i (s.block n))
-    && (same_bool (serves_of n (s.uses c i)) (serves_with c i (s.block n)) && same_bool (is_of n (s.lets c i)) (releases_with c i (s.block n))))
-    && all_below trackers (λ i. same_bool (is_of n (s.tracked i)) (tracks_with i (s.block n)))))
+    beq (acquires_of n (s.uses c i)) (acquires_with c i (s.block n))
+    && (beq (serves_of n (s.uses c i)) (serves_with c i (s.block n)) && beq (is_of n (s.lets c i)) (releases_with c i (s.block n))))
+    && all_below trackers (λ i. beq (is_of n (s.tracked i)) (tracks_with i (s.block n)))))
 
 abbrev pub remembers : {w : ℕ} → ℕ → State (List ℕ) → Past w → Bool
 remembers blocks s p =
@@ -258,86 +259,86 @@ plain_accesses_of_what_a_cache_holds : Follows {w = 8} 2 (world profile.One 2 1 
     ((acquire 0 0 grow.NtoT ∷ Drains 220 ∷ store 0 0 0 90 ∷ access 1 a.Get 0 0 (lit≤ tt) 0 1 (replicate 64 0) ∷ deliver 1 channel.A ∷ deliver 0 channel.B ∷ [])
     ++ replicate 8 (deliver 0 channel.C)
     ++ (deliver 1 channel.D ∷ load 0 0 0 ∷ access 1 a.PutFullData 0 0 (lit≤ tt) 0 1 ((107 ∷ []) ++ replicate 63 0) ∷ deliver 1 channel.A ∷ deliver 0 channel.B ∷ deliver 0 channel.C ∷ deliver 1 channel.D ∷ load 0 0 0 ∷ []))
-unfolding faults faults_draining rendered some_below spelled ok performs all_below flow started requests releases accesses_answered performing stepped with_messages is_movable first_movable next_delivery ask.asked ask.busy ask.least_free ask.low_bytes offer.offered offer.stalls bytes_carried number_from unfinished request_of release_of probe_of grant_sink pending held illegal first_illegal beats_from each_below broken_order on_link bytes_from effect with_handed clients_from masks_carried corrupt_carried request_carried service.least_free service.services slave.judged_at slave.deed slave.offered slave.stalls
+unfolding faults faults_draining rendered some_below spelled ok performs all_below flow started requests releases accesses_answered performing stepped with_messages is_movable first_movable next_delivery ask.asked ask.busy ask.least_free ask.low_bytes offer.offered offer.stalls bytes_carried number_from unfinished request_of release_of probe_of grant_sink pending held illegal first_illegal beats_from each_below broken_order on_link bytes_from effect with_handed clients_from masks_carried corrupt_carried request_carried service.least_untaken service.services slave.judged_at slave.deed slave.offered slave.stalls
 plain_accesses_of_what_a_cache_holds = refl
 
 bytes_of_a_word : Follows {w = 8} 2 (world profile.One 1 1 ((level.UL, 1) ∷ []))
     ((access 0 a.PutPartialData 0 2 (lit≤ tt) 4 80 (replicate 4 0 ++ (17 ∷ 34 ∷ 51 ∷ 68 ∷ []) ++ replicate 56 0) ∷ Drains 220 ∷ access 0 a.Get 0 3 (lit≤ tt) 0 255 (replicate 64 0) ∷ Drains 220 ∷ []))
-unfolding faults faults_draining rendered some_below spelled ok performs all_below flow started requests releases accesses_answered performing stepped with_messages is_movable first_movable next_delivery ask.asked ask.busy ask.least_free ask.low_bytes offer.offered offer.stalls bytes_carried number_from unfinished request_of release_of probe_of grant_sink pending held illegal first_illegal beats_from each_below broken_order on_link bytes_from effect with_handed clients_from masks_carried corrupt_carried request_carried service.least_free service.services slave.judged_at slave.deed slave.offered slave.stalls
+unfolding faults faults_draining rendered some_below spelled ok performs all_below flow started requests releases accesses_answered performing stepped with_messages is_movable first_movable next_delivery ask.asked ask.busy ask.least_free ask.low_bytes offer.offered offer.stalls bytes_carried number_from unfinished request_of release_of probe_of grant_sink pending held illegal first_illegal beats_from each_below broken_order on_link bytes_from effect with_handed clients_from masks_carried corrupt_carried request_carried service.least_untaken service.services slave.judged_at slave.deed slave.offered slave.stalls
 bytes_of_a_word = refl
 
 a_put_counts_from_its_last_beat : Follows {w = 8} 2 (world profile.One 1 1 ((level.UH, 1) ∷ (level.UH, 1) ∷ []))
     ((access 0 a.PutFullData 0 6 (lit≤ tt) 0 18446744073709551615 (replicate 64 255) ∷ [])
     ++ replicate 7 (deliver 0 channel.A)
     ++ (access 1 a.Get 0 3 (lit≤ tt) 0 255 (replicate 64 0) ∷ deliver 1 channel.A ∷ deliver 1 channel.D ∷ []))
-unfolding faults faults_draining rendered some_below spelled ok performs all_below flow started requests releases accesses_answered performing stepped with_messages is_movable first_movable next_delivery ask.asked ask.busy ask.least_free ask.low_bytes offer.offered offer.stalls bytes_carried number_from unfinished request_of release_of probe_of grant_sink pending held illegal first_illegal beats_from each_below broken_order on_link bytes_from effect with_handed clients_from masks_carried corrupt_carried request_carried service.least_free service.services slave.judged_at slave.deed slave.offered slave.stalls
+unfolding faults faults_draining rendered some_below spelled ok performs all_below flow started requests releases accesses_answered performing stepped with_messages is_movable first_movable next_delivery ask.asked ask.busy ask.least_free ask.low_bytes offer.offered offer.stalls bytes_carried number_from unfinished request_of release_of probe_of grant_sink pending held illegal first_illegal beats_from each_below broken_order on_link bytes_from effect with_handed clients_from masks_carried corrupt_carried request_carried service.least_untaken service.services slave.judged_at slave.deed slave.offered slave.stalls
 a_put_counts_from_its_last_beat = refl
 
 min_by_sign_and_without : Follows {w = 8} 2 (world profile.One 1 1 ((level.UH, 1) ∷ []))
     ((access 0 a.PutFullData 0 2 (lit≤ tt) 0 15 (replicate 4 255 ++ replicate 60 0) ∷ Drains 220 ∷ access 0 a.ArithmeticData 0 2 (lit≤ tt) 0 15 ((1 ∷ []) ++ replicate 63 0) ∷ Drains 220 ∷ access 0 a.ArithmeticData 2 2 (lit≤ tt) 0 15 ((1 ∷ []) ++ replicate 63 0) ∷ Drains 220 ∷ access 0 a.Get 0 2 (lit≤ tt) 0 15 (replicate 64 0) ∷ Drains 220 ∷ []))
-unfolding faults faults_draining rendered some_below spelled ok performs all_below flow started requests releases accesses_answered performing stepped with_messages is_movable first_movable next_delivery ask.asked ask.busy ask.least_free ask.low_bytes offer.offered offer.stalls bytes_carried number_from unfinished request_of release_of probe_of grant_sink pending held illegal first_illegal beats_from each_below broken_order on_link bytes_from effect with_handed clients_from masks_carried corrupt_carried request_carried service.least_free service.services slave.judged_at slave.deed slave.offered slave.stalls
+unfolding faults faults_draining rendered some_below spelled ok performs all_below flow started requests releases accesses_answered performing stepped with_messages is_movable first_movable next_delivery ask.asked ask.busy ask.least_free ask.low_bytes offer.offered offer.stalls bytes_carried number_from unfinished request_of release_of probe_of grant_sink pending held illegal first_illegal beats_from each_below broken_order on_link bytes_from effect with_handed clients_from masks_carried corrupt_carried request_carried service.least_untaken service.services slave.judged_at slave.deed slave.offered slave.stalls
 min_by_sign_and_without = refl
 
 add_wraps : Follows {w = 8} 2 (world profile.One 1 1 ((level.UH, 1) ∷ []))
     ((access 0 a.PutFullData 0 3 (lit≤ tt) 0 255 (replicate 8 255 ++ replicate 56 0) ∷ Drains 220 ∷ access 0 a.ArithmeticData 4 3 (lit≤ tt) 0 255 ((1 ∷ []) ++ replicate 63 0) ∷ Drains 220 ∷ access 0 a.Get 0 3 (lit≤ tt) 0 255 (replicate 64 0) ∷ Drains 220 ∷ []))
-unfolding faults faults_draining rendered some_below spelled ok performs all_below flow started requests releases accesses_answered performing stepped with_messages is_movable first_movable next_delivery ask.asked ask.busy ask.least_free ask.low_bytes offer.offered offer.stalls bytes_carried number_from unfinished request_of release_of probe_of grant_sink pending held illegal first_illegal beats_from each_below broken_order on_link bytes_from effect with_handed clients_from masks_carried corrupt_carried request_carried service.least_free service.services slave.judged_at slave.deed slave.offered slave.stalls
+unfolding faults faults_draining rendered some_below spelled ok performs all_below flow started requests releases accesses_answered performing stepped with_messages is_movable first_movable next_delivery ask.asked ask.busy ask.least_free ask.low_bytes offer.offered offer.stalls bytes_carried number_from unfinished request_of release_of probe_of grant_sink pending held illegal first_illegal beats_from each_below broken_order on_link bytes_from effect with_handed clients_from masks_carried corrupt_carried request_carried service.least_untaken service.services slave.judged_at slave.deed slave.offered slave.stalls
 add_wraps = refl
 
 a_reader_gets_what_the_writer_stored : Follows {w = 8} 2 (world profile.One 1 1 ((level.C, 1) ∷ (level.C, 1) ∷ []))
     ((acquire 0 0 grow.NtoT ∷ Drains 220 ∷ store 0 0 0 90 ∷ acquire 1 0 grow.NtoB ∷ Drains 220 ∷ load 0 0 0 ∷ load 1 0 0 ∷ []))
-unfolding faults faults_draining rendered some_below spelled ok performs all_below flow started requests releases accesses_answered performing stepped with_messages is_movable first_movable next_delivery ask.asked ask.busy ask.least_free ask.low_bytes offer.offered offer.stalls bytes_carried number_from unfinished request_of release_of probe_of grant_sink pending held illegal first_illegal beats_from each_below broken_order on_link bytes_from effect with_handed clients_from masks_carried corrupt_carried request_carried service.least_free service.services slave.judged_at slave.deed slave.offered slave.stalls
+unfolding faults faults_draining rendered some_below spelled ok performs all_below flow started requests releases accesses_answered performing stepped with_messages is_movable first_movable next_delivery ask.asked ask.busy ask.least_free ask.low_bytes offer.offered offer.stalls bytes_carried number_from unfinished request_of release_of probe_of grant_sink pending held illegal first_illegal beats_from each_below broken_order on_link bytes_from effect with_handed clients_from masks_carried corrupt_carried request_carried service.least_untaken service.services slave.judged_at slave.deed slave.offered slave.stalls
 a_reader_gets_what_the_writer_stored = refl
 
 a_release_while_a_probe_waits : Follows {w = 8} 2 (world profile.One 1 1 ((level.C, 1) ∷ (level.C, 1) ∷ []))
     ((acquire 0 0 grow.NtoT ∷ Drains 220 ∷ store 0 0 0 90 ∷ acquire 1 0 grow.NtoT ∷ deliver 1 channel.A ∷ release 0 0 prune.TtoN ∷ deliver 0 channel.B ∷ Drains 220 ∷ load 1 0 0 ∷ []))
-unfolding faults faults_draining rendered some_below spelled ok performs all_below flow started requests releases accesses_answered performing stepped with_messages is_movable first_movable next_delivery ask.asked ask.busy ask.least_free ask.low_bytes offer.offered offer.stalls bytes_carried number_from unfinished request_of release_of probe_of grant_sink pending held illegal first_illegal beats_from each_below broken_order on_link bytes_from effect with_handed clients_from masks_carried corrupt_carried request_carried service.least_free service.services slave.judged_at slave.deed slave.offered slave.stalls
+unfolding faults faults_draining rendered some_below spelled ok performs all_below flow started requests releases accesses_answered performing stepped with_messages is_movable first_movable next_delivery ask.asked ask.busy ask.least_free ask.low_bytes offer.offered offer.stalls bytes_carried number_from unfinished request_of release_of probe_of grant_sink pending held illegal first_illegal beats_from each_below broken_order on_link bytes_from effect with_handed clients_from masks_carried corrupt_carried request_carried service.least_untaken service.services slave.judged_at slave.deed slave.offered slave.stalls
 a_release_while_a_probe_waits = refl
 
 the_second_writer_gets_data : Follows {w = 8} 2 (world profile.One 1 2 ((level.C, 1) ∷ (level.C, 1) ∷ []))
     ((acquire 0 0 grow.NtoB ∷ Drains 220 ∷ acquire 1 0 grow.NtoB ∷ Drains 220 ∷ acquire 0 0 grow.BtoT ∷ acquire 1 0 grow.BtoT ∷ Drains 220 ∷ []))
-unfolding faults faults_draining rendered some_below spelled ok performs all_below flow started requests releases accesses_answered performing stepped with_messages is_movable first_movable next_delivery ask.asked ask.busy ask.least_free ask.low_bytes offer.offered offer.stalls bytes_carried number_from unfinished request_of release_of probe_of grant_sink pending held illegal first_illegal beats_from each_below broken_order on_link bytes_from effect with_handed clients_from masks_carried corrupt_carried request_carried service.least_free service.services slave.judged_at slave.deed slave.offered slave.stalls
+unfolding faults faults_draining rendered some_below spelled ok performs all_below flow started requests releases accesses_answered performing stepped with_messages is_movable first_movable next_delivery ask.asked ask.busy ask.least_free ask.low_bytes offer.offered offer.stalls bytes_carried number_from unfinished request_of release_of probe_of grant_sink pending held illegal first_illegal beats_from each_below broken_order on_link bytes_from effect with_handed clients_from masks_carried corrupt_carried request_carried service.least_untaken service.services slave.judged_at slave.deed slave.offered slave.stalls
 the_second_writer_gets_data = refl
 
 a_whole_block_store_takes_no_data : Follows {w = 8} 2 (world profile.One 1 2 ((level.C, 1) ∷ (level.C, 1) ∷ []))
     ((acquire 0 0 grow.NtoB ∷ Drains 220 ∷ acquire 1 0 grow.NtoB ∷ Drains 220 ∷ acquire 0 0 grow.BtoT ∷ whole 1 0 (replicate 64 17) ∷ Drains 220 ∷ load 1 0 0 ∷ load 0 0 0 ∷ []))
-unfolding faults faults_draining rendered some_below spelled ok performs all_below flow started requests releases accesses_answered performing stepped with_messages is_movable first_movable next_delivery ask.asked ask.busy ask.least_free ask.low_bytes offer.offered offer.stalls bytes_carried number_from unfinished request_of release_of probe_of grant_sink pending held illegal first_illegal beats_from each_below broken_order on_link bytes_from effect with_handed clients_from masks_carried corrupt_carried request_carried service.least_free service.services slave.judged_at slave.deed slave.offered slave.stalls
+unfolding faults faults_draining rendered some_below spelled ok performs all_below flow started requests releases accesses_answered performing stepped with_messages is_movable first_movable next_delivery ask.asked ask.busy ask.least_free ask.low_bytes offer.offered offer.stalls bytes_carried number_from unfinished request_of release_of probe_of grant_sink pending held illegal first_illegal beats_from each_below broken_order on_link bytes_from effect with_handed clients_from masks_carried corrupt_carried request_carried service.least_untaken service.services slave.judged_at slave.deed slave.offered slave.stalls
 a_whole_block_store_takes_no_data = refl
 
 a_release_before_its_grant_ack : Follows {w = 8} 2 (world profile.One 1 1 ((level.C, 1) ∷ []))
     ((acquire 0 0 grow.NtoB ∷ deliver 0 channel.A ∷ [])
     ++ replicate 8 (deliver 0 channel.D)
     ++ (release 0 0 prune.BtoN ∷ deliver 0 channel.C ∷ deliver 0 channel.D ∷ acquire 0 0 grow.NtoB ∷ deliver 0 channel.A ∷ deliver 0 channel.E ∷ deliver 0 channel.A ∷ []))
-unfolding faults faults_draining rendered some_below spelled ok performs all_below flow started requests releases accesses_answered performing stepped with_messages is_movable first_movable next_delivery ask.asked ask.busy ask.least_free ask.low_bytes offer.offered offer.stalls bytes_carried number_from unfinished request_of release_of probe_of grant_sink pending held illegal first_illegal beats_from each_below broken_order on_link bytes_from effect with_handed clients_from masks_carried corrupt_carried request_carried service.least_free service.services slave.judged_at slave.deed slave.offered slave.stalls
+unfolding faults faults_draining rendered some_below spelled ok performs all_below flow started requests releases accesses_answered performing stepped with_messages is_movable first_movable next_delivery ask.asked ask.busy ask.least_free ask.low_bytes offer.offered offer.stalls bytes_carried number_from unfinished request_of release_of probe_of grant_sink pending held illegal first_illegal beats_from each_below broken_order on_link bytes_from effect with_handed clients_from masks_carried corrupt_carried request_carried service.least_untaken service.services slave.judged_at slave.deed slave.offered slave.stalls
 a_release_before_its_grant_ack = refl
 
 busy_in_order : Follows {w = 8} 2 (world profile.One 1 1 ((level.UL, 1) ∷ []))
     ((load 0 0 0 ∷ access 0 a.Get 0 4 (lit≤ tt) 0 255 (replicate 64 0) ∷ access 0 a.Get 0 3 (lit≤ tt) 0 255 (replicate 64 0) ∷ access 0 a.Get 0 3 (lit≤ tt) 0 255 (replicate 64 0) ∷ access 0 a.PutPartialData 0 1 (lit≤ tt) 7 128 (replicate 7 0 ++ (17 ∷ []) ++ replicate 56 0) ∷ deliver 0 channel.D ∷ []))
-unfolding faults faults_draining rendered some_below spelled ok performs all_below flow started requests releases accesses_answered performing stepped with_messages is_movable first_movable next_delivery ask.asked ask.busy ask.least_free ask.low_bytes offer.offered offer.stalls bytes_carried number_from unfinished request_of release_of probe_of grant_sink pending held illegal first_illegal beats_from each_below broken_order on_link bytes_from effect with_handed clients_from masks_carried corrupt_carried request_carried service.least_free service.services slave.judged_at slave.deed slave.offered slave.stalls
+unfolding faults faults_draining rendered some_below spelled ok performs all_below flow started requests releases accesses_answered performing stepped with_messages is_movable first_movable next_delivery ask.asked ask.busy ask.least_free ask.low_bytes offer.offered offer.stalls bytes_carried number_from unfinished request_of release_of probe_of grant_sink pending held illegal first_illegal beats_from each_below broken_order on_link bytes_from effect with_handed clients_from masks_carried corrupt_carried request_carried service.least_untaken service.services slave.judged_at slave.deed slave.offered slave.stalls
 busy_in_order = refl
 
 beats_of_4_bytes : Follows {w = 4} 2 (world profile.One 1 1 ((level.C, 1) ∷ (level.C, 1) ∷ []))
     ((acquire 0 0 grow.NtoT ∷ Drains 220 ∷ store 0 0 0 90 ∷ acquire 1 0 grow.NtoB ∷ Drains 220 ∷ load 0 0 0 ∷ load 1 0 0 ∷ []))
-unfolding faults faults_draining rendered some_below spelled ok performs all_below flow started requests releases accesses_answered performing stepped with_messages is_movable first_movable next_delivery ask.asked ask.busy ask.least_free ask.low_bytes offer.offered offer.stalls bytes_carried number_from unfinished request_of release_of probe_of grant_sink pending held illegal first_illegal beats_from each_below broken_order on_link bytes_from effect with_handed clients_from masks_carried corrupt_carried request_carried service.least_free service.services slave.judged_at slave.deed slave.offered slave.stalls
+unfolding faults faults_draining rendered some_below spelled ok performs all_below flow started requests releases accesses_answered performing stepped with_messages is_movable first_movable next_delivery ask.asked ask.busy ask.least_free ask.low_bytes offer.offered offer.stalls bytes_carried number_from unfinished request_of release_of probe_of grant_sink pending held illegal first_illegal beats_from each_below broken_order on_link bytes_from effect with_handed clients_from masks_carried corrupt_carried request_carried service.least_untaken service.services slave.judged_at slave.deed slave.offered slave.stalls
 beats_of_4_bytes = refl
 
 beats_of_16_bytes : Follows {w = 16} 2 (world profile.One 1 1 ((level.C, 1) ∷ (level.C, 1) ∷ []))
     ((acquire 0 0 grow.NtoT ∷ Drains 220 ∷ store 0 0 0 90 ∷ acquire 1 0 grow.NtoB ∷ Drains 220 ∷ load 0 0 0 ∷ load 1 0 0 ∷ []))
-unfolding faults faults_draining rendered some_below spelled ok performs all_below flow started requests releases accesses_answered performing stepped with_messages is_movable first_movable next_delivery ask.asked ask.busy ask.least_free ask.low_bytes offer.offered offer.stalls bytes_carried number_from unfinished request_of release_of probe_of grant_sink pending held illegal first_illegal beats_from each_below broken_order on_link bytes_from effect with_handed clients_from masks_carried corrupt_carried request_carried service.least_free service.services slave.judged_at slave.deed slave.offered slave.stalls
+unfolding faults faults_draining rendered some_below spelled ok performs all_below flow started requests releases accesses_answered performing stepped with_messages is_movable first_movable next_delivery ask.asked ask.busy ask.least_free ask.low_bytes offer.offered offer.stalls bytes_carried number_from unfinished request_of release_of probe_of grant_sink pending held illegal first_illegal beats_from each_below broken_order on_link bytes_from effect with_handed clients_from masks_carried corrupt_carried request_carried service.least_untaken service.services slave.judged_at slave.deed slave.offered slave.stalls
 beats_of_16_bytes = refl
 
 an_atomic_of_two_beats : Follows {w = 4} 2 (world profile.One 1 1 ((level.UH, 1) ∷ []))
     ((access 0 a.PutFullData 0 3 (lit≤ tt) 0 255 (replicate 8 255 ++ replicate 56 0) ∷ Drains 220 ∷ access 0 a.ArithmeticData 4 3 (lit≤ tt) 0 255 ((1 ∷ []) ++ replicate 63 0) ∷ Drains 220 ∷ []))
-unfolding faults faults_draining rendered some_below spelled ok performs all_below flow started requests releases accesses_answered performing stepped with_messages is_movable first_movable next_delivery ask.asked ask.busy ask.least_free ask.low_bytes offer.offered offer.stalls bytes_carried number_from unfinished request_of release_of probe_of grant_sink pending held illegal first_illegal beats_from each_below broken_order on_link bytes_from effect with_handed clients_from masks_carried corrupt_carried request_carried service.least_free service.services slave.judged_at slave.deed slave.offered slave.stalls
+unfolding faults faults_draining rendered some_below spelled ok performs all_below flow started requests releases accesses_answered performing stepped with_messages is_movable first_movable next_delivery ask.asked ask.busy ask.least_free ask.low_bytes offer.offered offer.stalls bytes_carried number_from unfinished request_of release_of probe_of grant_sink pending held illegal first_illegal beats_from each_below broken_order on_link bytes_from effect with_handed clients_from masks_carried corrupt_carried request_carried service.least_untaken service.services slave.judged_at slave.deed slave.offered slave.stalls
 an_atomic_of_two_beats = refl
 
 a_lone_reader_may_write : Follows {w = 8} 2 (world profile.Two 1 1 ((level.C, 1) ∷ (level.C, 1) ∷ []))
     ((acquire 0 0 grow.NtoB ∷ Drains 220 ∷ store 0 0 0 90 ∷ acquire 1 0 grow.NtoB ∷ Drains 220 ∷ []))
-unfolding faults faults_draining rendered some_below spelled ok performs all_below flow started requests releases accesses_answered performing stepped with_messages is_movable first_movable next_delivery ask.asked ask.busy ask.least_free ask.low_bytes offer.offered offer.stalls bytes_carried number_from unfinished request_of release_of probe_of grant_sink pending held illegal first_illegal beats_from each_below broken_order on_link bytes_from effect with_handed clients_from masks_carried corrupt_carried request_carried service.least_free service.services slave.judged_at slave.deed slave.offered slave.stalls
+unfolding faults faults_draining rendered some_below spelled ok performs all_below flow started requests releases accesses_answered performing stepped with_messages is_movable first_movable next_delivery ask.asked ask.busy ask.least_free ask.low_bytes offer.offered offer.stalls bytes_carried number_from unfinished request_of release_of probe_of grant_sink pending held illegal first_illegal beats_from each_below broken_order on_link bytes_from effect with_handed clients_from masks_carried corrupt_carried request_carried service.least_untaken service.services slave.judged_at slave.deed slave.offered slave.stalls
 a_lone_reader_may_write = refl
 
 nobody_has_it_any_longer_at_the_grant : Follows {w = 8} 2 (world profile.Two 1 1 ((level.C, 1) ∷ (level.C, 1) ∷ []))
     ((acquire 0 0 grow.NtoB ∷ Drains 220 ∷ store 0 0 0 90 ∷ acquire 1 0 grow.NtoB ∷ deliver 1 channel.A ∷ release 0 0 prune.TtoN ∷ Drains 220 ∷ []))
-unfolding faults faults_draining rendered some_below spelled ok performs all_below flow started requests releases accesses_answered performing stepped with_messages is_movable first_movable next_delivery ask.asked ask.busy ask.least_free ask.low_bytes offer.offered offer.stalls bytes_carried number_from unfinished request_of release_of probe_of grant_sink pending held illegal first_illegal beats_from each_below broken_order on_link bytes_from effect with_handed clients_from masks_carried corrupt_carried request_carried service.least_free service.services slave.judged_at slave.deed slave.offered slave.stalls
+unfolding faults faults_draining rendered some_below spelled ok performs all_below flow started requests releases accesses_answered performing stepped with_messages is_movable first_movable next_delivery ask.asked ask.busy ask.least_free ask.low_bytes offer.offered offer.stalls bytes_carried number_from unfinished request_of release_of probe_of grant_sink pending held illegal first_illegal beats_from each_below broken_order on_link bytes_from effect with_handed clients_from masks_carried corrupt_carried request_carried service.least_untaken service.services slave.judged_at slave.deed slave.offered slave.stalls
 nobody_has_it_any_longer_at_the_grant = refl
 
 -- two blocks and two trackers, with Releases beside Acquires, and the oldest beats not first
@@ -345,5 +346,5 @@ beside_each_other : Follows {w = 16} 3 (world profile.One 2 2 ((level.C, 2) ∷ 
     ((acquire 0 0 grow.NtoT ∷ acquire 0 1 grow.NtoB ∷ acquire 1 1 grow.NtoB ∷ Drains 220 ∷ store 0 0 2 90 ∷ release 0 1 prune.BtoN ∷ release 0 0 prune.TtoB ∷ acquire 1 0 grow.NtoB ∷ deliver 1 channel.A ∷ whole 1 1 (replicate 64 7)
     ∷ access 2 a.Get 0 6 (lit≤ tt) 0 65535 (replicate 64 0) ∷ deliver 2 channel.A ∷ deliver 0 channel.C ∷ Drains 220 ∷ access 2 a.PutFullData 0 6 (lit≤ tt) 0 18446744073709551615 (replicate 64 3) ∷ acquire 0 1 grow.NtoB ∷ Drains 220 ∷ release 0 1 prune.BtoN ∷ Drains 220
     ∷ access 0 a.Intent 0 6 (lit≤ tt) 0 65535 (replicate 64 0) ∷ Drains 220 ∷ []))
-unfolding faults faults_draining rendered some_below spelled ok performs all_below flow started requests releases accesses_answered performing stepped with_messages is_movable first_movable next_delivery ask.asked ask.busy ask.least_free ask.low_bytes offer.offered offer.stalls bytes_carried number_from unfinished request_of release_of probe_of grant_sink pending held illegal first_illegal beats_from each_below broken_order on_link bytes_from effect with_handed clients_from masks_carried corrupt_carried request_carried service.least_free service.services slave.judged_at slave.deed slave.offered slave.stalls
+unfolding faults faults_draining rendered some_below spelled ok performs all_below flow started requests releases accesses_answered performing stepped with_messages is_movable first_movable next_delivery ask.asked ask.busy ask.least_free ask.low_bytes offer.offered offer.stalls bytes_carried number_from unfinished request_of release_of probe_of grant_sink pending held illegal first_illegal beats_from each_below broken_order on_link bytes_from effect with_handed clients_from masks_carried corrupt_carried request_carried service.least_untaken service.services slave.judged_at slave.deed slave.offered slave.stalls
 beside_each_other = refl

@@ -10,11 +10,11 @@ use Rattle.tl_burst.specs.declared.message.Message.TheVariants as message
 use Rattle.tl_burst.specs.declared.message.MessageA.{MessageA}
 use Rattle.tl_burst.specs.Burst.{a_beat_of, beats_of, IsBlankAfter}
 use Rattle.tl_burst.specs.Messages.{unfinished}
+use Rattle.tl_burst.proofs.Splitting.{beats-positive}
 use Rattle.tl_params.specs.declared.config.Config.{Config}
 use Rattle.tl_params.specs.declared.param.Grow.{Grow}
 use Rattle.tl_rules.specs.Conformance.{on_link}
 use Rattle.tl_rules.specs.History.{block_at, is_acquire}
-use Rattle.tl_rules.proofs.Bursts.{has_beats}
 use Rattle.tl_client.specs.Requests.{open_beat}
 use Rattle.tl_client.specs.Kept.{acquires}
 use Rattle.tl_client.specs.Send.{acquisition}
@@ -172,7 +172,7 @@ pub front-of : {w : ℕ} (config : Config) (log : Log w) (mail : Mail w) (reques
     → IsWidth w → IsMatched config log mail request s sys → (s.link c).a ≡ first ∷ rest → message_of mail s c first ≡ message.A m → sys.channels c channel.A ≡ x ∷ queue
     → IsNext x (unfinished channel.A (on_link c sys.manager.trace)) (message.A m) (map (message_of mail s c) rest) queue
 front-of {w} config log mail request s sys c first rest m x queue width is tokens is_it beats =
-    carried-next x (unfinished channel.A (on_link c sys.manager.trace)) (message.A m) (map (message_of mail s c) rest) queue (λ i. has_beats i width)
+    carried-next x (unfinished channel.A (on_link c sys.manager.trace)) (message.A m) (map (message_of mail s c) rest) queue (λ i. beats-positive i width)
     (carried_so (messages_on channel.A mail s c) (message.A m ∷ map (message_of mail s c) rest) (sys.channels c channel.A) (x ∷ queue)
     (ap (map (message_of mail s c)) tokens ∙ ap (λ (i : Message w). i ∷ map (message_of mail s c) rest) is_it) beats (is.carried c channel.A))
   where

@@ -8,7 +8,7 @@ use Rattle.tl_params.specs.declared.config.Config.{Config}
 use Rattle.tl_params.specs.declared.perm.Perm.{Perm}
 use Rattle.tl_client.specs.declared.operation.Op.{Op}
 use Rattle.tl_client.specs.declared.verdict.Finish.TheVariants.{Granted}
-use Rattle.tl_client.specs.Ask.{block_of}
+use Rattle.tl_client.specs.Ask.{op_block}
 use Rattle.tl_client.specs.End.{Terms, held_at}
 use Rattle.tl_world.specs.declared.event.Event.TheVariants.{Deliver}
 use Rattle.tl_world.specs.declared.event.Outcome.TheVariants as outcome
@@ -59,7 +59,7 @@ pub carries : {w : ℕ} (config : Config) (log : Log w) → IsGiven config log �
 carries config log given link ch = carried-passing config log link ch (passing config log given.width given.typed given.is_log)
 
 pub grants : {w : ℕ} (config : Config) (log : Log w) (link : Link) (ch : Channel) (x : Beat w) (source : ℕ) (p : Perm) (op : Op w) → IsGiven config ((Deliver link ch, outcome.Done x source (Granted p)) ∷ log) → started link.0 Requests source log ≡ Some op
-    → held_at ((after config ((Deliver link ch, outcome.Done x source (Granted p)) ∷ log)).clients link.0) (block_of op) ≡ p
+    → held_at ((after config ((Deliver link ch, outcome.Done x source (Granted p)) ∷ log)).clients link.0) (op_block op) ≡ p
 unfolding after AreTyped IsLog
 grants config log link ch x source p op given asked =
     granted-holds config log link ch (shadow config log) x source p op given.width (matched config log given.width given.typed.1 given.is_log.1) (sym given.is_log.0) asked

@@ -15,7 +15,7 @@ use Rattle.tl_client.specs.declared.operation.Op.{Op}
 use Rattle.tl_client.specs.declared.operation.Op.TheVariants as op
 use Rattle.tl_client.specs.declared.reply.Reply.{Reply}
 use Rattle.tl_client.specs.declared.reply.Reply.TheVariants as reply
-use Rattle.tl_client.specs.Ask.{stored, whole_grow}
+use Rattle.tl_client.specs.Ask.{copy_stored, whole_grow}
 use Rattle.tl_manager.specs.Holders.{cap_probed}
 use Rattle.tl_world.specs.Follow.{Shadow, with_state, asked, performs, probes_some, some_below, access_taken, request_taken, is_unheld, gift, acquire_taken, granted_after, last_taken, ack_taken, is_whole, taken_by_client, kind_taken}
 use Rattle.tl_world.specs.Invariant.{cap_asked, IsInvariant}
@@ -79,7 +79,7 @@ pub given-asked : {w : ℕ} (caching : ℕ → Bool) (p : Profile) (c : ℕ) (o 
 given-asked caching p c (op.Load address size) r h inv may given = given
 given-asked caching p c (op.Store address size value) reply.Stored h inv may given =
     let n = block_at address in
-    given-set p n (stored_block c (stored address size value ((h.state.block n).copy c)) (h.state.block n)) h.state given (given n)
+    given-set p n (stored_block c (copy_stored address size value ((h.state.block n).copy c)) (h.state.block n)) h.state given (given n)
 given-asked caching p c (op.Store address size value) (reply.Value v) h inv may given = given
 given-asked caching p c (op.Store address size value) reply.Miss h inv may given = given
 given-asked caching p c (op.Store address size value) (reply.Started source) h inv may given = given

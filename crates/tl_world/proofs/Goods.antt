@@ -1,6 +1,6 @@
 -- Each beat on a channel is sound, and has the lanes of its width: of those that stay, and of those that are handed out.
 use Rattle.std.proofs.Common.{◌≡◌, ℕ, zero, suc, ◌+◌, ◌<◌, Bool, true, false, ◌&&◌, ◌||◌, List, [], ◌∷◌, ◌++◌, Option, Some, None, refl, sym, ◌∙◌, ap, inl, inr, arith}
-use Rattle.std.specs.Prelude.{◌==◌, if◌then◌else◌, All, slice_get, nat_le, length, option_map, Result, Ok, Err}
+use Rattle.std.specs.Prelude.{◌==◌, if◌then◌else◌, All, slice_get, nat_le, length, option_map, Result, Ok, Err, ⊤}
 use Rattle.std.proofs.lemmas.Bool.{cases_eq, ne_eqb}
 use Rattle.std.proofs.lemmas.List.Elements.{All-nil, All-cons, All-append, All-rest}
 use Rattle.tl_beat.specs.Width.{IsWidth}
@@ -139,11 +139,11 @@ same_outside blocks (message.E m) i = refl
 
 -- of a channel on which clients send
 abbrev pub IsOfClient : {w : ℕ} → Message w → Type 0
-IsOfClient (message.A m) = Unit {0}
+IsOfClient (message.A m) = ⊤
 IsOfClient (message.B m) = ⊥
-IsOfClient (message.C m) = Unit {0}
+IsOfClient (message.C m) = ⊤
 IsOfClient (message.D m) = ⊥
-IsOfClient (message.E m) = Unit {0}
+IsOfClient (message.E m) = ⊤
 
 unspoiled : {w : ℕ} (m : Message w) (i : ℕ) → IsOfClient m → corrupt_in m ≡ 0 → is_spoiled (beat_of m i) ≡ false
 unspoiled (message.A m) i is clean = rw clean (no_bit i)
@@ -213,7 +213,7 @@ pub record IsFit {w : ℕ} (blocks : ℕ) (m : Message w) : Type 0 where
   pub inside : is_outside blocks (beat_of m 0) ≡ false
 
 abbrev pub IsFitIfAny : {w : ℕ} → ℕ → Option (Message w) → Type 0
-IsFitIfAny blocks None = Unit {0}
+IsFitIfAny blocks None = ⊤
 IsFitIfAny blocks (Some m) = IsFit blocks m
 
 first_false : (x y : Bool) → (x || y) ≡ false → x ≡ false
@@ -256,7 +256,7 @@ ack_fit w blocks opcode p r n copy long e =
 
 abbrev pub IsFitAnswer : {w : ℕ} → ℕ → Result (Verdict × Option (Message w)) Rule → Type 0
 IsFitAnswer blocks (Ok v) = IsFitIfAny blocks v.1
-IsFitAnswer blocks (Err rule) = Unit {0}
+IsFitAnswer blocks (Err rule) = ⊤
 
 ended_fit : {w : ℕ} (blocks : ℕ) (opcode : OpD) (x : BeatD w) (f : Finish) (e : End w) → IsFitAnswer blocks (ended opcode x f e).answer
 ended_fit blocks d.Grant x f e = record { long = tt; ours = tt; inside = refl }

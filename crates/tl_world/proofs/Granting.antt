@@ -22,7 +22,7 @@ use Rattle.tl_rules.specs.Agent.{payload_of}
 use Rattle.tl_rules.specs.History.{held, request_of}
 use Rattle.tl_client.specs.declared.operation.Op.{Op}
 use Rattle.tl_client.specs.declared.verdict.Finish.TheVariants as finish
-use Rattle.tl_client.specs.Ask.{block_of}
+use Rattle.tl_client.specs.Ask.{op_block}
 use Rattle.tl_client.specs.End.{End}
 use Rattle.tl_client.specs.Offer.{address_asked, finish_of}
 use Rattle.tl_manager.specs.Handing.{grant_opcode}
@@ -90,10 +90,10 @@ same_grant p q e = cc
 
 -- ---- the operation that it answers
 
-op_block : (w : ℕ) (x : Acquiring) (n : ℕ) (bytes : List ℕ) → block_of (op_of {w = w} x n bytes) ≡ n
-op_block w (Wants true g) n bytes = refl
-op_block w (Wants false g) n bytes = refl
-op_block w Calm n bytes = refl
+acquired_block : (w : ℕ) (x : Acquiring) (n : ℕ) (bytes : List ℕ) → op_block (op_of {w = w} x n bytes) ≡ n
+acquired_block w (Wants true g) n bytes = refl
+acquired_block w (Wants false g) n bytes = refl
+acquired_block w Calm n bytes = refl
 
 pub opened-acquire : {w : ℕ} (config : Config) (log : Log w) (h : Shadow w) (sys : System w) (c source n : ℕ) (u : Use) → IsMatched config log h.mail h.request h.state sys → h.state.uses c source ≡ u → u ≡ Acquires n
     → (remembered config log).opened c Requests source ≡ Some (record { asked = op_of ((h.state.block n).pair c).acquiring n ((h.state.block n).waiting c); answer = None })
@@ -119,7 +119,7 @@ held_granted {w} config tracker c n rest h due =
 
 pub granted-holds : {w : ℕ} (config : Config) (log : Log w) (link : Link) (ch : Channel) (h : Shadow w) (x : Beat w) (source : ℕ) (p : Perm) (op : Op w) → IsWidth w → IsMatched config log h.mail h.request h.state (after config log)
     → (stepped config (Deliver link ch) (after config log)).outcome ≡ outcome.Done x source (finish.Granted p) → started link.0 Requests source log ≡ Some op
-    → held (block_of op) ((stepped config (Deliver link ch) (after config log)).after.clients link.0).past ≡ p
+    → held (op_block op) ((stepped config (Deliver link ch) (after config log)).after.clients link.0).past ≡ p
 unfolding rendered
 granted-holds {w} config log link ch h x source p op width is done asked = go end.first.kind refl end.first.own
   where
@@ -144,7 +144,7 @@ granted-holds {w} config log link ch h x source p op width is done asked = go en
     then_matched : IsMatched config ((Deliver link ch, (stepped config (Deliver link ch) sys).outcome) ∷ log) (followed config (Deliver link ch) sys h).mail (followed config (Deliver link ch) sys h).request (followed config (Deliver link ch) sys h).state (stepped config (Deliver link ch) sys).after
     then_matched = matched-event config log h (Deliver link ch) width tt is
 
-    grant : (e : end.first.kind ≡ Grant) → held (block_of op) ((stepped config (Deliver link ch) sys).after.clients c).past ≡ p
+    grant : (e : end.first.kind ≡ Grant) → held (op_block op) ((stepped config (Deliver link ch) sys).after.clients c).past ≡ p
     grant e =
         let due = grant-due (is_caching config) c n end.first.rest h.state is.invariant (tokens Grant e) in
         let m : MessageD w = grant_message due.data_too due.k ((h.state.block n).source c) (h.state.block n).tracker (h.state.block n).truth in
@@ -154,13 +154,13 @@ granted-holds {w} config log link ch h x source p op width is done asked = go en
         let opened = opened-acquire config log h sys c source n (h.state.uses c source) is refl (ap (h.state.uses c) from ∙ due.used) in
         let op_is : op ≡ op_of ((h.state.block n).pair c).acquiring n ((h.state.block n).waiting c) =
         same_op op _ (sym asked ∙ sym (opened-started config log c Requests source) ∙ ap (λ (o : Option (Open w)). option_map (λ i. i.asked) o) opened) in
-        let block_is : block_of op ≡ n = ap block_of op_is ∙ op_block w ((h.state.block n).pair c).acquiring n ((h.state.block n).waiting c) in
+        let block_is : op_block op ≡ n = ap op_block op_is ∙ acquired_block w ((h.state.block n).pair c).acquiring n ((h.state.block n).waiting c) in
         ap (λ (i : ℕ). held i ((stepped config (Deliver link ch) sys).after.clients c).past) block_is ∙ (then_matched.known c).held_is n
         ∙ ap (λ (at : Channel). (((followed config (Deliver link at) sys h).state.block n).pair c).held) end.on_d
         ∙ ap (λ (i : Shadow w). ((i.state.block n).pair c).held) end.follows ∙ ap (λ (k : Kind). (((kind_taken config (next_tracker sys) c k n end.first.rest h).state.block n).pair c).held) e
         ∙ held_granted config (next_tracker sys) c n end.first.rest h due ∙ sym cap_is
 
-    go : (k : Kind) → end.first.kind ≡ k → is_on channel.D end.first.kind ≡ true → held (block_of op) ((stepped config (Deliver link ch) sys).after.clients c).past ≡ p
+    go : (k : Kind) → end.first.kind ≡ k → is_on channel.D end.first.kind ≡ true → held (op_block op) ((stepped config (Deliver link ch) sys).after.clients c).past ≡ p
     go Grant e own = grant e
     go Answer e own =
         let due = answer-due (is_caching config) c n end.first.rest h.mail h.state is.invariant (is.answered c n) (tokens Answer e) in

@@ -12,7 +12,7 @@ use Rattle.tl_manager.specs.Slave as manager
 use Rattle.tl_world.specs.declared.event.Event.{Event}
 use Rattle.tl_world.specs.declared.event.Outcome.{Outcome}
 use Rattle.tl_world.specs.declared.contents.Contents.{Contents}
-use Rattle.tl_world.specs.Carrying.{AreFresh}
+use Rattle.tl_world.specs.Carrying.{AreClear, AreFresh}
 use Rattle.tl_world.specs.Headline.{IsTyped, AreTyped, IsGiven}
 use Rattle.tl_world.specs.Holds.{clients_of, Holds, HasRoom, IsStepped}
 use Rattle.tl_world.specs.Load.{starts_request, starts_release, ends_request, ends_release, requests, releases}
@@ -72,22 +72,22 @@ logged-more (f ∷ events) (p ∷ outcomes) e o log same = logged-more events ou
 -- ---- a new world
 
 pub reached-new : {w : ℕ} {A M : Type 0} (knows : A → End w → Type 0) (terms : A → Terms) (perm_of : M → ℕ → ℕ → Perm) (config : Config) (contents : Contents w A M) → IsWidth w → AreReady knows terms config contents.parts.clients.items
-    → Knows perm_of contents.parts.manager config manager.fresh → AreFresh config (5 * clients_of config) contents.parts.rings.all.items
+    → Knows perm_of contents.parts.manager config manager.fresh → AreFresh config (5 * clients_of config) contents.parts.rings.all.items → AreClear contents.parts.rings.occupied
     → contents.outstanding.requests ≡ 0 → contents.outstanding.releases ≡ 0 → IsReached knows terms perm_of config contents []
 unfolding after AreTyped IsLog deepest requests releases
-reached-new knows terms perm_of config contents width ready known are no_request no_release = record {
+reached-new knows terms perm_of config contents width ready known are clear no_request no_release = record {
   given = record { width = width; fits = known.fits; typed = tt; is_log = tt };
   holds = record {
     one_client_each = ready.one_each;
     clients = ready.fresh;
     terms_are = ready.terms_are;
     manager = known;
-    channels = made-empty config contents.parts.rings.all.items are;
-    room = made-room config contents.parts.rings.all.items are;
+    channels = made-empty config contents.parts.rings are clear;
+    room = made-room config contents.parts.rings are;
   };
   requests_are = no_request;
   releases_are = no_release;
-  depths = made-flat config contents.parts.rings.all.items are;
+  depths = made-flat config contents.parts.rings are;
 }
 
 -- one more of several events, and what comes of it

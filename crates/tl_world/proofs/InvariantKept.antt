@@ -44,7 +44,7 @@ request-moves {w} config log mail request s sys link x queue h moving beats arri
     stands : (terms : Terms) → terms_at config link.0 ≡ Some terms → must_wait config (record { 0 = link.0 }) x sys.manager.trace ≡ true → is_moving (stepped config (Deliver link channel.A) sys).outcome ≡ false
     stands terms at waits =
         ap (λ (i : Step w). is_moving i.outcome) (stepped-to-manager config link channel.A sys terms x queue at beats refl)
-        ∙ ap (λ (a : manager.Answer w × manager.End w). is_moving (manager_took link.0 channel.A x queue a sys).outcome) (request-stalled config log (shadow_of mail request s) sys link.0 x queue h beats arrives waits)
+        ∙ ap (λ (a : manager.Reception w × manager.End w). is_moving (manager_took link.0 channel.A x queue a sys).outcome) (request-stalled config log (shadow_of mail request s) sys link.0 x queue h beats arrives waits)
 
     at_terms : (o : Option Terms) → terms_at config link.0 ≡ o → must_wait config (record { 0 = link.0 }) x sys.manager.trace ≡ true → is_moving (stepped config (Deliver link channel.A) sys).outcome ≡ false
     at_terms None at waits = nobody_moves config sys link channel.A at

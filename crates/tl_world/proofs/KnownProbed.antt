@@ -14,6 +14,7 @@ use Rattle.tl_burst.specs.declared.message.Message.TheVariants as message
 use Rattle.tl_burst.specs.declared.message.MessageC.{MessageC}
 use Rattle.tl_burst.specs.Burst.{beat_of}
 use Rattle.tl_burst.specs.Messages.{History, unfinished}
+use Rattle.tl_burst.proofs.Splitting.{beats-positive}
 use Rattle.tl_params.specs.declared.key.Key.{Key}
 use Rattle.tl_params.specs.declared.key.Key.TheVariants as key
 use Rattle.tl_params.specs.declared.param.Cap.{Cap}
@@ -27,7 +28,6 @@ use Rattle.tl_rules.specs.Agent.{sent, is_outside}
 use Rattle.tl_rules.specs.Conformance.{broken_order, broken_in_order}
 use Rattle.tl_rules.specs.History.{block_at, opens, closes, held, pending, is_release, is_probe_ack, release_of}
 use Rattle.tl_rules.specs.Legality.{illegal}
-use Rattle.tl_rules.proofs.Bursts.{has_beats}
 use Rattle.tl_rules.proofs.Sent.{unfinished-sent_other}
 use Rattle.tl_client.specs.End.{Terms, End, zeros, copy_at, held_at, with_past, sending}
 use Rattle.tl_client.specs.Offer.{silent, offered, broken_before, broken_later, waits, judged, judged_later, taken, probed, report_for}
@@ -149,7 +149,7 @@ same_pending : {w : ℕ} (j : Key) (n : ℕ) (x : BeatB w) (m : MessageC w) (t :
 same_pending j n x m t width is none e =
     let o = ack_opens j n m (beat.B x ∷ t) is e in
     let p = probe_opens j x t e in
-    pending-whole j (message.C m) (beat.B x ∷ t) (still_whole x t ∙ none) (has_beats (message.C m) width) ∙ rw (o.0, o.1) (pending-quiet j (beat.B x) t p.0 p.1)
+    pending-whole j (message.C m) (beat.B x ∷ t) (still_whole x t ∙ none) (beats-positive (message.C m) width) ∙ rw (o.0, o.1) (pending-quiet j (beat.B x) t p.0 p.1)
 
 -- no Probe is pending, as this one is answered
 other_probe : {w : ℕ} (i n : ℕ) (k : Cap) (t : History w) → (n == i) ≡ false → pending (key.ProbeOf i) (beat.B (probe_beat n k) ∷ t) ≡ pending (key.ProbeOf i) t
@@ -160,7 +160,7 @@ other_probe {w} i n k t e =
 no_probe : {w : ℕ} (i n : ℕ) (k : Cap) (m : MessageC w) (t : History w) → IsWidth w → IsProbeAck n m → unfinished channel.C t ≡ [] → pending (key.ProbeOf i) t ≡ false
     → pending (key.ProbeOf i) (after (probe_beat n k) m t) ≡ false
 no_probe {w} i n k m t width is none before =
-    pending-whole (key.ProbeOf i) (message.C m) (beat.B (probe_beat n k) ∷ t) (still_whole (probe_beat n k) t ∙ none) (has_beats (message.C m) width)
+    pending-whole (key.ProbeOf i) (message.C m) (beat.B (probe_beat n k) ∷ t) (still_whole (probe_beat n k) t ∙ none) (beats-positive (message.C m) width)
     ∙ rw (is.acks, is.of_block) (go (n == i) refl)
   where
     go : (same : Bool) → (n == i) ≡ same → (if same then false else pending (key.ProbeOf i) (beat.B (probe_beat n k) ∷ t)) ≡ false
@@ -217,7 +217,7 @@ known-probed {w} {X} asked burst c n k rest s e width none known =
 same_release : {w : ℕ} (source : ℕ) (x : BeatB w) (m : MessageC w) (t : History w) → IsWidth w → is_release m.opcode ≡ false → unfinished channel.C t ≡ []
     → release_of source (after x m t) ≡ release_of source t
 unfolding release_of
-same_release source x m t width off none = release_of-whole source (message.C m) (beat.B x ∷ t) (still_whole x t ∙ none) (has_beats (message.C m) width) ∙ rw off refl
+same_release source x m t width off none = release_of-whole source (message.C m) (beat.B x ∷ t) (still_whole x t ∙ none) (beats-positive (message.C m) width) ∙ rw off refl
 
 -- no source is opened or closed
 pub opened-probed : {w : ℕ} {X : Type 0} (asked : ℕ → Option (BeatA w)) (c n : ℕ) (k : Cap) (rest : List Token) (s : State X) (e : End w) → IsWidth w → unfinished channel.C e.past ≡ []

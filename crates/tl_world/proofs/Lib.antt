@@ -28,6 +28,7 @@ pub mod Blocks
 mod BothParts
 mod Bounded
 mod Brought
+mod Bytes
 mod Capacities
 pub mod Carried
 pub mod CarriedEvents
@@ -52,6 +53,7 @@ pub mod Coherence
 pub mod Continuing
 pub mod Conveyed
 pub mod Counted
+pub mod Delivered
 mod Distinct
 pub mod Drained
 pub mod Due
@@ -138,6 +140,7 @@ pub mod ManagerSettles
 pub mod ManagerTakes
 pub mod ManagersAfter
 pub mod ManagersEnd
+mod Marks
 pub mod Matching
 pub mod Memories
 pub mod Movables
@@ -174,6 +177,7 @@ pub mod Progress
 pub mod Queues
 pub mod Quiet
 pub mod Quieted
+pub mod Ranges
 mod Remainders
 pub mod Rendered
 mod ReportFalls
@@ -217,3 +221,4 @@ pub mod Unseen
 pub mod UnseenSteps
 pub mod Waiting
 mod Weights
+mod Writable

@@ -59,7 +59,7 @@ delivered-so {w} config terms c ch (x ∷ rest) s = go (is_to_client ch)
     of_client (Ok (verdict.Taken, m)) e = refl
     of_client (Ok (verdict.Done source f, m)) e = refl
 
-    of_manager : (a : manager.Answer w × manager.End w) → is_delivered (manager_took c ch x rest a s).outcome ≡ true
+    of_manager : (a : manager.Reception w × manager.End w) → is_delivered (manager_took c ch x rest a s).outcome ≡ true
     of_manager (manager.Refused rule, e) = refl
     of_manager (manager.Stalled, e) = refl
     of_manager (manager.Sent handed, e) = refl

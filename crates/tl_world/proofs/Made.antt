@@ -10,11 +10,12 @@ use Rattle.tl_beat.specs.declared.beat.Beat.{Beat}
 use Rattle.tl_beat.specs.declared.opcode.Channel.{Channel}
 use Rattle.tl_params.specs.declared.config.ClientConfig.{ClientConfig}
 use Rattle.tl_params.specs.declared.config.Config.{Config}
-use Rattle.tl_world.specs.Carrying.{number, place, capacity_at, AreFresh, Carries}
+use Rattle.tl_world.specs.Carrying.{number, place, capacity_at, AreClear, AreFresh, Carries}
 use Rattle.tl_world.specs.Delivery.{capacity, sources_of}
 use Rattle.tl_world.specs.Holds.{clients_of}
 use Rattle.tl_world.specs.System.{fresh, terms_at}
 use Rattle.tl_world.specs.declared.ring.Ring.{Ring}
+use Rattle.tl_world.specs.declared.rings.Rings.{Rings}
 use Rattle.tl_world.proofs.Queues.{number-below, back}
 
 -- the sources of a client are those of its configuration
@@ -42,7 +43,7 @@ one-more {w} config i rings new ring so_far is made flat = record {
     before : (k : ℕ) → k < i + 1 → k ≢ i → k < length rings
     before k lt other = let many = so_far.so_many in omega (arith, many, lt, other)
 
-module _ {w : ℕ} (config : Config) (rings : List (Ring w)) (are : AreFresh config (5 * clients_of config) rings) where
+module _ {w : ℕ} (config : Config) (rings : Rings w) (are : AreFresh config (5 * clients_of config) rings.all.items) where
   at-place : (k : ℕ) (ch : Channel) → k < clients_of config → place k ch < 5 * clients_of config
   at-place k ch lt = omega (arith, lt, number-below ch)
 
@@ -52,15 +53,16 @@ module _ {w : ℕ} (config : Config) (rings : List (Ring w)) (are : AreFresh con
   number-of : (k : ℕ) (ch : Channel) → place k ch % 5 ≡ number ch
   number-of k ch = omega (arith, number-below ch)
 
-  pub made-room : (k : ℕ) (ch : Channel) (d : Ring w) → k < clients_of config → (slice_index_or rings (place k ch) d).beats.capacity ≡ capacity (64 / w) (sources_of (terms_at config k)) config.trackers ch
+  pub made-room : (k : ℕ) (ch : Channel) (d : Ring w) → k < clients_of config → (slice_index_or rings.all.items (place k ch) d).beats.capacity ≡ capacity (64 / w) (sources_of (terms_at config k)) config.trackers ch
   made-room k ch d lt =
       ap (λ (b : Buffer (Beat w)). b.capacity) (are.beats (place k ch) d (at-place k ch lt)) ∙ rw (link-of k ch, number-of k ch, back ch) refl
 
-  pub made-empty : Carries (clients_of config) rings fresh
-  made-empty = record {
+  pub made-empty : AreClear rings.occupied → Carries (clients_of config) rings fresh
+  made-empty clear = record {
     five_each = are.so_many;
     beats = λ k ch d lt. ap (λ (b : Buffer (Beat w)). b.items) (are.beats (place k ch) d (at-place k ch lt));
+    occupied = λ k ch lt. clear k ch;
   }
 
-  pub made-flat : (k : ℕ) (ch : Channel) (d : Ring w) → k < clients_of config → (slice_index_or rings (place k ch) d).deepest ≡ 0
+  pub made-flat : (k : ℕ) (ch : Channel) (d : Ring w) → k < clients_of config → (slice_index_or rings.all.items (place k ch) d).deepest ≡ 0
   made-flat k ch d lt = are.deepest (place k ch) d (at-place k ch lt)

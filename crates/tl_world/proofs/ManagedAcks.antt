@@ -13,13 +13,13 @@ use Rattle.tl_params.specs.declared.key.Key.TheVariants as key
 use Rattle.tl_params.specs.declared.param.Cap.{Cap}
 use Rattle.tl_rules.specs.Conformance.{Trace, on_link}
 use Rattle.tl_rules.specs.History.{is_acquire, held, pending, probe_of, request_of}
-use Rattle.tl_rules.proofs.Sent.{held_unsaid}
+use Rattle.tl_rules.proofs.Sent.{held_unsaid, pending-quiet}
 use Rattle.tl_manager.specs.Kept.{AreApart, blocks_of}
 use Rattle.tl_manager.specs.Pending.{IsAccounted, is_granted_to}
 use Rattle.tl_manager.specs.Service as manager
 use Rattle.tl_manager.specs.Service.{services, serving, is_ended_by}
 use Rattle.tl_manager.proofs.Acked.{services-e, granted-left, accounted-e}
-use Rattle.tl_manager.proofs.Links.{own_beat, other_beat, beat-keeps, pending-quiet, pending-closed, whole-e}
+use Rattle.tl_manager.proofs.Links.{own_beat, other_beat, beat-keeps, pending-closed, whole-e}
 use Rattle.tl_manager.proofs.Serving.{if_passes, serving-filter}
 use Rattle.tl_world.specs.Invariant.{AreNamed, is_busy}
 use Rattle.tl_world.specs.Managed.{IsManaged, is_own, client_in, service_with}

@@ -1,6 +1,6 @@
 -- What the manager knows after the last ProbeAck that an Acquire waited for, whose Grant is handed out.
 use Rattle.std.proofs.Common.{◌≡◌, ℕ, ◌==◌, Bool, true, false, not, ◌&&◌, ◌||◌, List, [], Option, Some, None, refl, sym, ◌∙◌, ap, ◌⊎◌, inl, inr, subst}
-use Rattle.std.specs.Prelude.{if◌then◌else◌}
+use Rattle.std.specs.Prelude.{if◌then◌else◌, unwrap_or}
 use Rattle.std.proofs.lemmas.Bool.{cases_eq, eqb-true, ne_eqb, and_parts}
 use Rattle.tl_beat.specs.Width.{IsWidth}
 use Rattle.tl_beat.specs.declared.beat.BeatC.{BeatC}
@@ -16,7 +16,7 @@ use Rattle.tl_params.specs.declared.param.Cap.{Cap}
 use Rattle.tl_params.specs.declared.param.Report.{Report}
 use Rattle.tl_params.specs.Param.{cap_right, report_right}
 use Rattle.tl_rules.specs.Conformance.{Trace, on_link, comes_in_request}
-use Rattle.tl_rules.specs.History.{block_at, asks_for, capped, held, is_grant, is_probe_ack, or_perm, pending, probe_of, request_of}
+use Rattle.tl_rules.specs.History.{block_at, asks_for, capped, held, is_grant, is_probe_ack, pending, probe_of, request_of}
 use Rattle.tl_rules.proofs.Handed.{after_whole}
 use Rattle.tl_rules.proofs.Sent.{held-sent_d}
 use Rattle.tl_client.proofs.HeldAfter.{swapped}
@@ -86,14 +86,14 @@ pub given-records : {w : ℕ} (q n tracker : ℕ) (m : MessageD w) (u : Trace w)
     → recorded d i (after_sent (record { 0 = q }) (D m) u) ≡ (if (q == d) && (n == i) then capped m.param else recorded d i u)
 given-records {w} q n tracker m u is d i = go (q == d) refl
   where
-    said : (b : Bool) → or_perm (if b then Some (capped m.param) else None) (recorded d i u) ≡ (if b then capped m.param else recorded d i u)
+    said : (b : Bool) → unwrap_or (if b then Some (capped m.param) else None) (recorded d i u) ≡ (if b then capped m.param else recorded d i u)
     said true = refl
     said false = refl
 
     go : (b : Bool) → (q == d) ≡ b → recorded d i (after_sent (record { 0 = q }) (D m) u) ≡ (if b && (n == i) then capped m.param else recorded d i u)
     go true e =
         ap (held i) (own_link d (record { 0 = q }) (D m) u e) ∙ held-sent_d i m (on_link d u) (subst (λ (j : ℕ). unfinished channel.D (on_link j u) ≡ []) (eqb-true q d e) is.whole) (beats-positive (D m) is.width)
-        ∙ ap (λ z. or_perm (if z then Some (capped m.param) else None) (recorded d i u)) (grants_it q n tracker m u is d i e) ∙ said (n == i)
+        ∙ ap (λ z. unwrap_or (if z then Some (capped m.param) else None) (recorded d i u)) (grants_it q n tracker m u is d i e) ∙ said (n == i)
     go false e = ap (held i) (other_link d (record { 0 = q }) (D m) u e)
 
 -- ---- one client of one block has another pair than it had in the block's place

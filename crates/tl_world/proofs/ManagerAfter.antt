@@ -64,7 +64,7 @@ abbrev pub left : {w : ℕ} → ℕ → Beat w → Deed w → End w → End w
 left c x d e = taken (record { 0 = c }) x d e
 
 pub left-is : {w : ℕ} (config : Config) (c : ℕ) (ch : Channel) (x : Beat w) (d : Deed w) (e : End w) → IsTakenUp config c ch x e → deed config (record { 0 = c }) x e ≡ d → (offered config (record { 0 = c }) ch x e).1 ≡ left c x d e
-left-is {w} config c ch x d e up is = ap (λ (p : slave.Answer w × End w). p.1) up.answer ∙ ap (λ (i : Deed w). left c x i e) is
+left-is {w} config c ch x d e up is = ap (λ (p : slave.Reception w × End w). p.1) up.answer ∙ ap (λ (i : Deed w). left c x i e) is
 
 pub kept-left : {w : ℕ} (config : Config) (c : ℕ) (x : BeatC w) (d : Deed w) (e : End w) → IsWidth w → IsTakenUp config c channel.C (beat.C x) e → deed config (record { 0 = c }) (beat.C x) e ≡ d → IsKept config e → IsKept config (left c (beat.C x) d e)
 kept-left config c x d e width up is kept = subst (IsKept config) (left-is config c channel.C (beat.C x) d e up is) (kept-offered config (record { 0 = c }) channel.C (beat.C x) e width tt kept)

@@ -12,7 +12,7 @@ use Rattle.tl_params.specs.declared.config.ClientConfig.{ClientConfig}
 use Rattle.tl_client.specs.End.{Terms}
 use Rattle.tl_manager.specs.Kept as manager
 use Rattle.tl_manager.specs.Kept.{illegal_at}
-use Rattle.tl_manager.specs.Service.{services, least_free, trackers_of}
+use Rattle.tl_manager.specs.Service.{services, least_untaken, trackers_of}
 use Rattle.tl_manager.specs.Slave as slave
 use Rattle.tl_manager.specs.Slave.{End, deed, level_of}
 use Rattle.tl_world.specs.declared.event.Event.TheVariants.{Deliver}
@@ -47,7 +47,7 @@ pub step-taken : {w : ℕ} (config : Config) (c : ℕ) (ch : Channel) (x : Beat 
     → stepped config (Deliver (record { 0 = c }) ch) sys
     ≡ handing (outcome.Moved x) (deed config (record { 0 = c }) x sys.manager).handed (with_manager (left c x (deed config (record { 0 = c }) x sys.manager) sys.manager) (with_channel c ch queue sys))
 step-taken {w} config c ch x queue sys t terms beats down up =
-    stepped-to-manager config (record { 0 = c }) ch sys t x queue terms beats down ∙ ap (λ (p : slave.Answer w × End w). manager_took c ch x queue p sys) up.answer
+    stepped-to-manager config (record { 0 = c }) ch sys t x queue terms beats down ∙ ap (λ (p : slave.Reception w × End w). manager_took c ch x queue p sys) up.answer
 
 pub manager-taken : {w : ℕ} (config : Config) (c : ℕ) (ch : Channel) (x : Beat w) (queue : List (Beat w)) (sys : System w) (t : Terms) → terms_at config c ≡ Some t → sys.channels c ch ≡ x ∷ queue → is_to_client ch ≡ false → IsTakenUp config c ch x sys.manager
     → (stepped config (Deliver (record { 0 = c }) ch) sys).after.manager ≡ left c x (deed config (record { 0 = c }) x sys.manager) sys.manager
@@ -58,16 +58,16 @@ manager-taken {w} config c ch x queue sys t terms beats down up =
 pub followed-taken : {w : ℕ} (config : Config) (c : ℕ) (ch : Channel) (x : Beat w) (queue : List (Beat w)) (sys : System w) (h : Shadow w) (t : Terms) → terms_at config c ≡ Some t → sys.channels c ch ≡ x ∷ queue → is_to_client ch ≡ false
     → IsTakenUp config c ch x sys.manager
     → followed config (Deliver (record { 0 = c }) ch) sys h
-    ≡ (if completes x (unfinished ch (receiver ch c sys)) then token_taken config (least_free (trackers_of (services sys.manager.trace))) c (tokens_on ch (h.state.link c)) h else h)
+    ≡ (if completes x (unfinished ch (receiver ch c sys)) then token_taken config (least_untaken (trackers_of (services sys.manager.trace))) c (tokens_on ch (h.state.link c)) h else h)
 followed-taken {w} config c ch x queue sys h t terms beats down up =
     ap (λ (s : Step w). delivered config c ch s.outcome sys h) (step-taken config c ch x queue sys t terms beats down up)
-    ∙ ap (λ (b : List (Beat w)). if is_last b (unfinished ch (receiver ch c sys)) then token_taken config (least_free (trackers_of (services sys.manager.trace))) c (tokens_on ch (h.state.link c)) h else h) beats
+    ∙ ap (λ (b : List (Beat w)). if is_last b (unfinished ch (receiver ch c sys)) then token_taken config (least_untaken (trackers_of (services sys.manager.trace))) c (tokens_on ch (h.state.link c)) h else h) beats
 
 pub manager-followed_c : {w : ℕ} (config : Config) (log : Log w) (h : Shadow w) (sys : System w) (c : ℕ) (x : Beat w) (queue : List (Beat w)) → IsWidth w → IsMatched config log h.mail h.request h.state sys → sys.channels c channel.C ≡ x ∷ queue
     → IsManagerOf config (followed config (Deliver (record { 0 = c }) channel.C) sys h) (stepped config (Deliver (record { 0 = c }) channel.C) sys).after.manager
 manager-followed_c {w} config log h sys c x queue width is beats =
     let t = client-of config c channel.C x queue sys beats (is.sound c channel.C) in
-    let d = channel_c-delivered config log (least_free (trackers_of (services sys.manager.trace))) h sys c x queue width is beats in
+    let d = channel_c-delivered config log (least_untaken (trackers_of (services sys.manager.trace))) h sys c x queue width is beats in
     subst (λ (i : End w). IsManagerOf config (followed config (Deliver (record { 0 = c }) channel.C) sys h) i) (sym (manager-taken config c channel.C x queue sys t.0 t.1 beats refl d.up))
     (subst (λ (i : Shadow w). IsManagerOf config i (left c x (deed config (record { 0 = c }) x sys.manager) sys.manager)) (sym (followed-taken config c channel.C x queue sys h t.0 t.1 beats refl d.up)) d.manager)
 
@@ -75,6 +75,6 @@ pub manager-followed_e : {w : ℕ} (config : Config) (log : Log w) (h : Shadow w
     → IsManagerOf config (followed config (Deliver (record { 0 = c }) channel.E) sys h) (stepped config (Deliver (record { 0 = c }) channel.E) sys).after.manager
 manager-followed_e {w} config log h sys c x queue width is beats =
     let t = client-of config c channel.E x queue sys beats (is.sound c channel.E) in
-    let d = channel_e-delivered config log (least_free (trackers_of (services sys.manager.trace))) h sys c x queue width is beats in
+    let d = channel_e-delivered config log (least_untaken (trackers_of (services sys.manager.trace))) h sys c x queue width is beats in
     subst (λ (i : End w). IsManagerOf config (followed config (Deliver (record { 0 = c }) channel.E) sys h) i) (sym (manager-taken config c channel.E x queue sys t.0 t.1 beats refl d.up))
     (subst (λ (i : Shadow w). IsManagerOf config i (left c x (deed config (record { 0 = c }) x sys.manager) sys.manager)) (sym (followed-taken config c channel.E x queue sys h t.0 t.1 beats refl d.up)) d.manager)

@@ -1,5 +1,6 @@
 -- What is kept of the manager's end is kept by every event, where the invariant is.
 use Rattle.std.proofs.Common.{◌≡◌, subst, ℕ, List, [], ◌∷◌, Option, Some, None, refl, sym}
+use Rattle.std.specs.Prelude.{⊤}
 use Rattle.tl_beat.specs.Width.{IsWidth}
 use Rattle.tl_beat.specs.declared.beat.Beat.{Beat}
 use Rattle.tl_beat.specs.declared.opcode.Channel.{Channel}
@@ -29,7 +30,7 @@ abbrev pub IsAllowed : {w : ℕ} → Config → Event w → Terms → System w �
 IsAllowed config (Ask c o) terms sys h = IsAskable (is_caching config) c o (client_ask.asked terms o (sys.clients c)).reply h
 IsAllowed config (Deliver link channel.B) terms sys h = IsInvariant (is_caching config) (followed config (Deliver link channel.B) sys h).state
 IsAllowed config (Deliver link channel.D) terms sys h = IsInvariant (is_caching config) (followed config (Deliver link channel.D) sys h).state
-IsAllowed config event terms sys h = Unit {0}
+IsAllowed config event terms sys h = ⊤
 
 -- where a channel is empty
 empty-delivered : {w : ℕ} (config : Config) (log : Log w) (h : Shadow w) (sys : System w) (c : ℕ) (ch : Channel) (terms : Terms) → IsMatched config log h.mail h.request h.state sys → terms_at config c ≡ Some terms → sys.channels c ch ≡ []

@@ -14,7 +14,7 @@ use Rattle.tl_burst.specs.declared.message.MessageA.{MessageA}
 use Rattle.tl_params.specs.declared.config.Config.{Config}
 use Rattle.tl_params.specs.declared.level.Level.{Level}
 use Rattle.tl_rules.specs.Agent.{payload_of}
-use Rattle.tl_rules.specs.Effect.{Memory, Reply, SameBlock, answer_of, bytes_from, effect}
+use Rattle.tl_rules.specs.Effect.{Memory, AccessResult, SameBlock, answer_of, bytes_from, effect}
 use Rattle.tl_rules.specs.History.{block_at}
 use Rattle.tl_rules.proofs.Bursts.{control_of_legal, control_aligned}
 use Rattle.tl_rules.proofs.Local.{after-local, reply-local}
@@ -95,5 +95,5 @@ pub answer-performed : {w : ℕ} (o : Option Level) (m : MessageA w) (memory : M
 unfolding effect
 answer-performed {w} o m memory n width lawful block =
     rw (← block)
-    (ap (λ (r : Reply). access_answer m (answer_of (message.A m) r))
+    (ap (λ (r : AccessResult). access_answer m (answer_of (message.A m) r))
     (reply-local m.opcode m memory (bytes_at (block_at m.address) (block_in memory (block_at m.address))) (room-lawful o m width lawful) (bytes_at-same (block_at m.address) memory)))

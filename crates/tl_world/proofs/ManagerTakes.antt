@@ -7,6 +7,7 @@ use Rattle.tl_beat.specs.declared.beat.Beat.TheVariants as beat
 use Rattle.tl_beat.specs.declared.beat.BeatE.{BeatE}
 use Rattle.tl_beat.specs.declared.opcode.Channel.{Channel}
 use Rattle.tl_beat.specs.declared.opcode.Channel.TheVariants as channel
+use Rattle.tl_beat.specs.First.{first_if}
 use Rattle.tl_burst.specs.declared.message.Message.TheVariants as message
 use Rattle.tl_burst.specs.declared.message.MessageA.{MessageA}
 use Rattle.tl_burst.specs.declared.message.MessageC.{MessageC}
@@ -26,7 +27,6 @@ use Rattle.tl_params.specs.declared.rule.Rule.TheVariants.{H1, H8, H13}
 use Rattle.tl_params.specs.Param.{prune_code, prune_left, prune_of, report_at, report_code}
 use Rattle.tl_rules.specs.Conformance.{on_link, broken_in_order, broken_order, prunes_from, same_perm}
 use Rattle.tl_rules.specs.History.{held, pending}
-use Rattle.tl_rules.specs.Legality.{rule_if}
 use Rattle.tl_rules.proofs.Later.{later-legal}
 use Rattle.tl_manager.specs.Kept.{IsSound, IsKept, illegal_at}
 use Rattle.tl_manager.specs.Slave as slave
@@ -177,7 +177,7 @@ report-order {w} config caching request c n k r truth carries m s e inv managed 
 -- ---- a Release
 
 abbrev first_release : Bool → Bool → Bool → Bool → Type 0
-first_release used acquires releases fits = rule_if used H1 (rule_if (acquires || (releases || not fits)) H13 None) ≡ None
+first_release used acquires releases fits = first_if used H1 (first_if (acquires || (releases || not fits)) H13 None) ≡ None
 
 release_rules : (used acquires releases fits : Bool) → used ≡ false → acquires ≡ false → releases ≡ false → fits ≡ true → first_release used acquires releases fits
 release_rules used acquires releases fits e f g h = rw (e, f, g, h) refl
@@ -233,7 +233,7 @@ release-order {w} config caching request c n k r rest truth carries m s e inv ma
 
 -- ---- a GrantAck
 
-ack_rule : (pends coming : Bool) → pends ≡ true → coming ≡ false → rule_if (not pends || coming) H8 None ≡ None
+ack_rule : (pends coming : Bool) → pends ≡ true → coming ≡ false → first_if (not pends || coming) H8 None ≡ None
 ack_rule pends coming e f = rw (e, f) refl
 
 pub ack-order : {w : ℕ} (config : Config) (request : ℕ → MessageA w) (c n : ℕ) (x : BeatE) (s : State (List ℕ)) (e : End w) → AreNamed s → AreServed request s e.trace → IsKept config e → (s.block n).service ≡ GrantTaken c

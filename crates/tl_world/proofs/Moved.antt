@@ -11,9 +11,9 @@ use Rattle.tl_burst.specs.declared.message.Message.{Message}
 use Rattle.tl_burst.specs.Burst.{beats_of}
 use Rattle.tl_burst.specs.Messages.{grown, unfinished}
 use Rattle.tl_burst.specs.Part.{completes}
+use Rattle.tl_burst.proofs.Splitting.{beats-positive}
 use Rattle.tl_params.specs.declared.config.Config.{Config}
 use Rattle.tl_params.specs.declared.rule.Rule.{Rule}
-use Rattle.tl_rules.proofs.Bursts.{has_beats}
 use Rattle.tl_rules.specs.Conformance.{on_link}
 use Rattle.tl_client.specs.After as after
 use Rattle.tl_client.specs.declared.verdict.Verdict.{Verdict}
@@ -143,12 +143,12 @@ manager_moves : {w : ℕ} (config : Config) (link : Link) (ch : Channel) (x : Be
     → IsTakenByManager config link ch x queue sys (manager_took link.0 ch x queue (slave.offered config link ch x sys.manager) sys)
 manager_moves {w} config link ch x queue sys moving = go (slave.offered config link ch x sys.manager) refl moving
   where
-    go : (a : slave.Answer w × slave.End w) → slave.offered config link ch x sys.manager ≡ a → is_moving (manager_took link.0 ch x queue a sys).outcome ≡ true
+    go : (a : slave.Reception w × slave.End w) → slave.offered config link ch x sys.manager ≡ a → is_moving (manager_took link.0 ch x queue a sys).outcome ≡ true
         → IsTakenByManager config link ch x queue sys (manager_took link.0 ch x queue (slave.offered config link ch x sys.manager) sys)
     go (slave.Refused rule, e) f h = absurd cc
     go (slave.Stalled, e) f h = absurd cc
     go (slave.Sent handed, e) f h =
-        let takes = offered-passes config link ch x sys.manager handed (ap (λ (p : slave.Answer w × slave.End w). p.0) f) in
+        let takes = offered-passes config link ch x sys.manager handed (ap (λ (p : slave.Reception w × slave.End w). p.0) f) in
         record { takes = takes; step_is = ap (λ p. manager_took link.0 ch x queue p sys) takes }
 
 pub manager-moves : {w : ℕ} (config : Config) (link : Link) (ch : Channel) (sys : System w) (terms : client.Terms) (x : Beat w) (queue : List (Beat w)) → terms_at config link.0 ≡ Some terms → sys.channels link.0 ch ≡ x ∷ queue
@@ -168,9 +168,9 @@ manager-heard {w} config link ch x queue sys step width typed kept is d = λ at.
   where
     one : (at : Channel) → is_of_clients at ≡ true → unfinished at (on_link d (slave.taken link x (slave.deed config link x sys.manager) sys.manager).trace) ≡ unfinished at (if link.0 == d then x ∷ on_link d sys.manager.trace else on_link d sys.manager.trace)
     one at up =
-        ap (λ (p : slave.Answer w × slave.End w). unfinished at (on_link d p.1.trace)) (sym is.takes)
+        ap (λ (p : slave.Reception w × slave.End w). unfinished at (on_link d p.1.trace)) (sym is.takes)
         ∙ manager_after.unfinished-offered config link ch x sys.manager d at width typed kept up
-        ∙ ap (λ (p : slave.Answer w × slave.End w). unfinished at (taken_after p.0 (link, x) d (on_link d sys.manager.trace))) is.takes
+        ∙ ap (λ (p : slave.Reception w × slave.End w). unfinished at (taken_after p.0 (link, x) d (on_link d sys.manager.trace))) is.takes
 
     go : (at : Channel) → is_to_client at ≡ false → unfinished at (on_link d (slave.taken link x (slave.deed config link x sys.manager) sys.manager).trace) ≡ unfinished at (if link.0 == d then x ∷ on_link d sys.manager.trace else on_link d sys.manager.trace)
     go channel.A f = one channel.A refl
@@ -197,7 +197,7 @@ carried-part {w} mail s c ch x queue pushes sys sys' width is none part h d at =
     first : (ms : List (Message w)) → IsCarried (rest c ch) ms (x ∷ queue) → IsCarried (grown x (rest c ch)) ms queue
     first [] i = absurd (let e : x ∷ queue ≡ [] = i.1 in cc)
     first (m ∷ ms) i =
-        let next : IsNext x (rest c ch) m ms queue = carried-next x (rest c ch) m ms queue (λ n. has_beats n width) i in
+        let next : IsNext x (rest c ch) m ms queue = carried-next x (rest c ch) m ms queue (λ n. beats-positive n width) i in
         let more = next.more (before next.k (beats_of m) next.within (sym next.completes_is ∙ part)) in
         rw (more.0) more.1
       where

@@ -14,7 +14,7 @@ use Rattle.tl_rules.specs.Effect.{Memory, IsBlock, bytes_from, byte_of, effect}
 use Rattle.tl_rules.specs.History.{block_at, is_acquire}
 use Rattle.tl_rules.proofs.Blocks.{effect_elsewhere}
 use Rattle.tl_rules.proofs.Legal.{access_at_uh}
-use Rattle.tl_client.specs.Ask.{stored}
+use Rattle.tl_client.specs.Ask.{copy_stored}
 use Rattle.tl_client.specs.Send.{sourced}
 use Rattle.tl_client.proofs.Stores.{stored-inside, stored-outside, length-stored}
 use Rattle.tl_manager.specs.Kept.{illegal_message_at}
@@ -103,14 +103,14 @@ get_slice [] i lt = absurd (omega (arith, lt))
 get_slice (x ∷ xs) zero lt = refl
 get_slice (x ∷ xs) (suc i) lt = get_slice xs i (omega (arith, lt))
 
-pub block-stored : (address size value : ℕ) (copy : List ℕ) (f : Memory) → address % 64 + 2 ^ size ≤ 64 → length copy ≡ 64 → IsBlock f (block_at address) copy → IsBlock (with_number address size value f) (block_at address) (stored address size value copy)
+pub block-stored : (address size value : ℕ) (copy : List ℕ) (f : Memory) → address % 64 + 2 ^ size ≤ 64 → length copy ≡ 64 → IsBlock f (block_at address) copy → IsBlock (with_number address size value f) (block_at address) (copy_stored address size value copy)
 block-stored address size value copy f room long is i lt = go (reaches address size x) refl
   where
     x : ℕ
     x = 64 * block_at address + i
 
     new : List ℕ
-    new = stored address size value copy
+    new = copy_stored address size value copy
 
     slice_new : slice_index new i ≡ get_or new i 0
     slice_new = get_slice new i (omega (arith, lt, length-stored address size value copy long room))

@@ -1,7 +1,7 @@
 -- What the manager knows after a request that is performed at once: an access that is answered, an Acquire that is
 -- granted.
 use Rattle.std.proofs.Common.{◌≡◌, ℕ, suc, ◌==◌, Bool, true, false, not, ◌&&◌, [], ◌∷◌, Some, None, refl, sym, ◌∙◌, ap, inl, inr}
-use Rattle.std.specs.Prelude.{if◌then◌else◌}
+use Rattle.std.specs.Prelude.{if◌then◌else◌, unwrap_or}
 use Rattle.std.proofs.lemmas.Bool.{cases_eq, ne_eqb}
 use Rattle.tl_burst.proofs.Splitting.{beats-positive}
 use Rattle.tl_beat.specs.declared.beat.Beat.TheVariants as beat
@@ -20,14 +20,14 @@ use Rattle.tl_rules.specs.declared.answer.Answer.{Answer}
 use Rattle.tl_rules.specs.declared.answer.Answer.TheVariants as answer
 use Rattle.tl_rules.specs.Conformance.{Trace, on_link}
 use Rattle.tl_rules.specs.Effect.{Memory, effect, answer_of}
-use Rattle.tl_rules.specs.History.{pending, held, block_at, is_acquire, is_grant, request_of, asks_for, capped, or_perm}
+use Rattle.tl_rules.specs.History.{pending, held, block_at, is_acquire, is_grant, request_of, asks_for, capped}
 use Rattle.tl_rules.proofs.Sent.{held-sent_d}
 use Rattle.tl_beat.specs.Width.{IsWidth}
 use Rattle.tl_world.specs.Phase.{Pair, is_quiet}
 use Rattle.tl_manager.specs.Handing.{Deed, with_handed, performed, access_answer, grant, is_granted_data, cap_granted}
 use Rattle.tl_manager.specs.Holders as holders
 use Rattle.tl_manager.specs.Holders.{recorded}
-use Rattle.tl_manager.specs.Service.{Service, services, serving, least_free, trackers_of}
+use Rattle.tl_manager.specs.Service.{Service, services, serving, least_untaken, trackers_of}
 use Rattle.tl_manager.specs.Slave.{End}
 use Rattle.tl_manager.proofs.Events.{performed-access, performed-acquire}
 use Rattle.tl_manager.proofs.Handed.{after_sent, own_link, other_link, whole-taken}
@@ -146,7 +146,7 @@ grant_of_d config n j s t memory block given =
     (_, refl, grants-so (is_granted_data s.request.opcode s.request.param (recorded s.link.0 (block_at s.request.address) t)), refl, rw (block, given) (cap-gives j))
 
 pub traced-granted : {w : ℕ} {X : Type 0} (config : Config) (request : ℕ → MessageA w) (c k n : ℕ) (b : Bool) (j : Cap) (m : MessageA w) (s u : State X) (memory : Memory) (e : End w)
-    → ((i : ℕ) → u.block i ≡ set n (granted_at_once c (least_free (trackers_of (services e.trace))) b j (s.block n)) s.block i)
+    → ((i : ℕ) → u.block i ≡ set n (granted_at_once c (least_untaken (trackers_of (services e.trace))) b j (s.block n)) s.block i)
     → IsGranting config c k n j m s e → IsTraced request s e.trace → IsTraced (set n m request) u (with_answer config c k m memory e.trace)
 traced-granted {w} {X} config request c k n b j m s u memory e blocks is known = traced-at n request (set n m request) s u e.trace after (record {
   other_blocks = λ i ne. blocks i ∙ set-other n i new s.block ne;
@@ -165,7 +165,7 @@ traced-granted {w} {X} config request c k n b j m s u memory e blocks is known =
 }) known
   where
     tracker : ℕ
-    tracker = least_free (trackers_of (services e.trace))
+    tracker = least_untaken (trackers_of (services e.trace))
 
     t : Trace w
     t = with_beat c m k e.trace
@@ -194,7 +194,7 @@ traced-granted {w} {X} config request c k n b j m s u memory e blocks is known =
     asks : (i : ℕ) → asks_for i (request_of reply.0.source (on_link c t)) ≡ (n == i)
     asks i = rw (reply.3, request-own config c k m e is.comes, is.block) refl
 
-    recorded_own : (i : ℕ) → recorded c i after ≡ or_perm (if true && (n == i) then Some (cap_right j) else None) (recorded c i e.trace)
+    recorded_own : (i : ℕ) → recorded c i after ≡ unwrap_or (if true && (n == i) then Some (cap_right j) else None) (recorded c i e.trace)
     recorded_own i =
         ap (recorded c i) after_is ∙ ap (held i) (own_link c (link_of c) (D reply.0) t (same_number c)) ∙ held-sent_d i reply.0 (on_link c t) (whole c) (beats-positive (D reply.0) is.comes.width)
         ∙ rw (reply.2, asks i, reply.4, recorded-beat c k m e.trace c i) refl

@@ -21,7 +21,7 @@ use Rattle.tl_client.proofs.HeldAfter.{swapped}
 use Rattle.tl_manager.specs.Handing.{with_handed, probes, probe_beat, probe_of_block}
 use Rattle.tl_manager.specs.Holders as holders
 use Rattle.tl_manager.specs.Holders.{recorded, cap_probed, is_spared, probed}
-use Rattle.tl_manager.specs.Service.{Service, services, serving, least_free, trackers_of}
+use Rattle.tl_manager.specs.Service.{Service, services, serving, least_untaken, trackers_of}
 use Rattle.tl_manager.specs.Slave.{End}
 use Rattle.tl_manager.proofs.Handed.{whole-taken}
 use Rattle.tl_manager.proofs.Probed.{probes-keep}
@@ -60,7 +60,7 @@ unfolding request_of
 request_of-probe src n j h = refl
 
 pub traced-probing : {w : ℕ} {X : Type 0} (config : Config) (request : ℕ → MessageA w) (c k n : ℕ) (own : Bool) (source : ℕ) (j : Cap) (m : MessageA w) (s u : State X) (e : End w)
-    → ((i : ℕ) → u.block i ≡ set n (served_block c own source (least_free (trackers_of (services e.trace))) j (s.block n)) s.block i)
+    → ((i : ℕ) → u.block i ≡ set n (served_block c own source (least_untaken (trackers_of (services e.trace))) j (s.block n)) s.block i)
     → IsProbing config c k n own source j m s e → IsTraced request s e.trace → IsTraced (set n m request) u (with_probes config c k m n j e.trace)
 traced-probing {w} {X} config request c k n own source j m s u e blocks is known = traced-at n request (set n m request) s u e.trace after (record {
   other_blocks = λ i ne. blocks i ∙ set-other n i new s.block ne;
@@ -81,7 +81,7 @@ traced-probing {w} {X} config request c k n own source j m s u e blocks is known
 }) known
   where
     tracker : ℕ
-    tracker = least_free (trackers_of (services e.trace))
+    tracker = least_untaken (trackers_of (services e.trace))
 
     t : Trace w
     t = with_beat c m k e.trace

@@ -1,12 +1,11 @@
 -- Whatever happens to a manager and its clients, what is outstanding is what is open, and a delivery is next exactly while
 -- something is outstanding.
-use Rattle.std.proofs.Common.{◌≡◌, subst, ℕ, ◌<◌, Bool, true, false, [], ◌∷◌, None, length, sym, refl, arith}
+use Rattle.std.proofs.Common.{◌≡◌, subst, ℕ, ◌<◌, true, [], ◌∷◌, None, length, sym, arith}
 use Rattle.std.specs.Prelude.{◌==◌, is_none}
 use Rattle.std.proofs.lemmas.Bool.Decides.{nat_tests}
 use Rattle.tl_beat.specs.Width.{IsWidth}
 use Rattle.tl_params.specs.declared.config.Config.{Config}
-use Rattle.tl_params.specs.declared.config.NewFault.TheVariants as fault
-use Rattle.tl_params.specs.Config.{config_fault, fault_unless, blocks_fit, trackers_fit, all_sources_fit}
+use Rattle.tl_params.specs.Config.{config_fault, blocks_fit, trackers_fit, all_sources_fit}
 use Rattle.tl_params.specs.Range.{is_from_to}
 use Rattle.tl_world.specs.declared.event.Outcome.{Outcome}
 use Rattle.tl_world.specs.Follow.{followed}
@@ -19,6 +18,7 @@ use Rattle.tl_world.proofs.Firsts.{first-of}
 use Rattle.tl_world.proofs.Given.{coherent, matched-given}
 use Rattle.tl_world.proofs.Matching.{shadow, matched}
 use Rattle.tl_world.proofs.Movement.{next-while-outstanding}
+use Rattle.tl_world.proofs.Hired.{limits-fit}
 
 -- the starts of every log are its ends and what is open after it
 pub counted : {w : ℕ} (config : Config) (log : Log w) → IsWidth w → AreTyped log → IsLog config log → AreCounted config log (shadow config log).state
@@ -29,17 +29,11 @@ counted {w} config (x ∷ log) width typed is =
     (counted-next config log (shadow config log) x.0 width (matched config log width typed.1 is.1) (counted config log width typed.1 is.1))
 
 -- a configuration without a fault has a tracker
-third_passes : (a b c d : Bool) → fault_unless a fault.N1 (fault_unless b fault.N2 (fault_unless c fault.N3 (fault_unless d fault.N4 None))) ≡ None → c ≡ true
-third_passes true true true d e = refl
-third_passes true true false d e = absurd cc
-third_passes true false c d e = absurd cc
-third_passes false b c d e = absurd cc
-
 some_tracker : (n : ℕ) → trackers_fit n ≡ true → 0 < n
 some_tracker n e = grind (arith, nat_tests, e)
 
 tracked : (config : Config) → config_fault config ≡ None → 0 < config.trackers
-tracked config e = some_tracker config.trackers (third_passes (is_from_to 1 16 (length config.clients.items)) (blocks_fit config.blocks) (trackers_fit config.trackers) (all_sources_fit config.clients.items) e)
+tracked config e = some_tracker config.trackers (limits-fit (is_from_to 1 16 (length config.clients.items)) (blocks_fit config.blocks) (trackers_fit config.trackers) (all_sources_fit config.clients.items) e).2
 
 -- a delivery is next exactly while something is outstanding
 pub moving : {w : ℕ} (config : Config) (log : Log w) → IsGiven config log → is_none (next_delivery config (after config log)) ≡ (outstanding log == 0)

@@ -1,19 +1,26 @@
 -- The channels of all links as one list of queues.
-use Rattle.std.proofs.Common.{◌≡◌, ℕ, Bool, true, false, List, [], ◌∷◌, ◌++◌, ◌+◌, ◌≤◌, ◌<◌, length, take, drop, refl, sym, subst, ap, ◌∙◌, ◌⊎◌, inl, inr, arith}
-use Rattle.std.specs.Prelude.{◌≢◌, ◌==◌, ◌&&◌, max, slice_index_or}
+use Rattle.std.proofs.Common.{◌≡◌, ℕ, suc, Bool, true, false, List, [], ◌∷◌, ◌++◌, ◌+◌, ◌≤◌, ◌<◌, length, take, drop, refl, sym, subst, ap, ◌∙◌, ◌⊎◌, inl, inr, arith}
+use Rattle.std.specs.Prelude.{not, ◌≢◌, ◌==◌, ◌&&◌, max, slice_index_or}
+use Rattle.std.specs.Int.{bit_at}
 use Rattle.std.proofs.Math.Nat.{max-eq_left}
 use Rattle.std.proofs.lemmas.Bool.{cases_eq, ne_eqb, eq-eqb}
 use Rattle.std.proofs.lemmas.List.{length-append, take_more, take-append-drop}
+use Rattle.circular_buffer.specs.Buffer.{Buffer, buffer}
+use Rattle.tl_beat.specs.Width.{IsWidth}
 use Rattle.tl_beat.specs.declared.beat.Beat.{Beat}
 use Rattle.tl_beat.specs.declared.beat.Link.{Link}
 use Rattle.tl_beat.specs.declared.opcode.Channel.{Channel}
 use Rattle.tl_beat.specs.declared.opcode.Channel.TheVariants as channel
 use Rattle.tl_burst.specs.declared.message.Message.{Message}
 use Rattle.tl_burst.specs.Burst.{beats_of}
+use Rattle.tl_burst.specs.Part.{is_empty}
+use Rattle.tl_burst.proofs.Splitting.{beats-positive}
 use Rattle.tl_rules.specs.Legality.{beats_from}
+use Rattle.tl_manager.specs.Bit.{bit_if}
 use Rattle.tl_manager.specs.Handing.{Handed}
-use Rattle.tl_world.specs.Carrying.{number, place, channel_at, Carries, Fit, AreKept, AreMoved}
+use Rattle.tl_world.specs.Carrying.{number, place, channel_at, word_of, Carries, Fit, AreKept, AreMoved}
 use Rattle.tl_world.specs.declared.ring.Ring.{Ring}
+use Rattle.tl_world.specs.declared.rings.Rings.{Rings}
 use Rattle.tl_world.specs.System.{System, same_channel, channel_of_message, with_channel, with_message, with_messages}
 use Rattle.tl_world.proofs.Beats.{length-beats_from}
 use Rattle.tl_world.proofs.Channels.{same_channel-is}
@@ -65,12 +72,14 @@ module _ {w : ℕ} where
   deepest_kept ring = sym (max-eq_left ring.covered)
 
   -- of one channel
-  pub moved-one : (n : ℕ) (old new : List (Ring w)) (s : System w) (k : ℕ) (ch : Channel) (beats : List (Beat w)) → Carries n old s → length new ≡ length old
-      → ((d : Ring w) → k < n → (slice_index_or new (place k ch) d).beats.items ≡ beats)
-      → ((d : Ring w) → (slice_index_or new (place k ch) d).deepest ≡ max (slice_index_or old (place k ch) d).deepest (length (slice_index_or new (place k ch) d).beats.items))
-      → ((i : ℕ) (d : Ring w) → i ≢ place k ch → slice_index_or new i d ≡ slice_index_or old i d)
+  pub moved-one : (n : ℕ) (old new : Rings w) (s : System w) (k : ℕ) (ch : Channel) (beats : List (Beat w)) → Carries n old s → length new.all.items ≡ length old.all.items
+      → ((d : Ring w) → k < n → (slice_index_or new.all.items (place k ch) d).beats.items ≡ beats)
+      → ((d : Ring w) → (slice_index_or new.all.items (place k ch) d).deepest ≡ max (slice_index_or old.all.items (place k ch) d).deepest (length (slice_index_or new.all.items (place k ch) d).beats.items))
+      → ((i : ℕ) (d : Ring w) → i ≢ place k ch → slice_index_or new.all.items i d ≡ slice_index_or old.all.items i d)
+      → (k < n → bit_at (word_of new.occupied ch) k ≡ bit_if (not (is_empty beats)))
+      → ((j : ℕ) (c : Channel) → place j c ≢ place k ch → bit_at (word_of new.occupied c) j ≡ bit_at (word_of old.occupied c) j)
       → AreMoved n old new (with_channel k ch beats s)
-  moved-one n old new s k ch beats carried same_number here deeper others = record {
+  moved-one n old new s k ch beats carried same_number here deeper others bit_here bit_others = record {
     carries = record {
       five_each = same_number ∙ carried.five_each;
       beats = λ j c d lt.
@@ -78,26 +87,58 @@ module _ {w : ℕ} where
             | inl same ↦ rw (same.0, same.1, eq-eqb k k refl, same_self ch) (here d (let is = same.0 in omega (arith, is, lt)))
             | inr other ↦ rw (other.1, others (place j c) d other.0) (carried.beats j c d lt)
           ];
+      occupied = λ j c lt.
+          elim (places j k c ch) [
+            | inl same ↦ rw (same.0, same.1, eq-eqb k k refl, same_self ch) (bit_here (let is = same.0 in omega (arith, is, lt)))
+            | inr other ↦ rw (other.1, bit_others j c other.0) (carried.occupied j c lt)
+          ];
     };
     deepen = λ j c d lt.
         elim (places j k c ch) [
           | inl same ↦ rw (same.0, same.1) (deeper d)
-          | inr other ↦ rw (others (place j c) d other.0) (deepest_kept (slice_index_or old (place j c) d))
+          | inr other ↦ rw (others (place j c) d other.0) (deepest_kept (slice_index_or old.all.items (place j c) d))
         ];
   }
 
+  -- whose first beat is taken away: its bit is cleared where it was the last
+  pub moved-dropped : (n : ℕ) (old new : Rings w) (s : System w) (k : ℕ) (ch : Channel) (x : Beat w) (rest : List (Beat w)) → Carries n old s → k < n → s.channels k ch ≡ x ∷ rest
+      → length new.all.items ≡ length old.all.items
+      → ((d : Ring w) → (slice_index_or new.all.items (place k ch) d).beats ≡ buffer (drop 1 (slice_index_or old.all.items (place k ch) d).beats.items) (slice_index_or old.all.items (place k ch) d).beats.capacity)
+      → ((d : Ring w) → (slice_index_or new.all.items (place k ch) d).deepest ≡ (slice_index_or old.all.items (place k ch) d).deepest)
+      → ((i : ℕ) (d : Ring w) → i ≢ place k ch → slice_index_or new.all.items i d ≡ slice_index_or old.all.items i d)
+      → (d : Ring w) → bit_at (word_of new.occupied ch) k ≡ bit_if (not (length (slice_index_or new.all.items (place k ch) d).beats.items == 0))
+      → ((j : ℕ) (c : Channel) → place j c ≢ place k ch → bit_at (word_of new.occupied c) j ≡ bit_at (word_of old.occupied c) j)
+      → AreMoved n old new (with_channel k ch rest s)
+  moved-dropped n old new s k ch x rest carried inside first same_number dropped flat others d bit_here bit_others =
+      moved-one n old new s k ch rest carried same_number (λ e lt. left e) deeper others (λ lt. bit_here ∙ ap bit_if (rw (left d) (some rest))) bit_others
+    where
+      left : (e : Ring w) → (slice_index_or new.all.items (place k ch) e).beats.items ≡ rest
+      left e = ap (λ (b : Buffer (Beat w)). b.items) (dropped e) ∙ ap (λ (xs : List (Beat w)). drop 1 xs) (carried.beats k ch e inside ∙ first)
+
+      deeper : (e : Ring w) → (slice_index_or new.all.items (place k ch) e).deepest ≡ max (slice_index_or old.all.items (place k ch) e).deepest (length (slice_index_or new.all.items (place k ch) e).beats.items)
+      deeper e =
+          let now = ap (λ (xs : List (Beat w)). length xs) (left e) in
+          let before = ap (λ (xs : List (Beat w)). length xs) (carried.beats k ch e inside ∙ first) in
+          let covered = (slice_index_or old.all.items (place k ch) e).covered in
+          omega (arith, now, before, covered, flat e)
+
+      some : (beats : List (Beat w)) → not (length beats == 0) ≡ not (is_empty beats)
+      some [] = refl
+      some (y ∷ ys) = ap not (ne_eqb (suc (length ys)) 0 (λ e. absurd (omega (arith, e))))
+
   -- of none of those that there are
-  pub moved-aside : (n : ℕ) (rings : List (Ring w)) (s : System w) (k : ℕ) (ch : Channel) (beats : List (Beat w)) → Carries n rings s → n ≤ k → AreMoved n rings rings (with_channel k ch beats s)
+  pub moved-aside : (n : ℕ) (rings : Rings w) (s : System w) (k : ℕ) (ch : Channel) (beats : List (Beat w)) → Carries n rings s → n ≤ k → AreMoved n rings rings (with_channel k ch beats s)
   moved-aside n rings s k ch beats carried past = record {
     carries = record {
       five_each = carried.five_each;
       beats = λ j c d lt. let other : (j ≡ k) → ⊥ = λ same. absurd (omega (arith, same, lt, past)) in rw (ne_eqb j k other) (carried.beats j c d lt);
+      occupied = λ j c lt. let other : (j ≡ k) → ⊥ = λ same. absurd (omega (arith, same, lt, past)) in rw (ne_eqb j k other) (carried.occupied j c lt);
     };
-    deepen = λ j c d lt. deepest_kept (slice_index_or rings (place j c) d);
+    deepen = λ j c d lt. deepest_kept (slice_index_or rings.all.items (place j c) d);
   }
 
   -- one move after another, at which no channel loses a beat
-  pub moved-then : (n : ℕ) (old now new : List (Ring w)) (s s' : System w) → AreMoved n old now s → AreMoved n now new s' → ((k : ℕ) (ch : Channel) → length (s.channels k ch) ≤ length (s'.channels k ch))
+  pub moved-then : (n : ℕ) (old now new : Rings w) (s s' : System w) → AreMoved n old now s → AreMoved n now new s' → ((k : ℕ) (ch : Channel) → length (s.channels k ch) ≤ length (s'.channels k ch))
       → AreMoved n old new s'
   moved-then n old now new s s' first second more = record {
     carries = second.carries;
@@ -111,6 +152,11 @@ module _ {w : ℕ} where
   }
 
   -- ---- messages
+
+  some_after : (xs ys : List (Beat w)) → 0 < length ys → not (is_empty (xs ++ ys)) ≡ true
+  some_after [] [] some = absurd (omega (arith, some))
+  some_after [] (y ∷ ys) some = refl
+  some_after (x ∷ xs) ys some = refl
 
   pub messages-append : (xs ys : Handed w) (s : System w) → with_messages (xs ++ ys) s ≡ with_messages ys (with_messages xs s)
   unfolding with_messages
@@ -131,33 +177,39 @@ module _ {w : ℕ} where
   messages-grow (x ∷ handed) s k ch = omega (arith, message-grows x.0.0 x.1 s k ch, messages-grow handed (with_message x.0.0 x.1 s) k ch)
 
   -- a message that fits behind its channel
-  pub moved-sent : (n : ℕ) (old new : List (Ring w)) (s : System w) (l : ℕ) (m : Message w) → Carries n old s → Fit n old (with_message l m s) → length new ≡ length old
-      → ((d : Ring w) → length (slice_index_or old (place l (channel_of_message m)) d).beats.items + beats_of m ≤ (slice_index_or old (place l (channel_of_message m)) d).beats.capacity
-      → (slice_index_or new (place l (channel_of_message m)) d).beats.items ≡ (slice_index_or old (place l (channel_of_message m)) d).beats.items ++ beats_from m 0 (beats_of m))
-      → ((d : Ring w) → (slice_index_or new (place l (channel_of_message m)) d).deepest ≡ max (slice_index_or old (place l (channel_of_message m)) d).deepest (length (slice_index_or new (place l (channel_of_message m)) d).beats.items))
-      → ((i : ℕ) (d : Ring w) → i ≢ place l (channel_of_message m) → slice_index_or new i d ≡ slice_index_or old i d)
+  pub moved-sent : (n : ℕ) (old new : Rings w) (s : System w) (l : ℕ) (m : Message w) → IsWidth w → Carries n old s → Fit n old (with_message l m s) → length new.all.items ≡ length old.all.items
+      → ((d : Ring w) → length (slice_index_or old.all.items (place l (channel_of_message m)) d).beats.items + beats_of m ≤ (slice_index_or old.all.items (place l (channel_of_message m)) d).beats.capacity
+      → (slice_index_or new.all.items (place l (channel_of_message m)) d).beats.items ≡ (slice_index_or old.all.items (place l (channel_of_message m)) d).beats.items ++ beats_from m 0 (beats_of m))
+      → ((d : Ring w) → (slice_index_or new.all.items (place l (channel_of_message m)) d).deepest ≡ max (slice_index_or old.all.items (place l (channel_of_message m)) d).deepest (length (slice_index_or new.all.items (place l (channel_of_message m)) d).beats.items))
+      → ((i : ℕ) (d : Ring w) → i ≢ place l (channel_of_message m) → slice_index_or new.all.items i d ≡ slice_index_or old.all.items i d)
+      → bit_at (word_of new.occupied (channel_of_message m)) l ≡ 1
+      → ((j : ℕ) (c : Channel) → place j c ≢ place l (channel_of_message m) → bit_at (word_of new.occupied c) j ≡ bit_at (word_of old.occupied c) j)
       → AreMoved n old new (with_message l m s)
-  moved-sent n old new s l m carried fits same_number sent deeper others =
+  moved-sent n old new s l m width carried fits same_number sent deeper others bit_here bit_others =
       moved-one n old new s l ch (s.channels l ch ++ beats_from m 0 (beats_of m)) carried same_number here deeper others
+      (λ lt. bit_here ∙ ap bit_if (sym (some_after (s.channels l ch) (beats_from m 0 (beats_of m)) some))) bit_others
     where
       ch : Channel
       ch = channel_of_message m
 
-      here : (d : Ring w) → l < n → (slice_index_or new (place l ch) d).beats.items ≡ s.channels l ch ++ beats_from m 0 (beats_of m)
+      some : 0 < length (beats_from m 0 (beats_of m))
+      some = rw (length-beats_from m 0 (beats_of m)) (beats-positive m width)
+
+      here : (d : Ring w) → l < n → (slice_index_or new.all.items (place l ch) d).beats.items ≡ s.channels l ch ++ beats_from m 0 (beats_of m)
       here d lt =
           let held = carried.beats l ch d lt in
           let many = ap (λ (xs : List (Beat w)). length xs) held in
-          let whole : length (s.channels l ch ++ beats_from m 0 (beats_of m)) ≤ (slice_index_or old (place l ch) d).beats.capacity = rw (eq-eqb l l refl, same_self ch) at (fits l ch d lt) in
-          let room : length (slice_index_or old (place l ch) d).beats.items + beats_of m ≤ (slice_index_or old (place l ch) d).beats.capacity =
+          let whole : length (s.channels l ch ++ beats_from m 0 (beats_of m)) ≤ (slice_index_or old.all.items (place l ch) d).beats.capacity = rw (eq-eqb l l refl, same_self ch) at (fits l ch d lt) in
+          let room : length (slice_index_or old.all.items (place l ch) d).beats.items + beats_of m ≤ (slice_index_or old.all.items (place l ch) d).beats.capacity =
           omega (arith, many, whole, length-append (s.channels l ch) (beats_from m 0 (beats_of m)), length-beats_from m 0 (beats_of m)) in
           sent d room ∙ ap (λ (xs : List (Beat w)). xs ++ beats_from m 0 (beats_of m)) held
 
   -- nothing that is handed out
-  pub moved-still : (n : ℕ) (rings : List (Ring w)) (s : System w) → Carries n rings s → AreMoved n rings rings s
-  moved-still n rings s carried = record { carries = carried; deepen = λ k ch d lt. deepest_kept (slice_index_or rings (place k ch) d) }
+  pub moved-still : (n : ℕ) (rings : Rings w) (s : System w) → Carries n rings s → AreMoved n rings rings s
+  moved-still n rings s carried = record { carries = carried; deepen = λ k ch d lt. deepest_kept (slice_index_or rings.all.items (place k ch) d) }
 
   -- one more message of several
-  pub moved-more : (n : ℕ) (old now new : List (Ring w)) (s : System w) (handed : Handed w) (i : ℕ) (x d : Link × Message w) → i < length handed → x ≡ slice_index_or handed i d → AreKept old now
+  pub moved-more : (n : ℕ) (old now new : Rings w) (s : System w) (handed : Handed w) (i : ℕ) (x d : Link × Message w) → i < length handed → x ≡ slice_index_or handed i d → AreKept old now
       → (Fit n old (with_messages handed s) → AreMoved n old now (with_messages (take i handed) s))
       → (Carries n now (with_messages (take i handed) s) → Fit n now (with_message x.0.0 x.1 (with_messages (take i handed) s)) → AreMoved n now new (with_message x.0.0 x.1 (with_messages (take i handed) s)))
       → Fit n old (with_messages handed s) → AreMoved n old new (with_messages (take (i + 1) handed) s)

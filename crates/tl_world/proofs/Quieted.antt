@@ -1,6 +1,6 @@
 -- Beats and answers after which the manager's end says the same of all but what is recorded and which ProbeAcks are missing.
 use Rattle.std.proofs.Common.{◌≡◌, ℕ, ◌==◌, Bool, true, false, not, ◌&&◌, ◌||◌, [], ◌∷◌, Option, Some, None, refl, sym, ◌∙◌, ap, subst}
-use Rattle.std.specs.Prelude.{if◌then◌else◌}
+use Rattle.std.specs.Prelude.{if◌then◌else◌, unwrap_or}
 use Rattle.std.proofs.lemmas.Bool.{cases_eq, eqb-true, ne_eqb}
 use Rattle.std.proofs.Common.{inl, inr}
 use Rattle.tl_beat.specs.Width.{IsWidth}
@@ -15,14 +15,14 @@ use Rattle.tl_burst.specs.Messages.{History, unfinished}
 use Rattle.tl_params.specs.declared.key.Key.TheVariants as key
 use Rattle.tl_params.specs.declared.perm.Perm.{Perm}
 use Rattle.tl_rules.specs.Conformance.{Trace, on_link}
-use Rattle.tl_rules.specs.History.{ends, block_at, is_grant, is_probe_ack, is_release, is_release_ack, pending, probe_of, reported, request_of, or_perm, held}
-use Rattle.tl_rules.proofs.Sent.{held-sent_d}
+use Rattle.tl_rules.specs.History.{ends, block_at, is_grant, is_probe_ack, is_release, is_release_ack, pending, probe_of, reported, request_of, held}
+use Rattle.tl_rules.proofs.Sent.{held-sent_d, pending-quiet}
 use Rattle.tl_burst.proofs.Splitting.{beats-positive}
 use Rattle.tl_manager.specs.Holders.{recorded}
 use Rattle.tl_manager.specs.Service.{services, serving}
 use Rattle.tl_manager.proofs.Accesses.{services-release_ack}
 use Rattle.tl_manager.proofs.Handed.{after_sent, own_link, other_link, recorded-taken}
-use Rattle.tl_manager.proofs.Links.{own_beat, other_beat, beat-keeps, pending-quiet, pending-closed}
+use Rattle.tl_manager.proofs.Links.{own_beat, other_beat, beat-keeps, pending-closed}
 use Rattle.tl_manager.proofs.Probing.{services-c}
 use Rattle.tl_manager.proofs.Replies.{reply-quiet, burst-reply, request-reply, probe-reply}
 use Rattle.tl_world.specs.Managed.{IsManaged, is_own}
@@ -78,7 +78,7 @@ quiet-c link x t = record {
 
 -- what is recorded after it
 recorded-c : {w : ℕ} (link : Link) (x : BeatC w) (t : Trace w) (d i : ℕ)
-    → recorded d i ((link, beat.C x) ∷ t) ≡ or_perm (if (link.0 == d) && (ends (beat.C x) (on_link d t) && ((is_probe_ack x.opcode || is_release x.opcode) && (block_at x.address == i))) then Some (reported x.param) else None) (recorded d i t)
+    → recorded d i ((link, beat.C x) ∷ t) ≡ unwrap_or (if (link.0 == d) && (ends (beat.C x) (on_link d t) && ((is_probe_ack x.opcode || is_release x.opcode) && (block_at x.address == i))) then Some (reported x.param) else None) (recorded d i t)
 recorded-c link x t d i = recorded-taken d link i (beat.C x) t refl
 
 -- the last beat of a ProbeAck or Release of a block
@@ -95,11 +95,11 @@ recorded-last {w} c n right x t is d i = recorded-c (record { 0 = c }) x t d i �
   | inr other ↦ rw (ne_eqb c d other) refl
 ]
   where
-    go : (b : Bool) → or_perm (if b then Some right else None) (recorded c i t) ≡ (if b then right else recorded c i t)
+    go : (b : Bool) → unwrap_or (if b then Some right else None) (recorded c i t) ≡ (if b then right else recorded c i t)
     go true = refl
     go false = refl
 
-part_or : (p : Perm) (b : Bool) (q : Perm) → or_perm (if b && false then Some p else None) q ≡ q
+part_or : (p : Perm) (b : Bool) (q : Perm) → unwrap_or (if b && false then Some p else None) q ≡ q
 part_or p true q = refl
 part_or p false q = refl
 

@@ -10,13 +10,13 @@ use Rattle.tl_params.specs.declared.key.Key.TheVariants.{ProbeOf}
 use Rattle.tl_params.specs.declared.param.Cap.{Cap}
 use Rattle.tl_rules.specs.Conformance.{Trace, on_link}
 use Rattle.tl_rules.specs.History.{pending, held, block_at, request_of}
-use Rattle.tl_rules.proofs.Sent.{held_unsaid, not_last}
+use Rattle.tl_rules.proofs.Sent.{held_unsaid, not_last, pending-quiet}
 use Rattle.tl_manager.specs.Holders.{recorded}
 use Rattle.tl_manager.specs.Service.{services, serving}
 use Rattle.tl_manager.specs.Slave.{End}
 use Rattle.tl_manager.proofs.Ended.{services-part}
 use Rattle.tl_manager.proofs.Events.{services-request}
-use Rattle.tl_manager.proofs.Links.{own_beat, other_beat, beat-keeps, pending-quiet}
+use Rattle.tl_manager.proofs.Links.{own_beat, other_beat, beat-keeps}
 use Rattle.tl_world.specs.Protocol.{Waits, State}
 use Rattle.tl_world.proofs.Accounts.{IsTraced}
 use Rattle.tl_world.proofs.Arrivals.{link_of, with_beat, IsComing, ends-coming, service_for, served-last, request-taken, request-else}

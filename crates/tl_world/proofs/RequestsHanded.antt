@@ -55,7 +55,7 @@ handed-answered {w} config log mail request s sys c source k is asked comes last
     let bytes_are : bytes_from e.memory (64 * n) 64 ≡ (s.block n).memory = is.memory n in
     ap (λ (d : Deed w). d.handed) (deed-performed config log mail request s sys c k n false m is comes last asked.access refl none ∙ performed-access config (service_for c m e.trace) (with_beat c m k e.trace) e.memory asked.access)
     ∙ ap (λ (i : Message w). (link_of c, i) ∷ [])
-    (ap (λ (r : memory.Reply). access_answer m (answer_of (message.A m) r)) (performed-reply (level_of config c) m e.memory comes.width asked.lawful) ∙ ap (answers m) bytes_are)
+    (ap (λ (r : memory.AccessResult). access_answer m (answer_of (message.A m) r)) (performed-reply (level_of config c) m e.memory comes.width asked.lawful) ∙ ap (answers m) bytes_are)
 
 -- ---- a Grant
 

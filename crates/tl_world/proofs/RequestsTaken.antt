@@ -22,7 +22,7 @@ use Rattle.tl_client.proofs.HeldAfter.{same_block, swapped}
 use Rattle.tl_manager.specs.Handing.{performed, cap_granted}
 use Rattle.tl_manager.specs.Holders as holders
 use Rattle.tl_manager.specs.Holders.{recorded, is_nobody, probed, cap_probed, is_spared}
-use Rattle.tl_manager.specs.Service.{services, is_in_service, least_free, trackers_of}
+use Rattle.tl_manager.specs.Service.{services, is_in_service, least_untaken, trackers_of}
 use Rattle.tl_manager.specs.Slave.{End, must_wait, deed}
 use Rattle.tl_manager.proofs.Events.{deed-unprobed, deed-intent}
 use Rattle.tl_world.specs.Follow.{Shadow, some_below, probes_some, access_taken, request_taken, acquire_opcode, is_unheld, gift, acquire_taken, kind_taken}
@@ -54,7 +54,7 @@ use Rattle.tl_world.proofs.ManagerAfter.{IsManagerOf}
 
 -- the tracker of the next service
 abbrev pub next_tracker : {w : ℕ} → System w → ℕ
-next_tracker sys = least_free (trackers_of (services sys.manager.trace))
+next_tracker sys = least_untaken (trackers_of (services sys.manager.trace))
 
 pub free-last : {w : ℕ} (config : Config) (log : Log w) (mail : Mail w) (request : ℕ → MessageA w) (s : State (List ℕ)) (sys : System w) (c k : ℕ) (m : MessageA w)
     → IsMatched config log mail request s sys → IsComing config c k m sys.manager → beats_of (message.A m) ≡ suc k → must_wait config (link_of c) (beat.A (a_beat_of m k)) sys.manager.trace ≡ false

@@ -10,6 +10,7 @@ use Rattle.tl_beat.specs.declared.beat.BeatD.{BeatD}
 use Rattle.tl_beat.specs.declared.opcode.Channel.TheVariants as channel
 use Rattle.tl_beat.specs.declared.opcode.OpD.{OpD}
 use Rattle.tl_beat.specs.declared.opcode.OpD.TheVariants as opd
+use Rattle.tl_beat.specs.First.{first_if}
 use Rattle.tl_burst.specs.Messages.{History, unfinished}
 use Rattle.tl_params.specs.declared.key.Key.TheVariants.{RequestSource, ReleaseSource, GrantSink, ProbeOf}
 use Rattle.tl_params.specs.declared.perm.Perm.TheVariants as perm
@@ -17,10 +18,9 @@ use Rattle.tl_params.specs.declared.profile.Profile.{Profile}
 use Rattle.tl_params.specs.declared.rule.Rule.TheVariants.{H2, H3, H6, H7}
 use Rattle.tl_rules.specs.Conformance.{answers, comes_in_request, comes_in_release, fits_grow, has_request, misgrants, same_perm, is_acquire_block, is_grant_without_data, size_asked, size_of_release, broken_order, broken_in_order}
 use Rattle.tl_rules.specs.History.{block_at, held, is_grant, is_release_ack, pending, request_of, release_of}
-use Rattle.tl_rules.specs.Legality.{rule_if}
 use Rattle.tl_world.proofs.Tokens.{same_number}
 
-rules : (asked sized amiss twice : Bool) → asked ≡ true → sized ≡ true → amiss ≡ false → twice ≡ false → rule_if (not asked) H2 (rule_if (not sized) H3 (rule_if amiss H6 (rule_if twice H7 None))) ≡ None
+rules : (asked sized amiss twice : Bool) → asked ≡ true → sized ≡ true → amiss ≡ false → twice ≡ false → first_if (not asked) H2 (first_if (not sized) H3 (first_if amiss H6 (first_if twice H7 None))) ≡ None
 rules asked sized amiss twice e f g h = rw (e, f, g, h) refl
 
 begun : {w : ℕ} (p : Profile) (x : BeatD w) (t : History w) → unfinished channel.D t ≡ [] → has_request x t ≡ true → (x.size == size_asked x t) ≡ true → (is_grant x.opcode && misgrants p x (request_of x.source t) t) ≡ false

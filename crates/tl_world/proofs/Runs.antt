@@ -1,6 +1,6 @@
 -- Runs of the one-memory machine, and exact stalls.
 use Rattle.std.proofs.Common.{◌≡◌, List, [], ◌∷◌, refl, sym, ◌∙◌}
-use Rattle.std.specs.Prelude.{ℕ, Bool, true, false, Result, Ok, Err, Option}
+use Rattle.std.specs.Prelude.{ℕ, Bool, true, false, Result, Ok, Err, Option, ⊤}
 use Rattle.tl_beat.specs.declared.beat.Beat.{Beat}
 use Rattle.tl_beat.specs.declared.opcode.Channel.{Channel}
 use Rattle.tl_burst.specs.declared.message.Message.{Message}
@@ -28,7 +28,7 @@ use Rattle.tl_world.specs.System.{System}
 
 -- each event goes on from the machine's state before it
 unfoldable pub AllContinue : {w : ℕ} → Config → Log w → Type 0
-AllContinue config [] = Unit {0}
+AllContinue config [] = ⊤
 AllContinue config (x ∷ log) = Continues config x log × AllContinue config log
 
 pub run-continued : {w : ℕ} (config : Config) (log : Log w) → AllContinue config log → Run config log (remembered config log)
@@ -40,12 +40,12 @@ run-continued config (x ∷ log) all = (remembered config log, all.0.0, all.0.1,
 
 -- no rule is broken
 abbrev pub IsTakenUp : {w : ℕ} → Result (Verdict × Option (Message w)) Rule → Type 0
-IsTakenUp (Ok v) = Unit {0}
+IsTakenUp (Ok v) = ⊤
 IsTakenUp (Err rule) = ⊥
 
-abbrev pub IsTakenIn : {w : ℕ} → manager.Answer w × manager.End w → Type 0
+abbrev pub IsTakenIn : {w : ℕ} → manager.Reception w × manager.End w → Type 0
 IsTakenIn (manager.Refused rule, e) = ⊥
-IsTakenIn _ = Unit {0}
+IsTakenIn _ = ⊤
 
 -- the end that takes the beat refuses it by no rule
 abbrev pub IsTaken : {w : ℕ} → Config → Terms → ℕ → Channel → Beat w → System w → Type 0
@@ -60,7 +60,7 @@ stall-judged (Ok (verdict.Stalled, m)) link ch x rest e s taken = refl
 stall-judged (Ok (verdict.Taken, m)) link ch x rest e s taken = refl
 stall-judged (Ok (verdict.Done source finish, m)) link ch x rest e s taken = refl
 
-stall-managed : {w : ℕ} (answer : manager.Answer w × manager.End w) (link : ℕ) (ch : Channel) (x : Beat w) (rest : List (Beat w)) (s : System w)
+stall-managed : {w : ℕ} (answer : manager.Reception w × manager.End w) (link : ℕ) (ch : Channel) (x : Beat w) (rest : List (Beat w)) (s : System w)
     → IsTakenIn answer → is_stall (manager_took link ch x rest answer s).outcome ≡ kept.is_stalled answer.0
 stall-managed (manager.Refused rule, e) link ch x rest s taken = absurd taken
 stall-managed (manager.Stalled, e) link ch x rest s taken = refl

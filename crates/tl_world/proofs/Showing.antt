@@ -1,7 +1,7 @@
 -- What a token stands for that is there before and after an event: the same message.
 use Rattle.std.proofs.Common.{◌≡◌, ℕ, Bool, true, false, not, ◌&&◌, ◌||◌, List, refl, sym, ◌∙◌, ap, ◌⊎◌, inl, inr}
 use Rattle.std.proofs.lemmas.Bool.{not-true, or_parts}
-use Rattle.std.specs.Prelude.{◌==◌, if◌then◌else◌}
+use Rattle.std.specs.Prelude.{◌==◌, if◌then◌else◌, ⊤}
 use Rattle.tl_beat.specs.declared.opcode.Channel.{Channel}
 use Rattle.tl_beat.specs.declared.opcode.OpB.TheVariants as opb
 use Rattle.tl_params.specs.declared.param.Prune.{Prune}
@@ -45,7 +45,7 @@ IsAlike Release d b b' = ((b'.pair d).letting ≡ (b.pair d).letting) × (b'.rel
 IsAlike Grant d b b' = (b'.service ≡ b.service) × (b'.source d ≡ b.source d) × (b'.tracker ≡ b.tracker)
 IsAlike ReleaseAck d b b' = b'.release_source d ≡ b.release_source d
 IsAlike GrantAck d b b' = b'.tracker ≡ b.tracker
-IsAlike k d b b' = Unit {0}
+IsAlike k d b b' = ⊤
 
 ack_bytes : (w : ℕ) (p : Perm) (r : Report) (n : ℕ) (x y : List ℕ) → same_perm p perm.Trunk ≡ false → probe_ack {w = w} opb.ProbeBlock p r n x ≡ probe_ack opb.ProbeBlock p r n y
 ack_bytes w perm.None r n x y e = refl

@@ -1,6 +1,6 @@
 -- The bytes of each block are 64, and each access that is under way has its source, after every event.
 use Rattle.std.proofs.Common.{◌≡◌, ℕ, ◌*◌, Bool, true, false, ◌&&◌, List, ◌∷◌, Option, Some, None, refl, sym, ◌∙◌, ap, ◌⊎◌, inl, inr}
-use Rattle.std.specs.Prelude.{◌==◌, if◌then◌else◌, length}
+use Rattle.std.specs.Prelude.{◌==◌, if◌then◌else◌, length, ⊤}
 use Rattle.std.proofs.lemmas.Bool.{cases_eq, ne_eqb}
 use Rattle.tl_burst.specs.declared.message.Message.{Message}
 use Rattle.tl_burst.specs.declared.message.Message.TheVariants as message
@@ -17,7 +17,7 @@ use Rattle.tl_client.specs.declared.operation.Op.{Op}
 use Rattle.tl_client.specs.declared.operation.Op.TheVariants as op
 use Rattle.tl_client.specs.declared.reply.Reply.{Reply}
 use Rattle.tl_client.specs.declared.reply.Reply.TheVariants as reply
-use Rattle.tl_client.specs.Ask.{stored, is_word}
+use Rattle.tl_client.specs.Ask.{copy_stored, is_word}
 use Rattle.tl_client.specs.Send.{access}
 use Rattle.tl_client.proofs.Stores.{word_room, length-stored}
 use Rattle.tl_manager.proofs.Filled.{length-bytes}
@@ -118,7 +118,7 @@ sourced-kind_taken caching config tracker c GrantAck i rest h inv first before =
 -- what the client's answer says of the access that starts
 abbrev pub IsSourcedAsk : {w : ℕ} → Config → ℕ → Op w → Reply → Type 0
 IsSourcedAsk config c (op.Access (message.A m)) (reply.Started source) = IsRequest config c source (access source m)
-IsSourcedAsk config c o r = Unit {0}
+IsSourcedAsk config c o r = ⊤
 
 pub sourced-asked : {w : ℕ} (config : Config) (c : ℕ) (o : Op w) (r : Reply) (h : Shadow w) → IsSourcedAsk config c o r → AreSourced config h.mail.request h.state.uses
     → AreSourced config (asked c o r h).mail.request (asked c o r h).state.uses
@@ -293,7 +293,7 @@ sized-kind_taken config tracker c GrantAck i rest h before = λ j. sized_block i
 -- what the client's answer says of a Store that is done: it is one of a word, of a block that the client may write
 abbrev pub IsSizedAsk : {w : ℕ} → ℕ → Op w → Reply → Shadow w → Type 0
 IsSizedAsk c (op.Store address size value) reply.Stored h = (is_word address size ≡ true) × (same_perm ((h.state.block (block_at address)).pair c).held perm.Trunk ≡ true)
-IsSizedAsk c o r h = Unit {0}
+IsSizedAsk c o r h = ⊤
 
 sized_acquiring : (c source : ℕ) (whole : Bool) (g : Grow) (bytes : List ℕ) (b : Block (List ℕ)) → (whole ≡ true → length bytes ≡ 64) → AreSized b → AreSized (acquiring_block c source whole g bytes b)
 sized_acquiring c source whole g bytes b long h = record { truth = h.truth; waiting = λ d e. go d (cases_eq d c) e }
@@ -313,8 +313,8 @@ sized-asked caching c (op.Store address size value) reply.Stored h inv typed ask
     let n : ℕ = block_at address in
     let b : Block (List ℕ) = h.state.block n in
     let long : length (b.copy c) ≡ 64 = ap length ((inv.blocks n).copies c (trunk-some (b.pair c).held ask.1)) ∙ (before n).truth in
-    sized_block n (stored_block c (stored address size value (b.copy c)) b) h.state.block
-    (sized_same b (stored_block c (stored address size value (b.copy c)) b) (length-stored address size value (b.copy c) long (word_room address size ask.0)) (λ d. refl) (λ d e. e) (before n)) before i
+    sized_block n (stored_block c (copy_stored address size value (b.copy c)) b) h.state.block
+    (sized_same b (stored_block c (copy_stored address size value (b.copy c)) b) (length-stored address size value (b.copy c) long (word_room address size ask.0)) (λ d. refl) (λ d e. e) (before n)) before i
 sized-asked caching c (op.Store address size value) (reply.Value v) h inv typed ask before = before
 sized-asked caching c (op.Store address size value) reply.Miss h inv typed ask before = before
 sized-asked caching c (op.Store address size value) (reply.Started source) h inv typed ask before = before

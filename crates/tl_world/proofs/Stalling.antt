@@ -142,7 +142,7 @@ emptiness {w} config terms link ch (x ∷ rest) s = go (is_to_client ch)
     of_client (Ok (verdict.Taken, m)) e = refl
     of_client (Ok (verdict.Done source f, m)) e = refl
 
-    of_manager : (a : manager.Answer w × manager.End w) → is_emptiness (manager_took link ch x rest a s).outcome ≡ false
+    of_manager : (a : manager.Reception w × manager.End w) → is_emptiness (manager_took link ch x rest a s).outcome ≡ false
     of_manager (manager.Refused rule, e) = refl
     of_manager (manager.Stalled, e) = refl
     of_manager (manager.Sent handed, e) = refl
@@ -163,7 +163,7 @@ moving-else {w} config terms link ch (x ∷ rest) s some unstalled = go (is_to_c
     of_client (Ok (verdict.Taken, m)) e f = refl
     of_client (Ok (verdict.Done source finish, m)) e f = refl
 
-    of_manager : (a : manager.Answer w × manager.End w) → is_stall (manager_took link ch x rest a s).outcome ≡ false → is_moving (manager_took link ch x rest a s).outcome ≡ true
+    of_manager : (a : manager.Reception w × manager.End w) → is_stall (manager_took link ch x rest a s).outcome ≡ false → is_moving (manager_took link ch x rest a s).outcome ≡ true
     of_manager (manager.Refused rule, e) f = absurd cc
     of_manager (manager.Stalled, e) f = absurd cc
     of_manager (manager.Sent handed, e) f = refl

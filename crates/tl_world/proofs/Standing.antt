@@ -27,7 +27,7 @@ none-first config ch link (suc n) s none c low high = go (is_movable config link
       | inr differs ↦ rest h (omega (arith, low, differs))
     ]
 
-first-none : {w : ℕ} (config : Config) (ch : Channel) (link n : ℕ) (s : System w) → ((c : ℕ) → is_movable config c ch s ≡ false) → first_movable config ch link n s ≡ None
+pub first-none : {w : ℕ} (config : Config) (ch : Channel) (link n : ℕ) (s : System w) → ((c : ℕ) → is_movable config c ch s ≡ false) → first_movable config ch link n s ≡ None
 unfolding first_movable
 first-none config ch link zero s none = refl
 first-none config ch link (suc n) s none = rw (none link) (first-none config ch (link + 1) n s none)

@@ -2,10 +2,11 @@
 use Rattle.std.proofs.Common.{◌≡◌, ◌<◌, ◌≤◌, ℕ, true, false, List, [], ◌∷◌, Option, Some, None, refl, ap, sym, subst, ◌∙◌, inl, inr, length, drop, arith}
 use Rattle.std.proofs.lemmas.Bool.{cases_eq, ne_eqb, eq-eqb}
 use Rattle.std.proofs.lemmas.Option.{slice_get_past}
-use Rattle.std.specs.Prelude.{◌≢◌, Result, Ok, Err, slice_get, slice_index_or}
+use Rattle.std.specs.Prelude.{not, ◌≢◌, Result, Ok, Err, slice_get, slice_index_or}
 use Rattle.tl_beat.specs.declared.beat.Beat.{Beat}
 use Rattle.tl_beat.specs.declared.beat.Link.{Link}
 use Rattle.tl_beat.specs.declared.opcode.Channel.{Channel}
+use Rattle.tl_burst.specs.Part.{is_empty}
 use Rattle.tl_burst.specs.declared.message.Message.{Message}
 use Rattle.tl_params.specs.declared.config.Config.{Config}
 use Rattle.tl_params.specs.declared.perm.Perm.{Perm}
@@ -16,6 +17,7 @@ use Rattle.tl_client.specs.declared.verdict.Verdict.{Verdict}
 use Rattle.tl_client.specs.Ask.{asked}
 use Rattle.tl_client.specs.End.{Terms, End}
 use Rattle.tl_client.specs.Offer.{offered}
+use Rattle.tl_manager.specs.Bit.{bit_if}
 use Rattle.tl_manager.specs.Handing.{Handed}
 use Rattle.tl_manager.specs.Knows.{Knows}
 use Rattle.tl_manager.specs.Slave as manager
@@ -29,7 +31,6 @@ use Rattle.tl_world.specs.declared.event.Event.TheVariants.{Ask, Deliver}
 use Rattle.tl_world.specs.declared.event.Outcome.{Outcome}
 use Rattle.tl_world.specs.declared.event.Outcome.TheVariants as outcome
 use Rattle.tl_world.specs.declared.parts.Parts.{Parts}
-use Rattle.tl_world.specs.declared.ring.Ring.{Ring}
 use Rattle.tl_world.specs.declared.rings.Rings.{Rings}
 use Rattle.tl_world.proofs.Matching.{stepped-nobody}
 use Rattle.tl_world.proofs.Queues.{moved-still, moved-then, messages-grow}
@@ -55,11 +56,15 @@ first-is {X} (y ∷ xs) x e = let same : y ≡ x = some_is e in rw same refl
     some_is e = cc
 
 -- other ends leave the channels
-carries-same : {w : ℕ} (n : ℕ) (rings : List (Ring w)) (s s' : System w) → ((k : ℕ) (ch : Channel) → s'.channels k ch ≡ s.channels k ch) → Carries n rings s → Carries n rings s'
-carries-same n rings s s' same carried = record { five_each = carried.five_each; beats = λ k ch d lt. carried.beats k ch d lt ∙ sym (same k ch) }
+carries-same : {w : ℕ} (n : ℕ) (rings : Rings w) (s s' : System w) → ((k : ℕ) (ch : Channel) → s'.channels k ch ≡ s.channels k ch) → Carries n rings s → Carries n rings s'
+carries-same {w = w} n rings s s' same carried = record {
+  five_each = carried.five_each;
+  beats = λ k ch d lt. carried.beats k ch d lt ∙ sym (same k ch);
+  occupied = λ k ch lt. carried.occupied k ch lt ∙ ap (λ (xs : List (Beat w)). bit_if (not (is_empty xs))) (sym (same k ch));
+}
 
 module _ {w : ℕ} {A M : Type 0} (knows : A → End w → Type 0) (terms : A → Terms) (perm_of : M → ℕ → ℕ → Perm) (config : Config) where
-  fits-in : (old : Parts w A M) (now : List (Ring w)) (s s' : System w) → Holds knows terms perm_of config old s → AreKept old.rings.all.items now → HasRoom config s' → Fit (clients_of config) now s'
+  fits-in : (old : Parts w A M) (now : Rings w) (s s' : System w) → Holds knows terms perm_of config old s → AreKept old.rings now → HasRoom config s' → Fit (clients_of config) now s'
   fits-in old now s s' h kept room k ch d lt =
       let a = room k ch in
       let b = h.room k ch d lt in
@@ -71,7 +76,7 @@ module _ {w : ℕ} {A M : Type 0} (knows : A → End w → Type 0) (terms : A �
 
   -- a step that is known
   stepped-by : (old new : Parts w A M) (event : Event w) (s : System w) (step : Step w) (o : Outcome w) → stepped config event s ≡ step → o ≡ step.outcome → Holds knows terms perm_of config new step.after
-      → Deepen (clients_of config) old.rings.all.items new.rings.all.items → IsStepped knows terms perm_of config old new event o s
+      → Deepen (clients_of config) old.rings new.rings → IsStepped knows terms perm_of config old new event o s
   stepped-by old new event s step o is same h deepen = record {
     outcome_is = same ∙ sym (ap (λ (x : Step w). x.outcome) is);
     holds = subst (λ (x : Step w). Holds knows terms perm_of config new x.after) (sym is) h;
@@ -83,7 +88,7 @@ module _ {w : ℕ} {A M : Type 0} (knows : A → End w → Type 0) (terms : A �
       → ((d : A) → terms (slice_index_or new.clients.items i d) ≡ terms (slice_index_or old.clients.items i d))
       → ((k : ℕ) (d : A) → k ≢ i → slice_index_or new.clients.items k d ≡ slice_index_or old.clients.items k d)
       → length new.clients.items ≡ length old.clients.items → ((k : ℕ) → s'.clients k ≡ (with_client i e s).clients k) → s'.manager ≡ s.manager → new.manager ≡ old.manager
-      → AreKept old.rings.all.items new.rings.all.items → Carries (clients_of config) new.rings.all.items s' → Holds knows terms perm_of config new s'
+      → AreKept old.rings new.rings → Carries (clients_of config) new.rings s' → Holds knows terms perm_of config new s'
   client-holds old new s s' i e h known same_terms others same_number clients_are manager_is same_manager kept carried = record {
     one_client_each = same_number ∙ h.one_client_each;
     clients = λ k d lt.
@@ -110,11 +115,20 @@ module _ {w : ℕ} {A M : Type 0} (knows : A → End w → Type 0) (terms : A �
       some_is : {x y : Terms} → Some x ≡ Some y → x ≡ y
       some_is e = cc
 
+  -- ---- the first beat of a channel
+
+  pub first-brought : (parts : Parts w A M) (s : System w) (link : Link) (ch : Channel) (x : Beat w) → Holds knows terms perm_of config parts s → link.0 < length parts.clients.items
+      → ((n : ℕ) (s : System w) → Carries n parts.rings s → link.0 < n → Some x ≡ slice_get (s.channels link.0 ch) 0)
+      → s.channels link.0 ch ≡ x ∷ drop 1 (s.channels link.0 ch)
+  first-brought parts s link ch x h inside first =
+      let under : link.0 < clients_of config = omega (arith, inside, h.one_client_each) in
+      first-is (s.channels link.0 ch) x (first (clients_of config) s h.channels under)
+
   -- ---- a client is asked
 
   pub steps-asked : (old new : Parts w A M) (s : System w) (i : ℕ) (op : Op w) (answer : Reply × Option (Message w)) → Holds knows terms perm_of config old s → i < length old.clients.items
-      → IsAsked knows terms old.clients.items new.clients.items i op answer → new.manager ≡ old.manager → AreKept old.rings.all.items new.rings.all.items
-      → ((n : ℕ) (s : System w) → Carries n old.rings.all.items s → Fit n old.rings.all.items (with_messages (handed_by i answer.1) s) → AreMoved n old.rings.all.items new.rings.all.items (with_messages (handed_by i answer.1) s))
+      → IsAsked knows terms old.clients.items new.clients.items i op answer → new.manager ≡ old.manager → AreKept old.rings new.rings
+      → ((n : ℕ) (s : System w) → Carries n old.rings s → Fit n old.rings (with_messages (handed_by i answer.1) s) → AreMoved n old.rings new.rings (with_messages (handed_by i answer.1) s))
       → HasRoom config (stepped config (Ask i op) s).after
       → IsStepped knows terms perm_of config old new (Ask i op) (outcome.Replied answer.0) s
   steps-asked old new s i op answer h inside is same_manager kept sends room =
@@ -149,13 +163,13 @@ module _ {w : ℕ} {A M : Type 0} (knows : A → End w → Type 0) (terms : A �
       known : (d : A) → knows (slice_index_or new.clients.items i d) end
       known d = subst (λ (u : Terms). knows (slice_index_or new.clients.items i d) (asked u op (s.clients i)).after) (made-for old s i d one h below) (is.after (s.clients i) d (h.clients i d below))
 
-      kept-still : AreKept old.rings.all.items old.rings.all.items
+      kept-still : AreKept old.rings old.rings
       kept-still = record { same_number = refl; same_capacity = λ k d. refl }
 
-      moved : AreMoved (clients_of config) old.rings.all.items new.rings.all.items (with_messages handed now)
+      moved : AreMoved (clients_of config) old.rings new.rings (with_messages handed now)
       moved =
-          sends (clients_of config) now (carries-same (clients_of config) old.rings.all.items s now (λ k ch. refl) h.channels)
-          (fits-in old old.rings.all.items s (with_messages handed now) h kept-still (room-after (Ask i op) s (handing (outcome.Replied answer.0) handed now) step room))
+          sends (clients_of config) now (carries-same (clients_of config) old.rings s now (λ k ch. refl) h.channels)
+          (fits-in old old.rings s (with_messages handed now) h kept-still (room-after (Ask i op) s (handing (outcome.Replied answer.0) handed now) step room))
 
   -- ---- a beat is brought to a client
 
@@ -184,14 +198,14 @@ module _ {w : ℕ} {A M : Type 0} (knows : A → End w → Type 0) (terms : A �
     taken-up = stepped-to-client config link ch s t x rest (h.terms_are link.0 one below) first up
 
     -- where the channels are as before
-    kept : new.rings ≡ old.rings → AreKept old.rings.all.items new.rings.all.items
-    kept same = subst (λ (r : Rings w). AreKept old.rings.all.items r.all.items) (sym same) (record { same_number = refl; same_capacity = λ k d. refl })
+    kept : new.rings ≡ old.rings → AreKept old.rings new.rings
+    kept same = subst (λ (r : Rings w). AreKept old.rings r) (sym same) (record { same_number = refl; same_capacity = λ k d. refl })
 
-    carried : (s' : System w) → ((k : ℕ) (c : Channel) → s'.channels k c ≡ s.channels k c) → new.rings ≡ old.rings → Carries (clients_of config) new.rings.all.items s'
-    carried s' as_before same = subst (λ (r : Rings w). Carries (clients_of config) r.all.items s') (sym same) (carries-same (clients_of config) old.rings.all.items s s' as_before h.channels)
+    carried : (s' : System w) → ((k : ℕ) (c : Channel) → s'.channels k c ≡ s.channels k c) → new.rings ≡ old.rings → Carries (clients_of config) new.rings s'
+    carried s' as_before same = subst (λ (r : Rings w). Carries (clients_of config) r s') (sym same) (carries-same (clients_of config) old.rings s s' as_before h.channels)
 
-    still : new.rings ≡ old.rings → Deepen (clients_of config) old.rings.all.items new.rings.all.items
-    still same = subst (λ (r : Rings w). Deepen (clients_of config) old.rings.all.items r.all.items) (sym same) (moved-still (clients_of config) old.rings.all.items s h.channels).deepen
+    still : new.rings ≡ old.rings → Deepen (clients_of config) old.rings new.rings
+    still same = subst (λ (r : Rings w). Deepen (clients_of config) old.rings r) (sym same) (moved-still (clients_of config) old.rings s h.channels).deepen
 
     pub steps-refused : (rule : Rule) → answer ≡ Err rule → new.rings ≡ old.rings → IsStepped knows terms perm_of config old new (Deliver link ch) outcome.Stalled s
     steps-refused rule refused same =
@@ -218,17 +232,17 @@ module _ {w : ℕ} {A M : Type 0} (knows : A → End w → Type 0) (terms : A �
         (still same)
 
     -- the first beat is taken away, and a message sent
-    pub steps-taken : (mid : List (Ring w)) (v : Verdict) (m : Option (Message w)) → answer ≡ Ok (v, m) → is_stay v ≡ false
-        → AreKept old.rings.all.items mid → AreKept mid new.rings.all.items
-        → ((n : ℕ) (s : System w) (y : Beat w) (rest : List (Beat w)) → Carries n old.rings.all.items s → link.0 < n → s.channels link.0 ch ≡ y ∷ rest → AreMoved n old.rings.all.items mid (with_channel link.0 ch rest s))
-        → ((n : ℕ) (s : System w) → Carries n mid s → Fit n mid (with_messages (handed_by link.0 m) s) → AreMoved n mid new.rings.all.items (with_messages (handed_by link.0 m) s))
+    pub steps-taken : (mid : Rings w) (v : Verdict) (m : Option (Message w)) → answer ≡ Ok (v, m) → is_stay v ≡ false
+        → AreKept old.rings mid → AreKept mid new.rings
+        → ((n : ℕ) (s : System w) (y : Beat w) (rest : List (Beat w)) → Carries n old.rings s → link.0 < n → s.channels link.0 ch ≡ y ∷ rest → AreMoved n old.rings mid (with_channel link.0 ch rest s))
+        → ((n : ℕ) (s : System w) → Carries n mid s → Fit n mid (with_messages (handed_by link.0 m) s) → AreMoved n mid new.rings (with_messages (handed_by link.0 m) s))
         → HasRoom config (stepped config (Deliver link ch) s).after
         → IsStepped knows terms perm_of config old new (Deliver link ch) (outcome_of x v) s
     steps-taken mid v m taken moves first_kept then_kept drops sends room =
         stepped-by old new (Deliver link ch) s (handing (outcome_of x v) handed now) (outcome_of x v) step refl
         (client-holds old new s (with_messages handed now) link.0 end h known is.same_terms is.others is.same_number
         (λ k. ap (λ (f : ℕ → End w). f k) (clients-with_messages handed now)) (manager-with_messages handed now) same_manager both_kept sent.carries)
-        (moved-then (clients_of config) old.rings.all.items mid new.rings.all.items base (with_messages handed now) dropped sent (λ k c. messages-grow handed now k c)).deepen
+        (moved-then (clients_of config) old.rings mid new.rings base (with_messages handed now) dropped sent (λ k c. messages-grow handed now k c)).deepen
       where
         base : System w
         base = with_channel link.0 ch rest s
@@ -242,16 +256,16 @@ module _ {w : ℕ} {A M : Type 0} (knows : A → End w → Type 0) (terms : A �
         step : stepped config (Deliver link ch) s ≡ handing (outcome_of x v) handed now
         step = taken-up ∙ judged-taken _ v m link.0 ch x rest end s (sym taken ∙ answer_is) moves
 
-        both_kept : AreKept old.rings.all.items new.rings.all.items
+        both_kept : AreKept old.rings new.rings
         both_kept = record {
           same_number = then_kept.same_number ∙ first_kept.same_number;
           same_capacity = λ k d. then_kept.same_capacity k d ∙ first_kept.same_capacity k d;
         }
 
-        dropped : AreMoved (clients_of config) old.rings.all.items mid base
+        dropped : AreMoved (clients_of config) old.rings mid base
         dropped = drops (clients_of config) s x rest h.channels below first
 
-        sent : AreMoved (clients_of config) mid new.rings.all.items (with_messages handed now)
+        sent : AreMoved (clients_of config) mid new.rings (with_messages handed now)
         sent =
             sends (clients_of config) now (carries-same (clients_of config) mid base now (λ k c. refl) dropped.carries)
             (fits-in old mid s (with_messages handed now) h first_kept (room-after (Deliver link ch) s (handing (outcome_of x v) handed now) step room))
@@ -259,7 +273,7 @@ module _ {w : ℕ} {A M : Type 0} (knows : A → End w → Type 0) (terms : A �
   -- ---- a beat is brought to the manager
 
   manager-holds : (old new : Parts w A M) (s s' : System w) → Holds knows terms perm_of config old s → new.clients.items ≡ old.clients.items → ((k : ℕ) → s'.clients k ≡ s.clients k) → Knows perm_of new.manager config s'.manager
-      → AreKept old.rings.all.items new.rings.all.items → Carries (clients_of config) new.rings.all.items s' → Holds knows terms perm_of config new s'
+      → AreKept old.rings new.rings → Carries (clients_of config) new.rings s' → Holds knows terms perm_of config new s'
   manager-holds old new s s' h same_clients clients_are knowing as_made carrying = record {
     one_client_each = ap (λ (c : List A). length c) same_clients ∙ h.one_client_each;
     clients = λ k d lt. rw (same_clients, clients_are k) (h.clients k d lt);
@@ -269,14 +283,14 @@ module _ {w : ℕ} {A M : Type 0} (knows : A → End w → Type 0) (terms : A �
     room = λ k ch d lt. as_made.same_capacity (place k ch) d ∙ h.room k ch d lt;
   }
 
-  module _ (old new : Parts w A M) (s : System w) (link : Link) (ch : Channel) (x : Beat w) (rest : List (Beat w)) (answer : manager.Answer w) (h : Holds knows terms perm_of config old s)
+  module _ (old new : Parts w A M) (s : System w) (link : Link) (ch : Channel) (x : Beat w) (rest : List (Beat w)) (answer : manager.Reception w) (h : Holds knows terms perm_of config old s)
       (inside : link.0 < length old.clients.items) (first : s.channels link.0 ch ≡ x ∷ rest) (down : is_to_client ch ≡ false) (same_clients : new.clients.items ≡ old.clients.items)
       (answers : (config : Config) (e : manager.End w) → Knows perm_of old.manager config e → answer ≡ (manager.offered config link ch x e).0)
       (knowing : (config : Config) (e : manager.End w) → Knows perm_of old.manager config e → Knows perm_of new.manager config (manager.offered config link ch x e).1) where
     within : link.0 < clients_of config
     within = omega (arith, inside, h.one_client_each)
 
-    abbrev taken : manager.Answer w × manager.End w
+    abbrev taken : manager.Reception w × manager.End w
     taken = manager.offered config link ch x s.manager
 
     answered : answer ≡ taken.0
@@ -287,14 +301,14 @@ module _ {w : ℕ} {A M : Type 0} (knows : A → End w → Type 0) (terms : A �
         let some = member old.clients.items link.0 inside in
         stepped-to-manager config link ch s (terms (slice_index_or old.clients.items link.0 some)) x rest (h.terms_are link.0 some within) first down
 
-    as_made : new.rings ≡ old.rings → AreKept old.rings.all.items new.rings.all.items
-    as_made same = subst (λ (r : Rings w). AreKept old.rings.all.items r.all.items) (sym same) (record { same_number = refl; same_capacity = λ k d. refl })
+    as_made : new.rings ≡ old.rings → AreKept old.rings new.rings
+    as_made same = subst (λ (r : Rings w). AreKept old.rings r) (sym same) (record { same_number = refl; same_capacity = λ k d. refl })
 
-    carrying : (s' : System w) → ((k : ℕ) (c : Channel) → s'.channels k c ≡ s.channels k c) → new.rings ≡ old.rings → Carries (clients_of config) new.rings.all.items s'
-    carrying s' as_before same = subst (λ (r : Rings w). Carries (clients_of config) r.all.items s') (sym same) (carries-same (clients_of config) old.rings.all.items s s' as_before h.channels)
+    carrying : (s' : System w) → ((k : ℕ) (c : Channel) → s'.channels k c ≡ s.channels k c) → new.rings ≡ old.rings → Carries (clients_of config) new.rings s'
+    carrying s' as_before same = subst (λ (r : Rings w). Carries (clients_of config) r s') (sym same) (carries-same (clients_of config) old.rings s s' as_before h.channels)
 
-    as_deep : new.rings ≡ old.rings → Deepen (clients_of config) old.rings.all.items new.rings.all.items
-    as_deep same = subst (λ (r : Rings w). Deepen (clients_of config) old.rings.all.items r.all.items) (sym same) (moved-still (clients_of config) old.rings.all.items s h.channels).deepen
+    as_deep : new.rings ≡ old.rings → Deepen (clients_of config) old.rings new.rings
+    as_deep same = subst (λ (r : Rings w). Deepen (clients_of config) old.rings r) (sym same) (moved-still (clients_of config) old.rings s h.channels).deepen
 
     pub manager-refused : (rule : Rule) → answer ≡ manager.Refused rule → new.rings ≡ old.rings → IsStepped knows terms perm_of config old new (Deliver link ch) outcome.Stalled s
     manager-refused rule refused same =
@@ -312,17 +326,17 @@ module _ {w : ℕ} {A M : Type 0} (knows : A → End w → Type 0) (terms : A �
         (as_deep same)
 
     -- the first beat is taken away, and messages sent
-    pub manager-sent : (mid : List (Ring w)) (handed : Handed w) → answer ≡ manager.Sent handed
-        → AreKept old.rings.all.items mid → AreKept mid new.rings.all.items
-        → ((n : ℕ) (s : System w) (y : Beat w) (rest : List (Beat w)) → Carries n old.rings.all.items s → link.0 < n → s.channels link.0 ch ≡ y ∷ rest → AreMoved n old.rings.all.items mid (with_channel link.0 ch rest s))
-        → ((n : ℕ) (s : System w) → Carries n mid s → Fit n mid (with_messages handed s) → AreMoved n mid new.rings.all.items (with_messages handed s))
+    pub manager-sent : (mid : Rings w) (handed : Handed w) → answer ≡ manager.Sent handed
+        → AreKept old.rings mid → AreKept mid new.rings
+        → ((n : ℕ) (s : System w) (y : Beat w) (rest : List (Beat w)) → Carries n old.rings s → link.0 < n → s.channels link.0 ch ≡ y ∷ rest → AreMoved n old.rings mid (with_channel link.0 ch rest s))
+        → ((n : ℕ) (s : System w) → Carries n mid s → Fit n mid (with_messages handed s) → AreMoved n mid new.rings (with_messages handed s))
         → HasRoom config (stepped config (Deliver link ch) s).after
         → IsStepped knows terms perm_of config old new (Deliver link ch) (outcome.Moved x) s
     manager-sent mid handed sent first_kept then_kept drops sends room =
         stepped-by old new (Deliver link ch) s (handing (outcome.Moved x) handed now) (outcome.Moved x) step refl
         (manager-holds old new s (with_messages handed now) h same_clients (λ k. ap (λ (f : ℕ → End w). f k) (clients-with_messages handed now))
         (rw (manager-with_messages handed now) (knowing config s.manager h.manager)) both_kept moved.carries)
-        (moved-then (clients_of config) old.rings.all.items mid new.rings.all.items base (with_messages handed now) dropped moved (λ k c. messages-grow handed now k c)).deepen
+        (moved-then (clients_of config) old.rings mid new.rings base (with_messages handed now) dropped moved (λ k c. messages-grow handed now k c)).deepen
       where
         base : System w
         base = with_channel link.0 ch rest s
@@ -333,16 +347,16 @@ module _ {w : ℕ} {A M : Type 0} (knows : A → End w → Type 0) (terms : A �
         step : stepped config (Deliver link ch) s ≡ handing (outcome.Moved x) handed now
         step = taken-in ∙ took-sent taken handed link.0 ch x rest s (sym answered ∙ sent)
 
-        both_kept : AreKept old.rings.all.items new.rings.all.items
+        both_kept : AreKept old.rings new.rings
         both_kept = record {
           same_number = then_kept.same_number ∙ first_kept.same_number;
           same_capacity = λ k d. then_kept.same_capacity k d ∙ first_kept.same_capacity k d;
         }
 
-        dropped : AreMoved (clients_of config) old.rings.all.items mid base
+        dropped : AreMoved (clients_of config) old.rings mid base
         dropped = drops (clients_of config) s x rest h.channels within first
 
-        moved : AreMoved (clients_of config) mid new.rings.all.items (with_messages handed now)
+        moved : AreMoved (clients_of config) mid new.rings (with_messages handed now)
         moved =
             sends (clients_of config) now (carries-same (clients_of config) mid base now (λ k c. refl) dropped.carries)
             (fits-in old mid s (with_messages handed now) h first_kept (room-after (Deliver link ch) s (handing (outcome.Moved x) handed now) step room))
@@ -353,14 +367,14 @@ module _ {w : ℕ} {A M : Type 0} (knows : A → End w → Type 0) (terms : A �
       → IsStepped knows terms perm_of config parts parts event outcome.NoSuchClient s
   steps-nobody parts s event h past =
       stepped-by parts parts event s (only outcome.NoSuchClient s) outcome.NoSuchClient (stepped-nobody config event s (rw (slice_get_past config.clients.items (client_of event) (omega (arith, past, h.one_client_each))) refl)) refl h
-      (moved-still (clients_of config) parts.rings.all.items s h.channels).deepen
+      (moved-still (clients_of config) parts.rings s h.channels).deepen
 
   pub steps-empty : (parts : Parts w A M) (s : System w) (link : Link) (ch : Channel) → Holds knows terms perm_of config parts s → link.0 < length parts.clients.items
-      → ((n : ℕ) (s : System w) → Carries n parts.rings.all.items s → link.0 < n → None ≡ slice_get (s.channels link.0 ch) 0)
+      → ((n : ℕ) (s : System w) → Carries n parts.rings s → link.0 < n → None ≡ slice_get (s.channels link.0 ch) 0)
       → IsStepped knows terms perm_of config parts parts (Deliver link ch) outcome.Empty s
   steps-empty parts s link ch h inside first =
       let under : link.0 < clients_of config = omega (arith, inside, h.one_client_each) in
       let some = member parts.clients.items link.0 inside in
       stepped-by parts parts (Deliver link ch) s (only outcome.Empty s) outcome.Empty
       (stepped-empty config link ch s (terms (slice_index_or parts.clients.items link.0 some)) (h.terms_are link.0 some under) (none-left (s.channels link.0 ch) (first (clients_of config) s h.channels under))) refl h
-      (moved-still (clients_of config) parts.rings.all.items s h.channels).deepen
+      (moved-still (clients_of config) parts.rings s h.channels).deepen

@@ -72,7 +72,7 @@ module _ {w : ℕ} where
 
   -- ---- the manager
 
-  abbrev Stood : manager.Answer w × manager.End w → manager.End w → Type 0
+  abbrev Stood : manager.Reception w × manager.End w → manager.End w → Type 0
   Stood p e = p.0 ≡ manager.Stalled → p.1 ≡ e
 
   stood-as : (j : manager.Judgement) (config : Config) (link : Link) (x : Beat w) (e : manager.End w) → Stood (manager.offered_as j config link x e) e
@@ -84,14 +84,14 @@ module _ {w : ℕ} where
   unfolding manager.offered
   stayed-manager config link ch x e f = stood-as (manager.judged config link ch x e) config link x e f
 
-  pub took-refused : (p : manager.Answer w × manager.End w) (rule : Rule) (link : ℕ) (ch : Channel) (x : Beat w) (rest : List (Beat w)) (s : System w) → p.0 ≡ manager.Refused rule
+  pub took-refused : (p : manager.Reception w × manager.End w) (rule : Rule) (link : ℕ) (ch : Channel) (x : Beat w) (rest : List (Beat w)) (s : System w) → p.0 ≡ manager.Refused rule
       → manager_took link ch x rest p s ≡ only outcome.Stalled (with_manager p.1 s)
-  took-refused p rule link ch x rest s is = ap (λ (a : manager.Answer w). manager_took link ch x rest (a, p.1) s) is
+  took-refused p rule link ch x rest s is = ap (λ (a : manager.Reception w). manager_took link ch x rest (a, p.1) s) is
 
-  pub took-stalled : (p : manager.Answer w × manager.End w) (link : ℕ) (ch : Channel) (x : Beat w) (rest : List (Beat w)) (s : System w) → p.0 ≡ manager.Stalled
+  pub took-stalled : (p : manager.Reception w × manager.End w) (link : ℕ) (ch : Channel) (x : Beat w) (rest : List (Beat w)) (s : System w) → p.0 ≡ manager.Stalled
       → manager_took link ch x rest p s ≡ only outcome.Stalled s
-  took-stalled p link ch x rest s is = ap (λ (a : manager.Answer w). manager_took link ch x rest (a, p.1) s) is
+  took-stalled p link ch x rest s is = ap (λ (a : manager.Reception w). manager_took link ch x rest (a, p.1) s) is
 
-  pub took-sent : (p : manager.Answer w × manager.End w) (handed : Handed w) (link : ℕ) (ch : Channel) (x : Beat w) (rest : List (Beat w)) (s : System w) → p.0 ≡ manager.Sent handed
+  pub took-sent : (p : manager.Reception w × manager.End w) (handed : Handed w) (link : ℕ) (ch : Channel) (x : Beat w) (rest : List (Beat w)) (s : System w) → p.0 ≡ manager.Sent handed
       → manager_took link ch x rest p s ≡ handing (outcome.Moved x) handed (with_manager p.1 (with_channel link ch rest s))
-  took-sent p handed link ch x rest s is = ap (λ (a : manager.Answer w). manager_took link ch x rest (a, p.1) s) is
+  took-sent p handed link ch x rest s is = ap (λ (a : manager.Reception w). manager_took link ch x rest (a, p.1) s) is

@@ -13,7 +13,7 @@ use Rattle.tl_client.specs.declared.operation.Op.{Op}
 use Rattle.tl_client.specs.declared.operation.Op.TheVariants as op
 use Rattle.tl_client.specs.declared.reply.Reply.{Reply}
 use Rattle.tl_client.specs.declared.reply.Reply.TheVariants as reply
-use Rattle.tl_client.specs.Ask.{stored, whole_grow}
+use Rattle.tl_client.specs.Ask.{copy_stored, whole_grow}
 use Rattle.tl_client.specs.Send.{access}
 use Rattle.tl_manager.specs.Slave.{End}
 use Rattle.tl_world.specs.Follow.{Shadow, asked, is_whole, taken_by_client, kind_taken}
@@ -153,7 +153,7 @@ at_manager-asked {w} caching config c o r h e inv may is = go o r may (asked-kep
     go : (o : Op w) (r : Reply) → IsAskable caching c o r h → IsInvariant caching (asked c o r h).state → IsManagerOf config (asked c o r h) e
     go (op.Load address size) r may after = is
     go (op.Store address size value) reply.Stored may after =
-        let bytes = stored address size value ((h.state.block (block_at address)).copy c) in
+        let bytes = copy_stored address size value ((h.state.block (block_at address)).copy c) in
         at_manager-unseen caching config h.mail h.request (block_at address) (stored_block c bytes (h.state.block (block_at address))) h.state (block_stored c (block_at address) bytes h.state) e after (λ i. refl)
         (same-stored c bytes (h.state.block (block_at address))) is
     go (op.Acquire n g) (reply.Started source) may after =

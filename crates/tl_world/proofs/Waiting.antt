@@ -15,7 +15,7 @@ use Rattle.tl_client.specs.declared.operation.Op.{Op}
 use Rattle.tl_client.specs.declared.operation.Op.TheVariants as op
 use Rattle.tl_client.specs.declared.reply.Reply.{Reply}
 use Rattle.tl_client.specs.declared.reply.Reply.TheVariants as reply
-use Rattle.tl_client.specs.Ask.{stored, whole_grow}
+use Rattle.tl_client.specs.Ask.{copy_stored, whole_grow}
 use Rattle.tl_client.specs.Send.{acquisition}
 use Rattle.tl_manager.specs.Holders.{cap_probed}
 use Rattle.tl_world.specs.Follow.{Shadow, access_taken, acquire_opcode, acquire_taken, ack_taken, asked, gift, granted_after, is_unheld, is_whole, kind_taken, last_taken, performs, probes_some, request_taken, some_below, taken_by_client, with_state}
@@ -195,7 +195,7 @@ acquiring-acquired {w} caching c n source whole g bytes h inv calm is = unmoved 
 
 pub asked-acquired : {w : ℕ} (caching : ℕ → Bool) (c : ℕ) (o : Op w) (r : Reply) (h : Shadow w) → IsInvariant caching h.state → IsAskable caching c o r h → AreAcquired h.request h.state.block → AreAcquired (asked c o r h).request (asked c o r h).state.block
 asked-acquired caching c (op.Store address size value) reply.Stored h inv may is =
-    unmoved (block_at address) (stored_block c (stored address size value ((h.state.block (block_at address)).copy c)) (h.state.block (block_at address))) h.state.block h.request refl (λ r from k e. (refl, refl)) is
+    unmoved (block_at address) (stored_block c (copy_stored address size value ((h.state.block (block_at address)).copy c)) (h.state.block (block_at address))) h.state.block h.request refl (λ r from k e. (refl, refl)) is
 asked-acquired caching c (op.Acquire n g) (reply.Started source) h inv may is = acquiring-acquired caching c n source false g ((h.state.block n).waiting c) h inv may.2 is
 asked-acquired caching c (op.AcquireWhole n bytes) (reply.Started source) h inv may is = acquiring-acquired caching c n source true (whole_grow ((h.state.block n).pair c).held) bytes h inv may.2 is
 asked-acquired caching c (op.Release n p) (reply.Started source) h inv may is =

@@ -1,6 +1,6 @@
 -- The one-memory machine beside the protocol: its memory is what all copies stand for, and its open operations are
 -- those of the sources.
-use Rattle.std.specs.Prelude.{ℕ, true, false, List, ◌≡◌, ◌^◌, Option, Some, None, length}
+use Rattle.std.specs.Prelude.{ℕ, true, false, List, ◌≡◌, ◌^◌, Option, Some, None, length, ⊤}
 use Rattle.tl_burst.specs.declared.message.Message.{Message}
 use Rattle.tl_burst.specs.declared.message.Message.TheVariants as message
 use Rattle.tl_burst.specs.declared.message.MessageA.{MessageA}
@@ -23,17 +23,17 @@ op_of (Wants false g) n bytes = op.Acquire n g
 op_of _ n bytes = op.AcquireWhole n bytes
 
 -- the access was asked with this message, whose source the client chose, and has this answer
-abbrev pub IsAccess : {w : ℕ} → ℕ → Message w → Option memory.Reply → Option (Open w) → Type 0
+abbrev pub IsAccess : {w : ℕ} → ℕ → Message w → Option memory.AccessResult → Option (Open w) → Type 0
 IsAccess {w} source request reply opened =
     (m : MessageA w) × (request ≡ message.A (sourced source m)) × (opened ≡ Some (record { asked = op.Access (message.A m); answer = reply }))
 
 -- the bytes of a reply are as many as the access reaches
-abbrev pub IsReach : {w : ℕ} → MessageA w → memory.Reply → Type 0
+abbrev pub IsReach : {w : ℕ} → MessageA w → memory.AccessResult → Type 0
 IsReach m (memory.Bytes bytes) = length bytes ≡ 2 ^ m.size
-IsReach m r = Unit {0}
+IsReach m r = ⊤
 
 -- the message that answers the access so
-abbrev pub Answers : {w : ℕ} → Message w → memory.Reply → Message w → Type 0
+abbrev pub Answers : {w : ℕ} → Message w → memory.AccessResult → Message w → Type 0
 Answers (message.A m) r a = (a ≡ access_answer m (answer_of (message.A m) r)) × IsReach m r
 Answers _ r a = ⊥
 
@@ -43,7 +43,7 @@ IsOpened c source mail s Closed opened = opened ≡ None
 IsOpened c source mail s Asked opened = IsAccess source (mail.request c source) None opened
 IsOpened c source mail s (InService n) opened = IsAccess source (mail.request c source) None opened
 IsOpened c source mail s Replied opened =
-    (r : memory.Reply) × IsAccess source (mail.request c source) (Some r) opened × Answers (mail.request c source) r (mail.answer c source)
+    (r : memory.AccessResult) × IsAccess source (mail.request c source) (Some r) opened × Answers (mail.request c source) r (mail.answer c source)
 IsOpened c source mail s (Acquires n) opened = opened ≡ Some (record { asked = op_of ((s.block n).pair c).acquiring n ((s.block n).waiting c); answer = None })
 
 -- and with a C source that is of this block, or of none

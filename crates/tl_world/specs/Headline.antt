@@ -1,5 +1,5 @@
 -- What holds of every manager and its clients, whatever happens to them.
-use Rattle.std.specs.Prelude.{ℕ, false, List, [], ◌∷◌, ◌≡◌, ◌==◌, length, None, is_none}
+use Rattle.std.specs.Prelude.{ℕ, false, List, [], ◌∷◌, ◌≡◌, ◌==◌, length, None, is_none, ⊤}
 use Rattle.tl_beat.specs.Width.{IsWidth}
 use Rattle.tl_burst.specs.declared.message.Message.TheVariants as message
 use Rattle.tl_params.specs.declared.config.Config.{Config}
@@ -23,14 +23,14 @@ use Rattle.tl_world.specs.System.{System}
 abbrev pub IsTypedOp : {w : ℕ} → Op w → Type 0
 IsTypedOp (AcquireWhole block bytes) = length bytes ≡ 64
 IsTypedOp (Access (message.A m)) = length m.payload ≡ 64
-IsTypedOp _ = Unit {0}
+IsTypedOp _ = ⊤
 
 abbrev pub IsTyped : {w : ℕ} → Event w → Type 0
 IsTyped (Ask client op) = IsTypedOp op
-IsTyped (Deliver link ch) = Unit {0}
+IsTyped (Deliver link ch) = ⊤
 
 unfoldable pub AreTyped : {w : ℕ} → Log w → Type 0
-AreTyped [] = Unit {0}
+AreTyped [] = ⊤
 AreTyped (x ∷ log) = IsTyped x.0 × AreTyped log
 
 -- a manager and clients within their limits, and what has happened to them

@@ -27,7 +27,7 @@ pub record Holds {w : ℕ} {A M : Type 0} (knows : A → client.End w → Type 0
   pub clients : (k : ℕ) (d : A) → k < clients_of config → knows (slice_index_or parts.clients.items k d) (s.clients k)
   pub terms_are : (k : ℕ) (d : A) → k < clients_of config → terms_at config k ≡ Some (terms (slice_index_or parts.clients.items k d))
   pub manager : Knows perm_of parts.manager config s.manager
-  pub channels : Carries (clients_of config) parts.rings.all.items s
+  pub channels : Carries (clients_of config) parts.rings s
   pub room : (k : ℕ) (ch : Channel) (d : Ring w) → k < clients_of config →
       (slice_index_or parts.rings.all.items (place k ch) d).beats.capacity ≡ capacity (64 / w) (sources_of (terms_at config k)) config.trackers ch
 
@@ -39,7 +39,7 @@ HasRoom {w} config s = (k : ℕ) (ch : Channel) → length (s.channels k ch) ≤
 pub record IsStepped {w : ℕ} {A M : Type 0} (knows : A → client.End w → Type 0) (terms : A → Terms) (perm_of : M → ℕ → ℕ → Perm) (config : Config) (old new : Parts w A M) (event : Event w) (outcome : Outcome w) (s : System w) : Type 0 where
   pub outcome_is : outcome ≡ (stepped config event s).outcome
   pub holds : Holds knows terms perm_of config new (stepped config event s).after
-  pub deepen : Deepen (clients_of config) old.rings.all.items new.rings.all.items
+  pub deepen : Deepen (clients_of config) old.rings new.rings
 
 -- a beat that is answered so stays on its channel
 abbrev pub is_stay : Verdict → Bool

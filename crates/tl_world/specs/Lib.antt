@@ -26,6 +26,7 @@ pub mod Phase
 pub mod PhaseSteps
 pub mod Potential
 pub mod Protocol
+pub mod Ranged
 pub mod Remembered
 pub mod Render
 pub mod Sources

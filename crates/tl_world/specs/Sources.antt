@@ -1,5 +1,5 @@
 -- What the ends know of sources, sinks and requests: the values of their histories are those of the protocol.
-use Rattle.std.specs.Prelude.{ℕ, Bool, true, false, ◌||◌, ◌≡◌, Option, Some, None, is_some, option_map}
+use Rattle.std.specs.Prelude.{ℕ, Bool, true, false, ◌||◌, ◌≡◌, Option, Some, None, is_some, option_map, ⊤}
 use Rattle.tl_beat.specs.declared.beat.BeatA.{BeatA}
 use Rattle.tl_beat.specs.declared.opcode.Channel.TheVariants as channel
 use Rattle.tl_burst.specs.declared.message.MessageA.{MessageA}
@@ -41,7 +41,7 @@ is_granted c (Some n) s = is_granting (view (s.block n).service c) || is_acknowl
 
 -- the request that has the block in service so
 abbrev pub IsFor : {w : ℕ} → Service → ℕ → MessageA w → Type 0
-IsFor Free n m = Unit {0}
+IsFor Free n m = ⊤
 IsFor (Waits r own source k) n m = (is_acquire m.opcode ≡ own) × (m.source ≡ source) × (block_at m.address ≡ n) × (cap_probed m.opcode m.param ≡ Some k)
 IsFor (GrantSent q d k) n m = (is_acquire m.opcode ≡ true) × (block_at m.address ≡ n)
 IsFor (GrantTaken q) n m = (is_acquire m.opcode ≡ true) × (block_at m.address ≡ n)

@@ -1,5 +1,5 @@
 -- What is kept of the whole: the protocol's invariant, and that ends, channels and memories are those of it.
-use Rattle.std.specs.Prelude.{ℕ, Bool, true, false, List, [], ◌≡◌, ◌*◌, ◌^◌, ◌<◌, All, Option, Some, None, IfSome, length}
+use Rattle.std.specs.Prelude.{ℕ, Bool, true, false, List, [], ◌≡◌, ◌*◌, ◌^◌, ◌<◌, All, Option, Some, None, IfSome, length, ⊤}
 use Rattle.tl_beat.specs.declared.beat.Beat.{Beat}
 use Rattle.tl_beat.specs.declared.beat.Beat.TheVariants as beat
 use Rattle.tl_beat.specs.declared.beat.BeatA.{BeatA}
@@ -83,7 +83,7 @@ AreLanes {w} (beat.A x) = (x.mask < 2 ^ 16) × IfSome x.lanes (λ lanes. length 
 AreLanes {w} (beat.B x) = IfSome x.lanes (λ lanes. length lanes ≡ w)
 AreLanes {w} (beat.C x) = IfSome x.lanes (λ lanes. length lanes ≡ w)
 AreLanes {w} (beat.D x) = IfSome x.lanes (λ lanes. length lanes ≡ w)
-AreLanes {w} (beat.E x) = Unit {0}
+AreLanes {w} (beat.E x) = ⊤
 
 -- an access that is under way, in service or answered is on channel A, has its source, and is zero where no beat carries anything
 abbrev pub IsRequest : {w : ℕ} → Config → ℕ → ℕ → Message w → Type 0
@@ -93,17 +93,17 @@ abbrev pub IsSourced : {w : ℕ} → Config → ℕ → ℕ → Message w → Us
 IsSourced config c source m Asked = IsRequest config c source m
 IsSourced config c source m (InService n) = IsRequest config c source m
 IsSourced config c source m Replied = IsRequest config c source m
-IsSourced config c source m _ = Unit {0}
+IsSourced config c source m _ = ⊤
 
 -- the Acquire that waits is the one that its client has open
 abbrev pub IsAcquireOf : {w : ℕ} → ℕ → Block (List ℕ) → Service → MessageA w → Type 0
 IsAcquireOf n b (Waits r true source k) m = rendered Acquire r n b ≡ message.A m
-IsAcquireOf n b _ m = Unit {0}
+IsAcquireOf n b _ m = ⊤
 
 -- the access that waits is the one with its source
 abbrev pub IsServedWith : {w : ℕ} → Mail w → Service → MessageA w → Type 0
 IsServedWith mail (Waits r false source k) m = mail.request r source ≡ message.A m
-IsServedWith mail _ m = Unit {0}
+IsServedWith mail _ m = ⊤
 
 -- ---- what is on its way to a client
 
@@ -114,7 +114,7 @@ IsAnswer source _ _ = ⊥
 
 abbrev pub IsAnswered : {w : ℕ} → ℕ → Message w → Message w → Use → Type 0
 IsAnswered source request answer Replied = IsAnswer source request answer
-IsAnswered source request answer _ = Unit {0}
+IsAnswered source request answer _ = ⊤
 
 -- under the first profile a Grant gives no more than was asked for
 abbrev pub gives_asked : Profile → Acquiring → Cap → Bool
@@ -123,7 +123,7 @@ gives_asked _ _ _ = true
 
 abbrev pub IsGivenAsked : Profile → Service → (ℕ → Pair) → Type 0
 IsGivenAsked p (GrantSent q d k) pair = gives_asked p (pair q).acquiring k ≡ true
-IsGivenAsked p _ pair = Unit {0}
+IsGivenAsked p _ pair = ⊤
 
 -- the bytes of each block
 pub record AreSized (b : Block (List ℕ)) : Type 0 where

@@ -1,6 +1,6 @@
 //! Calls on one of several clients.
 
-ghost use Rattle.std.specs.Prelude.{◌≡◌, ◌<◌, ◌≤◌, length, slice_index_or, None};
+ghost use Rattle.std.specs.Prelude.{◌≡◌, ◌<◌, ◌≤◌, length, slice_index_or, true, None};
 ghost use Rattle.tl_client.specs.End;
 ghost use Rattle.tl_client.specs.End.{End};
 ghost use Rattle.tl_client.specs.Offer;
@@ -70,16 +70,19 @@ pub fn copy_at<const W: usize, A: Agent<W>>(
     }
 }
 
-/// Whether one client stalls a beat.
+/// Whether one client stalls a beat: so it is where there is no such client.
 pub fn stalls_at<const W: usize, A: Agent<W>>(
     clients: &Vec<A>,
     i: usize,
     channel: Channel,
     beat: &Beat<W>,
 ) -> bool
-    requires { i < length clients.now.items }
-    ensures { (e : End W) (d : A) → A.knows (slice_index_or clients.now.items i d) e →
+    ensures there { (e : End W) (d : A) → i < length clients.now.items → A.knows (slice_index_or clients.now.items i d) e →
         result ≡ Offer.stalls (A.terms (slice_index_or clients.now.items i d)) channel beat.now e }
+    ensures nowhere { length clients.now.items ≤ i → result ≡ true }
 {
-    clients[i].stalls(channel, beat)
+    match clients.get(i) {
+        None => true,
+        Some(client) => client.stalls(channel, beat),
+    }
 }

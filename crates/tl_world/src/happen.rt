@@ -1,8 +1,7 @@
 //! What a manager and its clients do at an event.
 
-ghost use Rattle.std.specs.Prelude.{◌≡◌, ◌∷◌, ◌<◌, List, length, true, false};
+ghost use Rattle.std.specs.Prelude.{◌≡◌, ◌<◌, length, true, false};
 ghost use Rattle.tl_beat.specs.Width.{IsWidth};
-ghost use Rattle.tl_beat.specs.declared.beat.Beat.{Beat};
 ghost use Rattle.tl_params.specs.declared.config.Config.{Config};
 ghost use Rattle.tl_world.specs.Holds.{Holds, HasRoom, IsStepped, clients_of, is_stay};
 ghost use Rattle.tl_world.specs.Step;
@@ -19,7 +18,6 @@ use tl_client::agent::Agent;
 use tl_client::operation::Op;
 use tl_client::verdict::Verdict;
 use tl_manager::directory::Directory;
-use tl_manager::manager::Taken;
 
 /// Whether a client takes the beats of a channel.
 pub fn is_to_client(channel: Channel) -> bool
@@ -68,42 +66,48 @@ impl<const W: usize, A: Agent<W>, D: Directory> Parts<W, A, D> {
     }
 
     /// The first beat of a channel is brought to a client.
-    fn to_client(&mut self, link: Link, channel: Channel, beat: Beat<W>) -> Outcome<W>
+    fn to_client(&mut self, link: Link, channel: Channel) -> Outcome<W>
         requires width { IsWidth W }
         requires inside { link.0 < length self.old.clients.items }
-        ensures { (config : Config) (s : System W) (rest : List (Beat W)) → Holds A.knows A.terms D.perm_of config self.old s →
-            s.channels link.0 channel ≡ beat.entry ∷ rest → Step.is_to_client channel ≡ true →
-            HasRoom config (stepped config (Deliver link channel) s).after →
+        ensures { (config : Config) (s : System W) → Holds A.knows A.terms D.perm_of config self.old s →
+            Step.is_to_client channel ≡ true → HasRoom config (stepped config (Deliver link channel) s).after →
             IsStepped A.knows A.terms D.perm_of config self.old self.new (Deliver link channel) result s }
     {
-        match offer_at(&mut self.clients, usize::from(link.0), channel, &beat) {
+        let Some(beat) = self.rings.first(link, channel) else {
+            return Outcome::Empty;
+        };
+        match offer_at(&mut self.clients, usize::from(link.0), channel, beat) {
             Err(_) => Outcome::Stalled,
             Ok((verdict, message)) => {
                 if stays(verdict) {
                     return Outcome::Stalled;
                 }
+                let outcome = outcome_of(*beat, verdict);
                 self.rings.drop_first(link, channel);
                 self.rings.send_if_any(link, &message);
-                outcome_of(beat, verdict)
+                outcome
             }
         }
     }
 
     /// The first beat of a channel is brought to the manager.
-    fn to_manager(&mut self, link: Link, channel: Channel, beat: Beat<W>) -> Outcome<W>
+    fn to_manager(&mut self, link: Link, channel: Channel) -> Outcome<W>
         requires width { IsWidth W }
         requires inside { link.0 < length self.old.clients.items }
-        ensures { (config : Config) (s : System W) (rest : List (Beat W)) → Holds A.knows A.terms D.perm_of config self.old s →
-            s.channels link.0 channel ≡ beat.entry ∷ rest → Step.is_to_client channel ≡ false →
-            HasRoom config (stepped config (Deliver link channel) s).after →
+        ensures { (config : Config) (s : System W) → Holds A.knows A.terms D.perm_of config self.old s →
+            Step.is_to_client channel ≡ false → HasRoom config (stepped config (Deliver link channel) s).after →
             IsStepped A.knows A.terms D.perm_of config self.old self.new (Deliver link channel) result s }
     {
-        match self.manager.offer(link, channel, &beat) {
+        let Some(beat) = self.rings.first(link, channel) else {
+            return Outcome::Empty;
+        };
+        match self.manager.answer(link, channel, beat) {
             Err(_) => Outcome::Stalled,
-            Ok(Taken::Stalled) => Outcome::Stalled,
-            Ok(Taken::Sent(handed)) => {
+            Ok(None) => Outcome::Stalled,
+            Ok(Some(sending)) => {
+                let beat = *beat;
                 self.rings.drop_first(link, channel);
-                self.rings.send_all(&handed);
+                self.rings.send_out(&sending);
                 Outcome::Moved { beat }
             }
         }
@@ -117,15 +121,10 @@ impl<const W: usize, A: Agent<W>, D: Directory> Parts<W, A, D> {
             HasRoom config (stepped config (Deliver link channel) s).after →
             IsStepped A.knows A.terms D.perm_of config self.old self.new (Deliver link channel) result s }
     {
-        match self.rings.first(link, channel) {
-            None => Outcome::Empty,
-            Some(beat) => {
-                if is_to_client(channel) {
-                    self.to_client(link, channel, beat)
-                } else {
-                    self.to_manager(link, channel, beat)
-                }
-            }
+        if is_to_client(channel) {
+            self.to_client(link, channel)
+        } else {
+            self.to_manager(link, channel)
         }
     }
 

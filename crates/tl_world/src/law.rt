@@ -6,6 +6,7 @@ ghost use Rattle.tl_world.specs.Phase.{Pair, View, ok};
 ghost use Rattle.tl_world.specs.Delivery.{Carries, Channels, Flows, Stalls};
 ghost use Rattle.tl_world.specs.Draining.{Alone, Bound, Drain, Grants};
 ghost use Rattle.tl_world.specs.Headline.{Headline, OneMemory, Unrefused, Coherent, Moving};
+ghost use Rattle.tl_world.specs.Ranged.{AreInRange, HaveRoom};
 ghost use Rattle.tl_world.specs.Theorem.{Theorem};
 ghost use Rattle.tl_world.specs.Facts.{IsBelow};
 
@@ -90,6 +91,14 @@ pub fn drains_within_the_load<const W: usize>()
 pub fn breaks_no_rule_on_a_link<const W: usize>()
     requires { IsWidth W }
     ensures { Flows W }
+{}
+
+/// Each beat that is delivered has room in its line and, where clients are given bytes to store, is
+/// within its types: its line is read back as it.
+pub fn delivers_what_a_line_spells<const W: usize>()
+    requires { IsWidth W }
+    ensures room { HaveRoom W }
+    ensures range { AreInRange W }
 {}
 
 /// All of this at once: whatever requests and deliveries come, of each manager and its clients.

@@ -3,9 +3,10 @@
 ghost use Rattle.std.specs.Prelude.{◌≡◌, ◌*◌, ◌/◌, IfOk, length};
 ghost use Rattle.tl_beat.specs.Width.{IsWidth};
 ghost use Rattle.tl_world.specs.Carrying;
-ghost use Rattle.tl_world.specs.Carrying.{AreFresh};
+ghost use Rattle.tl_world.specs.Carrying.{AreClear, AreFresh};
 ghost use Rattle.tl_world.specs.Delivery;
 
+use crate::occupied::Occupied;
 use crate::ring::Ring;
 use crate::rings::Rings;
 use std::alloc::{AllocError, Global};
@@ -44,7 +45,8 @@ fn capacity<const W: usize>(sources: u8, trackers: u8, channel: Channel) -> u16
 /// The channels of each client's link, which hold nothing.
 pub fn make_rings<const W: usize>(alloc: Global, config: &Config) -> Result<Rings<W>, AllocError>
     requires { IsWidth W }
-    ensures { IfOk result (λ rings. AreFresh config.now (5 * length config.now.clients.items) rings.all.items) }
+    ensures fresh { IfOk result (λ rings. AreFresh config.now (5 * length config.now.clients.items) rings.all.items) }
+    ensures clear { IfOk result (λ rings. AreClear rings.occupied) }
 {
     let clients = config.clients.as_slice();
     let mut all = Vec::new(alloc);
@@ -52,5 +54,6 @@ pub fn make_rings<const W: usize>(alloc: Global, config: &Config) -> Result<Ring
         let capacity = capacity::<W>(clients[at / 5].sources, config.trackers, channel_at(at % 5));
         all.push(Ring::new(alloc, capacity)?)?;
     }
-    Ok(Rings { all })
+    let occupied = Occupied::new();
+    Ok(Rings { all, occupied })
 }

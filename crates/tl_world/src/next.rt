@@ -1,27 +1,28 @@
 //! The delivery that is next.
 
-ghost use Rattle.std.specs.Prelude.{◌≡◌, ◌<◌, ◌∷◌, [], length, not};
+ghost use Rattle.std.specs.Prelude.{◌≡◌, ◌<◌, ◌∷◌, [], not};
 ghost use Rattle.tl_beat.specs.Width.{IsWidth};
 ghost use Rattle.tl_params.specs.declared.config.Config.{Config};
-ghost use Rattle.tl_world.specs.Holds.{Holds};
+ghost use Rattle.tl_world.specs.Holds.{Holds, clients_of};
 ghost use Rattle.tl_world.specs.Movable;
 ghost use Rattle.tl_world.specs.Movable.{is_movable};
 ghost use Rattle.tl_world.specs.System.{System, terms_at};
 
 use crate::clients::stalls_at;
 use crate::happen::is_to_client;
+use crate::occupied::lowest;
 use crate::parts::Parts;
 use tl_beat::beat::{Beat, Link};
 use tl_beat::opcode::Channel;
 use tl_client::agent::Agent;
 use tl_manager::directory::Directory;
+use tl_manager::word::with_bit;
 
 impl<const W: usize, A: Agent<W>, D: Directory> Parts<W, A, D> {
     /// Whether the end that takes the beat stalls it.
     fn stalls(&self, link: Link, channel: Channel, beat: &Beat<W>) -> bool
         requires width { IsWidth W }
-        requires inside { link.0 < length self.now.clients.items }
-        ensures { (config : Config) (s : System W) → Holds A.knows A.terms D.perm_of config self.now s →
+        ensures { (config : Config) (s : System W) → Holds A.knows A.terms D.perm_of config self.now s → link.0 < clients_of config →
             Movable.moves config (terms_at config link.0) link.0 channel (beat.now ∷ []) s ≡ not result }
     {
         if is_to_client(channel) {
@@ -34,29 +35,27 @@ impl<const W: usize, A: Agent<W>, D: Directory> Parts<W, A, D> {
     /// Whether a delivery moves a beat.
     fn moves(&self, link: Link, channel: Channel) -> bool
         requires width { IsWidth W }
-        requires inside { link.0 < length self.now.clients.items }
         ensures { (config : Config) (s : System W) → Holds A.knows A.terms D.perm_of config self.now s →
             result ≡ is_movable config link.0 channel s }
     {
         match self.rings.first(link, channel) {
             None => false,
-            Some(beat) => !self.stalls(link, channel, &beat),
+            Some(beat) => !self.stalls(link, channel, beat),
         }
     }
 
-    /// The first delivery on a channel that moves a beat.
+    /// The first delivery on a channel that moves a beat: only links are asked whose channel holds one.
     fn movable_on(&self, channel: Channel) -> Option<(Link, Channel)>
         requires { IsWidth W }
         ensures { (config : Config) (s : System W) → Holds A.knows A.terms D.perm_of config self.now s →
             result ≡ Movable.movable_on config channel s }
     {
-        for number in 0..self.clients.len() {
-            let Ok(number) = u8::try_from(number) else {
-                return None;
-            };
+        let mut links = self.rings.occupied.links(channel);
+        while let Some(number) = lowest(links) {
             if self.moves(Link(number), channel) {
                 return Some((Link(number), channel));
             }
+            links = with_bit(links, number, false);
         }
         None
     }

@@ -1,6 +1,7 @@
 //! A channel of a link: the beats that were handed out on it and not yet taken.
 
-ghost use Rattle.std.specs.Prelude.{◌≡◌, ◌+◌, ◌++◌, ◌≤◌, ◌<◌, ◌^◌, length, drop, slice_get, IfOk, max, []};
+ghost use Rattle.std.specs.Prelude.{◌≡◌, ◌==◌, ◌+◌, ◌++◌, ◌≤◌, ◌<◌, ◌^◌, length, drop, slice_get, IfOk, max, []};
+ghost use Rattle.std.specs.Option.{option_copied};
 ghost use Rattle.circular_buffer.specs.Buffer.{buffer};
 ghost use Rattle.tl_beat.specs.Width.{IsWidth};
 ghost use Rattle.tl_burst.specs.Burst;
@@ -58,10 +59,17 @@ impl<const W: usize> Ring<W> {
     }
 
     /// The first beat.
-    pub fn first(&self) -> Option<Beat<W>>
-        ensures { result ≡ slice_get self.now.beats.items 0 }
+    pub fn first(&self) -> Option<&Beat<W>>
+        ensures { option_copied result ≡ slice_get self.now.beats.items 0 }
     {
-        self.beats.front().copied()
+        self.beats.front()
+    }
+
+    /// Whether it holds no beat.
+    pub fn is_empty(&self) -> bool
+        ensures { result ≡ (length self.now.beats.items == 0) }
+    {
+        self.beats.is_empty()
     }
 
     /// Takes the first beat away.

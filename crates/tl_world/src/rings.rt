@@ -1,40 +1,22 @@
 //! The channels of all links.
 
-ghost use Rattle.std.specs.Prelude.{ℕ, ◌≡◌, ◌≢◌, ◌+◌, ◌*◌, ◌++◌, ◌∷◌, ◌≤◌, ◌<◌, List, length, max, slice_get, slice_index_or};
+ghost use Rattle.std.specs.Prelude.{ℕ, ◌≡◌, ◌≢◌, ◌+◌, ◌*◌, ◌++◌, ◌∷◌, ◌≤◌, ◌<◌, List, length, drop, max, slice_get, slice_index_or};
+ghost use Rattle.std.specs.Option.{option_copied};
+ghost use Rattle.circular_buffer.specs.Buffer.{buffer};
 ghost use Rattle.tl_beat.specs.Width.{IsWidth};
 ghost use Rattle.tl_beat.specs.declared.beat.Beat.{Beat};
 ghost use Rattle.tl_burst.specs.Burst;
 ghost use Rattle.tl_rules.specs.Legality.{beats_from};
-ghost use Rattle.tl_world.specs.Carrying;
-ghost use Rattle.tl_world.specs.Carrying.{Carries, Fit, AreKept, AreMoved};
 ghost use Rattle.tl_world.specs.declared.ring.Ring.{Ring};
-ghost use Rattle.tl_world.specs.Step.{handed_by};
-ghost use Rattle.tl_world.specs.System.{System, channel_of_message, with_channel, with_message, with_messages};
+ghost use Rattle.tl_world.specs.System.{channel_of_message};
 
+use crate::occupied::Occupied;
+use crate::place::place;
 use crate::ring::Ring;
 use tl_beat::beat::{Beat, Link};
 use tl_beat::opcode::Channel;
 use tl_burst::message::Message;
-use tl_manager::manager::reply::Handed;
-
-fn number(channel: Channel) -> usize
-    ensures { result ≡ Carrying.number channel }
-{
-    match channel {
-        Channel::A => 0,
-        Channel::B => 1,
-        Channel::C => 2,
-        Channel::D => 3,
-        Channel::E => 4,
-    }
-}
-
-/// The place of a channel of a link among those of all links.
-fn place(link: Link, channel: Channel) -> usize
-    ensures { result ≡ Carrying.place link.0 channel }
-{
-    5 * usize::from(link.0) + number(channel)
-}
+use tl_manager::manager::reply::{Handed, Sending};
 
 fn channel_of<const W: usize>(message: &Message<W>) -> Channel
     ensures { result ≡ channel_of_message message.now }
@@ -62,17 +44,37 @@ fn send_at<const W: usize>(rings: &mut Vec<Ring<W>>, at: usize, message: &Messag
     rings[at].send(message);
 }
 
-/// The channels of all links, by the number of the link.
+/// Takes the first beat of one channel away.
+fn drop_at<const W: usize>(rings: &mut Vec<Ring<W>>, at: usize)
+    requires { at < length rings.old.items }
+    ensures number { length rings.new.items ≡ length rings.old.items }
+    ensures beats { (d : Ring W) → (slice_index_or rings.new.items at d).beats ≡ buffer (drop 1 (slice_index_or rings.old.items at d).beats.items) (slice_index_or rings.old.items at d).beats.capacity }
+    ensures deepest { (d : Ring W) → (slice_index_or rings.new.items at d).deepest ≡ (slice_index_or rings.old.items at d).deepest }
+    ensures others { (k : ℕ) (d : Ring W) → k ≢ at → slice_index_or rings.new.items k d ≡ slice_index_or rings.old.items k d }
+{
+    rings[at].drop_first();
+}
+
+/// The channels of all links, by the number of the link, at most sixteen, and which of them hold a beat.
 #[derive(Drop)]
 pub struct Rings<const W: usize> {
     pub all: Vec<Ring<W>>,
+    pub occupied: Occupied,
+    pub ghost few: { length all.items ≤ 80 },
 }
 
 impl<const W: usize> Rings<W> {
+    ghost use Rattle.tl_manager.specs.Sending.{messages_of};
+    ghost use Rattle.tl_world.specs.Carrying;
+    ghost use Rattle.tl_world.specs.Carrying.{Carries, Fit, AreKept, AreMoved};
+    ghost use Rattle.tl_world.specs.Step.{handed_by};
+    ghost use Rattle.tl_world.specs.System.{System, with_channel, with_message, with_messages};
+
     /// The first beat of a channel.
-    pub fn first(&self, link: Link, channel: Channel) -> Option<Beat<W>>
-        ensures { (n : ℕ) (s : System W) → Carries n self.now.all.items s → link.0 < n →
-            result ≡ slice_get (s.channels link.0 channel) 0 }
+    pub fn first(&self, link: Link, channel: Channel) -> Option<&Beat<W>>
+        ensures there { (n : ℕ) (s : System W) → Carries n self.now s → link.0 < n →
+            option_copied result ≡ slice_get (s.channels link.0 channel) 0 }
+        ensures nowhere { (n : ℕ) (s : System W) → Carries n self.now s → n ≤ link.0 → option_copied result ≡ None }
     {
         match self.all.get(place(link, channel)) {
             None => None,
@@ -94,36 +96,39 @@ impl<const W: usize> Rings<W> {
 
     /// Takes the first beat of a channel away.
     pub fn drop_first(&mut self, link: Link, channel: Channel)
-        ensures kept { AreKept self.old.all.items self.new.all.items }
-        ensures moved { (n : ℕ) (s : System W) (x : Beat W) (rest : List (Beat W)) → Carries n self.old.all.items s → link.0 < n →
+        ensures kept { AreKept self.old self.new }
+        ensures moved { (n : ℕ) (s : System W) (x : Beat W) (rest : List (Beat W)) → Carries n self.old s → link.0 < n →
             s.channels link.0 channel ≡ x ∷ rest →
-            AreMoved n self.old.all.items self.new.all.items (with_channel link.0 channel rest s) }
+            AreMoved n self.old self.new (with_channel link.0 channel rest s) }
     {
         let at = place(link, channel);
         if at < self.all.len() {
-            self.all[at].drop_first();
+            drop_at(&mut self.all, at);
+            self.occupied.mark(link, channel, !self.all[at].is_empty());
         }
     }
 
     /// Puts the beats of a message behind those of its channel.
     pub fn send(&mut self, link: Link, message: &Message<W>)
         requires { IsWidth W }
-        ensures kept { AreKept self.old.all.items self.new.all.items }
-        ensures moved { (n : ℕ) (s : System W) → Carries n self.old.all.items s → Fit n self.old.all.items (with_message link.0 message.now s) →
-            AreMoved n self.old.all.items self.new.all.items (with_message link.0 message.now s) }
+        ensures kept { AreKept self.old self.new }
+        ensures moved { (n : ℕ) (s : System W) → Carries n self.old s → Fit n self.old (with_message link.0 message.now s) →
+            AreMoved n self.old self.new (with_message link.0 message.now s) }
     {
-        let at = place(link, channel_of(message));
+        let channel = channel_of(message);
+        let at = place(link, channel);
         if at < self.all.len() {
             send_at(&mut self.all, at, message);
+            self.occupied.mark(link, channel, true);
         }
     }
 
     /// Puts the beats of a message behind those of its channel, if there is a message.
     pub fn send_if_any(&mut self, link: Link, message: &Option<Message<W>>)
         requires { IsWidth W }
-        ensures kept { AreKept self.old.all.items self.new.all.items }
-        ensures moved { (n : ℕ) (s : System W) → Carries n self.old.all.items s → Fit n self.old.all.items (with_messages (handed_by link.0 message.now) s) →
-            AreMoved n self.old.all.items self.new.all.items (with_messages (handed_by link.0 message.now) s) }
+        ensures kept { AreKept self.old self.new }
+        ensures moved { (n : ℕ) (s : System W) → Carries n self.old s → Fit n self.old (with_messages (handed_by link.0 message.now) s) →
+            AreMoved n self.old self.new (with_messages (handed_by link.0 message.now) s) }
     {
         match message {
             None => {}
@@ -134,12 +139,37 @@ impl<const W: usize> Rings<W> {
     /// Puts the beats of several messages behind those of their channels, the first first.
     pub fn send_all(&mut self, handed: &Handed<W>)
         requires { IsWidth W }
-        ensures kept { AreKept self.old.all.items self.new.all.items }
-        ensures moved { (n : ℕ) (s : System W) → Carries n self.old.all.items s → Fit n self.old.all.items (with_messages handed.now.items s) →
-            AreMoved n self.old.all.items self.new.all.items (with_messages handed.now.items s) }
+        ensures kept { AreKept self.old self.new }
+        ensures moved { (n : ℕ) (s : System W) → Carries n self.old s → Fit n self.old (with_messages handed.now.items s) →
+            AreMoved n self.old self.new (with_messages handed.now.items s) }
     {
         for (link, message) in handed.as_slice() {
             self.send(*link, message);
+        }
+    }
+
+    /// As `send_out`, for Probes. It is apart from it, so that the room for sixteen messages is made where
+    /// there are Probes alone.
+    fn send_probes(&mut self, sending: &Sending<W>)
+        requires { IsWidth W }
+        ensures kept { AreKept self.old self.new }
+        ensures moved { (n : ℕ) (s : System W) → Carries n self.old s → Fit n self.old (with_messages (messages_of sending.now) s) →
+            AreMoved n self.old self.new (with_messages (messages_of sending.now) s) }
+    {
+        self.send_all(&sending.handed());
+    }
+
+    /// Puts the beats of what a manager hands out behind those of their channels.
+    pub fn send_out(&mut self, sending: &Sending<W>)
+        requires { IsWidth W }
+        ensures kept { AreKept self.old self.new }
+        ensures moved { (n : ℕ) (s : System W) → Carries n self.old s → Fit n self.old (with_messages (messages_of sending.now) s) →
+            AreMoved n self.old self.new (with_messages (messages_of sending.now) s) }
+    {
+        match sending {
+            Sending::Nothing => {}
+            Sending::One(sent) => self.send(sent.0, &sent.1),
+            Sending::Probes { .. } => self.send_probes(sending),
         }
     }
 }

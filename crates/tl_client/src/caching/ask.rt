@@ -9,7 +9,7 @@ ghost use Rattle.tl_rules.specs.Legality.{is_aligned};
 
 use super::Caching;
 use crate::busy::Busy;
-use crate::check::{block_of, check};
+use crate::check::{check, op_block};
 use crate::operation::Op;
 use crate::release::{Release, is_releasing};
 use crate::reply::Reply;
@@ -19,7 +19,7 @@ use tl_beat::opcode::OpA;
 use tl_burst::message::{Message, MessageA};
 use tl_rules::param::{Grow, Prune};
 use tl_rules::perm::Perm;
-use tl_rules::place::{Span, number_at, put_number};
+use tl_rules::place::{Span, number_at, write_number};
 
 /// Whether an operation asks for permission or gives it up.
 fn is_transfer<const W: usize>(operation: &Op<W>) -> bool
@@ -61,7 +61,7 @@ impl<const W: usize> Caching<W> {
         if let Some(busy) = check(self.config.level, self.blocks, operation) {
             return Some(busy);
         }
-        let block = block_of(operation);
+        let block = op_block(operation);
         if is_transfer(operation)
             && (is_acquiring(&self.requests, block) || is_releasing(&self.releases, block))
         {
@@ -100,8 +100,8 @@ impl<const W: usize> Caching<W> {
         }
         let mut bytes = self.bytes(block);
         let span = Span::new::<W>(address, size);
-        put_number(&mut bytes, span.in_block, span.count, value);
-        self.table.put_copy(block, Some(bytes));
+        write_number(&mut bytes, span.in_block, span.count, value);
+        self.table.set_copy(block, Some(bytes));
         Reply::Stored
     }
 
@@ -124,7 +124,7 @@ impl<const W: usize> Caching<W> {
         };
         let started = self.request(acquisition(OpA::AcquirePerm, grow, block));
         if started.1.is_some() {
-            self.table.put_waiting(u32::from(block), Some(bytes));
+            self.table.set_waiting(u32::from(block), Some(bytes));
         }
         started
     }

@@ -1,6 +1,7 @@
 //! What a caching client judges of a beat.
 
 ghost use Rattle.std.specs.Prelude.{◌≡◌, false, None, Ok, OnOk};
+ghost use Rattle.tl_params.specs.Refusal.{ok_unless};
 ghost use Rattle.tl_beat.specs.declared.beat.BeatD.{BeatD};
 ghost use Rattle.tl_burst.specs.Messages.{breaks_burst};
 ghost use Rattle.tl_burst.specs.Part.{IsTakeable};
@@ -10,7 +11,6 @@ ghost use Rattle.tl_client.specs.Offer;
 ghost use Rattle.tl_client.specs.Takes.{IsJudged, Takes};
 ghost use Rattle.tl_rules.specs.Agent;
 ghost use Rattle.tl_rules.specs.Conformance;
-ghost use Rattle.tl_rules.specs.Legality.{verdict};
 
 use super::Caching;
 use crate::order::{broken_in_order, check_alone};
@@ -54,7 +54,7 @@ impl<const W: usize> Caching<W> {
     pub(super) fn check_order(&self, beat: &Beat<W>) -> Result<(), Rule>
         requires { IsTakeable beat.now }
         ensures rule { (e : End W) → KnowsCaching self.now e →
-            result ≡ verdict (Offer.broken_later (terms_of self.now) beat.now e) }
+            result ≡ ok_unless (Offer.broken_later (terms_of self.now) beat.now e) }
         ensures inside { OnOk result (Agent.is_outside self.now.blocks beat.now ≡ false) }
         ensures continues { (x : BeatD W) → beat.now ≡ Beat.D x → OnOk result (breaks_burst beat.now self.now.responses ≡ false) }
     {

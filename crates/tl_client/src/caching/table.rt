@@ -2,7 +2,7 @@
 
 ghost use Rattle.std.specs.Prelude.{ℕ, ◌≡◌, ◌<◌, ◌==◌, ◌&&◌, not, if◌then◌else◌, length, IfOk, Option};
 ghost use Rattle.tl_client.specs.Kept.{holds};
-ghost use Rattle.tl_client.specs.Table.{held_in, copy_in, waiting_in};
+ghost use Rattle.tl_client.specs.Table.{held_in, copy_in, waiting_in, block_count};
 ghost use Rattle.tl_params.specs.declared.perm.Perm.TheVariants as perm;
 
 use std::alloc::{AllocError, Global};
@@ -27,7 +27,7 @@ pub struct Table {
 impl Table {
     /// So many blocks, of which nothing is held.
     pub fn new(alloc: Global, count: u16) -> Result<Self, AllocError>
-        ensures count { IfOk result (λ t. length t.blocks.items ≡ count) }
+        ensures count { IfOk result (λ t. block_count t ≡ count) }
         ensures held { IfOk result (λ t. (k : ℕ) → held_in t k ≡ perm.None) }
         ensures copies { IfOk result (λ t. (k : ℕ) → copy_in t k ≡ None) }
         ensures waiting { IfOk result (λ t. (k : ℕ) → waiting_in t k ≡ None) }
@@ -73,10 +73,10 @@ impl Table {
 
     /// Sets what is held of a block.
     pub fn hold(&mut self, block: u32, perm: Perm)
-        ensures held { block < length self.old.blocks.items → (k : ℕ) → held_in self.new k ≡ (if k == block then perm else held_in self.old k) }
+        ensures held { block < block_count self.old → (k : ℕ) → held_in self.new k ≡ (if k == block then perm else held_in self.old k) }
         ensures copies { (k : ℕ) → copy_in self.new k ≡ copy_in self.old k }
         ensures waiting { (k : ℕ) → waiting_in self.new k ≡ waiting_in self.old k }
-        ensures count { length self.new.blocks.items ≡ length self.old.blocks.items }
+        ensures count { block_count self.new ≡ block_count self.old }
     {
         if let Some(block) = self.blocks.get_mut(block as usize) {
             block.held = perm;
@@ -84,11 +84,11 @@ impl Table {
     }
 
     /// Sets the copy of a block.
-    pub fn put_copy(&mut self, block: u32, bytes: Option<[u8; 64]>)
-        ensures copies { block < length self.old.blocks.items → (k : ℕ) → copy_in self.new k ≡ (if k == block then bytes else copy_in self.old k) }
+    pub fn set_copy(&mut self, block: u32, bytes: Option<[u8; 64]>)
+        ensures copies { block < block_count self.old → (k : ℕ) → copy_in self.new k ≡ (if k == block then bytes else copy_in self.old k) }
         ensures held { (k : ℕ) → held_in self.new k ≡ held_in self.old k }
         ensures waiting { (k : ℕ) → waiting_in self.new k ≡ waiting_in self.old k }
-        ensures count { length self.new.blocks.items ≡ length self.old.blocks.items }
+        ensures count { block_count self.new ≡ block_count self.old }
     {
         if let Some(block) = self.blocks.get_mut(block as usize) {
             block.copy = bytes;
@@ -96,11 +96,11 @@ impl Table {
     }
 
     /// Sets the bytes that wait for a Grant of a block.
-    pub fn put_waiting(&mut self, block: u32, bytes: Option<[u8; 64]>)
-        ensures waiting { block < length self.old.blocks.items → (k : ℕ) → waiting_in self.new k ≡ (if k == block then bytes else waiting_in self.old k) }
+    pub fn set_waiting(&mut self, block: u32, bytes: Option<[u8; 64]>)
+        ensures waiting { block < block_count self.old → (k : ℕ) → waiting_in self.new k ≡ (if k == block then bytes else waiting_in self.old k) }
         ensures held { (k : ℕ) → held_in self.new k ≡ held_in self.old k }
         ensures copies { (k : ℕ) → copy_in self.new k ≡ copy_in self.old k }
-        ensures count { length self.new.blocks.items ≡ length self.old.blocks.items }
+        ensures count { block_count self.new ≡ block_count self.old }
     {
         if let Some(block) = self.blocks.get_mut(block as usize) {
             block.waiting = bytes;
@@ -109,27 +109,27 @@ impl Table {
 
     /// Leaves this of a block, and drops its copy where that is nothing.
     pub fn lower(&mut self, block: u32, perm: Perm)
-        requires { block < length self.old.blocks.items }
+        requires { block < block_count self.old }
         ensures held { (k : ℕ) → held_in self.new k ≡ (if k == block then perm else held_in self.old k) }
         ensures copies { (k : ℕ) → copy_in self.new k ≡ (if (k == block) && not (holds perm) then None else copy_in self.old k) }
         ensures waiting { (k : ℕ) → waiting_in self.new k ≡ waiting_in self.old k }
-        ensures count { length self.new.blocks.items ≡ length self.old.blocks.items }
+        ensures count { block_count self.new ≡ block_count self.old }
     {
         self.hold(block, perm);
         if perm == Perm::None {
-            self.put_copy(block, None);
+            self.set_copy(block, None);
         }
     }
 
     /// Makes the bytes that wait the copy of a block.
     pub fn store_waiting(&mut self, block: u32)
-        ensures copies { block < length self.old.blocks.items → (k : ℕ) → copy_in self.new k ≡ (if k == block then waiting_in self.old k else copy_in self.old k) }
-        ensures waiting { block < length self.old.blocks.items → (k : ℕ) → waiting_in self.new k ≡ (if k == block then None else waiting_in self.old k) }
+        ensures copies { block < block_count self.old → (k : ℕ) → copy_in self.new k ≡ (if k == block then waiting_in self.old k else copy_in self.old k) }
+        ensures waiting { block < block_count self.old → (k : ℕ) → waiting_in self.new k ≡ (if k == block then None else waiting_in self.old k) }
         ensures held { (k : ℕ) → held_in self.new k ≡ held_in self.old k }
-        ensures count { length self.new.blocks.items ≡ length self.old.blocks.items }
+        ensures count { block_count self.new ≡ block_count self.old }
     {
         let bytes = self.waiting(block);
-        self.put_copy(block, bytes);
-        self.put_waiting(block, None);
+        self.set_copy(block, bytes);
+        self.set_waiting(block, None);
     }
 }

@@ -69,7 +69,7 @@ impl<const W: usize> Caching<W> {
         let block = request.address / 64;
         self.table.hold(block, capped(grant.param));
         if grant.opcode == OpD::GrantData {
-            self.table.put_copy(block, Some(grant.payload));
+            self.table.set_copy(block, Some(grant.payload));
         } else if request.opcode == OpA::AcquirePerm {
             self.table.store_waiting(block);
         }

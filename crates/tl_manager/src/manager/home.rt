@@ -20,20 +20,21 @@ ghost use Rattle.tl_manager.specs.Ready.{IsTaken};
 ghost use Rattle.tl_manager.specs.Slave.{End, begun_with, settled, deed};
 ghost use Rattle.tl_manager.specs.Holders;
 ghost use Rattle.tl_manager.specs.Holders.{is_above};
+ghost use Rattle.tl_manager.specs.Sending.{messages_of};
 
 use crate::directory::Directory;
 use crate::manager::blocks::Blocks;
 use crate::manager::reply::{
-    Handed, access_answer, cap_granted, grant, is_granted_data, probes, release_ack,
+    Sending, access_answer, cap_granted, grant, is_granted_data, release_ack,
 };
 use crate::manager::tracker::{Tracker, Trackers};
-use arrayvec::ArrayVec;
+use crate::word::with_bit;
 use tl_beat::beat::Link;
 use tl_beat::opcode::OpA;
 use tl_burst::message::{Message, MessageA, MessageC};
-use tl_rules::key::block_of;
+use tl_rules::key::block_at;
 use tl_rules::kind::{capped, is_acquire, is_release, reported};
-use tl_rules::param::Cap;
+use tl_rules::param::{Cap, Grow};
 use tl_rules::perm::Perm;
 use tl_rules::profile::Profile;
 
@@ -53,7 +54,7 @@ pub fn cap_probed(opcode: OpA, param: u8) -> Option<Cap>
     match opcode {
         OpA::Get => Some(Cap::ToB),
         OpA::Intent => None,
-        OpA::AcquireBlock | OpA::AcquirePerm if param == 0 => Some(Cap::ToB),
+        OpA::AcquireBlock | OpA::AcquirePerm if param == Grow::NtoB.param() => Some(Cap::ToB),
         _ => Some(Cap::ToN),
     }
 }
@@ -63,16 +64,7 @@ fn without(word: u16, client: u8) -> u16
     requires { client < 16 }
     ensures { (c : ℕ) → bit_at result c ≡ bit_if (bit_at word c == 1 && not (client == c)) }
 {
-    word & !(1u16 << client)
-}
-
-/// One message.
-fn one<const W: usize>(message: (Link, Message<W>)) -> Handed<W>
-    ensures { result.items ≡ message.entry ∷ [] }
-{
-    let mut handed = ArrayVec::new();
-    handed.push(message);
-    handed
+    with_bit(word, client, false)
 }
 
 impl<const W: usize, D: Directory> Home<W, D> {
@@ -101,7 +93,7 @@ impl<const W: usize, D: Directory> Home<W, D> {
         ensures { (c : ℕ) → bit_at result c ≡ bit_if (is_above cap (D.perm_of self.now.directory (block_at request.now.address) c)
             && not (is_acquire request.now.opcode && (link.0 == c))) }
     {
-        let above = self.above(cap, block_of(request.address) as u16);
+        let above = self.above(cap, block_at(request.address) as u16);
         if is_acquire(request.opcode) {
             without(above, link.0)
         } else {
@@ -151,7 +143,7 @@ impl<const W: usize, D: Directory> Home<W, D> {
         ensures clients { D.clients self.new.directory ≡ D.clients self.old.directory }
         ensures count { length self.new.blocks.bytes.items ≡ length self.old.blocks.bytes.items }
     {
-        let block = block_of(request.address);
+        let block = block_at(request.address);
         let held = self.directory.get(block as u16, link.0);
         let unheld = self.directory.holders(block as u16) == 0;
         let cap = cap_granted(self.profile, request.opcode, request.param, unheld);
@@ -180,7 +172,7 @@ impl<const W: usize, D: Directory> Home<W, D> {
     }
 
     /// Performs a request and answers it.
-    fn answer(&mut self, number: u8, link: Link, request: &MessageA<W>) -> Handed<W>
+    fn answer(&mut self, number: u8, link: Link, request: &MessageA<W>) -> Sending<W>
         requires width { IsWidth W }
         requires number { number < 8 }
         requires placed { IsPlaced (length self.old.blocks.bytes.items) (D.clients self.old.directory) link request.now }
@@ -188,21 +180,21 @@ impl<const W: usize, D: Directory> Home<W, D> {
         requires few { length self.old.blocks.bytes.items ≤ 1024 }
         ensures done { (config : Config) (t : Trace W) (memory : Memory) → IsReadyAt config number link request.now t →
             IsHomeWithout number D.perm_of config self.old t memory →
-            IsDone D.perm_of config self.new result.items t (performed config (service_with number link request.now) t memory) }
+            IsDone D.perm_of config self.new (messages_of result) t (performed config (service_with number link request.now) t memory) }
         ensures blocks { D.blocks self.new.directory ≡ D.blocks self.old.directory }
         ensures clients { D.clients self.new.directory ≡ D.clients self.old.directory }
         ensures count { length self.new.blocks.bytes.items ≡ length self.old.blocks.bytes.items }
     {
         if is_acquire(request.opcode) {
-            one(self.grant(number, link, request))
+            Sending::One(self.grant(number, link, request))
         } else {
-            one(self.perform(number, link, request))
+            Sending::One(self.perform(number, link, request))
         }
     }
 
     /// Begins the service of a request: it probes those that hold too much, or is performed and
     /// answered at once.
-    fn begin(&mut self, number: u8, link: Link, request: &MessageA<W>) -> Handed<W>
+    fn begin(&mut self, number: u8, link: Link, request: &MessageA<W>) -> Sending<W>
         requires width { IsWidth W }
         requires number { number < 8 }
         requires client { link.0 < 16 }
@@ -211,7 +203,7 @@ impl<const W: usize, D: Directory> Home<W, D> {
         requires few { length self.old.blocks.bytes.items ≤ 1024 }
         ensures done { (config : Config) (t : Trace W) (memory : Memory) → length config.clients.items ≤ 16 →
             IsReadyAt config number link request.now t → IsHomeWithout number D.perm_of config self.old t memory →
-            IsDone D.perm_of config self.new result.items t
+            IsDone D.perm_of config self.new (messages_of result) t
             (begun_with config (Holders.cap_probed request.now.opcode request.now.param) (service_with number link request.now) t memory) }
         ensures blocks { D.blocks self.new.directory ≡ D.blocks self.old.directory }
         ensures clients { D.clients self.new.directory ≡ D.clients self.old.directory }
@@ -230,12 +222,16 @@ impl<const W: usize, D: Directory> Home<W, D> {
             missing,
         };
         self.trackers.set(number, probing);
-        probes(block_of(request.address), cap, missing)
+        Sending::Probes {
+            block: block_at(request.address) as u16,
+            cap,
+            clients: missing,
+        }
     }
 
     /// A ProbeAck of a block came from a client. With the last that was missing, the request for the
     /// block is performed and answered.
-    fn settle(&mut self, link: Link, block: u32) -> Handed<W>
+    fn settle(&mut self, link: Link, block: u32) -> Sending<W>
         requires width { IsWidth W }
         requires client { link.0 < 16 }
         requires placed { (n : ℕ) → IsPlacedIn (length self.old.blocks.bytes.items) (D.clients self.old.directory) (tracker_at self.old.trackers n) }
@@ -243,17 +239,17 @@ impl<const W: usize, D: Directory> Home<W, D> {
         requires few { length self.old.blocks.bytes.items ≤ 1024 }
         ensures done { (config : Config) (x : BeatC W) (e : End W) (memory : Memory) → IsReport config link block x e →
             IsReportedHome D.perm_of config self.old e.trace ((link, Beat.C x) ∷ e.trace) memory →
-            IsDone D.perm_of config self.new result.items ((link, Beat.C x) ∷ e.trace) (settled config block ((link, Beat.C x) ∷ e.trace) memory) }
+            IsDone D.perm_of config self.new (messages_of result) ((link, Beat.C x) ∷ e.trace) (settled config block ((link, Beat.C x) ∷ e.trace) memory) }
         ensures blocks { D.blocks self.new.directory ≡ D.blocks self.old.directory }
         ensures clients { D.clients self.new.directory ≡ D.clients self.old.directory }
         ensures count { length self.new.blocks.bytes.items ≡ length self.old.blocks.bytes.items }
     {
         let Some(number) = self.trackers.serving(block) else {
-            return ArrayVec::new();
+            return Sending::Nothing;
         };
         let (asking, request, missing) = match self.trackers.at(number) {
-            Tracker::Free => return ArrayVec::new(),
-            Tracker::Granted { .. } => return ArrayVec::new(),
+            Tracker::Free => return Sending::Nothing,
+            Tracker::Granted { .. } => return Sending::Nothing,
             Tracker::Probing {
                 link: asking,
                 request,
@@ -270,12 +266,12 @@ impl<const W: usize, D: Directory> Home<W, D> {
             missing,
         };
         self.trackers.set(number, probing);
-        ArrayVec::new()
+        Sending::Nothing
     }
 
     /// Takes a message of channel C: a Release is answered at once, and a ProbeAck may have been the
     /// last one that a request waited for.
-    fn take(&mut self, link: Link, message: &MessageC<W>) -> Handed<W>
+    fn take(&mut self, link: Link, message: &MessageC<W>) -> Sending<W>
         requires width { IsWidth W }
         requires client { link.0 < 16 }
         requires covered { link.0 < D.clients self.old.directory }
@@ -285,18 +281,18 @@ impl<const W: usize, D: Directory> Home<W, D> {
         requires few { length self.old.blocks.bytes.items ≤ 1024 }
         ensures done { (config : Config) (x : BeatC W) (e : End W) → IsMessage config link x message.now e →
             IsHome D.perm_of config self.old e.trace e.memory →
-            IsDone D.perm_of config self.new result.items ((link, Beat.C x) ∷ e.trace) (deed config link (Beat.C x) e) }
+            IsDone D.perm_of config self.new (messages_of result) ((link, Beat.C x) ∷ e.trace) (deed config link (Beat.C x) e) }
         ensures blocks { D.blocks self.new.directory ≡ D.blocks self.old.directory }
         ensures clients { D.clients self.new.directory ≡ D.clients self.old.directory }
         ensures count { length self.new.blocks.bytes.items ≡ length self.old.blocks.bytes.items }
     {
-        let block = block_of(message.address);
+        let block = block_at(message.address);
         let carries = message.opcode.carries_data();
         self.blocks
             .write_if(carries, block as usize, &message.payload);
         self.record(block, link, reported(message.param));
         if is_release(message.opcode) {
-            one((link, release_ack(message.source)))
+            Sending::One((link, release_ack(message.source)))
         } else {
             self.settle(link, block)
         }
@@ -315,7 +311,7 @@ impl<const W: usize, D: Directory> Home<W, D> {
     }
 
     /// Gives a request the least free tracker, and begins its service.
-    fn serve(&mut self, link: Link, request: &MessageA<W>) -> Handed<W>
+    fn serve(&mut self, link: Link, request: &MessageA<W>) -> Sending<W>
         requires width { IsWidth W }
         requires client { link.0 < 16 }
         requires placed { IsPlaced (length self.old.blocks.bytes.items) (D.clients self.old.directory) link request.now }
@@ -324,19 +320,19 @@ impl<const W: usize, D: Directory> Home<W, D> {
         requires trackers { self.old.trackers.count ≤ 8 }
         ensures done { (config : Config) (x : Beat W) (e : End W) → length config.clients.items ≤ 16 →
             IsComplete config link x (Message.A request.now) e → IsHome D.perm_of config self.old e.trace e.memory →
-            IsDone D.perm_of config self.new result.items ((link, x) ∷ e.trace) (deed config link x e) }
+            IsDone D.perm_of config self.new (messages_of result) ((link, x) ∷ e.trace) (deed config link x e) }
         ensures blocks { D.blocks self.new.directory ≡ D.blocks self.old.directory }
         ensures clients { D.clients self.new.directory ≡ D.clients self.old.directory }
         ensures count { length self.new.blocks.bytes.items ≡ length self.old.blocks.bytes.items }
     {
         match self.trackers.least_free() {
-            None => ArrayVec::new(),
+            None => Sending::Nothing,
             Some(number) => self.begin(number, link, request),
         }
     }
 
     /// Does what is due as a message of a client is complete.
-    pub fn complete(&mut self, link: Link, message: &Message<W>) -> Handed<W>
+    pub fn complete(&mut self, link: Link, message: &Message<W>) -> Sending<W>
         requires width { IsWidth W }
         requires client { link.0 < 16 }
         requires covered { link.0 < D.clients self.old.directory }
@@ -347,7 +343,7 @@ impl<const W: usize, D: Directory> Home<W, D> {
         requires trackers { self.old.trackers.count ≤ 8 }
         ensures done { (config : Config) (x : Beat W) (e : End W) → length config.clients.items ≤ 16 →
             IsComplete config link x message.now e → IsHome D.perm_of config self.old e.trace e.memory →
-            IsDone D.perm_of config self.new result.items ((link, x) ∷ e.trace) (deed config link x e) }
+            IsDone D.perm_of config self.new (messages_of result) ((link, x) ∷ e.trace) (deed config link x e) }
         ensures blocks { D.blocks self.new.directory ≡ D.blocks self.old.directory }
         ensures clients { D.clients self.new.directory ≡ D.clients self.old.directory }
         ensures count { length self.new.blocks.bytes.items ≡ length self.old.blocks.bytes.items }
@@ -357,9 +353,9 @@ impl<const W: usize, D: Directory> Home<W, D> {
             Message::C(report) => self.take(link, report),
             Message::E(ack) => {
                 self.acknowledge(ack.sink);
-                ArrayVec::new()
+                Sending::Nothing
             }
-            Message::B(_) | Message::D(_) => ArrayVec::new(),
+            Message::B(_) | Message::D(_) => Sending::Nothing,
         }
     }
 }

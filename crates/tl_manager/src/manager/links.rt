@@ -10,6 +10,7 @@ ghost use Rattle.tl_rules.specs.Conformance.{on_link, broken_in_order};
 ghost use Rattle.tl_params.specs.declared.perm.Perm.TheVariants as perm;
 ghost use Rattle.tl_manager.specs.Fresh.{fresh_wire};
 ghost use Rattle.tl_manager.specs.PartIs.{is_first_part, is_last_part};
+ghost use Rattle.tl_manager.specs.Sending.{messages_of};
 ghost use Rattle.tl_manager.specs.Service.{services, is_in_service};
 ghost use Rattle.tl_manager.specs.Slave;
 ghost use Rattle.tl_beat.specs.declared.opcode.Channel.{Channel};
@@ -19,11 +20,10 @@ use crate::directory::Directory;
 use crate::manager::admission::{Admission, admit, is_from_client};
 use crate::manager::blocks::Blocks;
 use crate::manager::home::Home;
-use crate::manager::reply::Handed;
+use crate::manager::reply::Sending;
 use crate::manager::tracker::Trackers;
 use crate::manager::types::{filled, typed};
 use crate::manager::wire::{LinkPast, Wire};
-use arrayvec::ArrayVec;
 use std::alloc::{AllocError, Global};
 use tl_beat::beat::{Beat, Link};
 use tl_beat::opcode::Channel;
@@ -224,13 +224,13 @@ impl<const W: usize, D: Directory> Links<W, D> {
     }
 
     /// Takes a beat that passes: the messages that are handed out for it.
-    pub fn take(&mut self, link: Link, beat: &Beat<W>) -> Handed<W>
+    pub fn take(&mut self, link: Link, beat: &Beat<W>) -> Sending<W>
         requires known { IsManager D.perm_of D.blocks D.clients self.old }
         requires link { link.0 < length self.old.wires.items }
         requires takeable { IsTakeable beat.now }
         requires passes { (config : Config) (e : End W) → Knows D.perm_of self.old config e → (ch : Channel) × (judged config link ch beat.now e ≡ Slave.Passes) }
         ensures handed { (config : Config) (e : End W) → Knows D.perm_of self.old config e →
-            result.items ≡ (deed config link beat.now e).handed }
+            messages_of result ≡ (deed config link beat.now e).handed }
         ensures knows { (config : Config) (e : End W) → Knows D.perm_of self.old config e →
             Knows D.perm_of self.new config (taken link beat.now (deed config link beat.now e) e) }
         ensures blocks { D.blocks self.new.home.directory ≡ D.blocks self.old.home.directory }
@@ -239,7 +239,7 @@ impl<const W: usize, D: Directory> Links<W, D> {
         typed(beat);
         let number = usize::from(link.0);
         let Some(message) = self.wires[number].take(beat) else {
-            return ArrayVec::new();
+            return Sending::Nothing;
         };
         filled(&message);
         self.home.complete(link, &message)

@@ -9,18 +9,30 @@ ghost use Rattle.tl_manager.specs.Handing;
 ghost use Rattle.tl_manager.specs.Granting;
 ghost use Rattle.tl_manager.specs.Handing.{probe_of_block};
 ghost use Rattle.tl_manager.specs.Holders.{clients_from};
+ghost use Rattle.tl_manager.specs.Sending.{messages_of};
 
 use arrayvec::ArrayVec;
 use tl_beat::beat::Link;
 use tl_beat::opcode::{OpA, OpB, OpD};
 use tl_burst::message::{Message, MessageA, MessageB, MessageD};
 use tl_rules::answer::Answer;
-use tl_rules::param::Cap;
+use tl_rules::param::{Cap, Grow};
 use tl_rules::perm::Perm;
 use tl_rules::profile::Profile;
 
 /// Messages, each with the link on which it is handed out, the first first.
 pub type Handed<const W: usize> = ArrayVec<(Link, Message<W>), 16>;
+
+/// What is handed out for a beat: seldom more than one message.
+#[derive(Clone, Copy, Debug, PartialEq, Eq)]
+pub enum Sending<const W: usize> {
+    /// No message.
+    Nothing,
+    /// One, on this link.
+    One((Link, Message<W>)),
+    /// A Probe of a block for each client whose bit is set, the lowest first.
+    Probes { block: u16, cap: Cap, clients: u16 },
+}
 
 /// A Probe of a block.
 fn probe<const W: usize>(block: u32, cap: Cap) -> Message<W>
@@ -41,7 +53,7 @@ fn probe<const W: usize>(block: u32, cap: Cap) -> Message<W>
 }
 
 /// Probes of a block for the clients whose bit is set, the lowest first.
-pub fn probes<const W: usize>(block: u32, cap: Cap, clients: u16) -> Handed<W>
+fn probes<const W: usize>(block: u32, cap: Cap, clients: u16) -> Handed<W>
     requires width { IsWidth W }
     requires small { block < 2 ^ 26 }
     ensures { result.items ≡ Handing.probes block cap (clients_from 0 16 (λ c. bit_at clients c == 1)) }
@@ -54,6 +66,28 @@ pub fn probes<const W: usize>(block: u32, cap: Cap, clients: u16) -> Handed<W>
         handed.push((Link(client), probe(block, cap)));
     }
     handed
+}
+
+impl<const W: usize> Sending<W> {
+    /// Its messages, the first first.
+    pub fn handed(self) -> Handed<W>
+        requires { IsWidth W }
+        ensures { result.items ≡ messages_of self.entry }
+    {
+        match self {
+            Sending::Nothing => ArrayVec::new(),
+            Sending::One(message) => {
+                let mut handed = ArrayVec::new();
+                handed.push(message);
+                handed
+            }
+            Sending::Probes {
+                block,
+                cap,
+                clients,
+            } => probes(u32::from(block), cap, clients),
+        }
+    }
 }
 
 /// An answer without sink, to a request.
@@ -100,21 +134,23 @@ pub fn release_ack<const W: usize>(source: u8) -> Message<W>
 }
 
 /// The cap of a Grant, by whether no client is recorded with a copy.
-pub fn cap_granted(profile: Profile, opcode: OpA, grow: u8, unheld: bool) -> Cap
-    ensures { result ≡ Handing.cap_granted profile opcode grow unheld }
+pub fn cap_granted(profile: Profile, opcode: OpA, param: u8, unheld: bool) -> Cap
+    ensures { result ≡ Handing.cap_granted profile opcode param unheld }
 {
+    if param != Grow::NtoB.param() {
+        return Cap::ToT;
+    }
     match (profile, opcode) {
-        (Profile::Two, OpA::AcquireBlock) if grow == 0 && unheld => Cap::ToT,
-        _ if grow == 0 => Cap::ToB,
-        _ => Cap::ToT,
+        (Profile::Two, OpA::AcquireBlock) if unheld => Cap::ToT,
+        _ => Cap::ToB,
     }
 }
 
 /// Whether a Grant carries the block, by what its client is recorded to hold.
-pub fn is_granted_data(opcode: OpA, grow: u8, held: Perm) -> bool
-    ensures { result ≡ Handing.is_granted_data opcode grow held }
+pub fn is_granted_data(opcode: OpA, param: u8, held: Perm) -> bool
+    ensures { result ≡ Handing.is_granted_data opcode param held }
 {
-    opcode == OpA::AcquireBlock && !(grow == 2 && held == Perm::Branch)
+    opcode == OpA::AcquireBlock && !(param == Grow::BtoT.param() && held == Perm::Branch)
 }
 
 /// A Grant of this opcode.

@@ -2,9 +2,7 @@
 
 ghost use Rattle.tl_beat.specs.Width.{IsWidth};
 
-use crate::header::read_schedule;
 use crate::outcome::{put_drained, put_outcome, put_trace};
-use crate::trace::put_trace_header;
 use std::process::Abort;
 use std::test::Fail;
 use tl_beat::beat::{Beat, BeatE, Link};
@@ -171,32 +169,4 @@ fn no_client_and_a_beat_that_moves(rt: HostRuntime) -> Result<(), Fail> {
     let text = b"no client\n01 E 07\n01 E 07\ndrained 0\ndrained 160\n";
     assert_eq!(rt; out.as_slice(), text.as_slice());
     Ok(())
-}
-
-/// The header of the trace that a schedule with this header plays.
-fn heads(rt: &(impl Abort + AllocGlobal), schedule: &str, trace: &str) -> Result<(), Fail> {
-    let Some(header) = read_schedule(schedule.as_bytes()) else {
-        assert!(rt; false, "{schedule}");
-        return Ok(());
-    };
-    let mut out = Vec::new(rt.alloc());
-    put_trace_header(&header, &mut out)?;
-    assert_eq!(rt; out.as_slice(), trace.as_bytes(), "{schedule}");
-    Ok(())
-}
-
-#[test]
-fn headers_of_traces(rt: HostRuntime) -> Result<(), Fail> {
-    heads(&rt, "tlsched 1 1 1 UL:1\n", "tltrace 1 UL\n")?;
-    heads(&rt, "tlsched 1 1 1 C:1 C:1\n", "tltrace 1 C C\n")?;
-    heads(&rt, "tlsched 2 4 1 1 UH:8\n", "tltrace 2 4 UH\n")?;
-    heads(&rt, "tlsched 2 8 1 1 UH:8\n", "tltrace 2 8 UH\n")?;
-    heads(&rt, "tlsched 2 16 1 1 UH:8\n", "tltrace 2 16 UH\n")?;
-    heads(&rt, "tlsched 3 4 1 1 1 C:1\n", "tltrace 3 4 1 C\n")?;
-    heads(&rt, "tlsched 3 8 2 1 1 C:1\n", "tltrace 3 8 2 C\n")?;
-    heads(
-        &rt,
-        "tlsched 3 16 2 1 1 C:1 UH:2\n",
-        "tltrace 3 16 2 C UH\n",
-    )
 }

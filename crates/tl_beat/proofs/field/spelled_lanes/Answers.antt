@@ -7,7 +7,7 @@ loop-i-preserved g c =
     let sixteen : 16 * c.loop-i.i + 16 - 16 * c.loop-i.i ≡ 16 = omega arith in
     record {
       same = lanes-eight g.row.W c.loop-i.i c.loop-i.lanes c.args.field.now _ c.in_ok-eight.eight _ _ (search rules) c.loop-i.invariant.len
-          (ap (λ (k : ℕ). take k (drop (16 * c.loop-i.i) c.args.field.now)) sixteen) c.in_ok-eight.ensures c.put_eight.ensures c.loop-i.invariant.same;
+          (ap (λ (k : ℕ). take k (drop (16 * c.loop-i.i) c.args.field.now)) sixteen) c.in_ok-eight.ensures c.copy_eight.ensures c.loop-i.invariant.same;
       len = search rules;
     }
 

@@ -1,5 +1,5 @@
 use Rattle.std.proofs.Common.{rules, ap, sym, ◌∙◌}
-use Rattle.tl_rules.specs.Legality.{verdict}
+use Rattle.tl_params.specs.Refusal.{ok_unless}
 use Rattle.tl_rules.proofs.Checks.{other_channel, grant_ack}
 use Rattle.tl_rules.proofs.check.check.Goals as goal
 
@@ -7,4 +7,4 @@ pub returns-then-not-is_on : goal.returns-then-not-is_on
 returns-then-not-is_on g c = sym (other_channel c.args.level c.args.channel c.args.message.now c.requires (search rules))
 
 pub returns-in-E : goal.returns-in-E
-returns-in-E g c = c.check_e.ensures ∙ sym (ap verdict (grant_ack c.args.level c.args.channel c.args.message.now c.in-E.field-0 (search rules) c.in-E.is))
+returns-in-E g c = c.check_e.ensures ∙ sym (ap ok_unless (grant_ack c.args.level c.args.channel c.args.message.now c.in-E.field-0 (search rules) c.in-E.is))

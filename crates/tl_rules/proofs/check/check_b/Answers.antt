@@ -1,6 +1,6 @@
 use Rattle.std.proofs.Common.{Err, ap, sym, ◌∙◌}
 use Rattle.std.proofs.lemmas.Result.{err_from_is_err_and}
-use Rattle.tl_rules.specs.Legality.{verdict}
+use Rattle.tl_params.specs.Refusal.{ok_unless}
 use Rattle.tl_rules.proofs.Checks.{broken_control, b_owns, b_beats, b_single}
 use Rattle.tl_rules.proofs.check.check_b.Goals as goal
 
@@ -11,4 +11,4 @@ returns-in_err-control_of_b g c =
 
 pub returns : goal.returns
 returns g c =
-    c.own_of_b.ensures.value ∙ rw (c.mask_of-mask.ensures, c.bit_of.ensures) (sym (ap verdict (b_single c.args.level c.args.message.now (sym c.in_ok-control_of_b.was ∙ c.control_of_b.ensures.value))))
+    c.own_of_b.ensures.value ∙ rw (c.mask_of-mask.ensures, c.bit_of.ensures) (sym (ap ok_unless (b_single c.args.level c.args.message.now (sym c.in_ok-control_of_b.was ∙ c.control_of_b.ensures.value))))

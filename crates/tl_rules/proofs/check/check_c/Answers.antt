@@ -1,6 +1,6 @@
 use Rattle.std.proofs.Common.{Err, ap, sym, ◌∙◌}
 use Rattle.std.proofs.lemmas.Result.{err_from_is_err_and}
-use Rattle.tl_rules.specs.Legality.{verdict}
+use Rattle.tl_params.specs.Refusal.{ok_unless}
 use Rattle.tl_rules.proofs.Checks.{broken_control, c_owns, c_beats, c_single}
 use Rattle.tl_rules.proofs.check.check_c.Goals as goal
 
@@ -10,4 +10,4 @@ returns-in_err-control_of_c g c =
     p.1 ∙ ap Err p.2 ∙ sym (broken_control c.args.level _ _ _ (c_owns c.args.message.now) _ (c_beats c.args.level c.args.message.now) c.in_err-control_of_c.ensures.value c.requires)
 
 pub returns : goal.returns
-returns g c = c.own_of_c.ensures ∙ rw c.bit_of.ensures (sym (ap verdict (c_single c.args.level c.args.message.now (sym c.in_ok-control_of_c.was ∙ c.control_of_c.ensures.value))))
+returns g c = c.own_of_c.ensures ∙ rw c.bit_of.ensures (sym (ap ok_unless (c_single c.args.level c.args.message.now (sym c.in_ok-control_of_c.was ∙ c.control_of_c.ensures.value))))

@@ -1,9 +1,10 @@
 use Rattle.std.proofs.Common.{◌≡◌, Err, refl, ap, sym, ◌∙◌, arith}
 use Rattle.std.proofs.lemmas.Result.{err_from_is_err_and}
+use Rattle.tl_params.specs.Refusal.{ok_unless}
 use Rattle.tl_beat.specs.declared.opcode.Channel.TheVariants as channel
 use Rattle.tl_burst.specs.declared.message.Message.TheVariants.{D}
-use Rattle.tl_rules.specs.Legality.{verdict}
-use Rattle.tl_rules.proofs.Checks.{broken_control, passed_control, none_yet, none_more, first_own, found_first, few_beats, d_owns, d_beats}
+use Rattle.tl_burst.proofs.Lanes.{few_beats}
+use Rattle.tl_rules.proofs.Checks.{broken_control, passed_control, none_yet, none_more, first_own, found_first, d_owns, d_beats}
 use Rattle.tl_rules.proofs.check.check_d.Goals as goal
 
 pub returns-in_err-control_of_d : goal.returns-in_err-control_of_d
@@ -21,8 +22,8 @@ pub returns-in_err-own_of_d : goal.returns-in_err-own_of_d
 returns-in_err-own_of_d g c =
     let p = err_from_is_err_and c.from_residual-in_err-own_of_d.result c.from_residual-in_err-own_of_d.ensures.1 in
     let control = passed_control c.args.level channel.D (D c.args.message.now) _ (d_owns c.args.message.now) (d_beats c.args.level c.args.message.now) (sym c.in_ok-control_of_d.was ∙ c.control_of_d.ensures.value) in
-    let own : Err c.in_err-own_of_d.field-0.0 ≡ verdict (d_owns c.args.message.now c.loop-i.i) = c.in_err-own_of_d.ensures ∙ rw c.bit_of.ensures refl in
-    p.1 ∙ ap Err p.2 ∙ sym (ap verdict control ∙ found_first (d_owns c.args.message.now) c.loop-i.i _ _ c.loop-i.invariant own (rw c.requires.beats at c.loop-i-test.true))
+    let own : Err c.in_err-own_of_d.field-0.0 ≡ ok_unless (d_owns c.args.message.now c.loop-i.i) = c.in_err-own_of_d.ensures ∙ rw c.bit_of.ensures refl in
+    p.1 ∙ ap Err p.2 ∙ sym (ap ok_unless control ∙ found_first (d_owns c.args.message.now) c.loop-i.i _ _ c.loop-i.invariant own (rw c.requires.beats at c.loop-i-test.true))
 
 pub loop-i-preserved : goal.loop-i-preserved
 loop-i-preserved g c = none_more (d_owns c.args.message.now) c.loop-i.i c.loop-i.invariant (sym c.in_ok-own_of_d.was ∙ c.own_of_d.ensures ∙ rw c.bit_of.ensures refl)
@@ -31,4 +32,4 @@ pub returns : goal.returns
 returns g c =
     let control = passed_control c.args.level channel.D (D c.args.message.now) _ (d_owns c.args.message.now) (d_beats c.args.level c.args.message.now) (sym c.in_ok-control_of_d.was ∙ c.control_of_d.ensures.value) in
     let end : c.args.beats ≡ c.loop-i.i = omega arith in
-    sym (ap verdict (control ∙ ap (first_own (d_owns c.args.message.now) 0) (sym c.requires.beats ∙ end) ∙ c.loop-i.invariant))
+    sym (ap ok_unless (control ∙ ap (first_own (d_owns c.args.message.now) 0) (sym c.requires.beats ∙ end) ∙ c.loop-i.invariant))

@@ -1,6 +1,6 @@
 use Rattle.tl_params.specs.declared.config.Config.{Config}
 use Rattle.tl_world.specs.Log.{Log}
-use Rattle.tl_tool.specs.Playing.{Reaches}
+use Rattle.tl_tool.specs.Stage.{Reaches}
 use Rattle.tl_tool.proofs.PlayedLemmas.{Delivered}
 use Rattle.tl_tool.proofs.play.deliver_all.Given as goal
 

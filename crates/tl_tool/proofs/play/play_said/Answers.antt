@@ -3,15 +3,15 @@ use Rattle.std.proofs.lemmas.List.{append-nil}
 use Rattle.tl_tool.proofs.PlayedLemmas.{drain-said, drain-told, event-said}
 use Rattle.tl_tool.proofs.play.play_said.Goals as goal
 
-pub returns-then-trace : goal.returns-then-trace
-returns-then-trace g c =
-    drain-said c.args.trace c.args.world.now c.deliver_all.new.world c.args.said c.args.out.now.items c.deliver_all.new.out.items c.deliver_all.new.out.items c.in_ok-count-in-Drain.count c.in-Drain.is c.in_ok-count-in-Drain.ensures
+pub returns-then-trace-clause-plays : goal.returns-then-trace-clause-plays
+returns-then-trace-clause-plays g c =
+    drain-said c.args.trace c.args.world.now c.deliver_all.new.world c.args.said c.args.out.now.items c.deliver_all.new.out.items c.deliver_all.new.out.items c.in_ok-count-in-Drain.count c.in-Drain.is c.in_ok-count-in-Drain.ensures.drains
     (rw c.if-trace.true (sym (append-nil c.deliver_all.new.out.items)))
 
-pub returns-else-trace : goal.returns-else-trace
-returns-else-trace g c =
+pub returns-else-trace-clause-plays : goal.returns-else-trace-clause-plays
+returns-else-trace-clause-plays g c =
     drain-told c.args.trace c.args.world.now c.deliver_all.new.world c.args.said c.args.out.now.items c.deliver_all.new.out.items c.put_drained.new.out.items c.in_ok-count-in-Drain.count c.put_drained.result c.if-trace.false c.in-Drain.is
-    c.in_ok-count-in-Drain.ensures c.put_drained.ensures
+    c.in_ok-count-in-Drain.ensures.drains c.put_drained.ensures
 
-pub returns-in-Event : goal.returns-in-Event
-returns-in-Event g c = event-said c.args.trace c.args.world.now c.happen.new.world c.args.said c.in-Event.event c.args.out.now.items c.happen.new.out.items c.happen.result c.in-Event.is c.happen.ensures
+pub returns-in-Event-clause-plays : goal.returns-in-Event-clause-plays
+returns-in-Event-clause-plays g c = event-said c.args.trace c.args.world.now c.happen.new.world c.args.said c.in-Event.event c.args.out.now.items c.happen.new.out.items c.happen.result c.in-Event.is c.happen.ensures.happens

@@ -4,25 +4,25 @@ use Rattle.tl_tool.specs.Played.{header_text}
 use Rattle.tl_tool.specs.Playing.{is_trace}
 use Rattle.tl_tool.proofs.PlayerLemmas.{header-plays}
 use Rattle.tl_tool.proofs.player.open.Goals as goal
-use Rattle.tl_tool.proofs.player.open.Goals.{in-Four+in_ok-world_of-in-Four, in-Eight+in_ok-world_of-in-Eight, in-Sixteen+in_ok-world_of-in-Sixteen}
+use Rattle.tl_tool.proofs.player.open.Goals.{in-Four+in_ok-new-in-Four, in-Eight+in_ok-new-in-Eight, in-Sixteen+in_ok-new-in-Sixteen}
 
 pub returns : goal.returns
 returns g c =
     let s = c.in-Some.schedule in
     elim c.match-width.branch [
-      | in-Four+in_ok-world_of-in-Four w ↦ rw w.player-is (
+      | in-Four+in_ok-new-in-Four w ↦ rw w.player-is (
         header_text (is_trace g.row.TRACES) s.version s.config.clients.items,
         c.in_ok-put_header.ensures,
-        header-plays (is_trace g.row.TRACES) c.args.line.now s.version Four s.config _ (record { spelled = c.in-Some.ensures.spelled; of_profile = c.in-Some.ensures.of_profile }) (sym w.in-Four.is ∙ c.width.ensures) w.in_ok-world_of-in-Four.ensures,
+        header-plays (is_trace g.row.TRACES) c.args.line.now s.version Four s.config _ (record { spelled = c.in-Some.ensures.spelled; of_profile = c.in-Some.ensures.of_profile }) (sym w.in-Four.is ∙ c.width.ensures) w.in_ok-new-in-Four.ensures,
       )
-      | in-Eight+in_ok-world_of-in-Eight w ↦ rw w.player-is (
+      | in-Eight+in_ok-new-in-Eight w ↦ rw w.player-is (
         header_text (is_trace g.row.TRACES) s.version s.config.clients.items,
         c.in_ok-put_header.ensures,
-        header-plays (is_trace g.row.TRACES) c.args.line.now s.version Eight s.config _ (record { spelled = c.in-Some.ensures.spelled; of_profile = c.in-Some.ensures.of_profile }) (sym w.in-Eight.is ∙ c.width.ensures) w.in_ok-world_of-in-Eight.ensures,
+        header-plays (is_trace g.row.TRACES) c.args.line.now s.version Eight s.config _ (record { spelled = c.in-Some.ensures.spelled; of_profile = c.in-Some.ensures.of_profile }) (sym w.in-Eight.is ∙ c.width.ensures) w.in_ok-new-in-Eight.ensures,
       )
-      | in-Sixteen+in_ok-world_of-in-Sixteen w ↦ rw w.player-is (
+      | in-Sixteen+in_ok-new-in-Sixteen w ↦ rw w.player-is (
         header_text (is_trace g.row.TRACES) s.version s.config.clients.items,
         c.in_ok-put_header.ensures,
-        header-plays (is_trace g.row.TRACES) c.args.line.now s.version Sixteen s.config _ (record { spelled = c.in-Some.ensures.spelled; of_profile = c.in-Some.ensures.of_profile }) (sym w.in-Sixteen.is ∙ c.width.ensures) w.in_ok-world_of-in-Sixteen.ensures,
+        header-plays (is_trace g.row.TRACES) c.args.line.now s.version Sixteen s.config _ (record { spelled = c.in-Some.ensures.spelled; of_profile = c.in-Some.ensures.of_profile }) (sym w.in-Sixteen.is ∙ c.width.ensures) w.in_ok-new-in-Sixteen.ensures,
       )
     ]

@@ -3,6 +3,7 @@ use Rattle.std.proofs.lemmas.Result.{err_from_is_err_and}
 use Rattle.tl_params.specs.declared.config.ClientConfig.{ClientConfig}
 use Rattle.tl_params.specs.declared.level.Level.TheVariants as level
 use Rattle.tl_params.specs.Config.{config_fault}
+use Rattle.tl_client.specs.KnowsAny.{KnowsAny, any_terms}
 use Rattle.tl_world.specs.Holds.{clients_of}
 use Rattle.tl_world.proofs.Hired.{no-fault, client-fits, hired}
 use Rattle.tl_world.proofs.agents.agents_of.Goals as goal
@@ -20,5 +21,5 @@ pub loop-client-preserved : goal.loop-client-preserved
 loop-client-preserved g c =
     let zero : ClientConfig = record { level = level.UL; sources = 0 } in
     let inside : c.loop-client.client-index < clients_of c.args.config.now = omega (arith, ap length c.as_slice-client-items.ensures.value) in
-    hired c.args.config.now c.loop-client.client-index c.loop-client.agents.items c.push.new.self.items c.in_ok-agent.agent zero c.loop-client.invariant (search rules) inside
-    c.in_ok-agent.ensures.1 (rw c.as_slice-client-items.ensures.value at c.in_ok-agent.ensures.2)
+    hired KnowsAny any_terms c.args.config.now c.loop-client.client-index c.loop-client.agents.items c.push.new.self.items c.in_ok-agent.agent zero c.loop-client.invariant (search rules) inside
+    (record { fresh = c.in_ok-agent.ensures.1; terms_are = rw c.as_slice-client-items.ensures.value at c.in_ok-agent.ensures.2 })

@@ -12,4 +12,5 @@ pub returns-in-Ok-clause-answer : goal.returns-in-Ok-clause-answer
 returns-in-Ok-clause-answer g c = λ e k. rw (offered-taken c.args.self.now e c.args.channel c.args.beat.now k (c.in-Ok.ensures.rule e k)) (search rules)
 
 pub returns-in-Ok-clause-after : goal.returns-in-Ok-clause-after
-returns-in-Ok-clause-after g c = λ e k. knows-taken c.args.self.now _ e c.args.channel c.args.beat.now k (c.in-Ok.ensures.rule e k) c.take.ensures.closed c.take.ensures.responses c.take.ensures.requests
+returns-in-Ok-clause-after g c =
+    λ e k. knows-taken c.args.self.now _ e c.args.channel c.args.beat.now k (c.in-Ok.ensures.rule e k) c.take.ensures.closed c.take.ensures.responses c.take.ensures.requests

@@ -4,7 +4,8 @@ use Rattle.tl_monitor.proofs.Numbered.{no-entries, link-entries}
 use Rattle.tl_monitor.proofs.monitor.Monitor.entries.Goals as goal
 
 pub returns-then-n-len : goal.returns-then-n-len
-returns-then-n-len g c = λ levels p t closed k. no-entries levels c.args.link t c.from-n.result c.len.result c.from-n.ensures (let e = ap length k.levels_are in omega (arith, c.len.ensures, e)) c.if-n-len.true
+returns-then-n-len g c =
+    λ levels p t closed k. no-entries levels c.args.link t c.from-n.result c.len.result c.from-n.ensures (let e = ap length k.levels_are in omega (arith, c.len.ensures, e)) c.if-n-len.true
 
 pub returns : goal.returns
 returns g c = λ levels p t closed k.

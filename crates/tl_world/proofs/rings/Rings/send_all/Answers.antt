@@ -9,14 +9,14 @@ pub loop-link-init : goal.loop-link-init
 unfolding with_messages
 loop-link-init g c = record {
   kept = search rules;
-  moved = λ n s carried fits. moved-still n c.args.self.now.all.items s carried;
+  moved = λ n s carried fits. moved-still n c.args.self.now s carried;
 }
 
 pub loop-link-preserved : goal.loop-link-preserved
 loop-link-preserved g c = record {
   kept = search rules;
   moved = λ n s carried fits.
-      moved-more n c.args.self.now.all.items c.loop-link.self.all.items c.send.new.self.all.items s c.args.handed.now.items c.loop-link.link-index c.loop-link-item.result c.loop-link-item.result (search rules) (rw c.as_slice-link-items.ensures.value at c.loop-link-item.is) c.loop-link.invariant.kept
+      moved-more n c.args.self.now c.loop-link.self c.send.new.self s c.args.handed.now.items c.loop-link.link-index c.loop-link-item.result c.loop-link-item.result (search rules) (rw c.as_slice-link-items.ensures.value at c.loop-link-item.is) c.loop-link.invariant.kept
       (c.loop-link.invariant.moved n s carried) (c.send.ensures.moved n _) fits;
 }
 

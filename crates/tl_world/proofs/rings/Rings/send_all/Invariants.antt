@@ -5,6 +5,6 @@ use Rattle.tl_world.proofs.rings.Rings.send_all.Given as goal
 
 abbrev pub invariant-loop-link : goal.invariant-loop-link
 invariant-loop-link g l = record {
-  kept : AreKept l.fn.self.all.items l.self.all.items;
-  moved : (n : ℕ) (s : System g.row.W) → Carries n l.fn.self.all.items s → Fit n l.fn.self.all.items (with_messages l.handed.items s) → AreMoved n l.fn.self.all.items l.self.all.items (with_messages (take l.link-index l.handed.items) s);
+  kept : AreKept l.fn.self l.self;
+  moved : (n : ℕ) (s : System g.row.W) → Carries n l.fn.self s → Fit n l.fn.self (with_messages l.handed.items s) → AreMoved n l.fn.self l.self (with_messages (take l.link-index l.handed.items) s);
 }

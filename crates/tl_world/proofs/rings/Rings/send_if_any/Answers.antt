@@ -4,7 +4,7 @@ use Rattle.tl_world.proofs.rings.Rings.send_if_any.Goals as goal
 
 pub returns-in-None-clause-moved : goal.returns-in-None-clause-moved
 unfolding with_messages
-returns-in-None-clause-moved g c = λ n s carried fits. rw c.in-None.is (moved-still n c.args.self.now.all.items s carried)
+returns-in-None-clause-moved g c = λ n s carried fits. rw c.in-None.is (moved-still n c.args.self.now s carried)
 
 pub returns-in-Some-clause-moved : goal.returns-in-Some-clause-moved
 unfolding with_messages

@@ -17,5 +17,5 @@ returns-clause-done g c = λ config t memory few at home.
     let word = probed-word config c.args.number c.args.link c.args.request.now c.in-Some.cap c.probed-missing.result (g.D.Directory.perm_of c.args.self.now.directory (block_at c.args.request.now.address)) t at.sound
     c.probed-missing.ensures (home.records (block_at c.args.request.now.address)) in
     done-probed g.D.Directory.perm_of config _ _ (service_with c.args.number c.args.link c.args.request.now) _ c.in-Some.cap t memory c.in-Some.ensures
-    (rw (c.probes.ensures, c.block_of.ensures) (home-probed g.D.Directory.perm_of config c.args.self.now _ c.args.number c.args.link c.args.request.now c.in-Some.cap c.probed-missing.result t memory refl refl refl c.set.ensures.count c.set.ensures.trackers few word
+    (rw c.block_at.ensures (home-probed g.D.Directory.perm_of config c.args.self.now _ c.args.number c.args.link c.args.request.now c.in-Some.cap c.probed-missing.result t memory refl refl refl c.set.ensures.count c.set.ensures.trackers few word
     (ne_eqb _ _ c.if-missing-eq0.false) at home))

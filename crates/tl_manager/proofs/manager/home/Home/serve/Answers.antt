@@ -1,4 +1,5 @@
 use Rattle.std.proofs.Common.{refl}
+use Rattle.tl_manager.specs.Sending.{messages_of}
 use Rattle.tl_manager.specs.Trackers.{tracker_at}
 use Rattle.tl_manager.proofs.Completed.{has-room, done-served}
 use Rattle.tl_manager.proofs.manager.home.Home.serve.Goals as goal
@@ -9,5 +10,5 @@ returns-in-None-clause-done g c = λ config x e few is home.
 
 pub returns-in-Some-clause-done : goal.returns-in-Some-clause-done
 returns-in-Some-clause-done g c = λ config x e few is home.
-    done-served g.D.Directory.perm_of config c.args.self.now c.begin.new.self c.begin.result.items c.in-Some.number c.args.link x c.args.request.now e is.filled c.in-Some.ensures.free.1 c.in-Some.ensures.free.2
+    done-served g.D.Directory.perm_of config c.args.self.now c.begin.new.self (messages_of c.begin.result) c.in-Some.number c.args.link x c.args.request.now e is.filled c.in-Some.ensures.free.1 c.in-Some.ensures.free.2
     (λ t memory at without. c.begin.ensures.done config t memory few at without) is home

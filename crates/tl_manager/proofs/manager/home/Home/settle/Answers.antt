@@ -29,5 +29,5 @@ returns-clause-done g c = λ config x e memory is home.
     let serves = rw p.1 at p.0.serves in
     let bits = missing-reported config c.args.link c.args.block x e c.in-Probing.missing c.without-missing.result is (rw p.1 at p.0.bits) c.without-missing.ensures in
     let more = sym (missing-word config c.args.link c.args.block x e c.without-missing.result is bits) ∙ ne_eqb _ _ c.if-missing-eq0.false in
-    rw c.new-2.ensures (done-waiting g.D.Directory.perm_of config c.args.self.now _ c.in-Some.number c.in-Probing.asking c.args.link c.in-Probing.request c.without-missing.result c.args.block x e memory
-    refl refl refl c.set.ensures.count c.set.ensures.trackers is p.1 serves p.0.unanswered bits more home)
+    done-waiting g.D.Directory.perm_of config c.args.self.now _ c.in-Some.number c.in-Probing.asking c.args.link c.in-Probing.request c.without-missing.result c.args.block x e memory
+    refl refl refl c.set.ensures.count c.set.ensures.trackers is p.1 serves p.0.unanswered bits more home

@@ -1,4 +1,4 @@
-use Rattle.std.proofs.Common.{refl, rules, ◌∙◌, ◌≡◌, length, false, Some}
+use Rattle.std.proofs.Common.{refl, rules, ◌≡◌, length, false, Some}
 use Rattle.std.specs.Prelude.{slice_get}
 use Rattle.std.proofs.lemmas.Option.{slice_get_read}
 use Rattle.tl_manager.proofs.Carrying.{goes-on, last-is, is-complete, knows-taken}
@@ -27,7 +27,7 @@ returns-in_default-clause-handed g c = λ config e k.
     let passes = c.requires.passes config e k in
     let ok = passed config c.args.link passes.0 c.args.beat.now e c.typed.ensures passes.1 in
     let part = last-is config c.args.link c.index_mut.result.now c.args.beat.now e false ok (k.wires c.args.link.0 c.index_mut.result.now found) c.in_default.ensures.completes in
-    c.new.ensures ∙ (done-part g.D.Directory.perm_of config c.args.self.now.home c.args.link c.args.beat.now e ok.theirs part k.home).0
+    (done-part g.D.Directory.perm_of config c.args.self.now.home c.args.link c.args.beat.now e ok.theirs part k.home).0
 
 pub returns-in_default-clause-knows : goal.returns-in_default-clause-knows
 returns-in_default-clause-knows g c = λ config e k.

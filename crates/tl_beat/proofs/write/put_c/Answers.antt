@@ -1,7 +1,0 @@
-use Rattle.std.proofs.Common.{append_assoc}
-use Rattle.tl_beat.specs.Line.{spaced}
-use Rattle.tl_beat.proofs.write.put_c.Goals as goal
-
-pub returns-clause-text : goal.returns-clause-text
-unfolding spaced
-returns-clause-text g c = rw (c.put_tail.ensures.text, c.put_number.ensures.text, c.put_head.ensures.text, c.code.ensures) (simp append_assoc)

@@ -1,7 +1,0 @@
-use Rattle.std.proofs.Common.{append_assoc}
-use Rattle.tl_beat.specs.Line.{spaced}
-use Rattle.tl_beat.proofs.write.put_e.Goals as goal
-
-pub returns-clause-text : goal.returns-clause-text
-unfolding spaced
-returns-clause-text g c = rw (c.put_number.ensures.text, c.from-2.ensures, c.push-2.ensures.items, c.push.ensures.items, c.put_digits.ensures.text, c.from.ensures, c.requires) (simp append_assoc)

@@ -1,0 +1,6 @@
+-- What a call answers that refuses by the first rule or limit that is broken.
+use Rattle.std.specs.Prelude.{⊤, Option, Some, None, Result, Ok, Err}
+
+abbrev pub ok_unless : {E : Type 0} → Option E → Result ⊤ E
+ok_unless None = Ok tt
+ok_unless (Some broken) = Err broken

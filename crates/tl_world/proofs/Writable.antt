@@ -1,0 +1,137 @@
+-- A beat of a message that breaks no rule of legality has room in its line.
+use Rattle.std.proofs.Common.{◌≡◌, ℕ, ◌<◌, ◌≤◌, ◌*◌, ◌/◌, ◌^◌, Bool, true, false, ◌&&◌, refl, arith, pow_pos, inl, inr, [], ◌∷◌}
+use Rattle.std.specs.Prelude.{None, is_some, ◌==◌}
+use Rattle.std.proofs.lemmas.Bool.{cases_lt, eqb-true, ne_eqb, not-false, both_ways, and_parts}
+use Rattle.std.proofs.lemmas.Nat.{mod_below}
+use Rattle.tl_beat.specs.declared.beat.Beat.{Beat}
+use Rattle.tl_beat.specs.declared.beat.Beat.TheVariants.{A, B, C, D, E}
+use Rattle.tl_beat.specs.declared.opcode.Channel.{Channel}
+use Rattle.tl_beat.specs.declared.opcode.OpA.{OpA}
+use Rattle.tl_beat.specs.declared.opcode.OpA.TheVariants as a
+use Rattle.tl_beat.specs.declared.opcode.OpC.{OpC}
+use Rattle.tl_beat.specs.declared.opcode.OpC.TheVariants as c
+use Rattle.tl_beat.specs.declared.opcode.OpD.{OpD}
+use Rattle.tl_beat.specs.declared.opcode.OpD.TheVariants as d
+use Rattle.tl_beat.specs.Line.{IsWritable}
+use Rattle.tl_beat.specs.Width.{IsWidth}
+use Rattle.tl_burst.specs.declared.message.Message.{Message}
+use Rattle.tl_burst.specs.declared.message.Message.TheVariants as message
+use Rattle.tl_burst.specs.Burst.{beat_of}
+use Rattle.tl_params.specs.declared.level.Level.{Level}
+use Rattle.tl_params.specs.declared.rule.Rule.TheVariants.{L1, L2, L3, L7}
+use Rattle.tl_params.specs.Param.{cap_of}
+use Rattle.tl_rules.specs.Legality.{a_has_param, a_has_size, breaks_l1, breaks_l2, breaks_l3, breaks_l7, c_has_param, c_has_source, d_has_param, d_has_sink, illegal, is_one_of}
+use Rattle.tl_rules.proofs.Bursts.{next_rule}
+use Rattle.tl_rules.proofs.Sizes.{access-small, response-small}
+
+-- ---- params
+
+apart : (n k : ℕ) → k < n → (n == k) ≡ false
+apart n k less = ne_eqb n k (λ e. absurd (omega (arith, e, less)))
+
+cap-large : (n : ℕ) → 4 ≤ n → is_some (cap_of n) ≡ false
+cap-large n large = rw (apart n 0 (omega arith), apart n 1 (omega arith), apart n 2 (omega arith)) refl
+
+a-large : (opcode : OpA) (n : ℕ) → 8 ≤ n → a_has_param opcode n ≡ false
+a-large a.PutFullData n large = apart n 0 (omega arith)
+a-large a.PutPartialData n large = apart n 0 (omega arith)
+a-large a.ArithmeticData n large = rw (apart n 0 (omega arith), apart n 1 (omega arith), apart n 2 (omega arith), apart n 3 (omega arith), apart n 4 (omega arith)) refl
+a-large a.LogicalData n large = rw (apart n 0 (omega arith), apart n 1 (omega arith), apart n 2 (omega arith), apart n 3 (omega arith)) refl
+a-large a.Get n large = apart n 0 (omega arith)
+a-large a.Intent n large = rw (apart n 0 (omega arith), apart n 1 (omega arith)) refl
+a-large a.AcquireBlock n large = rw (apart n 0 (omega arith), apart n 1 (omega arith), apart n 2 (omega arith)) refl
+a-large a.AcquirePerm n large = rw (apart n 0 (omega arith), apart n 1 (omega arith), apart n 2 (omega arith)) refl
+
+c-large : (opcode : OpC) (n : ℕ) → 8 ≤ n → c_has_param opcode n ≡ false
+c-large c.AccessAck n large = apart n 0 (omega arith)
+c-large c.AccessAckData n large = apart n 0 (omega arith)
+c-large c.HintAck n large = apart n 0 (omega arith)
+c-large c.ProbeAck n large = rw (apart n 0 (omega arith), apart n 1 (omega arith), apart n 2 (omega arith), apart n 3 (omega arith), apart n 4 (omega arith), apart n 5 (omega arith)) refl
+c-large c.ProbeAckData n large = rw (apart n 0 (omega arith), apart n 1 (omega arith), apart n 3 (omega arith)) refl
+c-large c.Release n large = rw (apart n 0 (omega arith), apart n 1 (omega arith), apart n 2 (omega arith)) refl
+c-large c.ReleaseData n large = rw (apart n 0 (omega arith), apart n 1 (omega arith)) refl
+
+d-large : (opcode : OpD) (n : ℕ) → 4 ≤ n → d_has_param opcode n ≡ false
+d-large d.AccessAck n large = apart n 0 (omega arith)
+d-large d.AccessAckData n large = apart n 0 (omega arith)
+d-large d.HintAck n large = apart n 0 (omega arith)
+d-large d.Grant n large = cap-large n large
+d-large d.GrantData n large = cap-large n large
+d-large d.ReleaseAck n large = apart n 0 (omega arith)
+
+-- a number that passes a test which those from a limit on don't pass
+below : (n limit : ℕ) (b : Bool) → (limit ≤ n → b ≡ false) → b ≡ true → n < limit
+below n limit b large e = elim (cases_lt n limit) [ inl less ↦ less | inr more ↦ absurd (both_ways b (large more) e) ]
+
+-- ---- sizes
+
+one-of-few : (n : ℕ) → is_one_of n (2 ∷ 3 ∷ []) ≡ true → n ≤ 6
+one-of-few n e =
+    let less : n < 7 = below n 7 (is_one_of n (2 ∷ 3 ∷ [])) (λ large. rw (apart n 2 (omega arith), apart n 3 (omega arith)) refl) e in
+    omega arith
+
+request-small : (w size : ℕ) (l : Level) (opcode : OpA) → IsWidth w → a_has_size w l opcode size ≡ true → size ≤ 6
+request-small w size l a.PutFullData width e = access-small w size l width e
+request-small w size l a.PutPartialData width e = access-small w size l width e
+request-small w size l a.ArithmeticData width e = one-of-few size e
+request-small w size l a.LogicalData width e = one-of-few size e
+request-small w size l a.Get width e = access-small w size l width e
+request-small w size l a.Intent width e = access-small w size l width e
+request-small w size l a.AcquireBlock width e = let h = eqb-true size 6 e in omega (arith, h)
+request-small w size l a.AcquirePerm width e = let h = eqb-true size 6 e in omega (arith, h)
+
+-- ---- beats
+
+-- a mask has no bit past the lanes of a beat
+abbrev IsNarrow : {w : ℕ} → Beat w → Type 0
+IsNarrow {w} (A x) = x.mask < 2 ^ w
+IsNarrow {w} (B x) = x.mask < 2 ^ w
+IsNarrow _ = Unit {0}
+
+narrow : {w : ℕ} (m : Message w) (k : ℕ) → IsNarrow (beat_of m k)
+narrow {w} (message.A m) k = mod_below (m.mask / 2 ^ (w * k)) (2 ^ w) (pow_pos w)
+narrow {w} (message.B m) k = mod_below (m.mask / 2 ^ (w * k)) (2 ^ w) (pow_pos w)
+narrow (message.C m) k = tt
+narrow (message.D m) k = tt
+narrow (message.E m) k = tt
+
+-- the rules of params and sizes, which a legal beat keeps
+record Keeps {w : ℕ} (l : Level) (x : Beat w) : Type 0 where
+  two : breaks_l2 x ≡ false
+  three : breaks_l3 l x ≡ false
+
+keeps : {w : ℕ} (l : Level) (ch : Channel) (x : Beat w) → illegal l ch x ≡ None → Keeps l x
+unfolding illegal
+keeps l ch x e =
+    let one = next_rule (breaks_l1 l ch x) L1 _ e in
+    let seven = next_rule (breaks_l7 x) L7 _ one.1 in
+    let two = next_rule (breaks_l2 x) L2 _ seven.1 in
+    let three = next_rule (breaks_l3 l x) L3 _ two.1 in
+    record { two = two.0; three = three.0 }
+
+roomy : {w : ℕ} (l : Level) (ch : Channel) (x : Beat w) → IsWidth w → IsNarrow x → illegal l ch x ≡ None → IsWritable x
+roomy {w} l ch (A x) width mask e =
+    let k = keeps l ch (A x) e in
+    let param : x.param < 8 = below x.param 8 (a_has_param x.opcode x.param) (a-large x.opcode x.param) (not-false (a_has_param x.opcode x.param) k.two) in
+    let size : x.size ≤ 6 = request-small w x.size l x.opcode width (not-false (a_has_size w l x.opcode x.size) k.three) in
+    (param, omega arith, mask)
+roomy {w} l ch (B x) width mask e =
+    let k = keeps l ch (B x) e in
+    let both = and_parts (is_some (cap_of x.param)) (x.source == 0) (not-false (is_some (cap_of x.param) && (x.source == 0)) k.two) in
+    let param : x.param < 4 = below x.param 4 (is_some (cap_of x.param)) (cap-large x.param) both.0 in
+    let is : x.size ≡ 6 = eqb-true x.size 6 (not-false (x.size == 6) k.three) in
+    (omega arith, omega (arith, is), mask)
+roomy {w} l ch (C x) width mask e =
+    let k = keeps l ch (C x) e in
+    let both = and_parts (c_has_param x.opcode x.param) (c_has_source x.opcode x.source) (not-false (c_has_param x.opcode x.param && c_has_source x.opcode x.source) k.two) in
+    let is : x.size ≡ 6 = eqb-true x.size 6 (not-false (x.size == 6) k.three) in
+    (below x.param 8 (c_has_param x.opcode x.param) (c-large x.opcode x.param) both.0, omega (arith, is))
+roomy {w} l ch (D x) width mask e =
+    let k = keeps l ch (D x) e in
+    let both = and_parts (d_has_param x.opcode x.param) (d_has_sink x.opcode x.sink) (not-false (d_has_param x.opcode x.param && d_has_sink x.opcode x.sink) k.two) in
+    let size = response-small l ch x width e in
+    (below x.param 4 (d_has_param x.opcode x.param) (d-large x.opcode x.param) both.0, omega (arith, size))
+roomy l ch (E x) width mask e = tt
+
+pub legal-writable : {w : ℕ} (l : Level) (ch : Channel) (m : Message w) (k : ℕ) → IsWidth w → illegal l ch (beat_of m k) ≡ None → IsWritable (beat_of m k)
+legal-writable l ch m k width e = roomy l ch (beat_of m k) width (narrow m k) e

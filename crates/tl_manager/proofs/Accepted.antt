@@ -13,7 +13,7 @@ use Rattle.tl_rules.specs.Conformance.{Trace, on_link, comes_in_request}
 use Rattle.tl_rules.specs.History.{is_acquire, pending, request_of, probe_of, grant_sink}
 use Rattle.tl_rules.proofs.Sent.{pending-quiet}
 use Rattle.tl_manager.specs.Pending.{one_if, is_granted, is_asking, IsAccounted}
-use Rattle.tl_manager.specs.Service.{Service, services, serving}
+use Rattle.tl_manager.specs.Service.{Service, services, service_of_block}
 use Rattle.tl_manager.proofs.Asked.{Place, First, Later}
 use Rattle.tl_manager.proofs.Counts.{count-served}
 use Rattle.tl_manager.proofs.Links.{own_beat, other_beat, beat-keeps}
@@ -29,7 +29,7 @@ some_of true m n e lt = refl
 some_of false m n e lt = absurd (omega (arith, e, lt))
 
 -- their sources are pending
-pub asking-pending : {w : ℕ} (k : ℕ) (s : Service w) (t : Trace w) → IsAccounted t → serving k (services t) ≡ Some s → is_granted t s ≡ false
+pub asking-pending : {w : ℕ} (k : ℕ) (s : Service w) (t : Trace w) → IsAccounted t → service_of_block k (services t) ≡ Some s → is_granted t s ≡ false
     → pending (RequestSource s.request.source) (on_link s.link.0 t) ≡ true
 asking-pending k s t ok e free =
     some_of (pending (RequestSource s.request.source) (on_link s.link.0 t)) (one_if (comes_in_request s.request.source (unfinished channel.A (on_link s.link.0 t)))) _
@@ -74,7 +74,7 @@ unfolding probe_of
 probe_of-a k x t = refl
 
 -- a block that the beat opens no Acquire of
-pub same-else : {w : ℕ} (link : Link) (x : BeatA w) (t : Trace w) (k : ℕ) → Place x (on_link link.0 t) → IsAccounted t → serving k (services ((link, beat.A x) ∷ t)) ≡ serving k (services t)
+pub same-else : {w : ℕ} (link : Link) (x : BeatA w) (t : Trace w) (k : ℕ) → Place x (on_link link.0 t) → IsAccounted t → service_of_block k (services ((link, beat.A x) ∷ t)) ≡ service_of_block k (services t)
     → pending (AcquireOf k) (beat.A x ∷ on_link link.0 t) ≡ pending (AcquireOf k) (on_link link.0 t) → IsSame k t ((link, beat.A x) ∷ t)
 same-else {w} link x t k place ok serves acquires = record {
   serves = serves;

@@ -16,7 +16,7 @@ use Rattle.tl_rules.specs.Conformance.{Trace, on_link}
 use Rattle.tl_rules.specs.History.{block_at, is_grant, is_acquire, is_release_ack, pending}
 use Rattle.tl_rules.proofs.Open.{never}
 use Rattle.tl_manager.specs.Pending.{count_where, is_granted, is_asking, is_acquiring, is_granted_to, IsNamed, IsHandled, IsAccounted}
-use Rattle.tl_manager.specs.Service.{Service, services, serving, is_access_answer, is_ended_by}
+use Rattle.tl_manager.specs.Service.{Service, services, service_of_block, is_access_answer, is_ended_by}
 use Rattle.tl_manager.proofs.Counts.{count-filter, counted-kept, filter-same, each_both, same_block, serving-without}
 use Rattle.tl_manager.proofs.Ended.{services-sent}
 use Rattle.tl_manager.proofs.Handed.{after_sent}
@@ -53,7 +53,7 @@ granted-still link m t v width none other =
     ap (λ b. is_acquire v.request.opcode && b) (reply-quiet (GrantSink v.tracker) link m t v.link.0 width none (λ e. (rw other refl, refl)))
 
 same-still : {w : ℕ} (link : Link) (m : MessageD w) (t : Trace w) (k : ℕ) → IsWidth w → unfinished channel.D (on_link link.0 t) ≡ [] → is_grant m.opcode ≡ false
-    → serving k (services (after_sent link (D m) t)) ≡ serving k (services t) → IsSame k t (after_sent link (D m) t)
+    → service_of_block k (services (after_sent link (D m) t)) ≡ service_of_block k (services t) → IsSame k t (after_sent link (D m) t)
 same-still link m t k width none other serves = record {
   serves = serves;
   granted = λ v e. granted-still link m t v width none other;
@@ -86,7 +86,7 @@ accounted-release_ack {w} link m t width none ack ok =
       requests = λ c q. request-reply link m t c q;
     })
     (λ c. reports-reply link m t c width none ok)
-    (λ k. handled-same k t (after_sent link (D m) t) (same-still link m t k width none other (ap (serving k) (services-release_ack link m t width none ack))) (ok.blocks k)) ok
+    (λ k. handled-same k t (after_sent link (D m) t) (same-still link m t k width none other (ap (service_of_block k) (services-release_ack link m t width none ack))) (ok.blocks k)) ok
 
 -- ---- an answer to an access
 
@@ -135,15 +135,15 @@ accounted-answer {w} n s m t is answer access ok = record {
     other : is_grant m.opcode ≡ false
     other = answer_kind m.opcode answer
 
-    serves : (k : ℕ) → serving k (services u) ≡ (if n == k then None else serving k (services t))
-    serves k = ap (serving k) (services-answer n s m t is answer access ok) ∙ serving-without n k (services t)
+    serves : (k : ℕ) → service_of_block k (services u) ≡ (if n == k then None else service_of_block k (services t))
+    serves k = ap (service_of_block k) (services-answer n s m t is answer access ok) ∙ serving-without n k (services t)
 
     counted : (c q : ℕ) → count_where (is_asking c q u) (services u) ≡ count_where (asks_else n c q t) (services t)
     counted c q =
         ap (count_where (is_asking c q u)) (services-answer n s m t is answer access ok) ∙ counted-kept t u c q (filter (λ v. not (block_at v.request.address == n)) (services t)) (λ v. granted-still s.link m t v is.width is.whole other)
         ∙ count-filter (λ v. not (block_at v.request.address == n)) (is_asking c q t) (services t)
 
-    gone : serving n (services u) ≡ None
+    gone : service_of_block n (services u) ≡ None
     gone = serves n ∙ rw (eq-eqb n n refl) refl
 
     handled : (k : ℕ) (b : Bool) → (n == k) ≡ b → IsHandled k u

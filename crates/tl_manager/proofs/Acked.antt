@@ -17,7 +17,7 @@ use Rattle.tl_rules.proofs.Sent.{pending-quiet}
 use Rattle.tl_rules.proofs.Open.{never}
 use Rattle.tl_manager.specs.Kept.{AreApart, blocks_of}
 use Rattle.tl_manager.specs.Pending.{count_where, is_granted, is_asking, is_acquiring, is_granted_to, IsNamed, IsHandled, IsAccounted}
-use Rattle.tl_manager.specs.Service.{Service, services, serving, is_ended_by}
+use Rattle.tl_manager.specs.Service.{Service, services, service_of_block, is_ended_by}
 use Rattle.tl_manager.proofs.Counts.{count-same, count-filter, all-each}
 use Rattle.tl_manager.proofs.Links.{own_beat, other_beat, beat-keeps, pending-closed, whole-e}
 use Rattle.tl_manager.proofs.Serving.{if_passes, serving-filter, some_is}
@@ -110,8 +110,8 @@ ack-kept {w} link x t k c other = go (link.0 == c) refl
         ∙ left (ends {w = w} (beat.E x) (on_link c t)) (is_sink x.sink (grant_sink k (on_link c t))) (pending (GrantAckOf k) (on_link c t)) (other e)
     go false e = ap (pending (GrantAckOf k)) (other_beat c link (beat.E x) t e)
 
-same-e : {w : ℕ} (link : Link) (x : BeatE) (t : Trace w) (k : ℕ) → serving k (services ((link, beat.E x) ∷ t)) ≡ serving k (services t)
-    → ((s : Service w) → serving k (services t) ≡ Some s → is_ended_by (link, beat.E x) s ≡ false)
+same-e : {w : ℕ} (link : Link) (x : BeatE) (t : Trace w) (k : ℕ) → service_of_block k (services ((link, beat.E x) ∷ t)) ≡ service_of_block k (services t)
+    → ((s : Service w) → service_of_block k (services t) ≡ Some s → is_ended_by (link, beat.E x) s ≡ false)
     → ((c : ℕ) → pending (GrantAckOf k) (on_link c ((link, beat.E x) ∷ t)) ≡ pending (GrantAckOf k) (on_link c t)) → IsSame k t ((link, beat.E x) ∷ t)
 same-e link x t k serves kept grants = record {
   serves = serves;
@@ -124,7 +124,7 @@ same-e link x t k serves kept grants = record {
   probe = λ c. beat-keeps (probe_of k) c link (beat.E x) t (probe_of-e k x);
 }
 
-handled-e : {w : ℕ} (link : Link) (x : BeatE) (t : Trace w) (k : ℕ) (o : Option (Service w)) → serving k (services t) ≡ o → pending (GrantSink x.sink) (on_link link.0 t) ≡ true
+handled-e : {w : ℕ} (link : Link) (x : BeatE) (t : Trace w) (k : ℕ) (o : Option (Service w)) → service_of_block k (services t) ≡ o → pending (GrantSink x.sink) (on_link link.0 t) ≡ true
     → AreApart (blocks_of (services t)) → IsHandled k t → IsHandled k ((link, beat.E x) ∷ t)
 handled-e {w} link x t k o is pends apart ok = go o is (serving_after ∙ ap (if_passes keeps) is)
   where
@@ -134,14 +134,14 @@ handled-e {w} link x t k o is pends apart ok = go o is (serving_after ∙ ap (if
     keeps : Service w → Bool
     keeps s = not (is_ended_by (link, beat.E x) s)
 
-    serving_after : serving k (services u) ≡ if_passes keeps (serving k (services t))
-    serving_after = ap (serving k) (services-e link x t) ∙ serving-filter k keeps (services t) apart
+    serving_after : service_of_block k (services u) ≡ if_passes keeps (service_of_block k (services t))
+    serving_after = ap (service_of_block k) (services-e link x t) ∙ serving-filter k keeps (services t) apart
 
     missing : (c : ℕ) → pending (ProbeOf k) (on_link c u) ≡ pending (ProbeOf k) (on_link c t)
     missing c = beat-keeps (pending (ProbeOf k)) c link (beat.E x) t (λ h. pending-quiet (ProbeOf k) (beat.E x) h refl refl)
 
     -- the sink of a Grant of the block that isn't acknowledged
-    its_sink : (c : ℕ) (s : Service w) → serving k (services t) ≡ Some s → pending (GrantAckOf k) (on_link c t) ≡ true
+    its_sink : (c : ℕ) (s : Service w) → service_of_block k (services t) ≡ Some s → pending (GrantAckOf k) (on_link c t) ≡ true
         → (s.link.0 ≡ c) × (is_granted t s ≡ true) × (grant_sink k (on_link c t) ≡ Some s.tracker)
     its_sink c s e f =
         let p = and_parts (s.link.0 == c) (is_granted t s) (sym (ok.grants c ∙ ap (is_granted_to c t) e) ∙ f) in
@@ -149,7 +149,7 @@ handled-e {w} link x t k o is pends apart ok = go o is (serving_after ∙ ap (if
         let named = subst (IsNamed k t) e ok.named in
         (here, p.1, ap (λ i. grant_sink k (on_link i t)) (sym here) ∙ named.1 p.1)
 
-    sink_apart : (c : ℕ) (s : Service w) → serving k (services t) ≡ Some s → is_ended_by (link, beat.E x) s ≡ false → (link.0 == c) ≡ true → pending (GrantAckOf k) (on_link c t) ≡ true
+    sink_apart : (c : ℕ) (s : Service w) → service_of_block k (services t) ≡ Some s → is_ended_by (link, beat.E x) s ≡ false → (link.0 == c) ≡ true → pending (GrantAckOf k) (on_link c t) ≡ true
         → is_sink x.sink (grant_sink k (on_link c t)) ≡ false
     sink_apart c s e kept here f =
         let its = its_sink c s e f in
@@ -161,7 +161,7 @@ handled-e {w} link x t k o is pends apart ok = go o is (serving_after ∙ ap (if
             cc)
         away false g own acquires = refl
 
-    gone : (s : Service w) → serving k (services t) ≡ Some s → is_ended_by (link, beat.E x) s ≡ true → serving k (services u) ≡ None → IsHandled k u
+    gone : (s : Service w) → service_of_block k (services t) ≡ Some s → is_ended_by (link, beat.E x) s ≡ true → service_of_block k (services u) ≡ None → IsHandled k u
     gone s e ended none =
         let granted = ended-granted link x t s pends ended in
         record {
@@ -202,7 +202,7 @@ handled-e {w} link x t k o is pends apart ok = go o is (serving_after ∙ ap (if
             ap (pending (GrantAckOf k)) (other_beat c link (beat.E x) t f) ∙ ok.grants c ∙ ap (is_granted_to c t) e
             ∙ ap (λ i. (i == c) && is_granted t s) link_is ∙ ap (λ b. b && is_granted t s) f
 
-    left : (s : Service w) → serving k (services t) ≡ Some s → (b : Bool) → is_ended_by (link, beat.E x) s ≡ b → serving k (services u) ≡ (if not b then Some s else None) → IsHandled k u
+    left : (s : Service w) → service_of_block k (services t) ≡ Some s → (b : Bool) → is_ended_by (link, beat.E x) s ≡ b → service_of_block k (services u) ≡ (if not b then Some s else None) → IsHandled k u
     left s e true ended after = gone s e ended after
     left s e false kept after =
         handled-same k t u
@@ -211,7 +211,7 @@ handled-e {w} link x t k o is pends apart ok = go o is (serving_after ∙ ap (if
         (λ c. ack-kept link x t k c (λ here f. sink_apart c s e kept here f)))
         ok
 
-    go : (r : Option (Service w)) → serving k (services t) ≡ r → serving k (services u) ≡ if_passes keeps r → IsHandled k u
+    go : (r : Option (Service w)) → service_of_block k (services t) ≡ r → service_of_block k (services u) ≡ if_passes keeps r → IsHandled k u
     go None e after =
         handled-same k t u
         (same-e link x t k (after ∙ sym e)
@@ -231,7 +231,7 @@ accounted-e {w} link x t pends apart ok = record {
   reports = λ c.
       reports-kept t u c (beat-keeps (unfinished channel.C) c link (beat.E x) t (burst-ec x))
       (λ k e. beat-keeps (pending (ProbeOf k)) c link (beat.E x) t (λ h. pending-quiet (ProbeOf k) (beat.E x) h refl refl) ∙ e) ok;
-  blocks = λ k. handled-e link x t k (serving k (services t)) refl pends apart (ok.blocks k);
+  blocks = λ k. handled-e link x t k (service_of_block k (services t)) refl pends apart (ok.blocks k);
 }
   where
     u : Trace w

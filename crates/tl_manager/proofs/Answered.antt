@@ -28,8 +28,10 @@ use Rattle.tl_manager.specs.Handing.{Handed, no_payload, with_handed, probe_of_b
 use Rattle.tl_manager.specs.Holders.{probed, is_settled}
 use Rattle.tl_manager.specs.Kept.{Each}
 use Rattle.tl_manager.specs.Releases.{IsAnswered}
-use Rattle.tl_manager.specs.Service.{Service, services, serving}
-use Rattle.tl_manager.specs.Slave.{End, is_from_client, probing_or, begun_with, begun_if_any, performed_if_any, settled, done_c, done, deed}
+use Rattle.tl_manager.specs.Service.{Service, services, service_of_block}
+use Rattle.tl_manager.specs.Deed.{probing_or, begun_with, begun_if_any, performed_if_any, finish, completed_c, completed, deed}
+use Rattle.tl_manager.specs.End.{End}
+use Rattle.tl_manager.specs.Offer.{is_from_client}
 use Rattle.tl_manager.proofs.Handed.{after_sent, own_link, other_link, whole-after_sent}
 use Rattle.tl_manager.proofs.Lawful.{IsHandable}
 use Rattle.tl_manager.proofs.Releases.{IsCarried, IsNoAck, answered-a, answered-b, answered-d, answered-e, carried, not_last, no_release, released}
@@ -79,11 +81,11 @@ no_ack_found : {w : ℕ} (config : Config) (o : Option (Service w)) (t : Trace w
 no_ack_found config None t memory = tt
 no_ack_found config (Some s) t memory = no_ack_performed config s t memory
 
-no_ack_settled : {w : ℕ} (config : Config) (block : ℕ) (t : Trace w) (memory : Memory) → NoAcks (settled config block t memory)
+no_ack_settled : {w : ℕ} (config : Config) (block : ℕ) (t : Trace w) (memory : Memory) → NoAcks (finish config block t memory)
 no_ack_settled {w} config block t memory = go (is_settled config block t)
   where
-    go : (b : Bool) → NoAcks (if b then performed_if_any config (serving block (services t)) t memory else nothing memory)
-    go true = no_ack_found config (serving block (services t)) t memory
+    go : (b : Bool) → NoAcks (if b then performed_if_any config (service_of_block block (services t)) t memory else nothing memory)
+    go true = no_ack_found config (service_of_block block (services t)) t memory
     go false = tt
 
 -- ---- one link after such messages
@@ -170,25 +172,25 @@ after_release {w} config client link x t width order last release whole ok = go 
 
 done_c_answered : {w : ℕ} (config : Config) (client : ℕ) (link : Link) (x : BeatC w) (t : Trace w) (memory : Memory) → IsWidth w
     → broken_in_order config.profile (beat.C x) (on_link link.0 t) ≡ None → ends (beat.C x) (on_link link.0 t) ≡ true
-    → Each (IsHandable config) (done_c config link x ((link, beat.C x) ∷ t) memory).handed → IsWhole (on_link client ((link, beat.C x) ∷ t)) → IsAnswered (on_link client t)
-    → IsAnswered (on_link client (with_handed (done_c config link x ((link, beat.C x) ∷ t) memory).handed ((link, beat.C x) ∷ t)))
+    → Each (IsHandable config) (completed_c config link x ((link, beat.C x) ∷ t) memory).handed → IsWhole (on_link client ((link, beat.C x) ∷ t)) → IsAnswered (on_link client t)
+    → IsAnswered (on_link client (with_handed (completed_c config link x ((link, beat.C x) ∷ t) memory).handed ((link, beat.C x) ∷ t)))
 unfolding with_handed
 done_c_answered {w} config client link x t memory width order last handable whole ok = go (is_release x.opcode) (is_probe_ack x.opcode) refl handable
   where
     deed_by : Bool → Bool → Deed w
-    deed_by r p = if r then record { handed = (link, release_ack x.source) ∷ []; memory = memory } else if p then settled config (block_at x.address) ((link, beat.C x) ∷ t) memory else nothing memory
+    deed_by r p = if r then record { handed = (link, release_ack x.source) ∷ []; memory = memory } else if p then finish config (block_at x.address) ((link, beat.C x) ∷ t) memory else nothing memory
 
     go : (r p : Bool) → is_release x.opcode ≡ r → Each (IsHandable config) (deed_by r p).handed → IsAnswered (on_link client (with_handed (deed_by r p).handed ((link, beat.C x) ∷ t)))
     go true p release each = after_release config client link x t width order last release whole ok
     go false true other each =
-        answered-handed config client (settled config (block_at x.address) ((link, beat.C x) ∷ t) memory).handed ((link, beat.C x) ∷ t) width each (no_ack_settled config (block_at x.address) ((link, beat.C x) ∷ t) memory) whole (after_report config client link x t order last other ok)
+        answered-handed config client (finish config (block_at x.address) ((link, beat.C x) ∷ t) memory).handed ((link, beat.C x) ∷ t) width each (no_ack_settled config (block_at x.address) ((link, beat.C x) ∷ t) memory) whole (after_report config client link x t order last other ok)
     go false false other each = after_report config client link x t order last other ok
 
 -- ---- any beat that is taken
 
 -- what is done, where it is known whether the beat is the last of its message
 abbrev done_if : {w : ℕ} → Bool → Config → Link → Beat w → End w → Deed w
-done_if last config link x e = if last then done config link x (unfinished (channel_of x) (on_link link.0 e.trace)) e.trace e.memory else nothing e.memory
+done_if last config link x e = if last then completed config link x (unfinished (channel_of x) (on_link link.0 e.trace)) e.trace e.memory else nothing e.memory
 
 done_answered : {w : ℕ} (config : Config) (client : ℕ) (link : Link) (x : Beat w) (e : End w) (last : Bool) → IsWidth w → is_from_client x ≡ true
     → broken_in_order config.profile x (on_link link.0 e.trace) ≡ None → ends x (on_link link.0 e.trace) ≡ last

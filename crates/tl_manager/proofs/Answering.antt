@@ -23,7 +23,7 @@ use Rattle.tl_manager.specs.Home.{IsHomeWithout, IsDone, IsReadyAt}
 use Rattle.tl_manager.specs.Pending.{is_granted}
 use Rattle.tl_manager.specs.Ready.{IsReady, IsWhole}
 use Rattle.tl_manager.specs.Record.{granted_by}
-use Rattle.tl_manager.specs.Service.{Service, services, serving, trackers_of}
+use Rattle.tl_manager.specs.Service.{Service, services, service_of_block, trackers_of}
 use Rattle.tl_manager.specs.Tracked.{service_with, IsTracked}
 use Rattle.tl_manager.specs.Trackers.{tracker_at}
 use Rattle.tl_manager.specs.declared.manager.home.Home.{Home}
@@ -46,17 +46,17 @@ deed_by b config s t memory = if b
     then record { handed = (s.link, grant config s t memory) ∷ []; memory = memory }
     else record { handed = (s.link, access_answer s.request (answer_of (A s.request) (effect (A s.request) memory).1)) ∷ []; memory = (effect (A s.request) memory).0 }
 
-pub performed-still : {w : ℕ} (config : Config) (n k : ℕ) (s v : Service w) (t : Trace w) (memory : Memory) → IsReady config n s t → (n == k) ≡ false → serving k (services t) ≡ Some v
+pub performed-still : {w : ℕ} (config : Config) (n k : ℕ) (s v : Service w) (t : Trace w) (memory : Memory) → IsReady config n s t → (n == k) ≡ false → service_of_block k (services t) ≡ Some v
     → IsStill k v t (with_handed (performed config s t memory).handed t)
 unfolding with_handed deed_by
 performed-still {w} config n k s v t memory is other e = go (is_acquire s.request.opcode) refl (performed-serving config n k s t memory is)
   where
-    serves : (b : Bool) → (if not b && (n == k) then None else serving k (services t)) ≡ Some v
+    serves : (b : Bool) → (if not b && (n == k) then None else service_of_block k (services t)) ≡ Some v
     serves true = e
     serves false = rw other e
 
     go : (b : Bool) → is_acquire s.request.opcode ≡ b
-        → serving k (services (with_handed (deed_by b config s t memory).handed t)) ≡ (if not (is_acquire s.request.opcode) && (n == k) then None else serving k (services t))
+        → service_of_block k (services (with_handed (deed_by b config s t memory).handed t)) ≡ (if not (is_acquire s.request.opcode) && (n == k) then None else service_of_block k (services t))
         → IsStill k v t (with_handed (deed_by b config s t memory).handed t)
     go true acquires same =
         let m = grant_is config s t memory in

@@ -23,8 +23,8 @@ use Rattle.tl_manager.specs.Holders.{clients_from, is_nobody, recorded, is_missi
 use Rattle.tl_manager.specs.Home.{IsHomeWithout, IsDone, IsReadyAt}
 use Rattle.tl_manager.specs.Kept.{Each, IsSound}
 use Rattle.tl_manager.specs.Ready.{IsReady}
-use Rattle.tl_manager.specs.Service.{Service, services, serving, trackers_of}
-use Rattle.tl_manager.specs.Slave.{probing_or, begun_with}
+use Rattle.tl_manager.specs.Service.{Service, services, service_of_block, trackers_of}
+use Rattle.tl_manager.specs.Deed.{probing_or, begun_with}
 use Rattle.tl_manager.specs.Tracked.{service_with, IsTracked}
 use Rattle.tl_manager.specs.Trackers.{tracker_at}
 use Rattle.tl_manager.specs.declared.manager.home.Home.{Home}
@@ -131,7 +131,7 @@ home-probed {w} {D} perm_of config old new number link request c word t memory p
 
     probing : IsTracked number (Probing link request word) u
     probing = record {
-      serves = ap (serving block) same ∙ at.ready.serves;
+      serves = ap (service_of_block block) same ∙ at.ready.serves;
       unanswered = granted-probes block c (probed config s c t) t s ∙ at.ready.unanswered;
       bits = λ d. is.bits d ∙ ap bit_if (sym (missing-after config s c t d at.ready is.past));
     }
@@ -142,7 +142,7 @@ home-probed {w} {D} perm_of config old new number link request c word t memory p
         (λ k v e f.
         let apart = other_block block k s v (services t) at.ready.serves e (λ g. other (sym f ∙ g)) in
         record {
-          serves = ap (serving k) same ∙ e;
+          serves = ap (service_of_block k) same ∙ e;
           granted = granted-probes block c (probed config s c t) t v;
           missing = λ d. probes-keep (pending (ProbeOf k)) d block c (probed config s c t) t (λ h. missing-else_b k block c h apart);
         }) ok

@@ -28,7 +28,9 @@ use Rattle.tl_manager.specs.Home.{IsHome}
 use Rattle.tl_manager.specs.Kept.{Each, IsSound, IsFilled, IsKept}
 use Rattle.tl_manager.specs.Knows.{Knows}
 use Rattle.tl_manager.specs.Ready.{IsPassed}
-use Rattle.tl_manager.specs.Slave.{End, deed, taken}
+use Rattle.tl_manager.specs.Deed.{deed}
+use Rattle.tl_manager.specs.End.{End}
+use Rattle.tl_manager.specs.Offer.{taken}
 use Rattle.tl_manager.specs.Wire.{IsWire}
 use Rattle.tl_manager.specs.declared.manager.links.Links.{Links}
 use Rattle.tl_manager.specs.declared.manager.wire.Wire.{Wire}

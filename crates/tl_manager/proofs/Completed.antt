@@ -31,8 +31,10 @@ use Rattle.tl_manager.specs.Home.{IsHome, IsHomeWithout, IsDone, IsReadyAt, IsMe
 use Rattle.tl_manager.specs.Pending.{is_granted}
 use Rattle.tl_manager.specs.Ready.{IsReady, IsServed, IsTaken}
 use Rattle.tl_manager.specs.Record.{reported_by}
-use Rattle.tl_manager.specs.Service.{Service, services, serving, is_in_service, trackers_of, least_untaken}
-use Rattle.tl_manager.specs.Slave.{End, deed, begun_with, is_from_client}
+use Rattle.tl_manager.specs.Service.{Service, services, service_of_block, is_in_service, trackers_of, least_untaken}
+use Rattle.tl_manager.specs.Deed.{deed, begun_with}
+use Rattle.tl_manager.specs.End.{End}
+use Rattle.tl_manager.specs.Offer.{is_from_client}
 use Rattle.tl_manager.specs.Tracked.{service_with, IsTracked}
 use Rattle.tl_manager.specs.Trackers.{tracker_at}
 use Rattle.tl_manager.specs.Tracking.{is_free}
@@ -104,7 +106,7 @@ home-requested {w} perm_of config home number link x m e is served home_is = rec
   count = home_is.count;
   tracked = λ n other. tracked-still n (tracker_at home.trackers n) e.trace u (λ free. ap (λ (ss : List (Service w)). is_one_of n (trackers_of ss)) more ∙ rw (ne_eqb n number other) free)
       (λ k v f at. record {
-        serves = ap (serving k) more ∙ rw (away k v f) f;
+        serves = ap (service_of_block k) more ∙ rw (away k v f) f;
         granted = granted_a link x e.trace v;
         missing = missing_a link x e.trace k;
       }) (home_is.tracked n tt);
@@ -121,11 +123,11 @@ home-requested {w} perm_of config home number link x m e is served home_is = rec
     more : services ((link, beat.A x) ∷ e.trace) ≡ service_with number link m ∷ services e.trace
     more = services-request link x (service_with number link m) e.trace served
 
-    none : serving (block_at m.address) (services e.trace) ≡ None
+    none : service_of_block (block_at m.address) (services e.trace) ≡ None
     none = none_of_block (block_at m.address) (services e.trace) (rw more at is.blocks_apart).0
 
-    away : (k : ℕ) (v : Service w) → serving k (services e.trace) ≡ Some v → (block_at m.address == k) ≡ false
-    away k v f = ne_eqb (block_at m.address) k (λ same. absurd (let no : serving k (services e.trace) ≡ None = rw same at none in cc))
+    away : (k : ℕ) (v : Service w) → service_of_block k (services e.trace) ≡ Some v → (block_at m.address == k) ≡ false
+    away k v f = ne_eqb (block_at m.address) k (λ same. absurd (let no : service_of_block k (services e.trace) ≡ None = rw same at none in cc))
 
 pub done-requested : {w : ℕ} {M : Type 0} (perm_of : M → ℕ → ℕ → Perm) (config : Config) (home : Home w M) (handed : Handed w) (number : ℕ) (link : Link) (x : BeatA w) (m : MessageA w) (e : End w)
     → IsServed link x (service_with number link m) e.trace
@@ -248,7 +250,7 @@ done-part {w} perm_of config home link x e theirs part is = rw part (
     tracked = λ n all. tracked-still n (tracker_at home.trackers n) e.trace ((link, x) ∷ e.trace)
         (λ free. ap (λ (ss : List (Service w)). is_one_of n (trackers_of ss)) (services-part (link, x) e.trace part) ∙ free)
         (λ k v f at. record {
-          serves = ap (serving k) (services-part (link, x) e.trace part) ∙ f;
+          serves = ap (service_of_block k) (services-part (link, x) e.trace part) ∙ f;
           granted = part-granted link x e.trace v theirs part;
           missing = λ c. part-missing link x e.trace k c theirs part;
         }) (is.tracked n tt);

@@ -24,7 +24,7 @@ use Rattle.tl_rules.proofs.Bursts.{next_rule}
 use Rattle.tl_manager.specs.After.{is_of_clients}
 use Rattle.tl_manager.specs.Handing.{Handed, with_handed}
 use Rattle.tl_manager.specs.Kept.{Each, IsSound, IsLike, AreOfOne}
-use Rattle.tl_manager.specs.Slave.{is_from_client}
+use Rattle.tl_manager.specs.Offer.{is_from_client}
 use Rattle.tl_manager.proofs.Handed.{after_sent, own_link, other_link}
 use Rattle.tl_manager.proofs.Lawful.{IsHandable}
 use Rattle.tl_manager.proofs.Lists.{each_weaker}

@@ -7,7 +7,7 @@ use Rattle.tl_rules.specs.History.{block_at}
 use Rattle.tl_rules.specs.Legality.{is_one_of}
 use Rattle.tl_manager.specs.Kept.{Each, AreApart, blocks_of}
 use Rattle.tl_manager.specs.Pending.{one_if, count_where, is_granted, is_asking}
-use Rattle.tl_manager.specs.Service.{Service, serving, trackers_of}
+use Rattle.tl_manager.specs.Service.{Service, service_of_block, trackers_of}
 use Rattle.tl_manager.proofs.Serving.{some_is, tracker_among}
 
 -- ---- tests that agree
@@ -58,16 +58,16 @@ count_some true e = refl
 count_some false e = absurd cc
 
 -- where the service of a block passes the test, one does
-pub count-served : {w : ℕ} (n : ℕ) (test : Service w → Bool) (ss : List (Service w)) (s : Service w) → serving n ss ≡ Some s → test s ≡ true → 0 < count_where test ss
+pub count-served : {w : ℕ} (n : ℕ) (test : Service w → Bool) (ss : List (Service w)) (s : Service w) → service_of_block n ss ≡ Some s → test s ≡ true → 0 < count_where test ss
 count-served n test [] s e passes = absurd cc
 count-served {w} n test (u ∷ ss) s e passes = go (block_at u.request.address == n) e (λ f. count-served n test ss s f passes)
   where
-    go : (b : Bool) → (if b then Some u else serving n ss) ≡ Some s → (serving n ss ≡ Some s → 0 < count_where test ss) → 0 < one_if (test u) + count_where test ss
+    go : (b : Bool) → (if b then Some u else service_of_block n ss) ≡ Some s → (service_of_block n ss ≡ Some s → 0 < count_where test ss) → 0 < one_if (test u) + count_where test ss
     go true f rest = let same : u ≡ s = some_is u s f in let one = count_some (test u) (rw same passes) in omega (arith, one)
     go false f rest = let lt = rest f in omega (arith, lt)
 
 -- a service of the block is the block's service
-pub same_block : {w : ℕ} (n : ℕ) (ss : List (Service w)) (s : Service w) → AreApart (blocks_of ss) → serving n ss ≡ Some s → Each (λ u. (block_at u.request.address == n) ≡ true → u ≡ s) ss
+pub same_block : {w : ℕ} (n : ℕ) (ss : List (Service w)) (s : Service w) → AreApart (blocks_of ss) → service_of_block n ss ≡ Some s → Each (λ u. (block_at u.request.address == n) ≡ true → u ≡ s) ss
 same_block n [] s apart e = tt
 same_block {w} n (u ∷ ss) s apart e = go (block_at u.request.address == n) refl e (λ f. same_block n ss s apart.1 f)
   where
@@ -77,15 +77,15 @@ same_block {w} n (u ∷ ss) s apart e = go (block_at u.request.address == n) ref
         let p = or_parts (n == block_at v.request.address) (is_one_of n (blocks_of vs)) f in
         (λ here. absurd (let yes : (n == block_at v.request.address) ≡ true = eq-eqb n (block_at v.request.address) (sym (eqb-true (block_at v.request.address) n here)) in let no : (n == block_at v.request.address) ≡ false = p.0 in cc), none vs p.1)
 
-    go : (b : Bool) → (block_at u.request.address == n) ≡ b → (if b then Some u else serving n ss) ≡ Some s
-        → (serving n ss ≡ Some s → Each (λ v. (block_at v.request.address == n) ≡ true → v ≡ s) ss) → Each (λ v. (block_at v.request.address == n) ≡ true → v ≡ s) (u ∷ ss)
+    go : (b : Bool) → (block_at u.request.address == n) ≡ b → (if b then Some u else service_of_block n ss) ≡ Some s
+        → (service_of_block n ss ≡ Some s → Each (λ v. (block_at v.request.address == n) ≡ true → v ≡ s) ss) → Each (λ v. (block_at v.request.address == n) ≡ true → v ≡ s) (u ∷ ss)
     go true here f rest =
         let block : block_at u.request.address ≡ n = eqb-true (block_at u.request.address) n here in
         (λ g. some_is u s f, none ss (rw block at apart.0))
     go false other f rest = (λ here. absurd cc, rest f)
 
 -- one of its tracker too
-pub same_tracker : {w : ℕ} (n : ℕ) (ss : List (Service w)) (s : Service w) → AreApart (trackers_of ss) → serving n ss ≡ Some s → Each (λ u. (u.tracker == s.tracker) ≡ true → u ≡ s) ss
+pub same_tracker : {w : ℕ} (n : ℕ) (ss : List (Service w)) (s : Service w) → AreApart (trackers_of ss) → service_of_block n ss ≡ Some s → Each (λ u. (u.tracker == s.tracker) ≡ true → u ≡ s) ss
 same_tracker n [] s apart e = tt
 same_tracker {w} n (u ∷ ss) s apart e = go (block_at u.request.address == n) e (λ f. same_tracker n ss s apart.1 f)
   where
@@ -95,7 +95,7 @@ same_tracker {w} n (u ∷ ss) s apart e = go (block_at u.request.address == n) e
         let p = or_parts (i == v.tracker) (is_one_of i (trackers_of vs)) f in
         (λ here. absurd (let yes : (i == v.tracker) ≡ true = eq-eqb i v.tracker (sym (eqb-true v.tracker i here)) in let no : (i == v.tracker) ≡ false = p.0 in cc), none i vs p.1)
 
-    go : (b : Bool) → (if b then Some u else serving n ss) ≡ Some s → (serving n ss ≡ Some s → Each (λ v. (v.tracker == s.tracker) ≡ true → v ≡ s) ss)
+    go : (b : Bool) → (if b then Some u else service_of_block n ss) ≡ Some s → (service_of_block n ss ≡ Some s → Each (λ v. (v.tracker == s.tracker) ≡ true → v ≡ s) ss)
         → Each (λ v. (v.tracker == s.tracker) ≡ true → v ≡ s) (u ∷ ss)
     go true f rest =
         let same : u ≡ s = some_is u s f in
@@ -110,7 +110,7 @@ same_tracker {w} n (u ∷ ss) s apart e = go (block_at u.request.address == n) e
     )
 
 -- where one passes at most, and the block's service does, it is the only one
-pub only_one : {w : ℕ} (n : ℕ) (test : Service w → Bool) (ss : List (Service w)) (s : Service w) → count_where test ss ≤ 1 → serving n ss ≡ Some s → test s ≡ true
+pub only_one : {w : ℕ} (n : ℕ) (test : Service w → Bool) (ss : List (Service w)) (s : Service w) → count_where test ss ≤ 1 → service_of_block n ss ≡ Some s → test s ≡ true
     → Each (λ u. test u ≡ true → u ≡ s) ss
 only_one n test [] s few e passes = tt
 only_one {w} n test (u ∷ ss) s few e passes = go (block_at u.request.address == n) e (λ f g. only_one n test ss s g f passes)
@@ -119,7 +119,7 @@ only_one {w} n test (u ∷ ss) s few e passes = go (block_at u.request.address =
     none [] le = tt
     none (v ∷ vs) le = (λ here. absurd (let one = count_some (test v) here in omega (arith, one, le)), none vs (omega (arith, le)))
 
-    go : (b : Bool) → (if b then Some u else serving n ss) ≡ Some s → (serving n ss ≡ Some s → count_where test ss ≤ 1 → Each (λ v. test v ≡ true → v ≡ s) ss)
+    go : (b : Bool) → (if b then Some u else service_of_block n ss) ≡ Some s → (service_of_block n ss ≡ Some s → count_where test ss ≤ 1 → Each (λ v. test v ≡ true → v ≡ s) ss)
         → Each (λ v. test v ≡ true → v ≡ s) (u ∷ ss)
     go true f rest =
         let same : u ≡ s = some_is u s f in
@@ -134,23 +134,23 @@ none_either true o e = e
 none_either false o e = refl
 
 -- without the service of a block
-pub serving-without : {w : ℕ} (n k : ℕ) (ss : List (Service w)) → serving k (filter (λ u. not (block_at u.request.address == n)) ss) ≡ (if n == k then None else serving k ss)
-serving-without n k [] = none_either (n == k) (serving k []) refl
+pub serving-without : {w : ℕ} (n k : ℕ) (ss : List (Service w)) → service_of_block k (filter (λ u. not (block_at u.request.address == n)) ss) ≡ (if n == k then None else service_of_block k ss)
+serving-without n k [] = none_either (n == k) (service_of_block k []) refl
 serving-without {w} n k (u ∷ ss) = go (block_at u.request.address == n) refl (serving-without n k ss)
   where
     other : (b : Bool) → (n == k) ≡ b → (block_at u.request.address == n) ≡ true
-        → (if b then None else serving k ss) ≡ (if b then None else if block_at u.request.address == k then Some u else serving k ss)
+        → (if b then None else service_of_block k ss) ≡ (if b then None else if block_at u.request.address == k then Some u else service_of_block k ss)
     other true e here = refl
     other false e here =
         let block : block_at u.request.address ≡ n = eqb-true (block_at u.request.address) n here in
         rw (block, e) refl
 
     mine : (b : Bool) → (n == k) ≡ b → (block_at u.request.address == n) ≡ false
-        → (if block_at u.request.address == k then Some u else if b then None else serving k ss) ≡ (if b then None else if block_at u.request.address == k then Some u else serving k ss)
+        → (if block_at u.request.address == k then Some u else if b then None else service_of_block k ss) ≡ (if b then None else if block_at u.request.address == k then Some u else service_of_block k ss)
     mine true e away = let same : n ≡ k = eqb-true n k e in rw (← same, away) refl
     mine false e away = refl
 
-    go : (b : Bool) → (block_at u.request.address == n) ≡ b → serving k (filter (λ v. not (block_at v.request.address == n)) ss) ≡ (if n == k then None else serving k ss)
-        → serving k (cond (not b) (u ∷ filter (λ v. not (block_at v.request.address == n)) ss) (filter (λ v. not (block_at v.request.address == n)) ss)) ≡ (if n == k then None else if block_at u.request.address == k then Some u else serving k ss)
+    go : (b : Bool) → (block_at u.request.address == n) ≡ b → service_of_block k (filter (λ v. not (block_at v.request.address == n)) ss) ≡ (if n == k then None else service_of_block k ss)
+        → service_of_block k (cond (not b) (u ∷ filter (λ v. not (block_at v.request.address == n)) ss) (filter (λ v. not (block_at v.request.address == n)) ss)) ≡ (if n == k then None else if block_at u.request.address == k then Some u else service_of_block k ss)
     go true e rest = rest ∙ other (n == k) refl e
     go false e rest = rw rest (mine (n == k) refl e)

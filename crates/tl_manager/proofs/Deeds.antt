@@ -28,8 +28,10 @@ use Rattle.tl_manager.specs.Handing.{Handed, with_handed, nothing, release_ack, 
 use Rattle.tl_manager.specs.Holders.{recorded, has_copy, is_above, is_spared, probed, is_settled}
 use Rattle.tl_manager.specs.Kept.{Each, IsSound}
 use Rattle.tl_manager.specs.Request.{request_if, request_carried}
-use Rattle.tl_manager.specs.Service.{Service, services, serving, least_untaken, trackers_of}
-use Rattle.tl_manager.specs.Slave.{End, level_of, probing_or, begun_with, begun_if_any, performed_if_any, settled, written, done_c, done, deed}
+use Rattle.tl_manager.specs.Service.{Service, services, service_of_block, least_untaken, trackers_of}
+use Rattle.tl_manager.specs.Deed.{probing_or, begun_with, begun_if_any, performed_if_any, finish, written, completed_c, completed, deed}
+use Rattle.tl_manager.specs.End.{End}
+use Rattle.tl_manager.specs.Offer.{level_of}
 use Rattle.tl_manager.proofs.Lawful.{IsHandable, access_handable, acquire_level, grant_handable, release_handable, probe_handable}
 use Rattle.tl_manager.proofs.Lists.{each_append, each_map, each_client, each_weaker}
 use Rattle.tl_manager.proofs.Sound.{IsServable, servable_new, servable, holder_level, leveled, past_l1, transfers_level}
@@ -58,11 +60,11 @@ performed_handable {w} config s t memory width ok =
     go false e of_level sized aligned = (access_handable config s.link ok.level s.request.opcode s.request memory width aligned ok.has_level e of_level sized, tt)
 
 performed_found : {w : ℕ} (config : Config) (block : ℕ) (ss : List (Service w)) (t : Trace w) (memory : Memory) → IsWidth w → Each (IsServable config) ss
-    → AllHandable config (performed_if_any config (serving block ss) t memory)
+    → AllHandable config (performed_if_any config (service_of_block block ss) t memory)
 performed_found config block [] t memory width each = tt
 performed_found config block (s ∷ ss) t memory width each = go (block_at s.request.address == block) (performed_found config block ss t memory width each.1)
   where
-    go : (b : Bool) → AllHandable config (performed_if_any config (serving block ss) t memory) → AllHandable config (performed_if_any config (cond b (Some s) (serving block ss)) t memory)
+    go : (b : Bool) → AllHandable config (performed_if_any config (service_of_block block ss) t memory) → AllHandable config (performed_if_any config (cond b (Some s) (service_of_block block ss)) t memory)
     go true rest = performed_handable config s t memory width each.0
     go false rest = rest
 
@@ -107,26 +109,26 @@ begun_new config link x beats tracker t memory false e width ok sound = tt
 begun_new config link x beats tracker t memory true e width ok sound =
     begun_handable config _ _ t memory width (servable_new config link x beats tracker [] true e ok tt).0 sound
 
-settled_handable : {w : ℕ} (config : Config) (block : ℕ) (t : Trace w) (memory : Memory) → IsWidth w → Each (IsSound config) t → AllHandable config (settled config block t memory)
+settled_handable : {w : ℕ} (config : Config) (block : ℕ) (t : Trace w) (memory : Memory) → IsWidth w → Each (IsSound config) t → AllHandable config (finish config block t memory)
 settled_handable {w} config block t memory width sound = go (is_settled config block t)
   where
-    go : (b : Bool) → AllHandable config (if b then performed_if_any config (serving block (services t)) t memory else nothing memory)
+    go : (b : Bool) → AllHandable config (if b then performed_if_any config (service_of_block block (services t)) t memory else nothing memory)
     go true = performed_found config block (services t) t memory width (servable config t sound)
     go false = tt
 
 done_c_handable : {w : ℕ} (config : Config) (link : Link) (x : BeatC w) (t : Trace w) (memory : Memory) → IsWidth w → IsSound config (link, beat.C x) → Each (IsSound config) t
-    → AllHandable config (done_c config link x t memory)
+    → AllHandable config (completed_c config link x t memory)
 done_c_handable {w} config link x t memory width ok sound =
     let l = leveled (level_of config link.0) (beat.C x) ok.lawful in
     go (is_release x.opcode) (is_probe_ack x.opcode) (l.1 ∙ ap Some (transfers_level l.0 (past_l1 l.0 (beat.C x) l.2)))
   where
-    go : (r p : Bool) → level_of config link.0 ≡ Some level.C → AllHandable config (if r then record { handed = (link, release_ack x.source) ∷ []; memory = memory } else if p then settled config (block_at x.address) t memory else nothing memory)
+    go : (r p : Bool) → level_of config link.0 ≡ Some level.C → AllHandable config (if r then record { handed = (link, release_ack x.source) ∷ []; memory = memory } else if p then finish config (block_at x.address) t memory else nothing memory)
     go true p has_level = (release_handable config link x.source has_level, tt)
     go false true has_level = settled_handable config (block_at x.address) t memory width sound
     go false false has_level = tt
 
 done_handable : {w : ℕ} (config : Config) (link : Link) (x : Beat w) (burst : List (Beat w)) (t : Trace w) (memory : Memory) → IsWidth w → IsSound config (link, x) → Each (IsSound config) t
-    → AllHandable config (done config link x burst t memory)
+    → AllHandable config (completed config link x burst t memory)
 unfolding request_carried
 done_handable config link (beat.A x) burst t memory width ok sound =
     begun_new config link x (beat.A x ∷ burst) (least_untaken (trackers_of (services t))) ((link, beat.A x) ∷ t) memory (nat_le x.size 6) refl width ok (ok, sound)
@@ -140,7 +142,7 @@ pub deed_handable : {w : ℕ} (config : Config) (link : Link) (x : Beat w) (e : 
 unfolding deed
 deed_handable {w} config link x e width ok sound = go (ends x (on_link link.0 e.trace))
   where
-    go : (b : Bool) → AllHandable config (if b then done config link x (unfinished (channel_of x) (on_link link.0 e.trace)) e.trace e.memory else nothing e.memory)
+    go : (b : Bool) → AllHandable config (if b then completed config link x (unfinished (channel_of x) (on_link link.0 e.trace)) e.trace e.memory else nothing e.memory)
     go true = done_handable config link x (unfinished (channel_of x) (on_link link.0 e.trace)) e.trace e.memory width ok sound
     go false = tt
 

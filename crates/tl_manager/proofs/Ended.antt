@@ -21,7 +21,9 @@ use Rattle.tl_manager.specs.After.{without_answered, without_all, services_after
 use Rattle.tl_manager.specs.Handing.{Handed, with_handed}
 use Rattle.tl_manager.specs.Kept.{Each, IsTyped, IsKept}
 use Rattle.tl_manager.specs.Service.{Service, services, is_ended_by}
-use Rattle.tl_manager.specs.Slave.{End, Judgement, Breaks, Waits, Passes, is_from_client, judged, deed, offered_as, offered}
+use Rattle.tl_manager.specs.Deed.{deed}
+use Rattle.tl_manager.specs.End.{End}
+use Rattle.tl_manager.specs.Offer.{Judgement, Breaks, Waits, Passes, is_from_client, judged, offered_as, offered}
 use Rattle.tl_manager.proofs.Deeds.{deed_handable}
 use Rattle.tl_manager.proofs.Handed.{after_sent, beats_on_link, whole-after_sent, whole-taken}
 use Rattle.tl_manager.proofs.Judged.{passed}

@@ -17,8 +17,9 @@ use Rattle.tl_rules.specs.Effect.{Memory, effect, answer_of}
 use Rattle.tl_rules.specs.History.{ends, block_at, is_acquire, is_probe_ack, is_release}
 use Rattle.tl_manager.specs.Handing.{nothing, probes, performed, grant, access_answer, release_ack}
 use Rattle.tl_manager.specs.Holders.{cap_probed, probed, is_settled}
-use Rattle.tl_manager.specs.Service.{Service, services, serving}
-use Rattle.tl_manager.specs.Slave.{End, deed, written}
+use Rattle.tl_manager.specs.Service.{Service, services, service_of_block}
+use Rattle.tl_manager.specs.Deed.{deed, written}
+use Rattle.tl_manager.specs.End.{End}
 use Rattle.tl_manager.specs.Ready.{IsServed}
 
 -- nothing at a beat that isn't the last of its message
@@ -75,7 +76,7 @@ deed-report config link x e last other report more = rw (last, other, report, mo
 -- it was the last one
 pub deed-settled : {w : ℕ} (config : Config) (link : Link) (x : BeatC w) (s : Service w) (e : End w) → ends (beat.C x) (on_link link.0 e.trace) ≡ true → is_release x.opcode ≡ false
     → is_probe_ack x.opcode ≡ true
-    → is_settled config (block_at x.address) ((link, beat.C x) ∷ e.trace) ≡ true → serving (block_at x.address) (services ((link, beat.C x) ∷ e.trace)) ≡ Some s
+    → is_settled config (block_at x.address) ((link, beat.C x) ∷ e.trace) ≡ true → service_of_block (block_at x.address) (services ((link, beat.C x) ∷ e.trace)) ≡ Some s
     → deed config link (beat.C x) e ≡ performed config s ((link, beat.C x) ∷ e.trace) (memory_with link x e)
 unfolding deed
 deed-settled config link x s e last other report all found = rw (last, other, report, all, found) refl

@@ -18,7 +18,7 @@ use Rattle.tl_rules.specs.History.{block_at, is_grant, is_acquire, pending, asks
 use Rattle.tl_rules.proofs.Open.{never}
 use Rattle.tl_manager.specs.Kept.{Each}
 use Rattle.tl_manager.specs.Pending.{count_where, is_granted, is_asking, is_acquiring, is_granted_to, IsNamed, IsHandled, IsAccounted}
-use Rattle.tl_manager.specs.Service.{Service, services, serving, is_access_answer, is_ended_by}
+use Rattle.tl_manager.specs.Service.{Service, services, service_of_block, is_access_answer, is_ended_by}
 use Rattle.tl_manager.proofs.Counts.{count-same, each_both, same_block, same_tracker}
 use Rattle.tl_manager.proofs.Ended.{services-sent}
 use Rattle.tl_manager.proofs.Handed.{after_sent, own_link}
@@ -65,7 +65,7 @@ granted-else n s v m t is apart =
     away false e = refl
 
 -- a service of another block has another tracker
-apart_from : {w : ℕ} (n : ℕ) (s v : Service w) (t : Trace w) → serving n (services t) ≡ Some s → ((v.tracker == s.tracker) ≡ true → v ≡ s) → (block_at v.request.address == n) ≡ false
+apart_from : {w : ℕ} (n : ℕ) (s v : Service w) (t : Trace w) → service_of_block n (services t) ≡ Some s → ((v.tracker == s.tracker) ≡ true → v ≡ s) → (block_at v.request.address == n) ≡ false
     → (v.tracker == s.tracker) ≡ false
 apart_from {w} n s v t serves same other = go (v.tracker == s.tracker) refl
   where
@@ -75,15 +75,15 @@ apart_from {w} n s v t serves same other = go (v.tracker == s.tracker) refl
     go false e = refl
 
 -- what holds of each service holds of the service of a block
-pub of_served : {w : ℕ} (P : Service w → Type 0) (k : ℕ) (ss : List (Service w)) (v : Service w) → serving k ss ≡ Some v → Each P ss → P v
+pub of_served : {w : ℕ} (P : Service w → Type 0) (k : ℕ) (ss : List (Service w)) (v : Service w) → service_of_block k ss ≡ Some v → Each P ss → P v
 of_served P k [] v e each = absurd cc
 of_served {w} P k (r ∷ ss) v e each = go (block_at r.request.address == k) e (λ f. of_served P k ss v f each.1)
   where
-    go : (b : Bool) → (if b then Some r else serving k ss) ≡ Some v → (serving k ss ≡ Some v → P v) → P v
+    go : (b : Bool) → (if b then Some r else service_of_block k ss) ≡ Some v → (service_of_block k ss ≡ Some v → P v) → P v
     go true f rest = subst P (some_is r v f) each.0
     go false f rest = rest f
 
-pub granted-elsewhere : {w : ℕ} (n k : ℕ) (s v : Service w) (m : MessageD w) (t : Trace w) → IsGrant n s m t → (n == k) ≡ false → serving k (services t) ≡ Some v
+pub granted-elsewhere : {w : ℕ} (n k : ℕ) (s v : Service w) (m : MessageD w) (t : Trace w) → IsGrant n s m t → (n == k) ≡ false → service_of_block k (services t) ≡ Some v
     → is_granted (after_sent s.link (D m) t) v ≡ is_granted t v
 granted-elsewhere {w} n k s v m t is other e =
     granted-else n s v m t is
@@ -147,7 +147,7 @@ accounted-grant {w} n s m t is ok = record {
     -- another block
     same-else : (k : ℕ) → (n == k) ≡ false → IsSame k t u
     same-else k other = record {
-      serves = ap (serving k) serves;
+      serves = ap (service_of_block k) serves;
       granted = λ v e. granted-elsewhere n k s v m t is other e;
       acquires = λ c. reply-quiet (AcquireOf k) s.link m t c width whole (λ f. (refl, quiet c f));
       grants = λ c. reply-quiet (GrantAckOf k) s.link m t c width whole (λ f. (quiet c f, refl));
@@ -164,8 +164,8 @@ accounted-grant {w} n s m t is ok = record {
     here_grants : (c : ℕ) → (s.link.0 == c) ≡ true → (is_grant m.opcode && asks_for n (request_of m.source (on_link c t))) ≡ true
     here_grants c f = ap (λ b. is_grant m.opcode && b) (asks_block n n c s m t is ok f ∙ eq-eqb n n refl) ∙ rw is.grants refl
 
-    served : serving n (services u) ≡ Some s
-    served = ap (serving n) serves ∙ is.reply.serves
+    served : service_of_block n (services u) ≡ Some s
+    served = ap (service_of_block n) serves ∙ is.reply.serves
 
     acquires_at : (c : ℕ) (b : Bool) → (s.link.0 == c) ≡ b → pending (AcquireOf n) (on_link c u) ≡ false
     acquires_at c true e = pending-reply (AcquireOf n) s.link m t c width whole ∙ rw (e, here_grants c e) refl

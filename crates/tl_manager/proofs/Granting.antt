@@ -19,7 +19,7 @@ use Rattle.tl_manager.specs.Holders.{recorded, is_unheld}
 use Rattle.tl_manager.specs.Home.{IsHomeWithout, IsDone, IsReadyAt}
 use Rattle.tl_manager.specs.Pending.{is_granted, IsNamed, HasFields}
 use Rattle.tl_manager.specs.Record.{granted_by}
-use Rattle.tl_manager.specs.Service.{Service, serving}
+use Rattle.tl_manager.specs.Service.{Service, service_of_block}
 use Rattle.tl_manager.specs.Tracked.{service_with, IsTracked}
 use Rattle.tl_manager.specs.Trackers.{tracker_at}
 use Rattle.tl_manager.specs.declared.manager.home.Home.{Home}
@@ -133,7 +133,7 @@ home-granted {w} {D} perm_of config old new number link request held unheld give
     granted = record {
       request = request;
       block_is = refl;
-      serves = ap (serving (block_at request.address)) (performed-services config (block_at request.address) s t memory at.ready ∙ rw acquires refl) ∙ at.ready.serves;
+      serves = ap (service_of_block (block_at request.address)) (performed-services config (block_at request.address) s t memory at.ready ∙ rw acquires refl) ∙ at.ready.serves;
       granted = now;
     }
       where

@@ -21,8 +21,9 @@ use Rattle.tl_manager.specs.Handing.{probe_of_block, release_ack, access_answer,
 use Rattle.tl_manager.specs.Holders.{cap_probed, probed, is_settled}
 use Rattle.tl_manager.specs.Kept.{Each, is_granting}
 use Rattle.tl_manager.specs.Request.{request_if, request_carried}
-use Rattle.tl_manager.specs.Service.{Service, with_service, least_untaken, trackers_of, services, serving}
-use Rattle.tl_manager.specs.Slave.{End, probing_or, begun_with, begun_if_any, performed_if_any, settled, written, done_c, done, deed}
+use Rattle.tl_manager.specs.Service.{Service, with_service, least_untaken, trackers_of, services, service_of_block}
+use Rattle.tl_manager.specs.Deed.{probing_or, begun_with, begun_if_any, performed_if_any, finish, written, completed_c, completed, deed}
+use Rattle.tl_manager.specs.End.{End}
 use Rattle.tl_manager.proofs.Lists.{each_weaker}
 use Rattle.tl_manager.proofs.Requests.{made_of}
 use Rattle.tl_manager.proofs.Sinks.{grants_by, IsGranted}
@@ -87,31 +88,31 @@ begun_new {w} config link x beats tracker t memory before ss true e is =
     begun_granted config (cap_probed x.opcode x.param) s t memory ss (rw is (own_tracker s before))
 
 found_granted : {w : ℕ} (config : Config) (block : ℕ) (found ss : List (Service w)) (t : Trace w) (memory : Memory) → Each (IsAmong ss) found
-    → AllGranted ss (performed_if_any config (serving block found) t memory)
+    → AllGranted ss (performed_if_any config (service_of_block block found) t memory)
 found_granted config block [] ss t memory among = tt
 found_granted {w} config block (s ∷ found) ss t memory among = go (block_at s.request.address == block) (found_granted config block found ss t memory among.1)
   where
-    go : (b : Bool) → AllGranted ss (performed_if_any config (serving block found) t memory) → AllGranted ss (performed_if_any config (cond b (Some s) (serving block found)) t memory)
+    go : (b : Bool) → AllGranted ss (performed_if_any config (service_of_block block found) t memory) → AllGranted ss (performed_if_any config (cond b (Some s) (service_of_block block found)) t memory)
     go true rest = performed_granted config s t memory ss among.0
     go false rest = rest
 
-settled_granted : {w : ℕ} (config : Config) (block : ℕ) (t : Trace w) (memory : Memory) → AllGranted (services t) (settled config block t memory)
+settled_granted : {w : ℕ} (config : Config) (block : ℕ) (t : Trace w) (memory : Memory) → AllGranted (services t) (finish config block t memory)
 settled_granted {w} config block t memory = go (is_settled config block t)
   where
-    go : (b : Bool) → AllGranted (services t) (if b then performed_if_any config (serving block (services t)) t memory else nothing memory)
+    go : (b : Bool) → AllGranted (services t) (if b then performed_if_any config (service_of_block block (services t)) t memory else nothing memory)
     go true = found_granted config block (services t) (services t) t memory (all_among (services t))
     go false = tt
 
-done_c_granted : {w : ℕ} (config : Config) (link : Link) (x : BeatC w) (t : Trace w) (memory : Memory) → AllGranted (services t) (done_c config link x t memory)
+done_c_granted : {w : ℕ} (config : Config) (link : Link) (x : BeatC w) (t : Trace w) (memory : Memory) → AllGranted (services t) (completed_c config link x t memory)
 done_c_granted {w} config link x t memory = go (is_release x.opcode) (is_probe_ack x.opcode)
   where
-    go : (r p : Bool) → AllGranted (services t) (if r then record { handed = (link, release_ack x.source) ∷ []; memory = memory } else if p then settled config (block_at x.address) t memory else nothing memory)
+    go : (r p : Bool) → AllGranted (services t) (if r then record { handed = (link, release_ack x.source) ∷ []; memory = memory } else if p then finish config (block_at x.address) t memory else nothing memory)
     go true p = (λ e. absurd cc, tt)
     go false true = settled_granted config (block_at x.address) t memory
     go false false = tt
 
 done_granted : {w : ℕ} (config : Config) (link : Link) (x : Beat w) (e : End w) (last : Bool) → ends x (on_link link.0 e.trace) ≡ last
-    → AllGranted (services ((link, x) ∷ e.trace)) (if last then done config link x (unfinished (channel_of x) (on_link link.0 e.trace)) e.trace e.memory else nothing e.memory)
+    → AllGranted (services ((link, x) ∷ e.trace)) (if last then completed config link x (unfinished (channel_of x) (on_link link.0 e.trace)) e.trace e.memory else nothing e.memory)
 unfolding request_carried services
 done_granted config link x e false last = tt
 done_granted {w} config link (beat.A x) e true last =

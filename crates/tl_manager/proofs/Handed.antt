@@ -20,7 +20,7 @@ use Rattle.tl_manager.specs.Handing.{Handed, with_handed}
 use Rattle.tl_manager.specs.Holders.{recorded}
 use Rattle.tl_manager.specs.Kept.{Each}
 use Rattle.tl_manager.specs.Record.{reported_by, granted_by, granted_by_all}
-use Rattle.tl_manager.specs.Slave.{is_from_client}
+use Rattle.tl_manager.specs.Offer.{is_from_client}
 use Rattle.tl_manager.proofs.Lawful.{IsHandable}
 use Rattle.tl_rules.proofs.Sent.{unfinished-sent, unfinished-sent_other, held_unsaid, held-sent_unsaid, held-sent_d, request_of-other}
 use Rattle.tl_manager.specs.Ready.{IsWhole}

@@ -17,7 +17,9 @@ use Rattle.tl_rules.specs.Conformance.{Trace, on_link, broken_in_order}
 use Rattle.tl_rules.specs.Legality.{illegal, breaks_l1, is_one_of}
 use Rattle.tl_rules.proofs.Bursts.{next_rule}
 use Rattle.tl_manager.specs.Kept.{IsTyped}
-use Rattle.tl_manager.specs.Slave.{End, Sent, Judgement, Passes, breaks_or, waits_or, unlawful, is_from_client, before_stall, must_wait, judged_at, judged_on, judged, level_of, open_level, deed, taken, offered_as, offered}
+use Rattle.tl_manager.specs.Deed.{deed}
+use Rattle.tl_manager.specs.End.{End}
+use Rattle.tl_manager.specs.Offer.{Sent, Judgement, Passes, breaks_or, waits_or, unlawful, is_from_client, before_stall, must_wait, judged_at, judged_on, judged, level_of, open_level, taken, offered_as, offered}
 use Rattle.tl_manager.specs.Ready.{IsPassed}
 
 past_rule : (o : Option Rule) (rest : Judgement) → breaks_or o rest ≡ Passes → (o ≡ None) × (rest ≡ Passes)

@@ -28,7 +28,8 @@ use Rattle.tl_manager.specs.Tracking.{is_of, is_free}
 use Rattle.tl_manager.specs.declared.manager.links.Links.{Links}
 use Rattle.tl_manager.proofs.Busy.{unserved-among, all-taken, one-free}
 use Rattle.tl_manager.specs.PartIs.{IsPartOf, is_first_part, is_last_part}
-use Rattle.tl_manager.specs.Slave.{End, is_from_client, open_level, judged, judged_at, must_wait, breaks_or}
+use Rattle.tl_manager.specs.End.{End}
+use Rattle.tl_manager.specs.Offer.{is_from_client, open_level, judged, judged_at, must_wait, breaks_or}
 use Rattle.tl_manager.specs.Wire.{IsCarried, IsWire}
 use Rattle.tl_manager.specs.declared.manager.wire.Wire.{Wire}
 use Rattle.tl_manager.proofs.Links.{none-on_e}

@@ -26,8 +26,10 @@ use Rattle.tl_manager.proofs.Sound.{leveled}
 use Rattle.tl_manager.specs.Handing.{Handed, with_handed}
 use Rattle.tl_manager.specs.Kept.{Each, AreApart, IsSound, IsTyped, IsClean, IsFilled, IsPerformable, illegal_at, illegal_message_at, blocks_of, IsKept, IsAnswerLawful}
 use Rattle.tl_manager.specs.Request.{request_if, request_carried}
-use Rattle.tl_manager.specs.Service.{Service, is_ended_by, least_untaken, trackers_of, with_service, served, services, serving, is_in_service}
-use Rattle.tl_manager.specs.Slave.{End, fresh, level_of, Judgement, Breaks, Waits, Passes, is_from_client, must_wait, judged, deed, taken, offered_as, offered}
+use Rattle.tl_manager.specs.Service.{Service, is_ended_by, least_untaken, trackers_of, with_service, services_after, services, service_of_block, is_in_service}
+use Rattle.tl_manager.specs.Deed.{deed}
+use Rattle.tl_manager.specs.End.{End, fresh}
+use Rattle.tl_manager.specs.Offer.{level_of, Judgement, Breaks, Waits, Passes, is_from_client, must_wait, judged, taken, offered_as, offered}
 use Rattle.tl_manager.proofs.Deeds.{deed_handable, handed_sound}
 use Rattle.tl_manager.proofs.Free.{apart_filter, each_map_filter, least_free-is_free, least_free-le}
 use Rattle.tl_manager.proofs.Handed.{whole-handed, whole-taken, recorded-taken, recorded-handed}
@@ -86,7 +88,7 @@ unserved : {w : ℕ} (block : ℕ) (ss : List (Service w)) → is_in_service blo
 unserved block [] e = refl
 unserved {w} block (s ∷ ss) e = go (block_at s.request.address == block) (eqb_swap block (block_at s.request.address)) e (unserved block ss)
   where
-    go : (b : Bool) → (block == block_at s.request.address) ≡ b → is_some (cond b (Some s) (serving block ss)) ≡ false
+    go : (b : Bool) → (block == block_at s.request.address) ≡ b → is_some (cond b (Some s) (service_of_block block ss)) ≡ false
         → (is_in_service block ss ≡ false → is_one_of block (blocks_of ss) ≡ false) → is_one_of block (blocks_of (s ∷ ss)) ≡ false
     go true same f rest = absurd cc
     go false other f rest = rw (other, rest f) refl
@@ -117,7 +119,7 @@ taken_request {w} config link x t width sound whole waits ok = go (ends (beat.A 
     burst = unfinished channel.A (on_link link.0 t)
 
     go : (b : Bool) → (length burst + 1 == burst_length (beat.A x)) ≡ b → (b && (is_in_service (block_at x.address) (services t) || nat_le config.trackers (length (services t)))) ≡ false
-        → AreServed config (if b then served (link, beat.A x) burst (services t) else services t)
+        → AreServed config (if b then services_after (link, beat.A x) burst (services t) else services t)
     go false last e = ok
     go true last e =
         let p = or_parts (is_in_service (block_at x.address) (services t)) (nat_le config.trackers (length (services t))) e in

@@ -33,7 +33,7 @@ use Rattle.tl_manager.specs.Handing.{answer_with, access_answer, release_ack, gr
 use Rattle.tl_manager.specs.Kept.{IsSound, IsClean, IsFilled}
 use Rattle.tl_manager.specs.Service.{Service, is_access_answer}
 use Rattle.tl_manager.proofs.Filled.{length-bytes, room_in_beats, data_room, payload-long, payload-zero, block-zero}
-use Rattle.tl_manager.specs.Slave.{is_from_client, level_of}
+use Rattle.tl_manager.specs.Offer.{is_from_client, level_of}
 
 -- a message of a channel on which the manager sends, whose beats are sound, and that is clean
 pub record IsHandable {w : ℕ} (config : Config) (x : Link × Message w) : Type 0 where

@@ -16,7 +16,7 @@ use Rattle.tl_manager.specs.Kept.{Each, AreApart, blocks_of}
 use Rattle.tl_manager.specs.Pending
 use Rattle.tl_manager.specs.Pending.{one_if, count_where, is_any, is_granted, IsAccounted, HasFields, IsProbed}
 use Rattle.tl_manager.specs.Probed.{probe_in}
-use Rattle.tl_manager.specs.Service.{Service, services, serving, trackers_of}
+use Rattle.tl_manager.specs.Service.{Service, services, service_of_block, trackers_of}
 use Rattle.tl_manager.specs.Tracked.{service_with, AreMissing, IsTracked}
 use Rattle.tl_manager.specs.Trackers.{tracker_at, IsOfBlock, IsAsked}
 use Rattle.tl_manager.specs.Tracking
@@ -43,10 +43,10 @@ pub record AreLooked {w : ℕ} (trackers : Trackers w) (t : Trace w) : Type 0 wh
 
 -- what it says of the block's service
 abbrev IsLooked : {w : ℕ} → Tracker w → ℕ → Trace w → Type 0
-IsLooked Free block t = serving block (services t) ≡ None
+IsLooked Free block t = service_of_block block (services t) ≡ None
 IsLooked (Probing link request missing) block t =
-    (n : ℕ) × (serving block (services t) ≡ Some (service_with n link request)) × (is_granted t (service_with n link request) ≡ false) × AreMissing missing block t
-IsLooked {w} (Granted link k) block t = (n : ℕ) × (request : MessageA w) × (serving block (services t) ≡ Some (service_with n link request)) × (is_granted t (service_with n link request) ≡ true)
+    (n : ℕ) × (service_of_block block (services t) ≡ Some (service_with n link request)) × (is_granted t (service_with n link request) ≡ false) × AreMissing missing block t
+IsLooked {w} (Granted link k) block t = (n : ℕ) × (request : MessageA w) × (service_of_block block (services t) ≡ Some (service_with n link request)) × (is_granted t (service_with n link request) ≡ true)
 
 looked : {w : ℕ} (trackers : Trackers w) (block : ℕ) (tracker : Tracker w) (t : Trace w) → AreLooked trackers t → IsOfBlock trackers block tracker → IsLooked tracker block t
 looked {w} trackers block tracker t are (inr none) =
@@ -75,7 +75,7 @@ acquiring-looked {w} trackers block client tracker t are of = go tracker (looked
     never true false = refl
     never false b = refl
 
-    go : (x : Tracker w) → IsLooked x block t → Tracking.is_acquiring client x ≡ Pending.is_acquiring client t (serving block (services t))
+    go : (x : Tracker w) → IsLooked x block t → Tracking.is_acquiring client x ≡ Pending.is_acquiring client t (service_of_block block (services t))
     go Free e = rw e refl
     go (Probing link request missing) is = rw (is.1, is.2) (always (is_acquire request.opcode) (link.0 == client))
     go (Granted link k) is = rw (is.2, is.3) (never (is_acquire is.1.opcode) (link.0 == client))
@@ -93,7 +93,7 @@ granted-looked {w} trackers block client tracker t are of = go tracker (looked t
     never true = refl
     never false = refl
 
-    go : (x : Tracker w) → IsLooked x block t → Tracking.is_granted_to client x ≡ Pending.is_granted_to client t (serving block (services t))
+    go : (x : Tracker w) → IsLooked x block t → Tracking.is_granted_to client x ≡ Pending.is_granted_to client t (service_of_block block (services t))
     go Free e = rw e refl
     go (Probing link request missing) is = rw (is.1, is.2) (never (link.0 == client))
     go (Granted link k) is = rw (is.2, is.3) (always (link.0 == client))
@@ -107,10 +107,10 @@ missing-looked {w} trackers block client tracker t are of = go tracker (looked t
     calm true e none = absurd (none ((are.accounted.blocks block).probes client e))
     calm false e none = refl
 
-    unserved : serving block (services t) ≡ None → IsProbed client block t → ⊥
+    unserved : service_of_block block (services t) ≡ None → IsProbed client block t → ⊥
     unserved e is = absurd (let no : Some is.service ≡ None = sym is.serves ∙ e in cc)
 
-    answered : (s : Service w) → serving block (services t) ≡ Some s → is_granted t s ≡ true → IsProbed client block t → ⊥
+    answered : (s : Service w) → service_of_block block (services t) ≡ Some s → is_granted t s ≡ true → IsProbed client block t → ⊥
     answered s e granted is = absurd (let same = some_is is.service s (sym is.serves ∙ e) in let no : is_granted t s ≡ false = ap (is_granted t) (sym same) ∙ is.unanswered in cc)
 
     go : (x : Tracker w) → IsLooked x block t → Tracking.is_missing client x ≡ pending (ProbeOf block) (on_link client t)
@@ -152,7 +152,7 @@ none_any {w} f sink (v ∷ ss) at e = go (f v) refl (sink == v.tracker) refl (λ
     go false g false h more i = more i
 
 -- of the services those that pass are this one
-one_any : {w : ℕ} (f : Service w → Bool) (n : ℕ) (s : Service w) (ss : List (Service w)) → serving n ss ≡ Some s → Each (λ u. (u.tracker == s.tracker) ≡ true → u ≡ s) ss
+one_any : {w : ℕ} (f : Service w → Bool) (n : ℕ) (s : Service w) (ss : List (Service w)) → service_of_block n ss ≡ Some s → Each (λ u. (u.tracker == s.tracker) ≡ true → u ≡ s) ss
     → ((u : Service w) → f u ≡ true → (u.tracker == s.tracker) ≡ true) → is_any f ss ≡ f s
 one_any {w} f n s ss e each at = go (f s) refl
   where
@@ -160,11 +160,11 @@ one_any {w} f n s ss e each at = go (f s) refl
     either true = refl
     either false = refl
 
-    yes : (vs : List (Service w)) → serving n vs ≡ Some s → f s ≡ true → is_any f vs ≡ true
+    yes : (vs : List (Service w)) → service_of_block n vs ≡ Some s → f s ≡ true → is_any f vs ≡ true
     yes [] g h = absurd cc
     yes (v ∷ vs) g h = here (block_at v.request.address == n) g (λ i. yes vs i h)
       where
-        here : (b : Bool) → (if b then Some v else serving n vs) ≡ Some s → (serving n vs ≡ Some s → is_any f vs ≡ true) → (f v || is_any f vs) ≡ true
+        here : (b : Bool) → (if b then Some v else service_of_block n vs) ≡ Some s → (service_of_block n vs ≡ Some s → is_any f vs ≡ true) → (f v || is_any f vs) ≡ true
         here true i rest = let passes : f v ≡ true = ap f (some_is v s i) ∙ h in rw passes refl
         here false i rest = rw (rest i) (either (f v))
 
@@ -201,7 +201,7 @@ sink-looked {w} trackers sink client t are = go (tracker_at trackers sink) (are.
     always true = refl
     always false = refl
 
-    alone : (k : ℕ) (link : Link) (request : MessageA w) → serving k (services t) ≡ Some (service_with sink link request)
+    alone : (k : ℕ) (link : Link) (request : MessageA w) → service_of_block k (services t) ≡ Some (service_with sink link request)
         → is_any (Pending.is_granted_with client sink t) (services t) ≡ Pending.is_granted_with client sink t (service_with sink link request)
     alone k link request e =
         one_any (Pending.is_granted_with client sink t) k (service_with sink link request) (services t) e (same_tracker k (services t) (service_with sink link request) are.trackers_apart e)
@@ -232,7 +232,7 @@ unasking {w} trackers client source t are none = all (services t) (served-each (
     drop true false e = refl
     drop false b e = refl
 
-    go : (k : ℕ) (v : Service w) (x : Tracker w) → serving k (services t) ≡ Some v → IsTracked v.tracker x t → Tracking.is_asking client source x ≡ false → Pending.is_asking client source t v ≡ false
+    go : (k : ℕ) (v : Service w) (x : Tracker w) → service_of_block k (services t) ≡ Some v → IsTracked v.tracker x t → Tracking.is_asking client source x ≡ false → Pending.is_asking client source t v ≡ false
     go k v Free e is f = absurd (let among = tracker_among k (services t) v e in cc)
     go k v (Probing link request missing) e is f =
         let same = one_tracker k (block_at request.address) (services t) v (service_with v.tracker link request) are.trackers_apart e is.serves refl in
@@ -241,19 +241,19 @@ unasking {w} trackers client source t are none = all (services t) (served-each (
         let same = one_tracker k block (services t) v (service_with v.tracker link is.request) are.trackers_apart e is.serves refl in
         ap (Pending.is_asking client source t) same ∙ rw is.granted (never (link.0 == client) (is.request.source == source))
 
-    each : (k : ℕ) (v : Service w) → serving k (services t) ≡ Some v → Pending.is_asking client source t v ≡ false
+    each : (k : ℕ) (v : Service w) → service_of_block k (services t) ≡ Some v → Pending.is_asking client source t v ≡ false
     each k v e = go k v (tracker_at trackers v.tracker) e (are.tracked v.tracker) (none v.tracker)
 
 -- the request that has the source, and its fields
 asked-at : {w : ℕ} (n client source : ℕ) (tracker : Tracker w) (request : MessageA w) (t : Trace w) → IsTracked n tracker t → Tracking.is_asking client source tracker ≡ true
     → request_in tracker ≡ Some request
-    → (link : Link) × (serving (block_at request.address) (services t) ≡ Some (service_with n link request)) × (is_granted t (service_with n link request) ≡ false) × (link.0 ≡ client) × (request.source ≡ source)
+    → (link : Link) × (service_of_block (block_at request.address) (services t) ≡ Some (service_with n link request)) × (is_granted t (service_with n link request) ≡ false) × (link.0 ≡ client) × (request.source ≡ source)
 asked-at n client source Free request t is e f = absurd cc
 asked-at n client source (Granted link k) request t is e f = absurd cc
 asked-at {w} n client source (Probing link asked missing) request t is e f =
     let same : asked ≡ request = cc in
     let p = and_parts (link.0 == client) (asked.source == source) e in
-    subst (λ (r : MessageA w). (l : Link) × (serving (block_at r.address) (services t) ≡ Some (service_with n l r)) × (is_granted t (service_with n l r) ≡ false) × (l.0 ≡ client) × (r.source ≡ source)) same
+    subst (λ (r : MessageA w). (l : Link) × (service_of_block (block_at r.address) (services t) ≡ Some (service_with n l r)) × (is_granted t (service_with n l r) ≡ false) × (l.0 ≡ client) × (r.source ≡ source)) same
     (link, is.serves, is.unanswered, eqb-true link.0 client p.0, eqb-true asked.source source p.1)
 
 asking-served : {w : ℕ} (n client source : ℕ) (link : Link) (request : MessageA w) (t : Trace w) → is_granted t (service_with n link request) ≡ false → link.0 ≡ client
@@ -299,7 +299,7 @@ pub request-asked : {w : ℕ} (trackers : Trackers w) (client source : ℕ) (req
 request-asked {w} trackers client source request t are found =
     fields-read request (request_of source (on_link client t)) fields ∙ sym (go (pending (RequestSource source) (on_link client t)) (comes_in_request source (unfinished channel.A (on_link client t))) refl refl)
   where
-    is : (link : Link) × (serving (block_at request.address) (services t) ≡ Some (service_with found.0 link request)) × (is_granted t (service_with found.0 link request) ≡ false) × (link.0 ≡ client) × (request.source ≡ source)
+    is : (link : Link) × (service_of_block (block_at request.address) (services t) ≡ Some (service_with found.0 link request)) × (is_granted t (service_with found.0 link request) ≡ false) × (link.0 ≡ client) × (request.source ≡ source)
     is = asked-at found.0 client source (tracker_at trackers found.0) request t (are.tracked found.0) found.1 found.2
 
     fields : HasFields request.opcode request.param request.size request.source request.address (request_of source (on_link client t))

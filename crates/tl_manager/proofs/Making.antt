@@ -14,7 +14,7 @@ use Rattle.tl_manager.specs.Blocks.{AreBlocks}
 use Rattle.tl_manager.specs.Fresh.{fresh_wire}
 use Rattle.tl_manager.specs.Knows.{Knows}
 use Rattle.tl_manager.specs.Service.{services}
-use Rattle.tl_manager.specs.Slave.{fresh}
+use Rattle.tl_manager.specs.End.{fresh}
 use Rattle.tl_manager.specs.Trackers.{tracker_at}
 use Rattle.tl_manager.specs.Tracked.{IsTracked}
 use Rattle.tl_manager.specs.Wire.{IsWire}

@@ -30,8 +30,10 @@ use Rattle.tl_manager.specs.Holders.{probed, is_settled}
 use Rattle.tl_manager.specs.Kept.{Each, IsSound, IsTyped, IsPerformable, IsKept, illegal_message_at}
 use Rattle.tl_manager.specs.Record.{is_of_block}
 use Rattle.tl_manager.specs.Request.{request_if, request_carried}
-use Rattle.tl_manager.specs.Service.{Service, services, serving, least_untaken, trackers_of}
-use Rattle.tl_manager.specs.Slave.{End, Judgement, Breaks, Waits, Passes, level_of, with_block, written, probing_or, begun_with, begun_if_any, performed_if_any, settled, done_c, done, deed, judged, Refused, Stalled, refused, offered_as, offered}
+use Rattle.tl_manager.specs.Service.{Service, services, service_of_block, least_untaken, trackers_of}
+use Rattle.tl_manager.specs.Deed.{with_block, written, probing_or, begun_with, begun_if_any, performed_if_any, finish, completed_c, completed, deed}
+use Rattle.tl_manager.specs.End.{End}
+use Rattle.tl_manager.specs.Offer.{Judgement, Breaks, Waits, Passes, level_of, judged, Refused, Stalled, refused, offered_as, offered}
 use Rattle.tl_manager.proofs.Continued.{whole_request}
 use Rattle.tl_manager.proofs.Judged.{passed}
 use Rattle.tl_manager.proofs.Keeping.{taken_beat, are_served}
@@ -91,20 +93,20 @@ begun_new config link x beats tracker t memory address true e width sound whole 
 -- ---- channel C
 
 found_same : {w : ℕ} (config : Config) (block : ℕ) (ss : List (Service w)) (t : Trace w) (memory : Memory) (address : ℕ) → IsWidth w → Each (IsPerformable config) ss
-    → block_at address ≢ block → Same (performed_if_any config (serving block ss) t memory) memory address
+    → block_at address ≢ block → Same (performed_if_any config (service_of_block block ss) t memory) memory address
 found_same config block [] t memory address width each other = refl
 found_same {w} config block (s ∷ ss) t memory address width each other = go (block_at s.request.address == block) refl (found_same config block ss t memory address width each.1 other)
   where
-    go : (b : Bool) → (block_at s.request.address == block) ≡ b → Same (performed_if_any config (serving block ss) t memory) memory address
-        → Same (performed_if_any config (cond b (Some s) (serving block ss)) t memory) memory address
+    go : (b : Bool) → (block_at s.request.address == block) ≡ b → Same (performed_if_any config (service_of_block block ss) t memory) memory address
+        → Same (performed_if_any config (cond b (Some s) (service_of_block block ss)) t memory) memory address
     go true e rest = performed_same config s t memory address width each.0 (λ f. other (f ∙ eqb-true (block_at s.request.address) block e))
     go false e rest = rest
 
 settled_same : {w : ℕ} (config : Config) (block : ℕ) (t : Trace w) (memory : Memory) (address : ℕ) → IsWidth w → Each (IsPerformable config) (services t) → block_at address ≢ block
-    → Same (settled config block t memory) memory address
+    → Same (finish config block t memory) memory address
 settled_same {w} config block t memory address width each other = go (is_settled config block t)
   where
-    go : (b : Bool) → Same (if b then performed_if_any config (serving block (services t)) t memory else nothing memory) memory address
+    go : (b : Bool) → Same (if b then performed_if_any config (service_of_block block (services t)) t memory else nothing memory) memory address
     go true = found_same config block (services t) t memory address width each other
     go false = refl
 
@@ -116,10 +118,10 @@ written_same {w} x beats memory address other = go (c_carries_data x.opcode)
     go false = refl
 
 done_c_same : {w : ℕ} (config : Config) (link : Link) (x : BeatC w) (t : Trace w) (memory : Memory) (address : ℕ) → IsWidth w → Each (IsPerformable config) (services t)
-    → block_at address ≢ block_at x.address → Same (done_c config link x t memory) memory address
+    → block_at address ≢ block_at x.address → Same (completed_c config link x t memory) memory address
 done_c_same {w} config link x t memory address width each other = go (is_release x.opcode) (is_probe_ack x.opcode)
   where
-    go : (r p : Bool) → Same (if r then record { handed = (link, release_ack x.source) ∷ []; memory = memory } else if p then settled config (block_at x.address) t memory else nothing memory) memory address
+    go : (r p : Bool) → Same (if r then record { handed = (link, release_ack x.source) ∷ []; memory = memory } else if p then finish config (block_at x.address) t memory else nothing memory) memory address
     go true p = refl
     go false true = settled_same config (block_at x.address) t memory address width each other
     go false false = refl
@@ -134,7 +136,7 @@ unlike_too address block e = ne_eqb (block_at address) block (unlike address blo
 
 done_same : {w : ℕ} (config : Config) (link : Link) (x : Beat w) (e : End w) (address : ℕ) → IsWidth w → IsKept config e → IsPassed config link x e.trace → is_of_block (block_at address) x ≡ false
     → (last : Bool) → ends x (on_link link.0 e.trace) ≡ last
-    → Same (if last then done config link x (unfinished (channel_of x) (on_link link.0 e.trace)) e.trace e.memory else nothing e.memory) e.memory address
+    → Same (if last then completed config link x (unfinished (channel_of x) (on_link link.0 e.trace)) e.trace e.memory else nothing e.memory) e.memory address
 unfolding request_carried
 done_same config link x e address width before passes other false last = refl
 done_same {w} config link (beat.A x) e address width before passes other true last =

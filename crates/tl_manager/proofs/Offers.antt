@@ -19,7 +19,8 @@ use Rattle.tl_burst.specs.Messages.{channel_of}
 use Rattle.tl_params.specs.declared.config.Config.{Config}
 use Rattle.tl_params.specs.declared.level.Level.{Level}
 use Rattle.tl_params.specs.declared.profile.Profile.{Profile}
-use Rattle.tl_manager.specs.Slave.{End, Reception, Sent, fresh, offered}
+use Rattle.tl_manager.specs.End.{End, fresh}
+use Rattle.tl_manager.specs.Offer.{Reception, Sent, offered}
 
 -- a manager of so many blocks and trackers, whose links have these levels
 abbrev pub with_links : Profile → ℕ → ℕ → List Level → Config

@@ -16,7 +16,7 @@ use Rattle.tl_rules.specs.History.{block_at, is_grant, is_acquire, is_release_ac
 use Rattle.tl_manager.specs.Handing.{Deed, with_handed, performed, grant, grant_opcode, is_granted_data, access_answer}
 use Rattle.tl_manager.specs.Holders.{recorded, is_settled}
 use Rattle.tl_manager.specs.Pending.{is_awaited, IsSteady}
-use Rattle.tl_manager.specs.Service.{Service, services, serving, is_access_answer}
+use Rattle.tl_manager.specs.Service.{Service, services, service_of_block, is_access_answer}
 use Rattle.tl_manager.proofs.Accesses.{answer_kind, granted-still, services-answer, accounted-answer}
 use Rattle.tl_manager.proofs.Counts.{serving-without}
 use Rattle.tl_manager.proofs.Granted.{IsGrant, granted-now, granted-elsewhere, services-grant, accounted-grant}
@@ -71,10 +71,10 @@ answered_steady {w} config n s m t is access kind reply other = record {
     u : Trace w
     u = after_sent s.link (D m) t
 
-    serves : (k : ℕ) → serving k (services u) ≡ (if n == k then None else serving k (services t))
-    serves k = ap (serving k) (services-answer n s m t reply kind access is.accounted) ∙ serving-without n k (services t)
+    serves : (k : ℕ) → service_of_block k (services u) ≡ (if n == k then None else service_of_block k (services t))
+    serves k = ap (service_of_block k) (services-answer n s m t reply kind access is.accounted) ∙ serving-without n k (services t)
 
-    awaited : (k : ℕ) (b : Bool) → (n == k) ≡ b → is_awaited config k u (serving k (services u)) ≡ true
+    awaited : (k : ℕ) (b : Bool) → (n == k) ≡ b → is_awaited config k u (service_of_block k (services u)) ≡ true
     awaited k true e = ap (is_awaited config k u) (serves k) ∙ rw e refl
     awaited k false e =
         awaited-same config k t u (serves k ∙ rw e refl) (λ v f. granted-still s.link m t v is.width reply.whole other)
@@ -92,12 +92,12 @@ granted_steady {w} config n s m t is grants = record {
     serves : services u ≡ services t
     serves = services-grant s.link m t is.width grants.reply.whole grants.grants
 
-    awaited : (k : ℕ) (b : Bool) → (n == k) ≡ b → is_awaited config k u (serving k (services u)) ≡ true
+    awaited : (k : ℕ) (b : Bool) → (n == k) ≡ b → is_awaited config k u (service_of_block k (services u)) ≡ true
     awaited k true e =
-        ap (is_awaited config k u) (ap (serving k) serves ∙ ap (λ i. serving i (services t)) (sym (eqb-true n k e)) ∙ is.serves)
+        ap (is_awaited config k u) (ap (service_of_block k) serves ∙ ap (λ i. service_of_block i (services t)) (sym (eqb-true n k e)) ∙ is.serves)
         ∙ ap (λ b. b || not (is_settled config k u)) (granted-now n s m t grants)
     awaited k false e =
-        awaited-same config k t u (ap (serving k) serves) (λ v f. granted-elsewhere n k s v m t grants e f)
+        awaited-same config k t u (ap (service_of_block k) serves) (λ v f. granted-elsewhere n k s v m t grants e f)
         (λ c. reply-quiet (ProbeOf k) s.link m t c is.width grants.reply.whole (λ f. (refl, refl))) (is.awaited k e)
 
 pub performed-steady : {w : ℕ} (config : Config) (n : ℕ) (s : Service w) (t : Trace w) (memory : Memory) → IsReady config n s t → IsSteady config (with_handed (performed config s t memory).handed t)
@@ -140,9 +140,9 @@ performed-services {w} config n s t memory is = go (is_acquire s.request.opcode)
 
 -- of each block
 pub performed-serving : {w : ℕ} (config : Config) (n k : ℕ) (s : Service w) (t : Trace w) (memory : Memory) → IsReady config n s t
-    → serving k (services (with_handed (performed config s t memory).handed t)) ≡ (if not (is_acquire s.request.opcode) && (n == k) then None else serving k (services t))
-performed-serving {w} config n k s t memory is = ap (serving k) (performed-services config n s t memory is) ∙ go (is_acquire s.request.opcode)
+    → service_of_block k (services (with_handed (performed config s t memory).handed t)) ≡ (if not (is_acquire s.request.opcode) && (n == k) then None else service_of_block k (services t))
+performed-serving {w} config n k s t memory is = ap (service_of_block k) (performed-services config n s t memory is) ∙ go (is_acquire s.request.opcode)
   where
-    go : (b : Bool) → serving k (if b then services t else filter (λ v. not (block_at v.request.address == n)) (services t)) ≡ (if not b && (n == k) then None else serving k (services t))
+    go : (b : Bool) → service_of_block k (if b then services t else filter (λ v. not (block_at v.request.address == n)) (services t)) ≡ (if not b && (n == k) then None else service_of_block k (services t))
     go true = refl
     go false = serving-without n k (services t)

@@ -35,8 +35,9 @@ use Rattle.tl_manager.specs.Complete.{IsComplete, IsDue}
 use Rattle.tl_manager.specs.Home.{IsPlaced, IsPlacedIn}
 use Rattle.tl_manager.specs.Kept.{Each, IsPerformable, illegal_message_at}
 use Rattle.tl_manager.specs.Knows.{Knows, IsManager}
-use Rattle.tl_manager.specs.Service.{Service, services, serving, trackers_of, least_untaken}
-use Rattle.tl_manager.specs.Slave.{End, level_of}
+use Rattle.tl_manager.specs.Service.{Service, services, service_of_block, trackers_of, least_untaken}
+use Rattle.tl_manager.specs.End.{End}
+use Rattle.tl_manager.specs.Offer.{level_of}
 use Rattle.tl_manager.specs.Tracked.{service_with, IsTracked}
 use Rattle.tl_manager.specs.Trackers.{tracker_at}
 use Rattle.tl_manager.specs.declared.manager.links.Links.{Links}
@@ -128,11 +129,11 @@ limits config fits =
 
 -- ---- the requests that trackers keep
 
-serving-each : {w : ℕ} (P : Service w → Type 0) (n : ℕ) (ss : List (Service w)) (s : Service w) → Each P ss → serving n ss ≡ Some s → P s
+serving-each : {w : ℕ} (P : Service w → Type 0) (n : ℕ) (ss : List (Service w)) (s : Service w) → Each P ss → service_of_block n ss ≡ Some s → P s
 serving-each P n [] s each e = absurd cc
 serving-each {w} P n (v ∷ ss) s each e = go (block_at v.request.address == n) (λ f. serving-each P n ss s each.1 f) e
   where
-    go : (b : Bool) → (serving n ss ≡ Some s → P s) → (if b then Some v else serving n ss) ≡ Some s → P s
+    go : (b : Bool) → (service_of_block n ss ≡ Some s → P s) → (if b then Some v else service_of_block n ss) ≡ Some s → P s
     go true rest f = subst P (some_is v s f) each.0
     go false rest f = rest f
 

@@ -15,7 +15,7 @@ use Rattle.tl_rules.proofs.Sent.{pending-quiet}
 use Rattle.tl_manager.specs.Handing.{with_handed, probes, probe_beat}
 use Rattle.tl_manager.specs.Holders.{recorded, is_missing, is_settled, is_above, is_spared, cap_probed, probed}
 use Rattle.tl_manager.specs.Pending.{is_granted, is_awaited, IsSteady}
-use Rattle.tl_manager.specs.Service.{Service, services, serving}
+use Rattle.tl_manager.specs.Service.{Service, services, service_of_block}
 use Rattle.tl_manager.proofs.Clients.{among-where, nobody-where}
 use Rattle.tl_manager.proofs.Links.{beat-keeps}
 use Rattle.tl_manager.proofs.Lists.{each_client, each_weaker}
@@ -87,10 +87,10 @@ probes-steady {w} config n s k d ds t is caps someone = record {
     either true = refl
     either false = refl
 
-    awaited : (j : ℕ) (b : Bool) → (n == j) ≡ b → is_awaited config j u (serving j (services u)) ≡ true
+    awaited : (j : ℕ) (b : Bool) → (n == j) ≡ b → is_awaited config j u (service_of_block j (services u)) ≡ true
     awaited j true e =
-        subst (λ (i : ℕ). is_awaited config i u (serving i (services u)) ≡ true) (eqb-true n j e)
-        (ap (is_awaited config n u) (ap (serving n) serves ∙ is.serves) ∙ ap (λ b. is_granted u s || not b) (unsettled (is_settled config n u) refl) ∙ either (is_granted u s))
+        subst (λ (i : ℕ). is_awaited config i u (service_of_block i (services u)) ≡ true) (eqb-true n j e)
+        (ap (is_awaited config n u) (ap (service_of_block n) serves ∙ is.serves) ∙ ap (λ b. is_granted u s || not b) (unsettled (is_settled config n u) refl) ∙ either (is_granted u s))
     awaited j false e =
-        awaited-same config j t u (ap (serving j) serves) (λ v f. granted-probes n k (probed config s k t) t v)
+        awaited-same config j t u (ap (service_of_block j) serves) (λ v f. granted-probes n k (probed config s k t) t v)
         (λ c. probes-keep (pending (ProbeOf j)) c n k (probed config s k t) t (λ h. missing-else_b j n k h e)) (is.awaited j e)

@@ -26,7 +26,7 @@ use Rattle.tl_manager.specs.Handing.{with_handed, probes, probe_of_block, probe_
 use Rattle.tl_manager.specs.Holders.{cap_probed, is_spared}
 use Rattle.tl_manager.specs.Kept.{Each}
 use Rattle.tl_manager.specs.Pending.{is_granted, IsReporting, IsProbed, IsAccounted}
-use Rattle.tl_manager.specs.Service.{Service, services, serving, is_ended_by}
+use Rattle.tl_manager.specs.Service.{Service, services, service_of_block, is_ended_by}
 use Rattle.tl_manager.proofs.Accepted.{granted-kept}
 use Rattle.tl_manager.proofs.Handed.{whole-after_sent}
 use Rattle.tl_manager.proofs.Links.{own_beat, other_beat, beat-keeps, pending-opened, pending-closed}
@@ -81,7 +81,7 @@ missing-else_c link x t c k other = beat-keeps (pending (ProbeOf k)) c link (bea
 
 pub same-c : {w : ℕ} (link : Link) (x : BeatC w) (t : Trace w) (k : ℕ) → IsSame k t ((link, beat.C x) ∷ t)
 same-c link x t k = record {
-  serves = ap (serving k) (services-c link x t);
+  serves = ap (service_of_block k) (services-c link x t);
   granted = λ s e. granted-kept link (beat.C x) t s (λ sink h. pending-quiet (GrantSink sink) (beat.C x) h refl refl);
   acquires = λ c. beat-keeps (pending (AcquireOf k)) c link (beat.C x) t (λ h. pending-quiet (AcquireOf k) (beat.C x) h refl refl);
   grants = λ c. beat-keeps (pending (GrantAckOf k)) c link (beat.C x) t (λ h. pending-quiet (GrantAckOf k) (beat.C x) h refl refl);
@@ -219,7 +219,7 @@ missing-own_b n k t none = pending-opened (ProbeOf n) (beat.B (probe_beat n k)) 
 
 -- the service that probes with this cap
 pub record IsProbing {w : ℕ} (n : ℕ) (k : Cap) (s : Service w) (t : Trace w) : Type 0 where
-  pub serves : serving n (services t) ≡ Some s
+  pub serves : service_of_block n (services t) ≡ Some s
   pub unanswered : is_granted t s ≡ false
   pub caps : cap_probed s.request.opcode s.request.param ≡ Some k
 
@@ -228,7 +228,7 @@ granted_b link n k t s = granted-kept link (beat.B (probe_beat n k)) t s (λ sin
 
 quiet-b : {w : ℕ} (link : Link) (n i : ℕ) (k : Cap) (t : Trace w) → IsQuiet i t ((link, beat.B (probe_beat n k)) ∷ t)
 quiet-b link n i k t = record {
-  serves = ap (serving i) (services-b link (probe_beat n k) t);
+  serves = ap (service_of_block i) (services-b link (probe_beat n k) t);
   granted = λ s e. granted_b link n k t s;
   acquires = λ c. beat-keeps (pending (AcquireOf i)) c link (beat.B (probe_beat n k)) t (λ h. pending-quiet (AcquireOf i) (beat.B (probe_beat n k)) h refl refl);
   grants = λ c. beat-keeps (pending (GrantAckOf i)) c link (beat.B (probe_beat n k)) t (λ h. pending-quiet (GrantAckOf i) (beat.B (probe_beat n k)) h refl refl);
@@ -241,7 +241,7 @@ probed-still : {w : ℕ} (link : Link) (c i n : ℕ) (k : Cap) (t : Trace w) →
 probed-still link c i n k t same is = record {
   service = is.service;
   cap = is.cap;
-  serves = ap (serving i) (services-b link (probe_beat n k) t) ∙ is.serves;
+  serves = ap (service_of_block i) (services-b link (probe_beat n k) t) ∙ is.serves;
   unanswered = granted_b link n k t is.service ∙ is.unanswered;
   others = is.others;
   caps = is.caps;
@@ -278,7 +278,7 @@ accounted-probe {w} link n k s t none is other ok =
         (record {
           service = s;
           cap = k;
-          serves = ap (serving n) (services-b link (probe_beat n k) t) ∙ is.serves;
+          serves = ap (service_of_block n) (services-b link (probe_beat n k) t) ∙ is.serves;
           unanswered = granted_b link n k t s ∙ is.unanswered;
           others = subst (λ (j : ℕ). is_spared s j ≡ false) same other;
           caps = is.caps;
@@ -295,7 +295,7 @@ accounted-probes {w} n k (c ∷ clients) s t width whole is others ok =
     accounted-probes n k clients s ((record { 0 = c }, beat.B (probe_beat n k)) ∷ t) width
     (λ d. whole-after_sent d (record { 0 = c }) (probe_of_block n k) t width refl (whole d))
     (record {
-      serves = ap (serving n) (services-b (record { 0 = c }) (probe_beat n k) t) ∙ is.serves;
+      serves = ap (service_of_block n) (services-b (record { 0 = c }) (probe_beat n k) t) ∙ is.serves;
       unanswered = granted_b (record { 0 = c }) n k t s ∙ is.unanswered;
       caps = is.caps;
     })

@@ -12,7 +12,8 @@ use Rattle.tl_params.specs.declared.perm.Perm.{Perm}
 use Rattle.tl_manager.specs.Admission.{admission_of, is_stall}
 use Rattle.tl_manager.specs.Kept.{IsKept}
 use Rattle.tl_manager.specs.Knows.{Knows}
-use Rattle.tl_manager.specs.Slave.{End, Judgement, Breaks, Waits, Passes, judged, is_waiting, stalls, refused}
+use Rattle.tl_manager.specs.End.{End}
+use Rattle.tl_manager.specs.Offer.{Judgement, Breaks, Waits, Passes, judged, is_waiting, stalls, refused}
 use Rattle.tl_manager.specs.Wire.{IsWire}
 use Rattle.tl_manager.specs.declared.manager.links.Links.{Links}
 use Rattle.tl_manager.specs.declared.manager.wire.Wire.{Wire}

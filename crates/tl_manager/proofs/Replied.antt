@@ -13,7 +13,7 @@ use Rattle.tl_rules.specs.History.{block_at, is_release_ack, pending}
 use Rattle.tl_rules.proofs.Handed.{after_whole}
 use Rattle.tl_manager.specs.Kept.{Each, AreApart, blocks_of}
 use Rattle.tl_manager.specs.Pending.{one_if, count_where, is_granted, is_asking, IsAccounted}
-use Rattle.tl_manager.specs.Service.{Service, services, serving, trackers_of}
+use Rattle.tl_manager.specs.Service.{Service, services, service_of_block, trackers_of}
 use Rattle.tl_manager.proofs.Accepted.{asks}
 use Rattle.tl_manager.proofs.Counts.{count-same, count-none, count-served, one_at_most, same_block, only_one}
 use Rattle.tl_manager.proofs.Handed.{after_sent}
@@ -24,7 +24,7 @@ use Rattle.tl_manager.proofs.Serving.{some_is}
 -- the answer of the service of a block: nothing of the block is missing, and no Grant was handed out
 pub record IsReply {w : ℕ} (n : ℕ) (s : Service w) (m : MessageD w) (t : Trace w) : Type 0 where
   pub width : IsWidth w
-  pub serves : serving n (services t) ≡ Some s
+  pub serves : service_of_block n (services t) ≡ Some s
   pub unanswered : is_granted t s ≡ false
   pub source : m.source ≡ s.request.source
   pub answers : is_release_ack m.opcode ≡ false
@@ -56,16 +56,16 @@ no_burst n s m t is ok =
 abbrev pub asks_else : {w : ℕ} → ℕ → ℕ → ℕ → Trace w → Service w → Bool
 asks_else n c q t v = not (block_at v.request.address == n) && is_asking c q t v
 
-pub block-of : {w : ℕ} (n : ℕ) (ss : List (Service w)) (s : Service w) → serving n ss ≡ Some s → (block_at s.request.address == n) ≡ true
+pub block-of : {w : ℕ} (n : ℕ) (ss : List (Service w)) (s : Service w) → service_of_block n ss ≡ Some s → (block_at s.request.address == n) ≡ true
 block-of n [] s e = absurd cc
 block-of {w} n (u ∷ ss) s e = go (block_at u.request.address == n) refl e (λ f. block-of n ss s f)
   where
-    go : (b : Bool) → (block_at u.request.address == n) ≡ b → (if b then Some u else serving n ss) ≡ Some s → (serving n ss ≡ Some s → (block_at s.request.address == n) ≡ true)
+    go : (b : Bool) → (block_at u.request.address == n) ≡ b → (if b then Some u else service_of_block n ss) ≡ Some s → (service_of_block n ss ≡ Some s → (block_at s.request.address == n) ≡ true)
         → (block_at s.request.address == n) ≡ true
     go true here f rest = ap (λ (v : Service w). block_at v.request.address == n) (sym (some_is u s f)) ∙ here
     go false here f rest = rest f
 
-pub block_served : {w : ℕ} (n : ℕ) (t : Trace w) (s : Service w) → serving n (services t) ≡ Some s → block_at s.request.address ≡ n
+pub block_served : {w : ℕ} (n : ℕ) (t : Trace w) (s : Service w) → service_of_block n (services t) ≡ Some s → block_at s.request.address ≡ n
 block_served n t s e = eqb-true (block_at s.request.address) n (block-of n (services t) s e)
 
 -- with its source none is left

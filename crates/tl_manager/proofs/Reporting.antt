@@ -22,8 +22,9 @@ use Rattle.tl_manager.specs.Home.{IsHomeWithout, IsReportedHome, IsDone, IsReady
 use Rattle.tl_manager.specs.Kept.{AreApart}
 use Rattle.tl_manager.specs.Pending.{is_granted}
 use Rattle.tl_manager.specs.Ready.{IsReady}
-use Rattle.tl_manager.specs.Service.{Service, services, serving, trackers_of}
-use Rattle.tl_manager.specs.Slave.{End, settled, performed_if_any}
+use Rattle.tl_manager.specs.Service.{Service, services, service_of_block, trackers_of}
+use Rattle.tl_manager.specs.Deed.{finish, performed_if_any}
+use Rattle.tl_manager.specs.End.{End}
 use Rattle.tl_manager.specs.Tracked.{service_with, AreMissing, IsTracked, IsProbing}
 use Rattle.tl_manager.specs.Trackers.{tracker_at}
 use Rattle.tl_manager.specs.Tracking.{is_of}
@@ -43,8 +44,8 @@ use Rattle.tl_manager.proofs.Words.{word-nobody}
 -- ---- the service that a ProbeAck is for
 
 -- no tracker that keeps the truth is of another block's service
-of_block : {w : ℕ} (n block : ℕ) (tracker : Tracker w) (s : Service w) (t : Trace w) → IsTracked n tracker t → serving block (services t) ≡ Some s → s.tracker ≡ n
-    → is_of block tracker ≡ false → ((v : Service w) (k : ℕ) → serving k (services t) ≡ Some v → v.tracker ≡ n → k ≡ block) → ⊥
+of_block : {w : ℕ} (n block : ℕ) (tracker : Tracker w) (s : Service w) (t : Trace w) → IsTracked n tracker t → service_of_block block (services t) ≡ Some s → s.tracker ≡ n
+    → is_of block tracker ≡ false → ((v : Service w) (k : ℕ) → service_of_block k (services t) ≡ Some v → v.tracker ≡ n → k ≡ block) → ⊥
 of_block n block Free s t is e at away one =
     absurd (let among : is_one_of n (trackers_of (services t)) ≡ true = subst (λ i. is_one_of i (trackers_of (services t)) ≡ true) at (tracker_among block (services t) s e) in cc)
 of_block n block (Probing link request missing) s t is e at away one =
@@ -58,10 +59,10 @@ of_block n block (Granted link granted) s t is e at away one =
 
 -- where no tracker is of the block, it isn't in service
 pub unserved-block : {w : ℕ} (block : ℕ) (at : ℕ → Tracker w) (t : Trace w) → AreApart (trackers_of (services t)) → ((n : ℕ) → IsTracked n (at n) t) → ((n : ℕ) → is_of block (at n) ≡ false)
-    → serving block (services t) ≡ None
-unserved-block {w} block at t apart tracked none = go (serving block (services t)) refl
+    → service_of_block block (services t) ≡ None
+unserved-block {w} block at t apart tracked none = go (service_of_block block (services t)) refl
   where
-    go : (o : Option (Service w)) → serving block (services t) ≡ o → o ≡ None
+    go : (o : Option (Service w)) → service_of_block block (services t) ≡ o → o ≡ None
     go None e = refl
     go (Some s) e = absurd (of_block s.tracker block (at s.tracker) s t (tracked s.tracker) e refl (none s.tracker)
         (λ v k f g. sym (block_served k t v f) ∙ ap (λ (x : Service w). block_at x.request.address) (one_tracker k block (services t) v s apart f e g) ∙ block_served block t s e))
@@ -99,39 +100,39 @@ missing-word {w} config link block x e left is bits =
 
 -- ---- the deed
 
-settled-as : {w : ℕ} (config : Config) (block : ℕ) (t : Trace w) (memory : Memory) (b : Bool) (o : Option (Service w)) → is_settled config block t ≡ b → serving block (services t) ≡ o
-    → settled config block t memory ≡ (if b then performed_if_any config o t memory else nothing memory)
+settled-as : {w : ℕ} (config : Config) (block : ℕ) (t : Trace w) (memory : Memory) (b : Bool) (o : Option (Service w)) → is_settled config block t ≡ b → service_of_block block (services t) ≡ o
+    → finish config block t memory ≡ (if b then performed_if_any config o t memory else nothing memory)
 settled-as config block t memory b o e f = rw (e, f) refl
 
 -- the service that the ProbeAck is for
 reported-service : {w : ℕ} (config : Config) (link : Link) (block : ℕ) (x : BeatC w) (e : End w) → IsReport config link block x e
-    → (s : Service w) × (serving block (services e.trace) ≡ Some s) × (is_granted e.trace s ≡ false)
+    → (s : Service w) × (service_of_block block (services e.trace) ≡ Some s) × (is_granted e.trace s ≡ false)
 reported-service config link block x e is =
     let found = report-service config link x e is.taken is.kind in
-    (found.0, subst (λ k. serving k (services e.trace) ≡ Some found.0) is.of_block (ap (serving (block_at x.address)) (sym (services-c link x e.trace)) ∙ found.1), sym (granted_c link x e.trace found.0) ∙ found.2)
+    (found.0, subst (λ k. service_of_block k (services e.trace) ≡ Some found.0) is.of_block (ap (service_of_block (block_at x.address)) (sym (services-c link x e.trace)) ∙ found.1), sym (granted_c link x e.trace found.0) ∙ found.2)
 
-pub report-served : {w : ℕ} (config : Config) (link : Link) (block : ℕ) (x : BeatC w) (e : End w) → IsReport config link block x e → serving block (services e.trace) ≡ None → ⊥
+pub report-served : {w : ℕ} (config : Config) (link : Link) (block : ℕ) (x : BeatC w) (e : End w) → IsReport config link block x e → service_of_block block (services e.trace) ≡ None → ⊥
 report-served config link block x e is none = let found = reported-service config link block x e is in absurd (let no : Some found.0 ≡ None = sym found.1 ∙ none in cc)
 
 pub report-granted : {w : ℕ} (config : Config) (n : ℕ) (asking link : Link) (block granted : ℕ) (x : BeatC w) (e : End w) → IsReport config link block x e
     → IsTracked n (Granted asking granted) e.trace → (granted == block) ≡ true → ⊥
 report-granted config n asking link block granted x e is ok here =
     let found = reported-service config link block x e is in
-    let same = some_is found.0 _ (sym found.1 ∙ subst (λ k. serving k (services e.trace) ≡ Some (service_with n asking ok.request)) (eqb-true granted block here) ok.serves) in
+    let same = some_is found.0 _ (sym found.1 ∙ subst (λ k. service_of_block k (services e.trace) ≡ Some (service_with n asking ok.request)) (eqb-true granted block here) ok.serves) in
     absurd (let no : is_granted e.trace (service_with n asking ok.request) ≡ false = ap (is_granted e.trace) (sym same) ∙ found.2 in let yes : is_granted e.trace (service_with n asking ok.request) ≡ true = ok.granted in cc)
 
 -- ---- the trackers
 
 -- those of other blocks
 others-reported : {w : ℕ} (config : Config) (link : Link) (block : ℕ) (x : BeatC w) (e : End w) (s : Service w) (n : ℕ) (tracker : Tracker w) → IsReport config link block x e
-    → serving block (services e.trace) ≡ Some s → n ≢ s.tracker
+    → service_of_block block (services e.trace) ≡ Some s → n ≢ s.tracker
     → IsTracked n tracker e.trace → IsTracked n tracker ((link, beat.C x) ∷ e.trace)
 others-reported {w} config link block x e s n tracker is serves other ok =
     tracked-still n tracker e.trace ((link, beat.C x) ∷ e.trace) (λ free. ap (λ (ss : List (Service w)). is_one_of n (trackers_of ss)) (services-c link x e.trace) ∙ free)
     (λ k v f at.
     let apart = other_block block k s v (services e.trace) serves f (λ g. other (sym at ∙ g)) in
     record {
-      serves = ap (serving k) (services-c link x e.trace) ∙ f;
+      serves = ap (service_of_block k) (services-c link x e.trace) ∙ f;
       granted = granted_c link x e.trace v;
       missing = λ c. missing-else_c link x e.trace c k (elsewhere k (ap (λ i. i == k) is.of_block ∙ apart));
     }) ok
@@ -140,7 +141,7 @@ others-reported {w} config link block x e s n tracker is serves other ok =
     elsewhere k f = rw f (never (is_probe_ack x.opcode))
 
 pub home-reported : {w : ℕ} {D : Type 0} (perm_of : D → ℕ → ℕ → Perm) (config : Config) (home : Home w D) (number : ℕ) (asking link : Link) (request : MessageA w) (block : ℕ) (x : BeatC w) (e : End w) (memory : Memory)
-    → IsReport config link block x e → serving block (services e.trace) ≡ Some (service_with number asking request)
+    → IsReport config link block x e → service_of_block block (services e.trace) ≡ Some (service_with number asking request)
     → IsReportedHome perm_of config home e.trace ((link, beat.C x) ∷ e.trace) memory → IsHomeWithout number perm_of config home ((link, beat.C x) ∷ e.trace) memory
 home-reported perm_of config home number asking link request block x e memory is serves ok = record {
   profile = ok.profile;
@@ -152,21 +153,21 @@ home-reported perm_of config home number asking link request block x e memory is
 
 -- the last ProbeAck that was missing
 pub done-settled : {w : ℕ} {D : Type 0} (perm_of : D → ℕ → ℕ → Perm) (config : Config) (home : Home w D) (handed : Handed w) (number : ℕ) (asking link : Link) (request : MessageA w) (block : ℕ) (x : BeatC w) (e : End w) (memory : Memory)
-    → IsReport config link block x e → serving block (services e.trace) ≡ Some (service_with number asking request) → is_settled config block ((link, beat.C x) ∷ e.trace) ≡ true
+    → IsReport config link block x e → service_of_block block (services e.trace) ≡ Some (service_with number asking request) → is_settled config block ((link, beat.C x) ∷ e.trace) ≡ true
     → IsDone perm_of config home handed ((link, beat.C x) ∷ e.trace) (performed config (service_with number asking request) ((link, beat.C x) ∷ e.trace) memory)
-    → IsDone perm_of config home handed ((link, beat.C x) ∷ e.trace) (settled config block ((link, beat.C x) ∷ e.trace) memory)
+    → IsDone perm_of config home handed ((link, beat.C x) ∷ e.trace) (finish config block ((link, beat.C x) ∷ e.trace) memory)
 done-settled {w} perm_of config home handed number asking link request block x e memory is serves all done =
     subst (λ (d : Deed w). IsDone perm_of config home handed ((link, beat.C x) ∷ e.trace) d)
-    (sym (settled-as config block ((link, beat.C x) ∷ e.trace) memory true (Some (service_with number asking request)) all (ap (serving block) (services-c link x e.trace) ∙ serves))) done
+    (sym (settled-as config block ((link, beat.C x) ∷ e.trace) memory true (Some (service_with number asking request)) all (ap (service_of_block block) (services-c link x e.trace) ∙ serves))) done
 
 pub ready-settled : {w : ℕ} (config : Config) (number : ℕ) (asking link : Link) (request : MessageA w) (block : ℕ) (x : BeatC w) (e : End w) → IsReport config link block x e
     → block_at request.address ≡ block
-    → serving block (services e.trace) ≡ Some (service_with number asking request) → is_settled config block ((link, beat.C x) ∷ e.trace) ≡ true
+    → service_of_block block (services e.trace) ≡ Some (service_with number asking request) → is_settled config block ((link, beat.C x) ∷ e.trace) ≡ true
     → IsReadyAt config number asking request ((link, beat.C x) ∷ e.trace)
 ready-settled config number asking link request block x e is same serves all = record {
   ready = subst (λ k. IsReady config k (service_with number asking request) ((link, beat.C x) ∷ e.trace)) (is.of_block ∙ sym same)
       (report-ready config link x (service_with number asking request) e is.taken is.kind
-      (subst (λ k. serving k (services ((link, beat.C x) ∷ e.trace)) ≡ Some (service_with number asking request)) (sym is.of_block) (ap (serving block) (services-c link x e.trace) ∙ serves))
+      (subst (λ k. service_of_block k (services ((link, beat.C x) ∷ e.trace)) ≡ Some (service_with number asking request)) (sym is.of_block) (ap (service_of_block block) (services-c link x e.trace) ∙ serves))
       (subst (λ k. is_settled config k ((link, beat.C x) ∷ e.trace) ≡ true) (sym is.of_block) all));
   sound = (is.taken.passes.sound, is.taken.before.sound);
 }
@@ -175,13 +176,13 @@ ready-settled config number asking link request block x e is same serves all = r
 pub done-waiting : {w : ℕ} {D : Type 0} (perm_of : D → ℕ → ℕ → Perm) (config : Config) (old new : Home w D) (number : ℕ) (asking link : Link) (request : MessageA w) (left block : ℕ) (x : BeatC w) (e : End w) (memory : Memory)
     → new.profile ≡ old.profile → new.directory ≡ old.directory → new.blocks ≡ old.blocks → new.trackers.count ≡ old.trackers.count
     → ((n : ℕ) → tracker_at new.trackers n ≡ (if number == n then Probing asking request left else tracker_at old.trackers n))
-    → IsReport config link block x e → block_at request.address ≡ block → serving block (services e.trace) ≡ Some (service_with number asking request)
+    → IsReport config link block x e → block_at request.address ≡ block → service_of_block block (services e.trace) ≡ Some (service_with number asking request)
     → is_granted e.trace (service_with number asking request) ≡ false
     → AreMissing left block ((link, beat.C x) ∷ e.trace) → is_settled config block ((link, beat.C x) ∷ e.trace) ≡ false → IsReportedHome perm_of config old e.trace ((link, beat.C x) ∷ e.trace) memory
-    → IsDone perm_of config new [] ((link, beat.C x) ∷ e.trace) (settled config block ((link, beat.C x) ∷ e.trace) memory)
+    → IsDone perm_of config new [] ((link, beat.C x) ∷ e.trace) (finish config block ((link, beat.C x) ∷ e.trace) memory)
 unfolding with_handed
 done-waiting {w} {D} perm_of config old new number asking link request left block x e memory profile directory blocks count trackers is same serves unanswered bits more ok =
-    subst (λ (d : Deed w). IsDone perm_of config new [] u d) (sym (settled-as config block u memory false (serving block (services u)) more refl)) (
+    subst (λ (d : Deed w). IsDone perm_of config new [] u d) (sym (settled-as config block u memory false (service_of_block block (services u)) more refl)) (
       refl,
       record {
         profile = profile ∙ ok.profile;
@@ -198,7 +199,7 @@ done-waiting {w} {D} perm_of config old new number asking link request left bloc
 
     probing : IsTracked number (Probing asking request left) u
     probing = record {
-      serves = ap (serving (block_at request.address)) (services-c link x e.trace) ∙ subst (λ k. serving k (services e.trace) ≡ Some (service_with number asking request)) (sym same) serves;
+      serves = ap (service_of_block (block_at request.address)) (services-c link x e.trace) ∙ subst (λ k. service_of_block k (services e.trace) ≡ Some (service_with number asking request)) (sym same) serves;
       unanswered = granted_c link x e.trace (service_with number asking request) ∙ unanswered;
       bits = subst (λ k. AreMissing left k u) (sym same) bits;
     }

@@ -18,7 +18,7 @@ use Rattle.tl_rules.proofs.Open.{never}
 use Rattle.tl_manager.specs.Kept.{is_granting}
 use Rattle.tl_manager.specs.Pending.{one_if, count_where, is_granted, is_asking, is_acquiring, is_granted_to, HasFields, IsBegun, IsReporting, IsNamed, IsHandled, IsAccounted}
 use Rattle.tl_manager.specs.Request.{request_if, request_carried}
-use Rattle.tl_manager.specs.Service.{Service, services, serving, is_in_service, least_untaken, trackers_of}
+use Rattle.tl_manager.specs.Service.{Service, services, service_of_block, is_in_service, least_untaken, trackers_of}
 use Rattle.tl_manager.proofs.Accepted.{granted_a, same-else}
 use Rattle.tl_manager.proofs.Counts.{counted-kept}
 use Rattle.tl_manager.proofs.Asked.{Place, fields-now, acquire_whole, begun-now, source-now, comes-now}
@@ -103,7 +103,7 @@ accounted-part {w} link x t place part ok = record {
   sources = λ c q. sources-all link x t c q place ok (counted c q);
   begun = λ c. begun-all link x t c place ok;
   reports = λ c. reports-all link x t c ok;
-  blocks = λ k. handled-same k t ((link, beat.A x) ∷ t) (same-else link x t k place ok (ap (serving k) still) (no_acquire x (on_link link.0 t) k place part)) (ok.blocks k);
+  blocks = λ k. handled-same k t ((link, beat.A x) ∷ t) (same-else link x t k place ok (ap (service_of_block k) still) (no_acquire x (on_link link.0 t) k place part)) (ok.blocks k);
 }
   where
     still : services ((link, beat.A x) ∷ t) ≡ services t
@@ -172,7 +172,7 @@ unserved None e = refl
 unserved (Some s) e = absurd cc
 
 -- what is said of its block
-new_handled : {w : ℕ} (link : Link) (x : BeatA w) (t : Trace w) (s : Service w) → Place x (on_link link.0 t) → IsHandled (block_at x.address) t → serving (block_at x.address) (services t) ≡ None
+new_handled : {w : ℕ} (link : Link) (x : BeatA w) (t : Trace w) (s : Service w) → Place x (on_link link.0 t) → IsHandled (block_at x.address) t → service_of_block (block_at x.address) (services t) ≡ None
     → services ((link, beat.A x) ∷ t) ≡ s ∷ services t → s.link.0 ≡ link.0 → s.request.opcode ≡ x.opcode → block_at s.request.address ≡ block_at x.address
     → HasFields s.request.opcode s.request.param s.request.size s.request.source s.request.address (request_of s.request.source (beat.A x ∷ on_link link.0 t))
     → is_granted ((link, beat.A x) ∷ t) s ≡ false → IsHandled (block_at x.address) ((link, beat.A x) ∷ t)
@@ -191,8 +191,8 @@ new_handled {w} link x t s place ok none more from opcode block fields free = re
     u : Trace w
     u = (link, beat.A x) ∷ t
 
-    served : serving k (services u) ≡ Some s
-    served = ap (serving k) more ∙ rw (eq-eqb (block_at s.request.address) (block_at x.address) block) refl
+    served : service_of_block k (services u) ≡ Some s
+    served = ap (service_of_block k) more ∙ rw (eq-eqb (block_at s.request.address) (block_at x.address) block) refl
 
     named_here : HasFields s.request.opcode s.request.param s.request.size s.request.source s.request.address (request_of s.request.source (on_link s.link.0 u))
     named_here =
@@ -253,6 +253,6 @@ accounted-last {w} link x t fits place tracked unused is ok = record {
     handled : (k : ℕ) (b : Bool) → (block_at x.address == k) ≡ b → IsHandled k u
     handled k true e =
         subst (λ (i : ℕ). IsHandled i u) (eqb-true (block_at x.address) k e)
-        (new_handled link x t s place (ok.blocks (block_at x.address)) (unserved (serving (block_at x.address) (services t)) unused) more refl refl refl (fields-now x (on_link link.0 t) place) free)
+        (new_handled link x t s place (ok.blocks (block_at x.address)) (unserved (service_of_block (block_at x.address) (services t)) unused) more refl refl refl (fields-now x (on_link link.0 t) place) free)
     handled k false e =
-        handled-same k t u (same-else link x t k place ok (ap (serving k) more ∙ rw e refl) (opens_else x (on_link link.0 t) k e)) (ok.blocks k)
+        handled-same k t u (same-else link x t k place ok (ap (service_of_block k) more ∙ rw e refl) (opens_else x (on_link link.0 t) k e)) (ok.blocks k)

@@ -26,7 +26,7 @@ use Rattle.tl_rules.proofs.Verdicts.{illegal_a}
 use Rattle.tl_rules.proofs.Bursts.{both_none}
 use Rattle.tl_manager.specs.Kept.{Each, IsSound, IsTyped, IsLike, IsPerformable}
 use Rattle.tl_manager.specs.Request.{mask_of, corrupt_of, masks_carried, corrupt_carried}
-use Rattle.tl_manager.specs.Slave.{level_of}
+use Rattle.tl_manager.specs.Offer.{level_of}
 use Rattle.tl_manager.proofs.Lawful.{no_bit}
 use Rattle.tl_manager.proofs.Lists.{each_weaker}
 use Rattle.tl_manager.proofs.Masks.{legal-narrow, masks-below, each_mask}

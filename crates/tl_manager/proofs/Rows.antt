@@ -20,7 +20,8 @@ use Rattle.tl_manager.specs.Handing.{with_handed}
 use Rattle.tl_manager.specs.Holders.{clients_from}
 use Rattle.tl_manager.specs.Request.{masks_carried, corrupt_carried, request_carried}
 use Rattle.tl_manager.specs.Service.{least_untaken, services}
-use Rattle.tl_manager.specs.Slave.{Reception, Refused, Stalled, Sent, judged_at, deed, offered}
+use Rattle.tl_manager.specs.Deed.{deed}
+use Rattle.tl_manager.specs.Offer.{Reception, Refused, Stalled, Sent, judged_at, offered}
 use Rattle.tl_manager.proofs.Offers.{Offer, on, on_channel, answers_to, with_links, request, request_of_data, corrupted, get, put_block, acquire, acquire_whole, report, report_with, access_ack, grant_ack, to, said, answer, grant_data, grant, release_ack, probe, zeros, block_from}
 
 -- the beat is taken, and nothing is handed out

@@ -12,7 +12,7 @@ use Rattle.tl_rules.specs.Conformance.{Trace, on_link}
 use Rattle.tl_rules.specs.History.{pending}
 use Rattle.tl_manager.specs.Holders.{is_missing, is_settled}
 use Rattle.tl_manager.specs.Kept.{Each, IsSound, illegal_at}
-use Rattle.tl_manager.specs.Slave.{level_of}
+use Rattle.tl_manager.specs.Offer.{level_of}
 use Rattle.tl_manager.proofs.Clients.{nobody-where}
 use Rattle.tl_manager.proofs.Sound.{sound_on_link}
 

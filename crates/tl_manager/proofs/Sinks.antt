@@ -22,8 +22,8 @@ use Rattle.tl_rules.specs.Conformance.{Trace, on_link}
 use Rattle.tl_rules.specs.History.{begins, ends, pending, is_grant, is_acquire}
 use Rattle.tl_manager.specs.Handing.{Handed, with_handed}
 use Rattle.tl_manager.specs.Kept.{Each, is_granting}
-use Rattle.tl_manager.specs.Service.{Service, is_access_answer, is_ended_by, with_service, served, services}
-use Rattle.tl_manager.specs.Slave.{is_from_client}
+use Rattle.tl_manager.specs.Service.{Service, is_access_answer, is_ended_by, with_service, services_after, services}
+use Rattle.tl_manager.specs.Offer.{is_from_client}
 use Rattle.tl_manager.proofs.Handed.{after_sent, own_link, other_link, whole-after_sent}
 use Rattle.tl_manager.proofs.Lawful.{IsHandable}
 use Rattle.tl_manager.proofs.Lists.{each_weaker}
@@ -87,7 +87,7 @@ granting-request : {w : ℕ} (client sink : ℕ) (link : Link) (x : BeatA w) (t 
 unfolding services
 granting-request {w} client sink link x t e = go (ends (beat.A x) (on_link link.0 t))
   where
-    go : (b : Bool) → is_granting client sink (if b then served (link, beat.A x) (unfinished (channel_of (beat.A x)) (on_link link.0 t)) (services t) else services t) ≡ true
+    go : (b : Bool) → is_granting client sink (if b then services_after (link, beat.A x) (unfinished (channel_of (beat.A x)) (on_link link.0 t)) (services t) else services t) ≡ true
     go true = more_granting client sink _ (services t) e
     go false = e
 

@@ -23,8 +23,8 @@ use Rattle.tl_rules.proofs.Verdicts.{illegal_a}
 use Rattle.tl_manager.specs.Holders.{recorded, has_copy}
 use Rattle.tl_manager.specs.Kept.{Each, IsSound, illegal_at}
 use Rattle.tl_manager.specs.Request.{request_if, request_carried}
-use Rattle.tl_manager.specs.Service.{Service, least_untaken, trackers_of, with_service, is_ended_by, served, services}
-use Rattle.tl_manager.specs.Slave.{level_of}
+use Rattle.tl_manager.specs.Service.{Service, least_untaken, trackers_of, with_service, is_ended_by, services_after, services}
+use Rattle.tl_manager.specs.Offer.{level_of}
 use Rattle.tl_manager.proofs.Lists.{each_filter, each_weaker}
 
 -- where a beat breaks no L rule there is a level
@@ -57,7 +57,7 @@ servable_new {w} config link x beats tracker ss true e sound each =
     )
 
 pub servable_served : {w : ℕ} (config : Config) (link : Link) (x : Beat w) (burst : List (Beat w)) (ss : List (Service w)) → IsSound config (link, x) → Each (IsServable config) ss
-    → Each (IsServable config) (served (link, x) burst ss)
+    → Each (IsServable config) (services_after (link, x) burst ss)
 unfolding request_carried
 servable_served config link (A x) burst ss sound each = servable_new config link x (A x ∷ burst) (least_untaken (trackers_of ss)) ss (nat_le x.size 6) refl sound each
 servable_served config link (B x) burst ss sound each = each_filter (IsServable config) (λ s. not (is_ended_by (link, B x) s)) ss each
@@ -70,7 +70,7 @@ unfolding services
 servable config [] each = tt
 servable config (x ∷ t) each = go (ends x.1 (on_link x.0.0 t)) (servable config t each.1)
   where
-    go : (b : Bool) → Each (IsServable config) (services t) → Each (IsServable config) (if b then served x (unfinished (channel_of x.1) (on_link x.0.0 t)) (services t) else services t)
+    go : (b : Bool) → Each (IsServable config) (services t) → Each (IsServable config) (if b then services_after x (unfinished (channel_of x.1) (on_link x.0.0 t)) (services t) else services t)
     go true rest = servable_served config x.0 x.1 (unfinished (channel_of x.1) (on_link x.0.0 t)) (services t) each.0 rest
     go false rest = rest
 

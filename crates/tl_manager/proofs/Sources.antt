@@ -8,7 +8,7 @@ use Rattle.tl_rules.specs.Conformance.{Trace, on_link, comes_in_request}
 use Rattle.tl_rules.specs.History.{block_at, is_acquire, pending}
 use Rattle.tl_manager.specs.Kept.{Each, AreApart, blocks_of, is_granting}
 use Rattle.tl_manager.specs.Pending.{one_if, count_where, is_any, is_granted, is_granted_with, is_asking, IsAccounted}
-use Rattle.tl_manager.specs.Service.{Service, services, serving}
+use Rattle.tl_manager.specs.Service.{Service, services, service_of_block}
 use Rattle.tl_manager.proofs.Serving.{none_of_block}
 use Rattle.tl_manager.proofs.Sinks.{AreTracked, grants_by}
 
@@ -46,15 +46,15 @@ source-pending {w} c q t ok =
 -- ---- the services by their blocks
 
 -- what holds of the service of any block holds of each service
-pub served-each : {w : ℕ} (P : Service w → Type 0) (ss : List (Service w)) → AreApart (blocks_of ss) → ((n : ℕ) (s : Service w) → serving n ss ≡ Some s → P s) → Each P ss
+pub served-each : {w : ℕ} (P : Service w → Type 0) (ss : List (Service w)) → AreApart (blocks_of ss) → ((n : ℕ) (s : Service w) → service_of_block n ss ≡ Some s → P s) → Each P ss
 served-each P [] apart all = tt
 served-each {w} P (s ∷ ss) apart all =
     (all (block_at s.request.address) s (rw (eq-eqb (block_at s.request.address) (block_at s.request.address) refl) refl), served-each P ss apart.1 (λ n u e. later n u e (block_at s.request.address == n) refl))
   where
-    later : (n : ℕ) (u : Service w) → serving n ss ≡ Some u → (b : Bool) → (block_at s.request.address == n) ≡ b → P u
+    later : (n : ℕ) (u : Service w) → service_of_block n ss ≡ Some u → (b : Bool) → (block_at s.request.address == n) ≡ b → P u
     later n u e true f =
         let same : block_at s.request.address ≡ n = eqb-true (block_at s.request.address) n f in
-        let gone : serving n ss ≡ None = none_of_block n ss (rw same at apart.0) in
+        let gone : service_of_block n ss ≡ None = none_of_block n ss (rw same at apart.0) in
         absurd (let no : Some u ≡ None = sym e ∙ gone in cc)
     later n u e false f = all n u (rw f e)
 

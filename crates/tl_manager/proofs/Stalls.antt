@@ -11,7 +11,8 @@ use Rattle.tl_params.specs.declared.rule.Rule.TheVariants.{A1, A2}
 use Rattle.tl_rules.specs.Agent.{is_outside, is_spoiled}
 use Rattle.tl_rules.specs.Conformance.{Trace, on_link, broken_in_order}
 use Rattle.tl_manager.specs.Kept.{is_stalled}
-use Rattle.tl_manager.specs.Slave.{End, Judgement, Breaks, Waits, Passes, breaks_or, unlawful, before_stall, must_wait, judged_at, judged_on, judged, open_level, offered_as, offered, is_waiting, stalls}
+use Rattle.tl_manager.specs.End.{End}
+use Rattle.tl_manager.specs.Offer.{Judgement, Breaks, Waits, Passes, breaks_or, unlawful, before_stall, must_wait, judged_at, judged_on, judged, open_level, offered_as, offered, is_waiting, stalls}
 
 stalled_as : {w : ℕ} (j : Judgement) (config : Config) (link : Link) (x : Beat w) (e : End w) → is_waiting j ≡ is_stalled (offered_as j config link x e).0
 stalled_as (Breaks r) config link x e = refl

@@ -22,8 +22,9 @@ use Rattle.tl_rules.proofs.Open.{never}
 use Rattle.tl_manager.specs.Handing.{Deed, with_handed, release_ack}
 use Rattle.tl_manager.specs.Holders.{is_settled}
 use Rattle.tl_manager.specs.Pending.{is_granted, is_awaited, IsSteady}
-use Rattle.tl_manager.specs.Service.{Service, services, serving}
-use Rattle.tl_manager.specs.Slave.{End, deed}
+use Rattle.tl_manager.specs.Service.{Service, services, service_of_block}
+use Rattle.tl_manager.specs.Deed.{deed}
+use Rattle.tl_manager.specs.End.{End}
 use Rattle.tl_manager.proofs.Accepted.{granted-kept}
 use Rattle.tl_manager.proofs.Accesses.{granted-still, services-release_ack, accounted-release_ack}
 use Rattle.tl_manager.proofs.Events.{deed-part, deed-release, deed-report, deed-settled, memory_with}
@@ -75,7 +76,7 @@ still-steady : {w : ℕ} (config : Config) (link : Link) (x : BeatC w) (e : End 
     → ((k d : ℕ) → pending (ProbeOf k) (on_link d ((link, beat.C x) ∷ e.trace)) ≡ pending (ProbeOf k) (on_link d e.trace)) → IsSteady config ((link, beat.C x) ∷ e.trace)
 still-steady config link x e is same = record {
   accounted = accounted-c config.profile link x e.trace is.passes.order is.before.steady.accounted;
-  awaited = λ k. awaited-same config k e.trace ((link, beat.C x) ∷ e.trace) (ap (serving k) (services-c link x e.trace)) (λ s f. granted_c link x e.trace s) (same k) (is.before.steady.awaited k);
+  awaited = λ k. awaited-same config k e.trace ((link, beat.C x) ∷ e.trace) (ap (service_of_block k) (services-c link x e.trace)) (λ s f. granted_c link x e.trace s) (same k) (is.before.steady.awaited k);
 }
 
 no_report : {w : ℕ} (config : Config) (link : Link) (x : BeatC w) (e : End w) → IsTaken config link (beat.C x) e → is_probe_ack x.opcode ≡ false → IsSteady config ((link, beat.C x) ∷ e.trace)
@@ -91,7 +92,7 @@ acked-steady : {w : ℕ} (config : Config) (link : Link) (m : MessageD w) (t : T
 acked-steady config link m t width none ack other ok = record {
   accounted = accounted-release_ack link m t width none ack ok.accounted;
   awaited = λ k.
-      awaited-same config k t (after_sent link (D m) t) (ap (serving k) (services-release_ack link m t width none ack)) (λ s f. granted-still link m t s width none other)
+      awaited-same config k t (after_sent link (D m) t) (ap (service_of_block k) (services-release_ack link m t width none ack)) (λ s f. granted-still link m t s width none other)
       (λ d. reply-quiet (ProbeOf k) link m t d width none (λ f. (refl, refl))) (ok.awaited k);
 }
 
@@ -109,33 +110,33 @@ apart_block : {w : ℕ} (x : BeatC w) (k : ℕ) → (block_at x.address == k) �
 apart_block x k e = rw e (never (is_probe_ack x.opcode))
 
 awaited-else : {w : ℕ} (config : Config) (link : Link) (x : BeatC w) (e : End w) (k : ℕ) → IsTaken config link (beat.C x) e → (block_at x.address == k) ≡ false
-    → is_awaited config k ((link, beat.C x) ∷ e.trace) (serving k (services ((link, beat.C x) ∷ e.trace))) ≡ true
+    → is_awaited config k ((link, beat.C x) ∷ e.trace) (service_of_block k (services ((link, beat.C x) ∷ e.trace))) ≡ true
 awaited-else config link x e k is other =
-    awaited-same config k e.trace ((link, beat.C x) ∷ e.trace) (ap (serving k) (services-c link x e.trace)) (λ s f. granted_c link x e.trace s) (λ d. missing-else_c link x e.trace d k (apart_block x k other)) (is.before.steady.awaited k)
+    awaited-same config k e.trace ((link, beat.C x) ∷ e.trace) (ap (service_of_block k) (services-c link x e.trace)) (λ s f. granted_c link x e.trace s) (λ d. missing-else_c link x e.trace d k (apart_block x k other)) (is.before.steady.awaited k)
 
 -- where its block's service is awaited still
 reported : {w : ℕ} (config : Config) (link : Link) (x : BeatC w) (e : End w) → IsTaken config link (beat.C x) e
-    → is_awaited config (block_at x.address) ((link, beat.C x) ∷ e.trace) (serving (block_at x.address) (services ((link, beat.C x) ∷ e.trace))) ≡ true → IsSteady config ((link, beat.C x) ∷ e.trace)
+    → is_awaited config (block_at x.address) ((link, beat.C x) ∷ e.trace) (service_of_block (block_at x.address) (services ((link, beat.C x) ∷ e.trace))) ≡ true → IsSteady config ((link, beat.C x) ∷ e.trace)
 reported {w} config link x e is here = record {
   accounted = accounted-c config.profile link x e.trace is.passes.order is.before.steady.accounted;
   awaited = λ k. go k (block_at x.address == k) refl;
 }
   where
-    go : (k : ℕ) (b : Bool) → (block_at x.address == k) ≡ b → is_awaited config k ((link, beat.C x) ∷ e.trace) (serving k (services ((link, beat.C x) ∷ e.trace))) ≡ true
-    go k true f = subst (λ (i : ℕ). is_awaited config i ((link, beat.C x) ∷ e.trace) (serving i (services ((link, beat.C x) ∷ e.trace))) ≡ true) (eqb-true (block_at x.address) k f) here
+    go : (k : ℕ) (b : Bool) → (block_at x.address == k) ≡ b → is_awaited config k ((link, beat.C x) ∷ e.trace) (service_of_block k (services ((link, beat.C x) ∷ e.trace))) ≡ true
+    go k true f = subst (λ (i : ℕ). is_awaited config i ((link, beat.C x) ∷ e.trace) (service_of_block i (services ((link, beat.C x) ∷ e.trace))) ≡ true) (eqb-true (block_at x.address) k f) here
     go k false f = awaited-else config link x e k is f
 
 -- the service that probed its sender
 pub report-service : {w : ℕ} (config : Config) (link : Link) (x : BeatC w) (e : End w) → IsTaken config link (beat.C x) e → is_probe_ack x.opcode ≡ true
-    → (s : Service w) × (serving (block_at x.address) (services ((link, beat.C x) ∷ e.trace)) ≡ Some s) × (is_granted ((link, beat.C x) ∷ e.trace) s ≡ false)
+    → (s : Service w) × (service_of_block (block_at x.address) (services ((link, beat.C x) ∷ e.trace)) ≡ Some s) × (is_granted ((link, beat.C x) ∷ e.trace) s ≡ false)
 report-service config link x e is kind =
     let missing = report-pending config.profile x (on_link link.0 e.trace) is.passes.order (is.before.steady.accounted.reports link.0) kind in
     let probed_by = (is.before.steady.accounted.blocks (block_at x.address)).probes link.0 missing in
-    (probed_by.service, ap (serving (block_at x.address)) (services-c link x e.trace) ∙ probed_by.serves, granted_c link x e.trace probed_by.service ∙ probed_by.unanswered)
+    (probed_by.service, ap (service_of_block (block_at x.address)) (services-c link x e.trace) ∙ probed_by.serves, granted_c link x e.trace probed_by.service ∙ probed_by.unanswered)
 
 -- its request may be performed, where no other ProbeAck is missing
 pub report-ready : {w : ℕ} (config : Config) (link : Link) (x : BeatC w) (s : Service w) (e : End w) → IsTaken config link (beat.C x) e → is_probe_ack x.opcode ≡ true
-    → serving (block_at x.address) (services ((link, beat.C x) ∷ e.trace)) ≡ Some s
+    → service_of_block (block_at x.address) (services ((link, beat.C x) ∷ e.trace)) ≡ Some s
     → is_settled config (block_at x.address) ((link, beat.C x) ∷ e.trace) ≡ true → IsReady config (block_at x.address) s ((link, beat.C x) ∷ e.trace)
 report-ready config link x s e is kind found all =
     let asked = report-service config link x e is kind in
@@ -175,7 +176,7 @@ report {w} config link x e is last other kind = go (is_settled config n u) refl
     go true f =
         let s = report-service config link x e is kind in
         doing config link (beat.C x) e _ (deed-settled config link x s.0 e last other kind f s.1) (performed-steady config n s.0 u (memory_with link x e) (report-ready config link x s.0 e is kind s.1 f))
-    go false f = quietly config link (beat.C x) e (ap (λ (d : Deed w). d.handed) (deed-report config link x e last other kind f)) (reported config link x e is (more (serving n (services u)) f))
+    go false f = quietly config link (beat.C x) e (ap (λ (d : Deed w). d.handed) (deed-report config link x e last other kind f)) (reported config link x e is (more (service_of_block n (services u)) f))
 
 -- ---- any beat of channel C
 

@@ -31,8 +31,10 @@ use Rattle.tl_manager.specs.Holders.{recorded}
 use Rattle.tl_manager.specs.Home.{IsHome, IsReportedHome, IsDone, IsReport, IsMessage}
 use Rattle.tl_manager.specs.Kept.{AreApart, is_granting}
 use Rattle.tl_manager.specs.Ready.{IsPassed, IsTaken}
-use Rattle.tl_manager.specs.Service.{Service, services, serving, trackers_of, is_ended_by}
-use Rattle.tl_manager.specs.Slave.{End, deed, settled, with_block, level_of}
+use Rattle.tl_manager.specs.Service.{Service, services, service_of_block, trackers_of, is_ended_by}
+use Rattle.tl_manager.specs.Deed.{deed, finish, with_block}
+use Rattle.tl_manager.specs.End.{End}
+use Rattle.tl_manager.specs.Offer.{level_of}
 use Rattle.tl_manager.specs.Tracked.{IsTracked}
 use Rattle.tl_manager.specs.Trackers.{tracker_at}
 use Rattle.tl_manager.specs.declared.manager.home.Home.{Home}
@@ -148,7 +150,7 @@ home-released {w} {M} perm_of config home link x message e is release ok =
         subst (λ (i : Message w). IsTracked n (tracker_at home.trackers n) (after_sent link i u)) (sym m.1)
         (tracked-still n (tracker_at home.trackers n) e.trace (after_sent link (D m.0) u) (λ free. ap (λ (ss : List (Service w)). is_one_of n (trackers_of ss)) same ∙ free)
         (λ k v f at. record {
-          serves = ap (serving k) same ∙ f;
+          serves = ap (service_of_block k) same ∙ f;
           granted = granted-still link m.0 u v is.taken.width whole m.3 ∙ granted_c link x e.trace v;
           missing = λ c. reply-quiet (ProbeOf k) link m.0 u c is.taken.width whole (λ g. (refl, refl)) ∙ missing-else_c link x e.trace c k (rw (release_kind x.opcode release) refl);
         }) (ok.tracked n))
@@ -164,7 +166,7 @@ home-released {w} {M} perm_of config home link x message e is release ok =
 -- ---- a ProbeAck
 
 pub deed-ack_report : {w : ℕ} (config : Config) (link : Link) (x : BeatC w) (e : End w) → ends (beat.C x) (on_link link.0 e.trace) ≡ true → is_release x.opcode ≡ false → is_probe_ack x.opcode ≡ true
-    → deed config link (beat.C x) e ≡ settled config (block_at x.address) ((link, beat.C x) ∷ e.trace) (memory_with link x e)
+    → deed config link (beat.C x) e ≡ finish config (block_at x.address) ((link, beat.C x) ∷ e.trace) (memory_with link x e)
 unfolding deed
 deed-ack_report config link x e last other kind = rw (last, other, kind) refl
 
@@ -180,11 +182,11 @@ is_report config link block x message e of_block other is = record {
 
 pub done-ack : {w : ℕ} {M : Type 0} (perm_of : M → ℕ → ℕ → Perm) (config : Config) (home : Home w M) (handed : Handed w) (link : Link) (block : ℕ) (x : BeatC w) (message : MessageC w) (e : End w)
     → is_release message.opcode ≡ false → IsMessage config link x message e → IsReport config link block x e
-    → IsDone perm_of config home handed ((link, beat.C x) ∷ e.trace) (settled config block ((link, beat.C x) ∷ e.trace) (memory_with link x e))
+    → IsDone perm_of config home handed ((link, beat.C x) ∷ e.trace) (finish config block ((link, beat.C x) ∷ e.trace) (memory_with link x e))
     → IsDone perm_of config home handed ((link, beat.C x) ∷ e.trace) (deed config link (beat.C x) e)
 done-ack {w} perm_of config home handed link block x message e other is report done =
     subst (λ (d : Deed w). IsDone perm_of config home handed ((link, beat.C x) ∷ e.trace) d)
-    (ap (λ k. settled config k ((link, beat.C x) ∷ e.trace) (memory_with link x e)) (sym report.of_block) ∙ sym (deed-ack_report config link x e is.last (ap is_release (sym is.opcode) ∙ other) report.kind)) done
+    (ap (λ k. finish config k ((link, beat.C x) ∷ e.trace) (memory_with link x e)) (sym report.of_block) ∙ sym (deed-ack_report config link x e is.last (ap is_release (sym is.opcode) ∙ other) report.kind)) done
 
 -- ---- a GrantAck
 
@@ -252,7 +254,7 @@ home-acked {w} perm_of config old new sink link x e profile directory blocks cou
         (λ k v f at.
         let left = stays v at in
         record {
-          serves = ap (serving k) (services-e link x e.trace) ∙ serving-filter k (λ (s : Service w). not (is_ended_by (link, beat.E x) s)) (services e.trace) is.before.blocks_apart
+          serves = ap (service_of_block k) (services-e link x e.trace) ∙ serving-filter k (λ (s : Service w). not (is_ended_by (link, beat.E x) s)) (services e.trace) is.before.blocks_apart
               ∙ ap (if_passes (λ (s : Service w). not (is_ended_by (link, beat.E x) s))) f ∙ rw left refl;
           granted = granted-left link x e.trace v left;
           missing = λ c. beat-keeps (pending (ProbeOf k)) c link (beat.E x) e.trace (λ h. pending-quiet (ProbeOf k) (beat.E x) h refl refl);

@@ -9,7 +9,7 @@ use Rattle.tl_manager.specs.Bit.{bit_if}
 use Rattle.tl_manager.specs.Holders.{is_missing}
 use Rattle.tl_manager.specs.Kept.{Each, AreApart}
 use Rattle.tl_manager.specs.Pending.{is_granted}
-use Rattle.tl_manager.specs.Service.{Service, services, serving, trackers_of}
+use Rattle.tl_manager.specs.Service.{Service, services, service_of_block, trackers_of}
 use Rattle.tl_manager.specs.Tracked.{service_with, IsTracked}
 use Rattle.tl_manager.specs.declared.manager.tracker.Tracker.{Tracker}
 use Rattle.tl_manager.specs.declared.manager.tracker.Tracker.TheVariants.{Free, Probing, Granted}
@@ -19,13 +19,13 @@ use Rattle.tl_manager.proofs.Serving.{some_is}
 
 -- a service that is as it was
 pub record IsStill {w : ℕ} (k : ℕ) (s : Service w) (t u : Trace w) : Type 0 where
-  pub serves : serving k (services u) ≡ Some s
+  pub serves : service_of_block k (services u) ≡ Some s
   pub granted : is_granted u s ≡ is_granted t s
   pub missing : (c : ℕ) → is_missing c k u ≡ is_missing c k t
 
 -- the trackers whose services are as they were keep what is true of them
 pub tracked-still : {w : ℕ} (n : ℕ) (tracker : Tracker w) (t u : Trace w) → (is_one_of n (trackers_of (services t)) ≡ false → is_one_of n (trackers_of (services u)) ≡ false)
-    → ((k : ℕ) (s : Service w) → serving k (services t) ≡ Some s → s.tracker ≡ n → IsStill k s t u) → IsTracked n tracker t → IsTracked n tracker u
+    → ((k : ℕ) (s : Service w) → service_of_block k (services t) ≡ Some s → s.tracker ≡ n → IsStill k s t u) → IsTracked n tracker t → IsTracked n tracker u
 tracked-still n Free t u free still is = free is
 tracked-still n (Probing link request missing) t u free still is =
     let s = still (block_at request.address) (service_with n link request) is.serves refl in
@@ -35,11 +35,11 @@ tracked-still n (Granted link block) t u free still is =
     record { request = is.request; block_is = is.block_is; serves = s.serves; granted = s.granted ∙ is.granted }
 
 -- the service of another tracker is of another block
-pub other_block : {w : ℕ} (n k : ℕ) (s v : Service w) (ss : List (Service w)) → serving n ss ≡ Some s → serving k ss ≡ Some v → v.tracker ≢ s.tracker → (n == k) ≡ false
-other_block n k s v ss e f apart = ne_eqb n k (λ same. apart (ap (λ (x : Service _). x.tracker) (some_is v s (sym f ∙ ap (λ i. serving i ss) (sym same) ∙ e))))
+pub other_block : {w : ℕ} (n k : ℕ) (s v : Service w) (ss : List (Service w)) → service_of_block n ss ≡ Some s → service_of_block k ss ≡ Some v → v.tracker ≢ s.tracker → (n == k) ≡ false
+other_block n k s v ss e f apart = ne_eqb n k (λ same. apart (ap (λ (x : Service _). x.tracker) (some_is v s (sym f ∙ ap (λ i. service_of_block i ss) (sym same) ∙ e))))
 
 -- where the services of a block end, its tracker is free
-pub tracker-ended : {w : ℕ} (n : ℕ) (s : Service w) (ss : List (Service w)) → AreApart (trackers_of ss) → serving n ss ≡ Some s
+pub tracker-ended : {w : ℕ} (n : ℕ) (s : Service w) (ss : List (Service w)) → AreApart (trackers_of ss) → service_of_block n ss ≡ Some s
     → is_one_of s.tracker (trackers_of (filter (λ v. not (block_at v.request.address == n)) ss)) ≡ false
 tracker-ended {w} n s ss apart e = none (block-of n ss s e) ss (same_tracker n ss s apart e)
   where

@@ -10,17 +10,17 @@ use Rattle.tl_rules.specs.Conformance.{Trace, on_link}
 use Rattle.tl_rules.specs.History.{block_at, is_acquire, pending, request_of, probe_of, grant_sink}
 use Rattle.tl_manager.specs.Holders.{is_settled, is_missing, is_nobody}
 use Rattle.tl_manager.specs.Pending.{is_granted, is_acquiring, is_granted_to, is_awaited, HasFields, IsBegun, IsReporting, IsNamed, IsProbed, IsHandled, IsAccounted}
-use Rattle.tl_manager.specs.Service.{Service, services, serving}
+use Rattle.tl_manager.specs.Service.{Service, services, service_of_block}
 use Rattle.tl_manager.proofs.Clients.{where-same}
 use Rattle.tl_manager.proofs.Counts.{counted-kept}
 
 -- the traces say the same of the block, where less may be missing
 pub record IsSame {w : ℕ} (k : ℕ) (t u : Trace w) : Type 0 where
-  pub serves : serving k (services u) ≡ serving k (services t)
-  pub granted : (s : Service w) → serving k (services t) ≡ Some s → is_granted u s ≡ is_granted t s
+  pub serves : service_of_block k (services u) ≡ service_of_block k (services t)
+  pub granted : (s : Service w) → service_of_block k (services t) ≡ Some s → is_granted u s ≡ is_granted t s
   pub acquires : (c : ℕ) → pending (AcquireOf k) (on_link c u) ≡ pending (AcquireOf k) (on_link c t)
   pub grants : (c : ℕ) → pending (GrantAckOf k) (on_link c u) ≡ pending (GrantAckOf k) (on_link c t)
-  pub requests : (s : Service w) → serving k (services t) ≡ Some s → is_granted t s ≡ false → request_of s.request.source (on_link s.link.0 u) ≡ request_of s.request.source (on_link s.link.0 t)
+  pub requests : (s : Service w) → service_of_block k (services t) ≡ Some s → is_granted t s ≡ false → request_of s.request.source (on_link s.link.0 u) ≡ request_of s.request.source (on_link s.link.0 t)
   pub sinks : (c : ℕ) → grant_sink k (on_link c u) ≡ grant_sink k (on_link c t)
   pub probes : (c : ℕ) → pending (ProbeOf k) (on_link c u) ≡ true → pending (ProbeOf k) (on_link c t) ≡ true
   pub probe : (c : ℕ) → probe_of k (on_link c u) ≡ probe_of k (on_link c t)
@@ -57,26 +57,26 @@ probed-same c k t u same is = record {
 
 pub handled-same : {w : ℕ} (k : ℕ) (t u : Trace w) → IsSame k t u → IsHandled k t → IsHandled k u
 handled-same k t u same ok = record {
-  acquires = λ c. same.acquires c ∙ ok.acquires c ∙ acquiring-same c t u (serving k (services t)) same.granted ∙ ap (is_acquiring c u) (sym same.serves);
-  grants = λ c. same.grants c ∙ ok.grants c ∙ granted-same c t u (serving k (services t)) same.granted ∙ ap (is_granted_to c u) (sym same.serves);
-  named = subst (IsNamed k u) (sym same.serves) (named-same k t u (serving k (services t)) same.granted same.requests same.sinks ok.named);
+  acquires = λ c. same.acquires c ∙ ok.acquires c ∙ acquiring-same c t u (service_of_block k (services t)) same.granted ∙ ap (is_acquiring c u) (sym same.serves);
+  grants = λ c. same.grants c ∙ ok.grants c ∙ granted-same c t u (service_of_block k (services t)) same.granted ∙ ap (is_granted_to c u) (sym same.serves);
+  named = subst (IsNamed k u) (sym same.serves) (named-same k t u (service_of_block k (services t)) same.granted same.requests same.sinks ok.named);
   probes = λ c e. probed-same c k t u same (ok.probes c (same.probes c e));
 }
 
 -- the same but for its ProbeAcks
 pub record IsQuiet {w : ℕ} (k : ℕ) (t u : Trace w) : Type 0 where
-  pub serves : serving k (services u) ≡ serving k (services t)
-  pub granted : (s : Service w) → serving k (services t) ≡ Some s → is_granted u s ≡ is_granted t s
+  pub serves : service_of_block k (services u) ≡ service_of_block k (services t)
+  pub granted : (s : Service w) → service_of_block k (services t) ≡ Some s → is_granted u s ≡ is_granted t s
   pub acquires : (c : ℕ) → pending (AcquireOf k) (on_link c u) ≡ pending (AcquireOf k) (on_link c t)
   pub grants : (c : ℕ) → pending (GrantAckOf k) (on_link c u) ≡ pending (GrantAckOf k) (on_link c t)
-  pub requests : (s : Service w) → serving k (services t) ≡ Some s → is_granted t s ≡ false → request_of s.request.source (on_link s.link.0 u) ≡ request_of s.request.source (on_link s.link.0 t)
+  pub requests : (s : Service w) → service_of_block k (services t) ≡ Some s → is_granted t s ≡ false → request_of s.request.source (on_link s.link.0 u) ≡ request_of s.request.source (on_link s.link.0 t)
   pub sinks : (c : ℕ) → grant_sink k (on_link c u) ≡ grant_sink k (on_link c t)
 
 pub handled-quiet : {w : ℕ} (k : ℕ) (t u : Trace w) → IsQuiet k t u → ((c : ℕ) → pending (ProbeOf k) (on_link c u) ≡ true → IsProbed c k u) → IsHandled k t → IsHandled k u
 handled-quiet k t u same probes ok = record {
-  acquires = λ c. same.acquires c ∙ ok.acquires c ∙ acquiring-same c t u (serving k (services t)) same.granted ∙ ap (is_acquiring c u) (sym same.serves);
-  grants = λ c. same.grants c ∙ ok.grants c ∙ granted-same c t u (serving k (services t)) same.granted ∙ ap (is_granted_to c u) (sym same.serves);
-  named = subst (IsNamed k u) (sym same.serves) (named-same k t u (serving k (services t)) same.granted same.requests same.sinks ok.named);
+  acquires = λ c. same.acquires c ∙ ok.acquires c ∙ acquiring-same c t u (service_of_block k (services t)) same.granted ∙ ap (is_acquiring c u) (sym same.serves);
+  grants = λ c. same.grants c ∙ ok.grants c ∙ granted-same c t u (service_of_block k (services t)) same.granted ∙ ap (is_granted_to c u) (sym same.serves);
+  named = subst (IsNamed k u) (sym same.serves) (named-same k t u (service_of_block k (services t)) same.granted same.requests same.sinks ok.named);
   probes = probes;
 }
 
@@ -131,10 +131,10 @@ accounted-kept t u same reports handled ok = record {
 pub settled-same : {w : ℕ} (config : Config) (k : ℕ) (t u : Trace w) → ((c : ℕ) → pending (ProbeOf k) (on_link c u) ≡ pending (ProbeOf k) (on_link c t)) → is_settled config k u ≡ is_settled config k t
 settled-same config k t u same = ap is_nobody (where-same 0 _ (λ c. is_missing c k u) (λ c. is_missing c k t) same)
 
-pub awaited-same : {w : ℕ} (config : Config) (k : ℕ) (t u : Trace w) → serving k (services u) ≡ serving k (services t)
-    → ((s : Service w) → serving k (services t) ≡ Some s → is_granted u s ≡ is_granted t s)
-    → ((c : ℕ) → pending (ProbeOf k) (on_link c u) ≡ pending (ProbeOf k) (on_link c t)) → is_awaited config k t (serving k (services t)) ≡ true → is_awaited config k u (serving k (services u)) ≡ true
-awaited-same {w} config k t u serves same missing ok = ap (is_awaited config k u) serves ∙ go (serving k (services t)) same ok
+pub awaited-same : {w : ℕ} (config : Config) (k : ℕ) (t u : Trace w) → service_of_block k (services u) ≡ service_of_block k (services t)
+    → ((s : Service w) → service_of_block k (services t) ≡ Some s → is_granted u s ≡ is_granted t s)
+    → ((c : ℕ) → pending (ProbeOf k) (on_link c u) ≡ pending (ProbeOf k) (on_link c t)) → is_awaited config k t (service_of_block k (services t)) ≡ true → is_awaited config k u (service_of_block k (services u)) ≡ true
+awaited-same {w} config k t u serves same missing ok = ap (is_awaited config k u) serves ∙ go (service_of_block k (services t)) same ok
   where
     go : (o : Option (Service w)) → ((s : Service w) → o ≡ Some s → is_granted u s ≡ is_granted t s) → is_awaited config k t o ≡ true → is_awaited config k u o ≡ true
     go None granted e = refl

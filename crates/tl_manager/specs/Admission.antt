@@ -8,7 +8,7 @@ use Rattle.tl_params.specs.declared.rule.Rule.{Rule}
 use Rattle.tl_params.specs.declared.rule.Rule.TheVariants.{A1, A2}
 use Rattle.tl_rules.specs.Agent.{is_outside, is_spoiled}
 use Rattle.tl_rules.specs.Conformance.{Trace, on_link, broken_in_order}
-use Rattle.tl_manager.specs.Slave.{Judgement, Breaks, Waits, Passes, breaks_or, waits_or, before_stall, must_wait}
+use Rattle.tl_manager.specs.Offer.{Judgement, Breaks, Waits, Passes, breaks_or, waits_or, before_stall, must_wait}
 use Rattle.tl_manager.specs.declared.manager.admission.Admission.{Admission}
 use Rattle.tl_manager.specs.declared.manager.admission.Admission.TheVariants as admission
 

@@ -16,7 +16,7 @@ use Rattle.tl_rules.specs.History.{ends, block_at, is_probe, is_probe_ack}
 use Rattle.tl_manager.specs.Handing.{Handed}
 use Rattle.tl_manager.specs.Holders.{is_missing}
 use Rattle.tl_manager.specs.Service.{Service, is_ended_by, services}
-use Rattle.tl_manager.specs.Slave.{Reception, Refused, Stalled, Sent}
+use Rattle.tl_manager.specs.Offer.{Reception, Refused, Stalled, Sent}
 
 -- the services after a message was handed out, which ends that of the access that it answers
 abbrev pub without_answered : {w : ℕ} → Link × Message w → List (Service w) → List (Service w)

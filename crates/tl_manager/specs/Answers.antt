@@ -1,7 +1,7 @@
 -- What a call answers, as the definition's answer.
 use Rattle.std.specs.Prelude.{ℕ, ◌≡◌, Option, Some, None, Result, Ok, Err}
 use Rattle.tl_params.specs.declared.rule.Rule.{Rule}
-use Rattle.tl_manager.specs.Slave.{Reception, Refused, Stalled, Sent}
+use Rattle.tl_manager.specs.Offer.{Reception, Refused, Stalled, Sent}
 use Rattle.tl_manager.specs.Sending.{messages_of}
 use Rattle.tl_manager.specs.declared.manager.Taken.{Taken}
 use Rattle.tl_manager.specs.declared.manager.Taken.TheVariants as taken

@@ -12,7 +12,7 @@ use Rattle.tl_rules.specs.History.{ends, block_at}
 use Rattle.tl_manager.specs.Home.{IsPlaced}
 use Rattle.tl_manager.specs.Kept.{IsFilled}
 use Rattle.tl_manager.specs.Ready.{IsTaken}
-use Rattle.tl_manager.specs.Slave.{End}
+use Rattle.tl_manager.specs.End.{End}
 
 -- the beat passes, and the message is that of its burst, with a payload of 64 bytes
 pub record IsComplete {w : ℕ} (config : Config) (link : Link) (x : Beat w) (message : Message w) (e : End w) : Type 0 where

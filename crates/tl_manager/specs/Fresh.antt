@@ -7,7 +7,7 @@ use Rattle.tl_params.specs.declared.level.Level.{Level}
 use Rattle.tl_params.specs.declared.perm.Perm.{Perm}
 use Rattle.tl_params.specs.Config.{config_fault}
 use Rattle.tl_manager.specs.Knows.{Knows}
-use Rattle.tl_manager.specs.Slave.{fresh}
+use Rattle.tl_manager.specs.End.{fresh}
 use Rattle.tl_manager.specs.declared.manager.links.Links.{Links}
 use Rattle.tl_manager.specs.declared.manager.wire.Wire.{Wire}
 

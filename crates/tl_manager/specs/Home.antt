@@ -22,7 +22,7 @@ use Rattle.tl_manager.specs.Handing.{Deed, Handed, with_handed}
 use Rattle.tl_manager.specs.Holders.{recorded}
 use Rattle.tl_manager.specs.Kept.{Each, IsSound}
 use Rattle.tl_manager.specs.Ready.{IsReady, IsTaken}
-use Rattle.tl_manager.specs.Slave.{End}
+use Rattle.tl_manager.specs.End.{End}
 use Rattle.tl_manager.specs.Tracked.{IsTracked, service_with}
 use Rattle.tl_manager.specs.Trackers.{tracker_at}
 use Rattle.tl_manager.specs.declared.manager.home.Home.{Home}

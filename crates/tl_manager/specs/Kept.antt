@@ -22,7 +22,8 @@ use Rattle.tl_manager.specs.Handing.{Handed}
 use Rattle.tl_manager.specs.Pending.{IsSteady}
 use Rattle.tl_manager.specs.Releases.{IsAnswered}
 use Rattle.tl_manager.specs.Service.{Service, services, trackers_of}
-use Rattle.tl_manager.specs.Slave.{End, Reception, Refused, Stalled, Sent, level_of}
+use Rattle.tl_manager.specs.End.{End}
+use Rattle.tl_manager.specs.Offer.{Reception, Refused, Stalled, Sent, level_of}
 
 abbrev pub Each : {X : Type 0} → (X → Type 0) → List X → Type 0
 Each P [] = ⊤

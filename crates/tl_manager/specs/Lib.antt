@@ -6,7 +6,9 @@ pub mod Bits
 pub mod Blocks
 pub mod BurstFor
 pub mod Complete
+pub mod Deed
 pub mod Directories
+pub mod End
 pub mod Fresh
 pub mod Granting
 pub mod Handing
@@ -15,6 +17,7 @@ pub mod Holders
 pub mod Home
 pub mod Kept
 pub mod Knows
+pub mod Offer
 pub mod PartIs
 pub mod Pending
 pub mod Probed
@@ -24,10 +27,9 @@ pub mod Releases
 pub mod Request
 pub mod Sending
 pub mod Service
-pub mod Slave
 pub mod Table
-pub mod Tracking
 pub mod Tracked
 pub mod Trackers
+pub mod Tracking
 pub mod Wire
 pub mod Word

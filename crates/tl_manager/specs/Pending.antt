@@ -14,7 +14,7 @@ use Rattle.tl_rules.specs.Conformance.{Trace, on_link, comes_in_request}
 use Rattle.tl_rules.specs.History.{block_at, is_acquire, is_probe_ack, pending, request_of, probe_of, grant_sink}
 use Rattle.tl_manager.specs.Handing.{probe_beat}
 use Rattle.tl_manager.specs.Holders.{cap_probed, is_settled, is_spared}
-use Rattle.tl_manager.specs.Service.{Service, services, serving}
+use Rattle.tl_manager.specs.Service.{Service, services, service_of_block}
 
 abbrev pub one_if : Bool → ℕ
 one_if true = 1
@@ -90,7 +90,7 @@ IsNamed block t (Some s) =
 pub record IsProbed {w : ℕ} (client block : ℕ) (t : Trace w) : Type 0 where
   pub service : Service w
   pub cap : Cap
-  pub serves : serving block (services t) ≡ Some service
+  pub serves : service_of_block block (services t) ≡ Some service
   pub unanswered : is_granted t service ≡ false
   pub others : is_spared service client ≡ false
   pub caps : cap_probed service.request.opcode service.request.param ≡ Some cap
@@ -101,9 +101,9 @@ pub record IsProbed {w : ℕ} (client block : ℕ) (t : Trace w) : Type 0 where
 -- of a block, on each link: its Acquire until the Grant, its GrantAck from then on, and its ProbeAck
 -- only for the request in service
 pub record IsHandled {w : ℕ} (block : ℕ) (t : Trace w) : Type 0 where
-  pub acquires : (client : ℕ) → pending (AcquireOf block) (on_link client t) ≡ is_acquiring client t (serving block (services t))
-  pub grants : (client : ℕ) → pending (GrantAckOf block) (on_link client t) ≡ is_granted_to client t (serving block (services t))
-  pub named : IsNamed block t (serving block (services t))
+  pub acquires : (client : ℕ) → pending (AcquireOf block) (on_link client t) ≡ is_acquiring client t (service_of_block block (services t))
+  pub grants : (client : ℕ) → pending (GrantAckOf block) (on_link client t) ≡ is_granted_to client t (service_of_block block (services t))
+  pub named : IsNamed block t (service_of_block block (services t))
   pub probes : (client : ℕ) → pending (ProbeOf block) (on_link client t) ≡ true → IsProbed client block t
 
 -- A source is pending exactly where an unfinished request, or one in service that isn't answered, has
@@ -118,4 +118,4 @@ pub record IsAccounted {w : ℕ} (t : Trace w) : Type 0 where
 -- and each request in service is awaited
 pub record IsSteady {w : ℕ} (config : Config) (t : Trace w) : Type 0 where
   pub accounted : IsAccounted t
-  pub awaited : (block : ℕ) → is_awaited config block t (serving block (services t)) ≡ true
+  pub awaited : (block : ℕ) → is_awaited config block t (service_of_block block (services t)) ≡ true

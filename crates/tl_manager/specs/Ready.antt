@@ -13,8 +13,9 @@ use Rattle.tl_rules.specs.Conformance.{Trace, on_link, broken_in_order}
 use Rattle.tl_rules.specs.History.{ends, pending}
 use Rattle.tl_manager.specs.Kept.{AreApart, IsSound, IsKept, blocks_of}
 use Rattle.tl_manager.specs.Pending.{is_granted, is_awaited, IsAccounted}
-use Rattle.tl_manager.specs.Service.{Service, service_of, services, serving, trackers_of}
-use Rattle.tl_manager.specs.Slave.{End, is_from_client, must_wait}
+use Rattle.tl_manager.specs.Service.{Service, service_of, services, service_of_block, trackers_of}
+use Rattle.tl_manager.specs.End.{End}
+use Rattle.tl_manager.specs.Offer.{is_from_client, must_wait}
 
 abbrev pub IsWhole : {w : ℕ} → History w → Type 0
 IsWhole t = (unfinished channel.B t ≡ []) × (unfinished channel.D t ≡ [])
@@ -43,10 +44,10 @@ pub record IsServed {w : ℕ} (link : Link) (x : BeatA w) (s : Service w) (t : T
 pub record IsReady {w : ℕ} (config : Config) (n : ℕ) (s : Service w) (t : Trace w) : Type 0 where
   pub width : IsWidth w
   pub accounted : IsAccounted t
-  pub serves : serving n (services t) ≡ Some s
+  pub serves : service_of_block n (services t) ≡ Some s
   pub unanswered : is_granted t s ≡ false
   pub settled : (c : ℕ) → pending (ProbeOf n) (on_link c t) ≡ false
   pub whole : (c : ℕ) → IsWhole (on_link c t)
   pub blocks_apart : AreApart (blocks_of (services t))
   pub trackers_apart : AreApart (trackers_of (services t))
-  pub awaited : (k : ℕ) → (n == k) ≡ false → is_awaited config k t (serving k (services t)) ≡ true
+  pub awaited : (k : ℕ) → (n == k) ≡ false → is_awaited config k t (service_of_block k (services t)) ≡ true

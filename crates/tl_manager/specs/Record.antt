@@ -10,7 +10,7 @@ use Rattle.tl_rules.specs.Conformance.{Trace, on_link}
 use Rattle.tl_rules.specs.History.{ends, block_at, is_probe_ack, is_release, is_grant, asks_for, request_of, reported, capped}
 use Rattle.tl_manager.specs.Handing.{Handed}
 use Rattle.tl_manager.specs.Holders.{recorded}
-use Rattle.tl_manager.specs.Slave.{Reception, Refused, Stalled, Sent}
+use Rattle.tl_manager.specs.Offer.{Reception, Refused, Stalled, Sent}
 
 -- what a beat says that is taken: the last one of a ProbeAck or Release, what that leaves
 abbrev pub reported_by : {w : ℕ} → Link × Beat w → Trace w → ℕ → ℕ → Option Perm

@@ -62,9 +62,9 @@ with_service None services = services
 with_service (Some s) services = s ∷ services
 
 -- the services after a message is complete with this beat, before which its burst had these
-abbrev pub served : {w : ℕ} → Link × Beat w → List (Beat w) → List (Service w) → List (Service w)
-served (link, beat.A x) burst services = with_service (service_of link (beat.A x ∷ burst) services) services
-served (link, x) burst services = filter (λ s. not (is_ended_by (link, x) s)) services
+abbrev pub services_after : {w : ℕ} → Link × Beat w → List (Beat w) → List (Service w) → List (Service w)
+services_after (link, beat.A x) burst services = with_service (service_of link (beat.A x ∷ burst) services) services
+services_after (link, x) burst services = filter (λ s. not (is_ended_by (link, x) s)) services
 
 -- The requests in service, the newest first: from their last beat on, until their answer was handed
 -- out or, for an Acquire, until its GrantAck was taken.
@@ -72,12 +72,12 @@ unfoldable pub services : {w : ℕ} → Trace w → List (Service w)
 services [] = []
 services (x ∷ t) =
     if ends x.1 (on_link x.0.0 t)
-    then served x (unfinished (channel_of x.1) (on_link x.0.0 t)) (services t)
+    then services_after x (unfinished (channel_of x.1) (on_link x.0.0 t)) (services t)
     else services t
 
 -- the service of a block
-abbrev pub serving : {w : ℕ} → ℕ → List (Service w) → Option (Service w)
-serving block services = find (λ s. block_at s.request.address == block) services
+abbrev pub service_of_block : {w : ℕ} → ℕ → List (Service w) → Option (Service w)
+service_of_block block services = find (λ s. block_at s.request.address == block) services
 
 abbrev pub is_in_service : {w : ℕ} → ℕ → List (Service w) → Bool
-is_in_service block services = is_some (serving block services)
+is_in_service block services = is_some (service_of_block block services)

@@ -9,7 +9,7 @@ use Rattle.tl_rules.specs.Legality.{is_one_of}
 use Rattle.tl_manager.specs.Bit.{bit_if}
 use Rattle.tl_manager.specs.Holders.{is_missing}
 use Rattle.tl_manager.specs.Pending.{is_granted}
-use Rattle.tl_manager.specs.Service.{Service, services, serving, trackers_of}
+use Rattle.tl_manager.specs.Service.{Service, services, service_of_block, trackers_of}
 use Rattle.tl_manager.specs.declared.manager.tracker.Tracker.{Tracker}
 use Rattle.tl_manager.specs.declared.manager.tracker.Tracker.TheVariants.{Free, Probing, Granted}
 
@@ -22,7 +22,7 @@ AreMissing bits block t = (client : ℕ) → bit_at bits client ≡ bit_if (is_m
 
 -- the request is in service with this tracker, and isn't answered
 pub record IsProbing {w : ℕ} (n : ℕ) (link : Link) (request : MessageA w) (missing : ℕ) (t : Trace w) : Type 0 where
-  pub serves : serving (block_at request.address) (services t) ≡ Some (service_with n link request)
+  pub serves : service_of_block (block_at request.address) (services t) ≡ Some (service_with n link request)
   pub unanswered : is_granted t (service_with n link request) ≡ false
   pub bits : AreMissing missing (block_at request.address) t
 
@@ -30,7 +30,7 @@ pub record IsProbing {w : ℕ} (n : ℕ) (link : Link) (request : MessageA w) (m
 pub record IsGranting {w : ℕ} (n : ℕ) (link : Link) (block : ℕ) (t : Trace w) : Type 0 where
   pub request : MessageA w
   pub block_is : block_at request.address ≡ block
-  pub serves : serving block (services t) ≡ Some (service_with n link request)
+  pub serves : service_of_block block (services t) ≡ Some (service_with n link request)
   pub granted : is_granted t (service_with n link request) ≡ true
 
 -- the tracker with this number keeps what is true of its service

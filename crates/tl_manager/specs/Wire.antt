@@ -9,7 +9,8 @@ use Rattle.tl_rules.specs.Conformance.{Trace, on_link}
 use Rattle.tl_rules.specs.Legality.{is_one_of}
 use Rattle.tl_manager.specs.Home.{IsHome}
 use Rattle.tl_manager.specs.Kept.{IsKept}
-use Rattle.tl_manager.specs.Slave.{End, level_of}
+use Rattle.tl_manager.specs.End.{End}
+use Rattle.tl_manager.specs.Offer.{level_of}
 use Rattle.tl_manager.specs.declared.manager.home.Home.{Home}
 use Rattle.tl_manager.specs.declared.manager.wire.Wire.{Wire}
 

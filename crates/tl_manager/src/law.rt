@@ -29,8 +29,9 @@ ghost use Rattle.tl_manager.specs.Kept.{IsTyped, IsKept, IsRising, IsAnswerLawfu
 ghost use Rattle.tl_manager.specs.Pending.{is_any, is_asking, is_acquiring, is_granted_to, is_granted_with, is_awaited, IsNamed, IsProbed};
 ghost use Rattle.tl_manager.specs.Record.{recorded_after, is_of_block};
 ghost use Rattle.tl_manager.specs.Request.{request_carried};
-ghost use Rattle.tl_manager.specs.Service.{services, serving};
-ghost use Rattle.tl_manager.specs.Slave.{End, Refused, Stalled, fresh, refused, offered, stalls};
+ghost use Rattle.tl_manager.specs.Service.{services, service_of_block};
+ghost use Rattle.tl_manager.specs.End.{End, fresh};
+ghost use Rattle.tl_manager.specs.Offer.{Refused, Stalled, refused, offered, stalls};
 
 /// What holds of a manager's end from the first beat that it is offered on, and that every message
 /// which it hands out breaks no rule of legality at its link's level, isn't corrupt and isn't denied, and
@@ -100,9 +101,9 @@ pub fn accounts_for_pending<const W: usize>()
         pending (RequestSource source) (on_link client e.trace)
         ≡ (comes_in_request source (unfinished Channel.A (on_link client e.trace)) || is_any (is_asking client source e.trace) (services e.trace)) }
     ensures acquire { (config : Config) (e : End W) (client block : ℕ) → IsKept config e →
-        pending (AcquireOf block) (on_link client e.trace) ≡ is_acquiring client e.trace (serving block (services e.trace)) }
+        pending (AcquireOf block) (on_link client e.trace) ≡ is_acquiring client e.trace (service_of_block block (services e.trace)) }
     ensures grant { (config : Config) (e : End W) (client block : ℕ) → IsKept config e →
-        pending (GrantAckOf block) (on_link client e.trace) ≡ is_granted_to client e.trace (serving block (services e.trace)) }
+        pending (GrantAckOf block) (on_link client e.trace) ≡ is_granted_to client e.trace (service_of_block block (services e.trace)) }
     ensures sink { (config : Config) (e : End W) (client sink : ℕ) → IsKept config e →
         pending (GrantSink sink) (on_link client e.trace) ≡ is_any (is_granted_with client sink e.trace) (services e.trace) }
     ensures named { (config : Config) (e : End W) (block : ℕ) → IsKept config e →
@@ -110,7 +111,7 @@ pub fn accounts_for_pending<const W: usize>()
     ensures probe { (config : Config) (e : End W) (client block : ℕ) → IsKept config e →
         is_missing client block e.trace ≡ true → IsProbed client block e.trace }
     ensures awaited { (config : Config) (e : End W) (block : ℕ) → IsKept config e →
-        is_awaited config block e.trace (serving block (services e.trace)) ≡ true }
+        is_awaited config block e.trace (service_of_block block (services e.trace)) ≡ true }
 {}
 
 /// The clients that pass a test are found, each once and in rising order. Nothing is missing where no

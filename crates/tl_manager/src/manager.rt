@@ -13,8 +13,9 @@ ghost use Rattle.std.specs.Prelude.{ℕ, ◌≡◌, ◌≤◌, length, is_none};
 ghost use Rattle.tl_beat.specs.Width.{IsWidth};
 ghost use Rattle.tl_params.specs.declared.config.Config.{Config};
 ghost use Rattle.tl_params.specs.declared.perm.Perm.TheVariants as perm;
-ghost use Rattle.tl_manager.specs.Slave;
-ghost use Rattle.tl_manager.specs.Slave.{End, offered, open_level};
+ghost use Rattle.tl_manager.specs.Offer;
+ghost use Rattle.tl_manager.specs.End.{End};
+ghost use Rattle.tl_manager.specs.Offer.{offered, open_level};
 
 use crate::directory::Directory;
 use crate::manager::admission::Admission;
@@ -110,7 +111,7 @@ impl<const W: usize, D: Directory> Manager<W, D> {
     /// Whether a beat would be stalled.
     pub fn stalls(&self, link: Link, channel: Channel, beat: &Beat<W>) -> bool
         ensures { (config : Config) (e : End W) → Knows D.perm_of self.now config e →
-            result ≡ Slave.stalls config link channel beat.now e }
+            result ≡ Offer.stalls config link channel beat.now e }
     {
         self.links.stalls(link, channel, beat)
     }

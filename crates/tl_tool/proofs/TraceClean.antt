@@ -17,7 +17,7 @@ use Rattle.tl_params.specs.declared.profile.Profile.{Profile}
 use Rattle.tl_params.specs.declared.rule.Rule.{Rule}
 use Rattle.tl_rules.specs.Conformance.{Trace, broken_after, broken_at_level, broken_on_link, is_legal, on_link}
 use Rattle.tl_client.specs.End.{Terms}
-use Rattle.tl_manager.specs.Slave.{level_of}
+use Rattle.tl_manager.specs.Offer.{level_of}
 use Rattle.tl_manager.proofs.Placing.{limits}
 use Rattle.tl_schedule.specs.declared.header.Version.{Version}
 use Rattle.tl_schedule.specs.declared.header.Version.TheVariants as schedule

@@ -35,7 +35,7 @@ use Rattle.tl_client.specs.Requests.{open_beat}
 use Rattle.tl_client.specs.Send.{sourced}
 use Rattle.tl_manager.specs.Handing.{access_answer, no_payload}
 use Rattle.tl_manager.specs.Kept.{illegal_message_at}
-use Rattle.tl_manager.specs.Slave.{level_of}
+use Rattle.tl_manager.specs.Offer.{level_of}
 use Rattle.tl_manager.proofs.Filled.{data_room, payload-long, payload-zero, room_in_beats}
 use Rattle.tl_world.specs.Beside.{Answers, IsOpened, IsReach}
 use Rattle.tl_world.specs.Follow.{Shadow}

@@ -21,8 +21,8 @@ use Rattle.tl_manager.specs.Kept.{AreApart, blocks_of, IsKept}
 use Rattle.tl_manager.specs.Pending as waits
 use Rattle.tl_manager.specs.Pending.{is_any, is_asking, is_acquiring, is_granted_to, is_granted_with, is_awaited, IsProbed}
 use Rattle.tl_manager.specs.Service as manager
-use Rattle.tl_manager.specs.Service.{services, serving}
-use Rattle.tl_manager.specs.Slave.{End}
+use Rattle.tl_manager.specs.Service.{services, service_of_block}
+use Rattle.tl_manager.specs.End.{End}
 use Rattle.tl_manager.proofs.Serving.{some_is, none_of_block}
 use Rattle.tl_manager.proofs.Settled.{all-settled}
 use Rattle.tl_manager.proofs.Sources.{source-pending, sink-pending}
@@ -39,11 +39,11 @@ use Rattle.tl_world.proofs.BothParts.{is_of-is, acquires_of-is, serves_of-is, no
 
 -- ---- services that pass a test
 
-pub any-of : {w : ℕ} (n : ℕ) (test : manager.Service w → Bool) (ss : List (manager.Service w)) (v : manager.Service w) → serving n ss ≡ Some v → test v ≡ true → is_any test ss ≡ true
+pub any-of : {w : ℕ} (n : ℕ) (test : manager.Service w → Bool) (ss : List (manager.Service w)) (v : manager.Service w) → service_of_block n ss ≡ Some v → test v ≡ true → is_any test ss ≡ true
 any-of n test [] v e f = absurd cc
 any-of {w} n test (s ∷ ss) v e f = go (block_at s.request.address == n) (λ g. any-of n test ss v g f) e
   where
-    go : (b : Bool) → (serving n ss ≡ Some v → is_any test ss ≡ true) → (if b then Some s else serving n ss) ≡ Some v → (test s || is_any test ss) ≡ true
+    go : (b : Bool) → (service_of_block n ss ≡ Some v → is_any test ss ≡ true) → (if b then Some s else service_of_block n ss) ≡ Some v → (test s || is_any test ss) ≡ true
     go true more g = let here : test s ≡ true = rw (some_is s v g) f in rw here refl
     go false more g = rw (more g) (or-true (test s))
 
@@ -51,7 +51,7 @@ any-of {w} n test (s ∷ ss) v e f = go (block_at s.request.address == n) (λ g.
 pub record IsFound {w : ℕ} (test : manager.Service w → Bool) (ss : List (manager.Service w)) : Type 0 where
   pub block : ℕ
   pub service : manager.Service w
-  pub serves : serving block ss ≡ Some service
+  pub serves : service_of_block block ss ≡ Some service
   pub passes : test service ≡ true
 
 pub any-found : {w : ℕ} (test : manager.Service w → Bool) (ss : List (manager.Service w)) → AreApart (blocks_of ss) → is_any test ss ≡ true → IsFound test ss
@@ -63,7 +63,7 @@ any-found {w} test (s ∷ ss) apart e = go (test s) refl (λ f. any-found test s
       block = is.block;
       service = is.service;
       serves = elim (cases_eq (block_at s.request.address) is.block) [
-        | inl same ↦ absurd (let none : serving is.block ss ≡ None = none_of_block is.block ss (rw same at apart.0) in let no : Some is.service ≡ None = sym is.serves ∙ none in cc)
+        | inl same ↦ absurd (let none : service_of_block is.block ss ≡ None = none_of_block is.block ss (rw same at apart.0) in let no : Some is.service ≡ None = sym is.serves ∙ none in cc)
         | inr other ↦ rw (ne_eqb (block_at s.request.address) is.block other) is.serves
       ];
       passes = is.passes;
@@ -95,7 +95,7 @@ is_granted_in (GrantTaken q) = true
 pub record IsTraced {w : ℕ} {X : Type 0} (request : ℕ → MessageA w) (s : State X) (t : Trace w) : Type 0 where
   pub recorded_is : (c n : ℕ) → recorded c n t ≡ ((s.block n).pair c).recorded
   pub probes : (c n : ℕ) → pending (ProbeOf n) (on_link c t) ≡ not (is_quiet ((s.block n).pair c).probing)
-  pub serving_is : (n : ℕ) → serving n (services t) ≡ service_with (client_in (s.block n).service) (s.block n).tracker (request n)
+  pub serving_is : (n : ℕ) → service_of_block n (services t) ≡ service_with (client_in (s.block n).service) (s.block n).tracker (request n)
   pub requests : (n : ℕ) → IsFor (s.block n).service n (request n)
   pub asked : (n r source : ℕ) (own : Bool) (k : Cap) → (s.block n).service ≡ Waits r own source k → request_of source (on_link r t) ≡ Some (a_beat_of (request n) 0)
 
@@ -113,7 +113,7 @@ granted_views (GrantTaken q) c e = not-other (c == q) Acknowledging GrantedOther
 
 -- a request is granted exactly where the protocol says so
 pub granted-is : {w : ℕ} {X : Type 0} (caching : ℕ → Bool) (config : Config) (request : ℕ → MessageA w) (s : State X) (e : End w) → IsInvariant caching s → IsKept config e → IsTraced request s e.trace
-    → (n : ℕ) (v : manager.Service w) → serving n (services e.trace) ≡ Some v → waits.is_granted e.trace v ≡ is_granted_in (s.block n).service
+    → (n : ℕ) (v : manager.Service w) → service_of_block n (services e.trace) ≡ Some v → waits.is_granted e.trace v ≡ is_granted_in (s.block n).service
 granted-is {w} {X} caching config request s e inv kept is n v found = go (s.block n).service refl
   where
     t : Trace w
@@ -140,7 +140,7 @@ granted-is {w} {X} caching config request s e inv kept is n v found = go (s.bloc
         rw same at probed.unanswered
 
     go : (service : Service) → (s.block n).service ≡ service → waits.is_granted t v ≡ is_granted_in service
-    go Free f = absurd (let none : serving n (services t) ≡ None = is.serving_is n ∙ rw f refl in let no : Some v ≡ None = sym found ∙ none in cc)
+    go Free f = absurd (let none : service_of_block n (services t) ≡ None = is.serving_is n ∙ rw f refl in let no : Some v ≡ None = sym found ∙ none in cc)
     go (Waits r own source k) f =
         let someone : IsAwaited (Waits r own source k) (s.block n).pair = rw f at (inv.blocks n).awaited in
         waiting (Waits r own source k) f someone refl (λ g. cc)
@@ -318,7 +318,7 @@ sources-traced {w} {X} caching config request s e inv kept is c source = one_tru
     serving_it served =
         let one = served-waits caching s c source (s.uses c source) inv refl served in
         let v : manager.Service w = at_service c (s.block one.block).tracker (request one.block) in
-        let found : serving one.block (services t) ≡ Some v = is.serving_is one.block ∙ rw one.waits_so refl in
+        let found : service_of_block one.block (services t) ≡ Some v = is.serving_is one.block ∙ rw one.waits_so refl in
         let for : IsFor (Waits c one.own source one.cap) one.block (request one.block) = rw one.waits_so at (is.requests one.block) in
         let granted : waits.is_granted t v ≡ false = granted-is caching config request s e inv kept is one.block v found ∙ rw one.waits_so refl in
         any-of one.block (is_asking c source t) (services t) v found (rw (same_number c, for.1, same_number source, granted) refl)
@@ -392,7 +392,7 @@ sinks-traced {w} {X} caching config request s e inv kept is c sink = one_truth _
     with_granted (Some n) f g =
         let to = granted-to c (s.block n).service g in
         let v : manager.Service w = at_service c (s.block n).tracker (request n) in
-        let found : serving n (services t) ≡ Some v = is.serving_is n ∙ ap (λ (o : Option ℕ). service_with o (s.block n).tracker (request n)) to.1 in
+        let found : service_of_block n (services t) ≡ Some v = is.serving_is n ∙ ap (λ (o : Option ℕ). service_with o (s.block n).tracker (request n)) to.1 in
         let granted : waits.is_granted t v ≡ true = granted-is caching config request s e inv kept is n v found ∙ to.0 in
         let tracks : tracks_with sink (s.block n) ≡ true = sym (inv.named.trackers sink n) ∙ rw (f, same_number n) refl in
         let number = eqb-true sink (s.block n).tracker (and_right (is_busy (s.block n).service) (sink == (s.block n).tracker) tracks) in

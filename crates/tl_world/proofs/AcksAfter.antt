@@ -12,7 +12,7 @@ use Rattle.tl_burst.specs.Part.{completes}
 use Rattle.tl_params.specs.declared.config.Config.{Config}
 use Rattle.tl_rules.specs.Conformance.{on_link}
 use Rattle.tl_client.specs.End as client
-use Rattle.tl_manager.specs.Slave.{deed}
+use Rattle.tl_manager.specs.Deed.{deed}
 use Rattle.tl_manager.proofs.Events.{deed-ack}
 use Rattle.tl_world.specs.declared.event.Event.TheVariants.{Deliver}
 use Rattle.tl_world.specs.Draining.{is_moving}

@@ -35,12 +35,14 @@ use Rattle.tl_beat.specs.First.{first_if}
 use Rattle.tl_params.specs.declared.level.Level.{Level}
 use Rattle.tl_params.specs.declared.rule.Rule.TheVariants.{H4, H5}
 use Rattle.tl_manager.specs.Kept.{IsSound, IsTyped}
-use Rattle.tl_manager.specs.Slave as manager
-use Rattle.tl_manager.specs.Slave.{End, Passes, level_of, open_level, before_stall, must_wait, judged_at, judged, deed, offered_as, offered, taken}
+use Rattle.tl_manager.specs.Offer as manager
+use Rattle.tl_manager.specs.Deed.{deed}
+use Rattle.tl_manager.specs.End.{End}
+use Rattle.tl_manager.specs.Offer.{Passes, level_of, open_level, before_stall, must_wait, judged_at, judged, offered_as, offered, taken}
 use Rattle.tl_manager.proofs.Judged.{judged-passes}
 use Rattle.tl_manager.proofs.Sound.{leveled}
 use Rattle.tl_manager.specs.Releases.{comes_of}
-use Rattle.tl_manager.specs.Service.{services, serving, is_in_service, least_untaken, trackers_of}
+use Rattle.tl_manager.specs.Service.{services, service_of_block, is_in_service, least_untaken, trackers_of}
 use Rattle.tl_manager.proofs.Free.{least_free-is_free}
 use Rattle.tl_manager.proofs.Serving.{tracker_among}
 use Rattle.tl_world.specs.Follow.{acquire_opcode}
@@ -218,7 +220,7 @@ free-untracked {w} caching request s t inv is = go (s.tracked i) refl
     i : ℕ
     i = least_untaken (trackers_of (services t))
 
-    among : (n r : ℕ) → serving n (services t) ≡ service_with (Some r) (s.block n).tracker (request n) → i ≡ (s.block n).tracker → ⊥
+    among : (n r : ℕ) → service_of_block n (services t) ≡ service_with (Some r) (s.block n).tracker (request n) → i ≡ (s.block n).tracker → ⊥
     among n r found same =
         let one : is_one_of (s.block n).tracker (trackers_of (services t)) ≡ true = tracker_among n (services t) (record { tracker = (s.block n).tracker; link = record { 0 = r }; request = request n }) found in
         let none : is_one_of (s.block n).tracker (trackers_of (services t)) ≡ false = ap (λ j. is_one_of j (trackers_of (services t))) (sym same) ∙ least_free-is_free (trackers_of (services t)) in

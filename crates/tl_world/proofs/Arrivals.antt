@@ -24,7 +24,8 @@ use Rattle.tl_burst.proofs.Begun.{length-begun}
 use Rattle.tl_manager.specs.Kept.{IsKept}
 use Rattle.tl_manager.specs.Request.{request_carried}
 use Rattle.tl_manager.specs.Service.{Service, services, least_untaken, trackers_of}
-use Rattle.tl_manager.specs.Slave.{End, Passes, judged}
+use Rattle.tl_manager.specs.End.{End}
+use Rattle.tl_manager.specs.Offer.{Passes, judged}
 use Rattle.tl_manager.proofs.Assembled.{request-again}
 use Rattle.tl_manager.proofs.Judged.{passed}
 use Rattle.tl_manager.proofs.Keeping.{is_taken}

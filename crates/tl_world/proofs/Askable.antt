@@ -24,7 +24,7 @@ use Rattle.tl_client.specs.Ask.{done, load, store, free_request, free_release, s
 use Rattle.tl_client.specs.End.{Terms, End, held_at}
 use Rattle.tl_client.proofs.Cases.{NotBusy, asked-cases}
 use Rattle.tl_client.proofs.Free.{least_free-some}
-use Rattle.tl_manager.specs.Slave.{level_of}
+use Rattle.tl_manager.specs.Offer.{level_of}
 use Rattle.tl_world.specs.Follow.{Shadow}
 use Rattle.tl_world.specs.Log.{Log}
 use Rattle.tl_world.specs.Phase.{Acquiring, Calm, Wants}

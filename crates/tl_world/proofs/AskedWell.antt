@@ -38,7 +38,7 @@ use Rattle.tl_client.proofs.Clean.{to_blank}
 use Rattle.tl_client.proofs.Free.{least_free-some}
 use Rattle.tl_client.proofs.Sound.{formed_access}
 use Rattle.tl_client.proofs.Stores.{word_room}
-use Rattle.tl_manager.specs.Slave.{level_of}
+use Rattle.tl_manager.specs.Offer.{level_of}
 use Rattle.tl_world.specs.Beside.{IsOpened, IsLet}
 use Rattle.tl_world.specs.Follow.{Shadow}
 use Rattle.tl_world.specs.Log.{Log}

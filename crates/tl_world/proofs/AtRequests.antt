@@ -17,7 +17,9 @@ use Rattle.tl_manager.specs.Handing.{Deed, nothing, with_handed, probes, perform
 use Rattle.tl_manager.specs.Holders.{is_nobody, probed, cap_probed}
 use Rattle.tl_manager.specs.Kept.{IsKept, illegal_message_at}
 use Rattle.tl_manager.specs.Service.{services, least_untaken, trackers_of}
-use Rattle.tl_manager.specs.Slave.{End, Reception, level_of, deed, taken}
+use Rattle.tl_manager.specs.Deed.{deed}
+use Rattle.tl_manager.specs.End.{End}
+use Rattle.tl_manager.specs.Offer.{Reception, level_of, taken}
 use Rattle.tl_manager.proofs.Events.{deed-part, deed-probes, performed-access, performed-acquire}
 use Rattle.tl_manager.proofs.Keeping.{kept-offered}
 use Rattle.tl_manager.proofs.Memories.{memory-elsewhere}

@@ -17,7 +17,7 @@ use Rattle.tl_client.proofs.HeldAfter.{same_block}
 use Rattle.tl_manager.specs.Handing.{Handed, Deed, probes, access_answer, grant_opcode, is_granted_data, grant}
 use Rattle.tl_manager.specs.Holders.{recorded, cap_probed, probed}
 use Rattle.tl_manager.specs.Service.{Service, is_access_answer}
-use Rattle.tl_manager.specs.Slave.{deed}
+use Rattle.tl_manager.specs.Deed.{deed}
 use Rattle.tl_manager.proofs.Events.{performed-acquire}
 use Rattle.tl_world.specs.Beside.{IsAccess, IsBeside}
 use Rattle.tl_world.specs.Follow.{Shadow, bytes_at, probes_some, some_below, request_taken, kind_taken}

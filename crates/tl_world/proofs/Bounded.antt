@@ -10,7 +10,7 @@ use Rattle.tl_params.specs.declared.key.Key.TheVariants.{RequestSource, ReleaseS
 use Rattle.tl_rules.specs.History.{pending}
 use Rattle.tl_rules.specs.Legality.{is_one_of}
 use Rattle.tl_manager.specs.Kept as kept
-use Rattle.tl_manager.specs.Service.{services, serving, trackers_of}
+use Rattle.tl_manager.specs.Service.{services, service_of_block, trackers_of}
 use Rattle.tl_manager.proofs.Serving.{tracker_among}
 use Rattle.tl_world.specs.Delivery.{sources_of}
 use Rattle.tl_world.specs.Invariant.{tracks_with, is_busy}
@@ -83,7 +83,7 @@ module _ {w : ℕ} (config : Config) (log : Log w) (mail : Mail w) (request : �
       let named : tracks_with i (s.block n) ≡ true = sym (matched.invariant.named.trackers i n) ∙ rw e (same_number n) in
       let parts = and_parts (is_busy (s.block n).service) (i == (s.block n).tracker) named in
       let q = someone (s.block n).service parts.0 in
-      let is : serving n (services sys.manager.trace) ≡ Some (record { tracker = (s.block n).tracker; link = record { 0 = q.0 }; request = request n }) =
+      let is : service_of_block n (services sys.manager.trace) ≡ Some (record { tracker = (s.block n).tracker; link = record { 0 = q.0 }; request = request n }) =
       matched.managed.serving_is n ∙ ap (λ (o : Option ℕ). service_with o (s.block n).tracker (request n)) q.1 in
       let same : i ≡ (s.block n).tracker = eqb-true i (s.block n).tracker parts.1 in
       rw same (of_each (λ k. k < config.trackers) (trackers_of (services sys.manager.trace)) (s.block n).tracker (tracker_among n (services sys.manager.trace) _ is) matched.manager_kept.tracked)

@@ -19,7 +19,8 @@ use Rattle.tl_burst.specs.Part.{completes}
 use Rattle.tl_client.specs.End.{Terms}
 use Rattle.tl_manager.specs.Handing.{Handed, access_answer}
 use Rattle.tl_manager.specs.Kept as manager
-use Rattle.tl_manager.specs.Slave.{End, deed}
+use Rattle.tl_manager.specs.Deed.{deed}
+use Rattle.tl_manager.specs.End.{End}
 use Rattle.tl_world.specs.declared.event.Event.TheVariants.{Deliver}
 use Rattle.tl_world.specs.declared.event.Outcome.TheVariants as outcome
 use Rattle.tl_world.specs.Log.{Log}

@@ -28,7 +28,8 @@ use Rattle.tl_manager.specs.Holders.{recorded, probed, cap_probed, is_spared}
 use Rattle.tl_rules.specs.History.{block_at, is_acquire}
 use Rattle.tl_rules.proofs.Sent.{is_last}
 use Rattle.tl_client.proofs.HeldAfter.{same_block, swapped}
-use Rattle.tl_manager.specs.Slave.{must_wait, deed}
+use Rattle.tl_manager.specs.Deed.{deed}
+use Rattle.tl_manager.specs.Offer.{must_wait}
 use Rattle.tl_manager.proofs.Events.{deed-part}
 use Rattle.tl_world.specs.declared.event.Outcome.TheVariants as outcome
 use Rattle.tl_world.specs.Log.{Log}

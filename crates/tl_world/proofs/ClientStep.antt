@@ -28,7 +28,8 @@ use Rattle.tl_client.specs.End.{Terms, End, with_past}
 use Rattle.tl_client.specs.Offer.{Offered, offered, taken, ended, silent, is_stalled}
 use Rattle.tl_client.proofs.Stalls.{taken_now}
 use Rattle.tl_manager.specs.Service.{services, least_untaken, trackers_of}
-use Rattle.tl_manager.specs.Slave as manager
+use Rattle.tl_manager.specs.End as manager_end
+use Rattle.tl_manager.specs.Offer as manager
 use Rattle.tl_world.specs.declared.event.Event.{Event}
 use Rattle.tl_world.specs.declared.event.Event.TheVariants.{Ask, Deliver}
 use Rattle.tl_world.specs.Draining.{is_moving}
@@ -202,7 +203,7 @@ manager_leaves {w} caching config tracker c ch h d sys x queue down inv first =
     subst (λ (xs : List Token). Leaves d h (token_taken config tracker c xs h)) (sym first.tokens)
     (leaves-at_manager caching config tracker c first.kind first.number first.rest h d (manager_kind ch first.kind down first.own) inv (on_same ch first.kind (h.state.link c) first.own ∙ first.tokens))
 
-manager_ends : {w : ℕ} (config : Config) (log : Log w) (mail : Mail w) (request : ℕ → MessageA w) (s : State (List ℕ)) (sys : System w) (link : Link) (ch : Channel) (k : ℕ) (x : Beat w) (queue : List (Beat w)) (a : manager.Reception w × manager.End w) → IsWidth w
+manager_ends : {w : ℕ} (config : Config) (log : Log w) (mail : Mail w) (request : ℕ → MessageA w) (s : State (List ℕ)) (sys : System w) (link : Link) (ch : Channel) (k : ℕ) (x : Beat w) (queue : List (Beat w)) (a : manager.Reception w × manager_end.End w) → IsWidth w
     → IsMatched config log mail request s sys → sys.channels link.0 ch ≡ x ∷ queue → is_to_client ch ≡ false → AreEnds config (Deliver link ch) sys (shadow_of mail request s) k (manager_took link.0 ch x queue a sys)
 manager_ends config log mail request s sys link ch k x queue (manager.Refused rule, e) width h beats down = end-matched config log mail request s sys h k
 manager_ends config log mail request s sys link ch k x queue (manager.Stalled, e) width h beats down = end-matched config log mail request s sys h k

@@ -38,7 +38,7 @@ use Rattle.tl_client.specs.Send.{acquisition}
 use Rattle.tl_client.proofs.HeldAfter.{same_block}
 use Rattle.tl_manager.specs.Handing.{grant_opcode, release_ack}
 use Rattle.tl_manager.specs.Kept as manager
-use Rattle.tl_manager.specs.Slave.{level_of}
+use Rattle.tl_manager.specs.Offer.{level_of}
 use Rattle.tl_world.specs.Follow.{acquire_opcode}
 use Rattle.tl_world.specs.Log.{Log}
 use Rattle.tl_world.specs.Phase.{Wants, cap_fits, grant_fits}

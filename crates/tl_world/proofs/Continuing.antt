@@ -16,7 +16,7 @@ use Rattle.tl_params.specs.declared.config.Config.{Config}
 use Rattle.tl_client.specs.declared.verdict.Verdict.{Verdict}
 use Rattle.tl_client.specs.End.{Terms}
 use Rattle.tl_manager.specs.Kept as manager
-use Rattle.tl_manager.specs.Slave.{deed}
+use Rattle.tl_manager.specs.Deed.{deed}
 use Rattle.tl_manager.proofs.Events.{deed-ack}
 use Rattle.tl_world.specs.declared.event.Event.TheVariants.{Deliver}
 use Rattle.tl_world.specs.Draining.{is_moving}

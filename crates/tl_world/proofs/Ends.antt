@@ -13,7 +13,8 @@ use Rattle.tl_client.specs.declared.verdict.Verdict.TheVariants as verdict
 use Rattle.tl_client.specs.Ask.{asked}
 use Rattle.tl_client.specs.End.{End, Terms, fresh}
 use Rattle.tl_client.specs.Offer.{offered}
-use Rattle.tl_manager.specs.Slave as manager
+use Rattle.tl_manager.specs.End as manager_end
+use Rattle.tl_manager.specs.Offer as manager
 use Rattle.tl_world.specs.declared.event.Event.{Event}
 use Rattle.tl_world.specs.declared.event.Event.TheVariants.{Ask, Deliver}
 use Rattle.tl_world.specs.Log.{Log, after}
@@ -43,7 +44,7 @@ module _ {w : ℕ} (config : Config) (P : ℕ → End w → Type 0) (keep : AreK
   judged-kept (Ok (verdict.Taken, m)) k ch x rest e s here all c = rw (clients-with_messages (handed_by k m) (with_client k e (with_channel k ch rest s))) (other_end k e (with_channel k ch rest s) here all c)
   judged-kept (Ok (verdict.Done source f, m)) k ch x rest e s here all c = rw (clients-with_messages (handed_by k m) (with_client k e (with_channel k ch rest s))) (other_end k e (with_channel k ch rest s) here all c)
 
-  managed-kept : (a : manager.Reception w × manager.End w) (k : ℕ) (ch : Channel) (x : Beat w) (rest : List (Beat w)) (s : System w) → ((c : ℕ) → P c (s.clients c))
+  managed-kept : (a : manager.Reception w × manager_end.End w) (k : ℕ) (ch : Channel) (x : Beat w) (rest : List (Beat w)) (s : System w) → ((c : ℕ) → P c (s.clients c))
       → (c : ℕ) → P c ((manager_took k ch x rest a s).after.clients c)
   managed-kept (manager.Refused rule, e) k ch x rest s all c = all c
   managed-kept (manager.Stalled, e) k ch x rest s all c = all c

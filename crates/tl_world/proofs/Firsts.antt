@@ -20,7 +20,8 @@ use Rattle.tl_client.specs.declared.verdict.Verdict.TheVariants as verdict
 use Rattle.tl_client.specs.After.{is_refused}
 use Rattle.tl_client.specs.End.{Terms}
 use Rattle.tl_client.specs.Offer.{Offered, offered, silent, taken}
-use Rattle.tl_manager.specs.Slave as manager
+use Rattle.tl_manager.specs.End as manager_end
+use Rattle.tl_manager.specs.Offer as manager
 use Rattle.tl_world.specs.Follow.{Shadow}
 use Rattle.tl_world.specs.Log.{Log, after}
 use Rattle.tl_world.specs.Phase.{is_kept}
@@ -104,7 +105,7 @@ unrefused_up : {w : ℕ} (a : Result (Verdict × Option (Message w)) Rule) → i
 unrefused_up (Ok v) e = tt
 unrefused_up (Err rule) e = absurd cc
 
-taken_in : {w : ℕ} (a b : manager.Reception w × manager.End w) → a ≡ b → IsTakenIn b → IsTakenIn a
+taken_in : {w : ℕ} (a b : manager.Reception w × manager_end.End w) → a ≡ b → IsTakenIn b → IsTakenIn a
 taken_in a b e is = subst IsTakenIn (sym e) is
 
 taken_up : {w : ℕ} (a b : Offered w) → a ≡ b → IsTakenUp b.answer → IsTakenUp a.answer

@@ -22,7 +22,7 @@ use Rattle.tl_rules.specs.Conformance.{on_link, broken_in_order, broken_after, s
 use Rattle.tl_rules.specs.Legality.{illegal}
 use Rattle.tl_client.proofs.HeldAfter.{same_block}
 use Rattle.tl_manager.specs.Kept.{illegal_at}
-use Rattle.tl_manager.specs.Slave.{level_of}
+use Rattle.tl_manager.specs.Offer.{level_of}
 use Rattle.tl_world.specs.Flow.{flow}
 use Rattle.tl_world.specs.Log.{Log}
 use Rattle.tl_world.specs.Matched.{receiver}

@@ -19,7 +19,7 @@ use Rattle.tl_rules.proofs.Sent.{is_last}
 use Rattle.std.proofs.lemmas.Bool.{or_parts}
 use Rattle.tl_client.proofs.HeldAfter.{same_block}
 use Rattle.tl_manager.specs.Service.{services, is_in_service}
-use Rattle.tl_manager.specs.Slave.{level_of, must_wait}
+use Rattle.tl_manager.specs.Offer.{level_of, must_wait}
 use Rattle.tl_world.specs.Flow.{flow}
 use Rattle.tl_world.specs.Log.{Log}
 use Rattle.tl_world.specs.Matched.{receiver}

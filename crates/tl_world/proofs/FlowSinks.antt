@@ -21,7 +21,7 @@ use Rattle.tl_manager.specs.Handing.{grant_opcode}
 use Rattle.tl_rules.specs.Conformance.{broken_after, comes_in_grant, on_link}
 use Rattle.tl_rules.specs.History.{is_grant}
 use Rattle.tl_rules.specs.Legality.{illegal}
-use Rattle.tl_manager.specs.Slave.{level_of}
+use Rattle.tl_manager.specs.Offer.{level_of}
 use Rattle.tl_world.specs.Carried.{IsCarried}
 use Rattle.tl_world.specs.Flow.{flow}
 use Rattle.tl_world.specs.Log.{Log}

@@ -20,8 +20,10 @@ use Rattle.tl_client.specs.End.{Terms}
 use Rattle.tl_client.specs.Offer as offer
 use Rattle.tl_client.proofs.Outstanding.{unfinished-asked}
 use Rattle.tl_manager.specs.Handing.{Handed}
-use Rattle.tl_manager.specs.Slave as slave
-use Rattle.tl_manager.specs.Slave.{deed, level_of}
+use Rattle.tl_manager.specs.End as manager_end
+use Rattle.tl_manager.specs.Offer as slave
+use Rattle.tl_manager.specs.Deed.{deed}
+use Rattle.tl_manager.specs.Offer.{level_of}
 use Rattle.tl_world.specs.declared.event.Event.{Event}
 use Rattle.tl_world.specs.declared.event.Event.TheVariants.{Ask, Deliver}
 use Rattle.tl_world.specs.declared.event.Outcome.{Outcome}
@@ -74,11 +76,11 @@ use Rattle.tl_world.proofs.Popped.{unfinished_at}
 
 -- messages that are handed out change no receiver
 receiver_handed : {w : ℕ} (handed : Handed w) (sys : System w) (d : ℕ) (at : Channel) → receiver at d (with_messages handed sys) ≡ receiver at d sys
-receiver_handed handed sys d channel.A = ap (λ (m : slave.End _). on_link d m.trace) (manager-with_messages handed sys)
+receiver_handed handed sys d channel.A = ap (λ (m : manager_end.End _). on_link d m.trace) (manager-with_messages handed sys)
 receiver_handed handed sys d channel.B = ap (λ (f : ℕ → client.End _). (f d).past) (clients-with_messages handed sys)
-receiver_handed handed sys d channel.C = ap (λ (m : slave.End _). on_link d m.trace) (manager-with_messages handed sys)
+receiver_handed handed sys d channel.C = ap (λ (m : manager_end.End _). on_link d m.trace) (manager-with_messages handed sys)
 receiver_handed handed sys d channel.D = ap (λ (f : ℕ → client.End _). (f d).past) (clients-with_messages handed sys)
-receiver_handed handed sys d channel.E = ap (λ (m : slave.End _). on_link d m.trace) (manager-with_messages handed sys)
+receiver_handed handed sys d channel.E = ap (λ (m : manager_end.End _). on_link d m.trace) (manager-with_messages handed sys)
 
 -- what is left of a beat that is moved on channel ch of client c's link: what was delivered, what receivers have, and
 -- what the protocol is
@@ -112,7 +114,7 @@ moved-to_manager {w} config log link ch h terms x queue width is known down beat
     handed : Handed w
     handed = (deed config link x sys.manager).handed
 
-    e : slave.End w
+    e : manager_end.End w
     e = slave.taken link x (deed config link x sys.manager) sys.manager
 
     base : System w

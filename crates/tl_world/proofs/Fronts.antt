@@ -20,7 +20,7 @@ use Rattle.tl_client.specs.Kept.{acquires}
 use Rattle.tl_client.specs.Send.{acquisition}
 use Rattle.tl_client.proofs.HeldAfter.{same_block}
 use Rattle.tl_manager.specs.Kept.{illegal_message_at}
-use Rattle.tl_manager.specs.Slave.{level_of}
+use Rattle.tl_manager.specs.Offer.{level_of}
 use Rattle.tl_world.specs.Carried.{IsCarried}
 use Rattle.tl_world.specs.Follow.{acquire_opcode}
 use Rattle.tl_world.specs.Invariant.{is_asked}

@@ -49,7 +49,7 @@ use Rattle.tl_client.specs.Send.{release, probe_ack}
 use Rattle.tl_manager.specs.Handing.{Handed}
 use Rattle.tl_manager.specs.Kept as manager
 use Rattle.tl_manager.specs.Kept.{Each, illegal_at, IsClean, IsFilled, AreLawful}
-use Rattle.tl_manager.specs.Slave.{level_of}
+use Rattle.tl_manager.specs.Offer.{level_of}
 use Rattle.tl_manager.proofs.Lawful.{IsHandable, no_bit}
 use Rattle.tl_world.specs.System.{System, same_channel, channel_of_message, terms_at, with_channel, with_message, with_messages}
 use Rattle.tl_world.specs.Whole.{AreLanes}

@@ -10,8 +10,8 @@ use Rattle.tl_burst.specs.Part.{completes}
 use Rattle.tl_params.specs.declared.config.Config.{Config}
 use Rattle.tl_client.specs.End.{Terms}
 use Rattle.tl_client.specs.Offer as offer
-use Rattle.tl_manager.specs.Slave as slave
-use Rattle.tl_manager.specs.Slave.{deed}
+use Rattle.tl_manager.specs.Offer as slave
+use Rattle.tl_manager.specs.Deed.{deed}
 use Rattle.tl_world.specs.declared.event.Event.TheVariants.{Deliver}
 use Rattle.tl_world.specs.Draining.{is_moving}
 use Rattle.tl_world.specs.Follow.{Shadow}

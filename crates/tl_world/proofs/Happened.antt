@@ -8,7 +8,7 @@ use Rattle.tl_params.specs.declared.config.Config.{Config}
 use Rattle.tl_params.specs.declared.perm.Perm.{Perm}
 use Rattle.tl_client.specs.End.{Terms, End}
 use Rattle.tl_manager.specs.Knows.{Knows}
-use Rattle.tl_manager.specs.Slave as manager
+use Rattle.tl_manager.specs.End as manager_end
 use Rattle.tl_world.specs.declared.event.Event.{Event}
 use Rattle.tl_world.specs.declared.event.Outcome.{Outcome}
 use Rattle.tl_world.specs.declared.contents.Contents.{Contents}
@@ -72,7 +72,7 @@ logged-more (f ∷ events) (p ∷ outcomes) e o log same = logged-more events ou
 -- ---- a new world
 
 pub reached-new : {w : ℕ} {A M : Type 0} (knows : A → End w → Type 0) (terms : A → Terms) (perm_of : M → ℕ → ℕ → Perm) (config : Config) (contents : Contents w A M) → IsWidth w → AreReady knows terms config contents.parts.clients.items
-    → Knows perm_of contents.parts.manager config manager.fresh → AreFresh config (5 * clients_of config) contents.parts.rings.all.items → AreClear contents.parts.rings.occupied
+    → Knows perm_of contents.parts.manager config manager_end.fresh → AreFresh config (5 * clients_of config) contents.parts.rings.all.items → AreClear contents.parts.rings.occupied
     → contents.outstanding.requests ≡ 0 → contents.outstanding.releases ≡ 0 → IsReached knows terms perm_of config contents []
 unfolding after AreTyped IsLog deepest requests releases
 reached-new knows terms perm_of config contents width ready known are clear no_request no_release = record {

@@ -29,7 +29,8 @@ use Rattle.tl_client.specs.declared.verdict.Verdict.TheVariants as verdict
 use Rattle.tl_client.specs.End as client
 use Rattle.tl_client.specs.Offer as offer
 use Rattle.tl_client.proofs.Calls.{refusal-offered}
-use Rattle.tl_manager.specs.Slave as slave
+use Rattle.tl_manager.specs.End as manager_end
+use Rattle.tl_manager.specs.Offer as slave
 use Rattle.tl_world.specs.declared.event.Event.TheVariants.{Deliver}
 use Rattle.tl_world.specs.declared.event.Outcome.{Outcome}
 use Rattle.tl_world.specs.declared.event.Outcome.TheVariants as outcome
@@ -136,7 +137,7 @@ refused_unmoved {w} c e sys same = record { channels = λ d at. refl; rests = re
     rests d channel.D = ap (unfinished channel.D) (past_of d)
     rests d channel.E = refl
 
-closed_unmoved : {w : ℕ} (e : slave.End w) (sys : System w) → e.trace ≡ sys.manager.trace → IsUnmoved sys (only outcome.Stalled (with_manager e sys))
+closed_unmoved : {w : ℕ} (e : manager_end.End w) (sys : System w) → e.trace ≡ sys.manager.trace → IsUnmoved sys (only outcome.Stalled (with_manager e sys))
 closed_unmoved {w} e sys same = record { channels = λ d at. refl; rests = rests; pasts = λ d. refl; trace = same; handed = refl; machine = λ link ch m. refl }
   where
     rests : (d : ℕ) (at : Channel) → unfinished at (receiver at d (with_manager e sys)) ≡ unfinished at (receiver at d sys)

@@ -12,8 +12,9 @@ use Rattle.tl_burst.specs.declared.message.MessageA.{MessageA}
 use Rattle.tl_burst.specs.Burst.{a_beat_of, beats_of}
 use Rattle.tl_params.specs.declared.config.Config.{Config}
 use Rattle.tl_client.specs.End.{Terms}
-use Rattle.tl_manager.specs.Slave as manager
-use Rattle.tl_manager.specs.Slave.{must_wait}
+use Rattle.tl_manager.specs.End as manager_end
+use Rattle.tl_manager.specs.Offer as manager
+use Rattle.tl_manager.specs.Offer.{must_wait}
 use Rattle.tl_world.specs.declared.event.Event.{Event}
 use Rattle.tl_world.specs.declared.event.Event.TheVariants.{Deliver}
 use Rattle.tl_world.specs.Draining.{is_moving}
@@ -44,7 +45,7 @@ request-moves {w} config log mail request s sys link x queue h moving beats arri
     stands : (terms : Terms) → terms_at config link.0 ≡ Some terms → must_wait config (record { 0 = link.0 }) x sys.manager.trace ≡ true → is_moving (stepped config (Deliver link channel.A) sys).outcome ≡ false
     stands terms at waits =
         ap (λ (i : Step w). is_moving i.outcome) (stepped-to-manager config link channel.A sys terms x queue at beats refl)
-        ∙ ap (λ (a : manager.Reception w × manager.End w). is_moving (manager_took link.0 channel.A x queue a sys).outcome) (request-stalled config log (shadow_of mail request s) sys link.0 x queue h beats arrives waits)
+        ∙ ap (λ (a : manager.Reception w × manager_end.End w). is_moving (manager_took link.0 channel.A x queue a sys).outcome) (request-stalled config log (shadow_of mail request s) sys link.0 x queue h beats arrives waits)
 
     at_terms : (o : Option Terms) → terms_at config link.0 ≡ o → must_wait config (record { 0 = link.0 }) x sys.manager.trace ≡ true → is_moving (stepped config (Deliver link channel.A) sys).outcome ≡ false
     at_terms None at waits = nobody_moves config sys link channel.A at

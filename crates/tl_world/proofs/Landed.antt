@@ -13,7 +13,7 @@ use Rattle.tl_rules.specs.Conformance.{on_link}
 use Rattle.tl_rules.specs.Legality.{beats_from}
 use Rattle.tl_client.specs.End as client
 use Rattle.tl_manager.specs.Handing.{Handed}
-use Rattle.tl_manager.specs.Slave as slave
+use Rattle.tl_manager.specs.End as manager_end
 use Rattle.tl_world.specs.Matched.{receiver}
 use Rattle.tl_world.specs.Step.{handed_by, is_to_client}
 use Rattle.tl_world.specs.System.{System, same_channel, channel_of_message, with_client, with_manager, with_channel, with_messages}
@@ -130,7 +130,7 @@ landed-client {w} c ch x queue m e sys to_client first is heard = record {
 
     theirs : (d : ℕ) (at : Channel) → same_channel at ch ≡ false
         → unfinished at (on_link d after.manager.trace) ≡ (if (d == c) && same_channel at ch then grown x (unfinished at (on_link d sys.manager.trace)) else unfinished at (on_link d sys.manager.trace))
-    theirs d at f = rw f (ap (λ (b : slave.End w). unfinished at (on_link d b.trace)) manager_is ∙ unless (d == c))
+    theirs d at f = rw f (ap (λ (b : manager_end.End w). unfinished at (on_link d b.trace)) manager_is ∙ unless (d == c))
       where
         unless : (b : Bool) → unfinished at (on_link d sys.manager.trace) ≡ (if b && false then grown x (unfinished at (on_link d sys.manager.trace)) else unfinished at (on_link d sys.manager.trace))
         unless true = refl
@@ -181,7 +181,7 @@ handed-client {w} c m e sys same = record {
         ∙ ap (λ (b : Bool). unfinished at (if b then e else sys.clients d).past) (ne_eqb d c other)
 
     theirs : (d : ℕ) (at : Channel) → unfinished at (on_link d after.manager.trace) ≡ unfinished at (on_link d sys.manager.trace)
-    theirs d at = ap (λ (b : slave.End w). unfinished at (on_link d b.trace)) (manager-with_messages (handed_by c m) base)
+    theirs d at = ap (λ (b : manager_end.End w). unfinished at (on_link d b.trace)) (manager-with_messages (handed_by c m) base)
 
     rests : (d : ℕ) (at : Channel) → unfinished at (receiver at d after) ≡ unfinished at (receiver at d sys)
     rests d channel.A = theirs d channel.A
@@ -193,11 +193,11 @@ handed-client {w} c m e sys same = record {
 -- ---- at the manager
 
 -- what the manager's end has of each message that clients send
-abbrev pub HasTaken : {w : ℕ} → ℕ → Beat w → slave.End w → slave.End w → Type 0
+abbrev pub HasTaken : {w : ℕ} → ℕ → Beat w → manager_end.End w → manager_end.End w → Type 0
 HasTaken c x e e' = (d : ℕ) (at : Channel) → is_to_client at ≡ false → unfinished at (on_link d e'.trace) ≡ unfinished at (if c == d then x ∷ on_link d e.trace else on_link d e.trace)
 
 -- whatever it hands out, it has this beat too
-pub rests-manager : {w : ℕ} (c : ℕ) (ch : Channel) (x : Beat w) (queue : List (Beat w)) (handed : Handed w) (e : slave.End w) (sys : System w) → is_to_client ch ≡ false → IsOn ch x → HasTaken c x sys.manager e → (d : ℕ) (at : Channel)
+pub rests-manager : {w : ℕ} (c : ℕ) (ch : Channel) (x : Beat w) (queue : List (Beat w)) (handed : Handed w) (e : manager_end.End w) (sys : System w) → is_to_client ch ≡ false → IsOn ch x → HasTaken c x sys.manager e → (d : ℕ) (at : Channel)
     → unfinished at (receiver at d (with_messages handed (with_manager e (with_channel c ch queue sys)))) ≡ (if (d == c) && same_channel at ch then grown x (unfinished at (receiver at d sys)) else unfinished at (receiver at d sys))
 rests-manager {w} c ch x queue handed e sys to_manager is heard = rests
   where
@@ -216,12 +216,12 @@ rests-manager {w} c ch x queue handed e sys to_manager is heard = rests
     theirs : (d : ℕ) (at : Channel) → is_to_client at ≡ false → (d ≡ c) ⊎ (d ≡ c → ⊥)
         → unfinished at (on_link d after.manager.trace) ≡ (if (d == c) && same_channel at ch then grown x (unfinished at (on_link d sys.manager.trace)) else unfinished at (on_link d sys.manager.trace))
     theirs d at up (inl same) =
-        rw same (ap (λ (b : slave.End w). unfinished at (on_link c b.trace)) manager_is ∙ heard c at up
+        rw same (ap (λ (b : manager_end.End w). unfinished at (on_link c b.trace)) manager_is ∙ heard c at up
         ∙ ap (λ (b : Bool). unfinished at (if b then x ∷ on_link c sys.manager.trace else on_link c sys.manager.trace)) (same_number c)
         ∙ grown_history ch at x (on_link c sys.manager.trace) is
         ∙ sym (ap (λ (b : Bool). if b && same_channel at ch then grown x (unfinished at (on_link c sys.manager.trace)) else unfinished at (on_link c sys.manager.trace)) (same_number c)))
     theirs d at up (inr other) =
-        ap (λ (b : slave.End w). unfinished at (on_link d b.trace)) manager_is ∙ heard d at up
+        ap (λ (b : manager_end.End w). unfinished at (on_link d b.trace)) manager_is ∙ heard d at up
         ∙ ap (λ (b : Bool). unfinished at (if b then x ∷ on_link d sys.manager.trace else on_link d sys.manager.trace)) (swapped d other)
         ∙ sym (ap (λ (b : Bool). if b && same_channel at ch then grown x (unfinished at (on_link d sys.manager.trace)) else unfinished at (on_link d sys.manager.trace)) (ne_eqb d c other))
 
@@ -259,7 +259,7 @@ rests-manager {w} c ch x queue handed e sys to_manager is heard = rests
     rests d channel.D = ours d channel.D (not_here ch channel.D to_manager refl)
     rests d channel.E = theirs d channel.E refl (cases_eq d c)
 
-pub landed-manager : {w : ℕ} (c : ℕ) (ch : Channel) (x : Beat w) (queue : List (Beat w)) (pushes : ℕ → Channel → Option (Message w)) (handed : Handed w) (e : slave.End w) (sys : System w) → is_to_client ch ≡ false
+pub landed-manager : {w : ℕ} (c : ℕ) (ch : Channel) (x : Beat w) (queue : List (Beat w)) (pushes : ℕ → Channel → Option (Message w)) (handed : Handed w) (e : manager_end.End w) (sys : System w) → is_to_client ch ≡ false
     → sys.channels c ch ≡ x ∷ queue
     → IsOn ch x
     → HasTaken c x sys.manager e

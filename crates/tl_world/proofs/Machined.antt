@@ -14,7 +14,8 @@ use Rattle.tl_client.specs.declared.verdict.Verdict.{Verdict}
 use Rattle.tl_client.specs.declared.verdict.Verdict.TheVariants as verdict
 use Rattle.tl_client.specs.End.{End, Terms}
 use Rattle.tl_client.specs.Offer.{offered}
-use Rattle.tl_manager.specs.Slave as manager
+use Rattle.tl_manager.specs.End as manager_end
+use Rattle.tl_manager.specs.Offer as manager
 use Rattle.tl_world.specs.declared.event.Event.{Event}
 use Rattle.tl_world.specs.declared.event.Event.TheVariants.{Ask, Deliver}
 use Rattle.tl_world.specs.declared.event.Outcome.{Outcome}
@@ -59,7 +60,7 @@ delivered-so {w} config terms c ch (x ∷ rest) s = go (is_to_client ch)
     of_client (Ok (verdict.Taken, m)) e = refl
     of_client (Ok (verdict.Done source f, m)) e = refl
 
-    of_manager : (a : manager.Reception w × manager.End w) → is_delivered (manager_took c ch x rest a s).outcome ≡ true
+    of_manager : (a : manager.Reception w × manager_end.End w) → is_delivered (manager_took c ch x rest a s).outcome ≡ true
     of_manager (manager.Refused rule, e) = refl
     of_manager (manager.Stalled, e) = refl
     of_manager (manager.Sent handed, e) = refl

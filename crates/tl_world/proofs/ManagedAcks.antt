@@ -17,7 +17,7 @@ use Rattle.tl_rules.proofs.Sent.{held_unsaid, pending-quiet}
 use Rattle.tl_manager.specs.Kept.{AreApart, blocks_of}
 use Rattle.tl_manager.specs.Pending.{IsAccounted, is_granted_to}
 use Rattle.tl_manager.specs.Service as manager
-use Rattle.tl_manager.specs.Service.{services, serving, is_ended_by}
+use Rattle.tl_manager.specs.Service.{services, service_of_block, is_ended_by}
 use Rattle.tl_manager.proofs.Acked.{services-e, granted-left, accounted-e}
 use Rattle.tl_manager.proofs.Links.{own_beat, other_beat, beat-keeps, pending-closed, whole-e}
 use Rattle.tl_manager.proofs.Serving.{if_passes, serving-filter}
@@ -79,7 +79,7 @@ client_busy (GrantTaken q) r e = refl
 
 -- the service of the block ends, and no other one
 serving-acked : {w : ℕ} {X : Type 0} (c n : ℕ) (x : BeatE) (request : ℕ → MessageA w) (s : State X) (t : Trace w) → IsAcked c n x request s t → IsManaged request s t → (i : ℕ)
-    → (serving i (services (acked c x t)) ≡ (if i == n then None else serving i (services t)))
+    → (service_of_block i (services (acked c x t)) ≡ (if i == n then None else service_of_block i (services t)))
 serving-acked {w} c n x request s t is known i = passed ∙ elim (cases_eq i n) [
   | inl same ↦ rw (same, known.serving_is n, is.taken) here
   | inr other ↦ rw (ne_eqb i n other, known.serving_is i) (kept other (client_in (s.block i).service) refl)
@@ -88,8 +88,8 @@ serving-acked {w} c n x request s t is known i = passed ∙ elim (cases_eq i n) 
     keeps : manager.Service w → Bool
     keeps v = not (is_ended_by (record { 0 = c }, beat.E x) v)
 
-    passed : serving i (services (acked c x t)) ≡ if_passes keeps (serving i (services t))
-    passed = ap (serving i) (services-e (record { 0 = c }) x t) ∙ serving-filter i keeps (services t) is.apart
+    passed : service_of_block i (services (acked c x t)) ≡ if_passes keeps (service_of_block i (services t))
+    passed = ap (service_of_block i) (services-e (record { 0 = c }) x t) ∙ serving-filter i keeps (services t) is.apart
 
     here : if_passes keeps (service_with (Some c) (s.block n).tracker (request n)) ≡ (if n == n then None else service_with (Some c) (s.block n).tracker (request n))
     here = rw (same_number c, is.acquires, is.sink_is, same_number (s.block n).tracker, same_number n) refl
@@ -139,26 +139,26 @@ managed-acked {w} {X} request c n rest x s t is known = record {
     new : Block X
     new = freed_block (s.block n)
 
-    serves : (i : ℕ) → serving i (services u) ≡ (if i == n then None else serving i (services t))
+    serves : (i : ℕ) → service_of_block i (services u) ≡ (if i == n then None else service_of_block i (services t))
     serves i = serving-acked c n x request s t is known i
 
     -- of another block as before
-    as_before : (d i : ℕ) → (i ≡ n → ⊥) → (o : Option (manager.Service w)) → serving i (services t) ≡ o → serving i (services u) ≡ o → is_granted_to d u o ≡ is_granted_to d t o
+    as_before : (d i : ℕ) → (i ≡ n → ⊥) → (o : Option (manager.Service w)) → service_of_block i (services t) ≡ o → service_of_block i (services u) ≡ o → is_granted_to d u o ≡ is_granted_to d t o
     as_before d i other None e f = refl
     as_before d i other (Some v) e f = ap (λ b. (v.link.0 == d) && b) (granted-left (record { 0 = c }) x t v (stays (is_ended_by (record { 0 = c }, beat.E x) v) refl passes))
       where
         passes : if_passes (λ r. not (is_ended_by (record { 0 = c }, beat.E x) r)) (Some v) ≡ Some v
-        passes = ap (if_passes (λ (r : manager.Service w). not (is_ended_by (record { 0 = c }, beat.E x) r))) (sym e) ∙ sym (ap (serving i) (services-e (record { 0 = c }) x t) ∙ serving-filter i _ (services t) is.apart) ∙ f
+        passes = ap (if_passes (λ (r : manager.Service w). not (is_ended_by (record { 0 = c }, beat.E x) r))) (sym e) ∙ sym (ap (service_of_block i) (services-e (record { 0 = c }) x t) ∙ serving-filter i _ (services t) is.apart) ∙ f
 
         stays : (b : Bool) → is_ended_by (record { 0 = c }, beat.E x) v ≡ b → (if not b then Some v else None) ≡ Some v → b ≡ false
         stays true g h = absurd cc
         stays false g h = refl
 
-    acks_now : (d i : ℕ) → is_granted_to d u (if i == n then None else serving i (services t)) ≡ (is_granting (view (set n new s.block i).service d) || is_acknowledging (view (set n new s.block i).service d))
+    acks_now : (d i : ℕ) → is_granted_to d u (if i == n then None else service_of_block i (services t)) ≡ (is_granting (view (set n new s.block i).service d) || is_acknowledging (view (set n new s.block i).service d))
     acks_now d i = elim (cases_eq i n) [
       | inl same ↦ rw (same, set-same n new s.block, same_number n) refl
       | inr other ↦ rw (set-other n i new s.block other, ne_eqb i n other)
-          (as_before d i other (serving i (services t)) refl (serves i ∙ rw (ne_eqb i n other) refl) ∙ sym ((is.accounted.blocks i).grants d) ∙ known.grant_acks d i)
+          (as_before d i other (service_of_block i (services t)) refl (serves i ∙ rw (ne_eqb i n other) refl) ∙ sym ((is.accounted.blocks i).grants d) ∙ known.grant_acks d i)
     ]
 
 pub are_served-acked : {w : ℕ} {X : Type 0} (request : ℕ → MessageA w) (c n : ℕ) (rest : List Token) (x : BeatE) (s : State X) (t : Trace w) → IsAcked c n x request s t → AreServed request s t

@@ -18,7 +18,7 @@ use Rattle.tl_rules.specs.Conformance.{Trace, on_link, comes_in_request}
 use Rattle.tl_rules.specs.History.{is_acquire, is_grant, is_probe_ack, pending, probe_of, request_of}
 use Rattle.tl_manager.specs.Pending.{IsAccounted, one_if, count_where, is_asking}
 use Rattle.tl_manager.specs.Service as manager
-use Rattle.tl_manager.specs.Service.{services, serving, is_access_answer}
+use Rattle.tl_manager.specs.Service.{services, service_of_block, is_access_answer}
 use Rattle.tl_manager.proofs.Accesses.{answer_kind, services-answer, accounted-answer}
 use Rattle.tl_manager.proofs.Counts.{serving-without}
 use Rattle.tl_manager.proofs.Handed.{after_sent}
@@ -105,12 +105,12 @@ managed-ended {w} {X} request c q n source k r f rest x m s t is known = record 
       reply-quiet (key.GrantAckOf i) (record { 0 = q }) m u d is.reply.width is.reply.whole (λ e. (rw other refl, refl)) ∙ (quiet-c (record { 0 = c }) x t).grants d i ∙ known.grant_acks d i
       ∙ sym (set-part (λ (b : Block X). is_granting (view b.service d) || is_acknowledging (view b.service d)) n new s.block (rw is.waits refl) i);
   serving_is = λ i.
-      ap (serving i) (services-answer n (service_for q n request s) m u is.reply is.answers is.access is.accounted) ∙ serving-without n i (services u)
+      ap (service_of_block i) (services-answer n (service_for q n request s) m u is.reply is.answers is.access is.accounted) ∙ serving-without n i (services u)
       ∙ elim (cases_eq n i) [
         | inl same ↦ rw (← same, same_number n) refl
         | inr apart ↦
             let differ : i ≡ n → ⊥ = λ e. apart (sym e) in
-            rw (ne_eqb n i apart, ne_eqb i n differ) (ap (serving i) (quiet-c (record { 0 = c }) x t).serves ∙ known.serving_is i)
+            rw (ne_eqb n i apart, ne_eqb i n differ) (ap (service_of_block i) (quiet-c (record { 0 = c }) x t).serves ∙ known.serving_is i)
       ];
 }
   where

@@ -22,7 +22,7 @@ use Rattle.tl_rules.proofs.Sent.{held-sent_d}
 use Rattle.tl_client.proofs.HeldAfter.{swapped}
 use Rattle.tl_manager.specs.Holders.{recorded}
 use Rattle.tl_manager.specs.Pending.{IsAccounted}
-use Rattle.tl_manager.specs.Service.{serving}
+use Rattle.tl_manager.specs.Service.{service_of_block}
 use Rattle.tl_manager.proofs.Granted.{IsGrant, services-grant, accounted-grant}
 use Rattle.tl_manager.proofs.Handed.{after_sent, own_link, other_link}
 use Rattle.tl_manager.proofs.Replied.{source-reply}
@@ -185,7 +185,7 @@ managed-conceded {w} {X} request c q n source k gift r dt rest x m s t is known 
   acquires = λ d i. given-acquires q n (s.block n).tracker m u given d i ∙ acquires_now d i;
   grant_acks = λ d i. given-acks q n (s.block n).tracker m u given d i ∙ acks_now d i;
   serving_is = λ i.
-      ap (serving i) (services-grant (record { 0 = q }) m u given.width given.whole given.grants ∙ (quiet-c (record { 0 = c }) x t).serves) ∙ known.serving_is i
+      ap (service_of_block i) (services-grant (record { 0 = q }) m u given.width given.whole given.grants ∙ (quiet-c (record { 0 = c }) x t).serves) ∙ known.serving_is i
       ∙ sym (elim (cases_eq i n) [
         | inl same ↦ rw (same, set-same n new s.block, is.waits) refl
         | inr other ↦ rw (set-other n i new s.block other) refl

@@ -32,8 +32,10 @@ use Rattle.tl_burst.proofs.Begun.{length-begun}
 use Rattle.tl_manager.specs.Handing.{Deed, nothing, release_ack, with_handed}
 use Rattle.tl_manager.specs.Holders.{is_settled, is_missing}
 use Rattle.tl_manager.specs.Kept.{IsKept}
-use Rattle.tl_manager.specs.Slave as slave
-use Rattle.tl_manager.specs.Slave.{End, deed, offered, taken, written}
+use Rattle.tl_manager.specs.Offer as slave
+use Rattle.tl_manager.specs.Deed.{deed, written}
+use Rattle.tl_manager.specs.End.{End}
+use Rattle.tl_manager.specs.Offer.{offered, taken}
 use Rattle.tl_manager.proofs.Events.{deed-part, deed-release, deed-report, deed-ack, memory_with}
 use Rattle.tl_manager.proofs.Handed.{whole-taken}
 use Rattle.tl_manager.proofs.Keeping.{kept-offered}

@@ -37,7 +37,8 @@ use Rattle.tl_params.specs.declared.key.Key.TheVariants.{GrantSink}
 use Rattle.tl_manager.proofs.Links.{whole-e}
 use Rattle.tl_world.specs.Sources.{IsFor}
 use Rattle.tl_manager.specs.Kept as manager
-use Rattle.tl_manager.specs.Slave.{End, deed}
+use Rattle.tl_manager.specs.Deed.{deed}
+use Rattle.tl_manager.specs.End.{End}
 use Rattle.tl_world.specs.Follow.{Shadow, acquire_opcode, ack_taken, granted_after, last_taken, some_below, token_taken, with_state, answers}
 use Rattle.tl_world.specs.Invariant.{IsInvariant, IsOwnSource, IsWell}
 use Rattle.tl_world.specs.Log.{Log}

@@ -21,8 +21,9 @@ use Rattle.tl_rules.proofs.Local.{after-local, reply-local}
 use Rattle.tl_rules.proofs.Rooms.{room_in_block}
 use Rattle.tl_manager.specs.Handing.{access_answer}
 use Rattle.tl_manager.specs.Kept.{IsKept, illegal_message_at}
-use Rattle.tl_manager.specs.Slave as slave
-use Rattle.tl_manager.specs.Slave.{with_block, written, offered}
+use Rattle.tl_manager.specs.End as manager_end
+use Rattle.tl_manager.specs.Deed.{with_block, written}
+use Rattle.tl_manager.specs.Offer.{offered}
 use Rattle.tl_manager.proofs.Memories.{memory-elsewhere}
 use Rattle.tl_manager.proofs.Written.{block-written}
 use Rattle.tl_world.specs.Follow.{answers, bytes_at, performs}
@@ -45,7 +46,7 @@ block-alike n f g same = bytes-same f g (64 * n) 64 (λ i lt. same (64 * n + i) 
 
 -- ---- other blocks than the one of a beat
 
-pub other-blocks : {w : ℕ} (config : Config) (link : Link) (ch : Channel) (x : BeatC w) (e : slave.End w) (n : ℕ) → IsWidth w → IsKept config e → block_at x.address ≡ n → (i : ℕ) → (i ≡ n → ⊥)
+pub other-blocks : {w : ℕ} (config : Config) (link : Link) (ch : Channel) (x : BeatC w) (e : manager_end.End w) (n : ℕ) → IsWidth w → IsKept config e → block_at x.address ≡ n → (i : ℕ) → (i ≡ n → ⊥)
     → block_in (offered config link ch (beat.C x) e).1.memory i ≡ block_in e.memory i
 other-blocks config link ch x e n width kept block i other =
     block-alike i _ _ (λ address here. memory-elsewhere config link ch (beat.C x) e address width tt kept (rw (block, here) (ne_eqb n i (λ f. other (sym f)))))

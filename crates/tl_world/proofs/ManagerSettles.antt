@@ -34,8 +34,10 @@ use Rattle.tl_rules.specs.History.{block_at, is_release_ack, pending, is_grant, 
 use Rattle.tl_manager.specs.Handing.{Deed, access_answer, performed, with_handed, cap_granted, grant, grant_opcode}
 use Rattle.tl_manager.specs.Holders.{is_settled, recorded, has_copy}
 use Rattle.tl_manager.specs.Kept.{IsPerformable}
-use Rattle.tl_manager.specs.Service.{is_access_answer, services, serving}
-use Rattle.tl_manager.specs.Slave.{End, deed, level_of}
+use Rattle.tl_manager.specs.Service.{is_access_answer, services, service_of_block}
+use Rattle.tl_manager.specs.Deed.{deed}
+use Rattle.tl_manager.specs.End.{End}
+use Rattle.tl_manager.specs.Offer.{level_of}
 use Rattle.tl_manager.proofs.Events.{deed-settled, performed-access, memory_with, performed-acquire}
 use Rattle.tl_manager.proofs.Granted.{of_served}
 use Rattle.tl_manager.proofs.Judged.{passed}
@@ -85,15 +87,15 @@ settling-all config c q n source k own low r m h e at =
     settled-is config c n (report_right r) (c_beat_of m k) h e (settling-last config c q n source k own low r m h e at) at.end.about.reports at.is.managed ∙ ap not at.alone
 
 settling-found : {w : ℕ} (config : Config) (c q n source k : ℕ) (own : Bool) (low : Cap) (r : Report) (m : MessageC w) (h : Shadow w) (e : End w) → IsSettling config c q n source k own low r m h e
-    → serving n (services (trace_with c k m e)) ≡ Some (service_for q n h.request h.state)
-settling-found config c q n source k own low r m h e at = ap (serving n) ((quiet-c (record { 0 = c }) (c_beat_of m k) e.trace).serves) ∙ at.is.managed.serving_is n ∙ rw at.waits refl
+    → service_of_block n (services (trace_with c k m e)) ≡ Some (service_for q n h.request h.state)
+settling-found config c q n source k own low r m h e at = ap (service_of_block n) ((quiet-c (record { 0 = c }) (c_beat_of m k) e.trace).serves) ∙ at.is.managed.serving_is n ∙ rw at.waits refl
 
 pub settling-ready : {w : ℕ} (config : Config) (c q n source k : ℕ) (own : Bool) (low : Cap) (r : Report) (m : MessageC w) (h : Shadow w) (e : End w) → IsSettling config c q n source k own low r m h e
     → IsReady config n (service_for q n h.request h.state) (trace_with c k m e)
 settling-ready {w} config c q n source k own low r m h e at =
     subst (λ (i : ℕ). IsReady config i (service_for q n h.request h.state) (trace_with c k m e)) at.end.about.block
     (report-ready config (record { 0 = c }) (c_beat_of m k) (service_for q n h.request h.state) e (is_taken config (record { 0 = c }) (beat.C (c_beat_of m k)) e at.end.width (passed config (record { 0 = c }) channel.C (beat.C (c_beat_of m k)) e tt at.up.passes) at.is.manager_kept) at.end.about.reports
-    (ap (λ (i : ℕ). serving i (services (trace_with c k m e))) at.end.about.block ∙ settling-found config c q n source k own low r m h e at)
+    (ap (λ (i : ℕ). service_of_block i (services (trace_with c k m e))) at.end.about.block ∙ settling-found config c q n source k own low r m h e at)
     (ap (λ (i : ℕ). is_settled config i (trace_with c k m e)) at.end.about.block ∙ settling-all config c q n source k own low r m h e at))
 
 pub settling-deed : {w : ℕ} (config : Config) (c q n source k : ℕ) (own : Bool) (low : Cap) (r : Report) (m : MessageC w) (h : Shadow w) (e : End w) → IsSettling config c q n source k own low r m h e
@@ -101,7 +103,7 @@ pub settling-deed : {w : ℕ} (config : Config) (c q n source k : ℕ) (own : Bo
 settling-deed {w} config c q n source k own low r m h e at =
     deed-settled config (record { 0 = c }) (c_beat_of m k) (service_for q n h.request h.state) e (ends-it true c n (report_code r) (same_perm (report_left r) perm.Trunk) (h.state.block n).truth k m e at.end) at.end.about.releases at.end.about.reports
     (ap (λ (i : ℕ). is_settled config i (trace_with c k m e)) at.end.about.block ∙ settling-all config c q n source k own low r m h e at)
-    (ap (λ (i : ℕ). serving i (services (trace_with c k m e))) at.end.about.block ∙ settling-found config c q n source k own low r m h e at)
+    (ap (λ (i : ℕ). service_of_block i (services (trace_with c k m e))) at.end.about.block ∙ settling-found config c q n source k own low r m h e at)
 
 -- nobody else's Probe is under way
 pub settling-quiet : {w : ℕ} (config : Config) (c q n source k : ℕ) (own : Bool) (low : Cap) (r : Report) (m : MessageC w) (h : Shadow w) (e : End w) → IsSettling config c q n source k own low r m h e

@@ -29,8 +29,10 @@ use Rattle.tl_rules.specs.Conformance.{on_link, broken_in_order, broken_order, p
 use Rattle.tl_rules.specs.History.{held, pending}
 use Rattle.tl_rules.proofs.Later.{later-legal}
 use Rattle.tl_manager.specs.Kept.{IsSound, IsKept, illegal_at}
-use Rattle.tl_manager.specs.Slave as slave
-use Rattle.tl_manager.specs.Slave.{End, Passes, is_from_client, judged, level_of, must_wait, open_level, unlawful, offered, deed, taken}
+use Rattle.tl_manager.specs.Offer as slave
+use Rattle.tl_manager.specs.Deed.{deed}
+use Rattle.tl_manager.specs.End.{End}
+use Rattle.tl_manager.specs.Offer.{Passes, is_from_client, judged, level_of, must_wait, open_level, unlawful, offered, taken}
 use Rattle.tl_manager.proofs.Judged.{judged-passes, manager-takes}
 use Rattle.tl_manager.proofs.Links.{whole-e}
 use Rattle.tl_world.specs.Invariant.{IsInvariant, AreNamed}

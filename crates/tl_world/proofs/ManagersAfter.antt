@@ -26,8 +26,9 @@ use Rattle.tl_client.specs.End as client
 use Rattle.tl_client.specs.Send.{release, probe_ack}
 use Rattle.tl_manager.specs.Handing.{Handed}
 use Rattle.tl_manager.specs.Kept as manager
-use Rattle.tl_manager.specs.Slave as slave
-use Rattle.tl_manager.specs.Slave.{deed}
+use Rattle.tl_manager.specs.End as manager_end
+use Rattle.tl_manager.specs.Offer as slave
+use Rattle.tl_manager.specs.Deed.{deed}
 use Rattle.tl_manager.proofs.Events.{deed-part}
 use Rattle.tl_world.specs.declared.event.Event.TheVariants.{Deliver}
 use Rattle.tl_world.specs.declared.event.Outcome.TheVariants as outcome
@@ -234,7 +235,7 @@ delivered-last {w} config log link ch h x queue handed pushes down is last gives
     h' : Shadow w
     h' = kind_taken config (next_tracker sys) link.0 is.first.kind is.first.number is.first.rest h
 
-    e : slave.End w
+    e : manager_end.End w
     e = slave.taken link x (deed config link x sys.manager) sys.manager
 
     now : Step w
@@ -264,7 +265,7 @@ delivered-part {w} config log link ch h x queue width matched down is part =
     sys : System w
     sys = after config log
 
-    e : slave.End w
+    e : manager_end.End w
     e = slave.taken link x (deed config link x sys.manager) sys.manager
 
     now : Step w

@@ -4,7 +4,7 @@ use Rattle.tl_burst.specs.declared.message.MessageA.{MessageA}
 use Rattle.tl_params.specs.declared.config.Config.{Config}
 use Rattle.tl_rules.specs.Effect.{bytes_from}
 use Rattle.tl_manager.specs.Kept.{IsKept}
-use Rattle.tl_manager.specs.Slave.{End}
+use Rattle.tl_manager.specs.End.{End}
 use Rattle.tl_world.specs.Invariant.{IsInvariant}
 use Rattle.tl_world.specs.Log.{Log}
 use Rattle.tl_world.specs.Managed.{IsManaged}

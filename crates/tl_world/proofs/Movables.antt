@@ -14,7 +14,8 @@ use Rattle.tl_client.specs.End.{Terms, End}
 use Rattle.tl_client.specs.Offer as client
 use Rattle.tl_manager.specs.Bit.{bit_if}
 use Rattle.tl_manager.specs.Knows.{Knows}
-use Rattle.tl_manager.specs.Slave as manager
+use Rattle.tl_manager.specs.End as manager_end
+use Rattle.tl_manager.specs.Offer as manager
 use Rattle.tl_world.specs.Carrying.{word_of, Carries}
 use Rattle.tl_world.specs.Holds.{clients_of, Holds}
 use Rattle.tl_world.specs.Movable.{moves, is_movable, first_movable, movable_on}
@@ -92,7 +93,7 @@ module _ {w : ℕ} {A M : Type 0} (knows : A → End w → Type 0) (terms : A �
     moves-client x stalled up is = rw (h.terms_are link.0 one below, up) (ap not (sym (is (s.clients link.0) one inside (h.clients link.0 one below))))
 
     pub moves-manager : (x : Beat w) (stalled : Bool) → is_to_client ch ≡ false
-        → ((config : Config) (e : manager.End w) → Knows perm_of parts.manager config e → stalled ≡ manager.stalls config link ch x e)
+        → ((config : Config) (e : manager_end.End w) → Knows perm_of parts.manager config e → stalled ≡ manager.stalls config link ch x e)
         → moves config (terms_at config link.0) link.0 ch (x ∷ []) s ≡ not stalled
     moves-manager x stalled down is = rw (h.terms_are link.0 one below, down) (ap not (sym (is config s.manager h.manager)))
 

@@ -18,7 +18,7 @@ use Rattle.tl_rules.specs.Conformance.{on_link}
 use Rattle.tl_rules.specs.History.{block_at, ends, pending}
 use Rattle.tl_client.specs.End.{Terms}
 use Rattle.tl_manager.specs.Service as manager
-use Rattle.tl_manager.specs.Service.{services, serving}
+use Rattle.tl_manager.specs.Service.{services, service_of_block}
 use Rattle.tl_world.specs.Carried.{IsCarried}
 use Rattle.tl_world.specs.Coherent.{IsCoherent}
 use Rattle.tl_world.specs.Delivery.{Moves}
@@ -45,10 +45,10 @@ no_tokens : {w : ℕ} (f : Token → Message w) (xs : List Token) → map f xs �
 no_tokens f [] e = refl
 no_tokens f (x ∷ xs) e = absurd cc
 
-found_first : {w : ℕ} (n : ℕ) (s : manager.Service w) (ss : List (manager.Service w)) → block_at s.request.address ≡ n → serving n (s ∷ ss) ≡ Some s
+found_first : {w : ℕ} (n : ℕ) (s : manager.Service w) (ss : List (manager.Service w)) → block_at s.request.address ≡ n → service_of_block n (s ∷ ss) ≡ Some s
 found_first n s ss e = rw (e, same_number n) refl
 
-none_served : {w : ℕ} (ss : List (manager.Service w)) → ((n : ℕ) → serving n ss ≡ None) → ss ≡ []
+none_served : {w : ℕ} (ss : List (manager.Service w)) → ((n : ℕ) → service_of_block n ss ≡ None) → ss ≡ []
 none_served [] none = refl
 none_served (s ∷ ss) none =
     absurd (let both : Some s ≡ None = sym (found_first (block_at s.request.address) s ss refl) ∙ none (block_at s.request.address) in cc)

@@ -18,7 +18,7 @@ use Rattle.tl_client.specs.Ask.{copy_stored}
 use Rattle.tl_client.specs.Send.{sourced}
 use Rattle.tl_client.proofs.Stores.{stored-inside, stored-outside, length-stored}
 use Rattle.tl_manager.specs.Kept.{illegal_message_at}
-use Rattle.tl_manager.specs.Slave.{with_block}
+use Rattle.tl_manager.specs.Deed.{with_block}
 use Rattle.tl_manager.proofs.Written.{bytes_are}
 use Rattle.tl_world.specs.Follow.{bytes_at, performs}
 use Rattle.tl_world.specs.Machine.{with_number}

@@ -10,7 +10,7 @@ use Rattle.tl_burst.specs.declared.message.Message.TheVariants as message
 use Rattle.tl_burst.specs.Burst.{beat_of, beats_of, begun, burst_of}
 use Rattle.tl_burst.specs.Messages.{History, carried_on, on}
 use Rattle.tl_rules.specs.Legality.{beats_from}
-use Rattle.tl_manager.specs.Slave.{is_from_client}
+use Rattle.tl_manager.specs.Offer.{is_from_client}
 use Rattle.tl_world.specs.Step.{is_to_client}
 use Rattle.tl_world.specs.System.{same_channel, channel_of_message}
 use Rattle.tl_world.proofs.Beats.{reverse-beats_from}

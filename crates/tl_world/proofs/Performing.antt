@@ -27,8 +27,8 @@ use Rattle.tl_world.specs.Phase.{Pair, is_quiet}
 use Rattle.tl_manager.specs.Handing.{Deed, with_handed, performed, access_answer, grant, is_granted_data, cap_granted}
 use Rattle.tl_manager.specs.Holders as holders
 use Rattle.tl_manager.specs.Holders.{recorded}
-use Rattle.tl_manager.specs.Service.{Service, services, serving, least_untaken, trackers_of}
-use Rattle.tl_manager.specs.Slave.{End}
+use Rattle.tl_manager.specs.Service.{Service, services, service_of_block, least_untaken, trackers_of}
+use Rattle.tl_manager.specs.End.{End}
 use Rattle.tl_manager.proofs.Events.{performed-access, performed-acquire}
 use Rattle.tl_manager.proofs.Handed.{after_sent, own_link, other_link, whole-taken}
 use Rattle.tl_manager.proofs.Links.{sent-keeps}
@@ -126,7 +126,7 @@ traced-answered {w} {X} config request c k n f m s u memory e blocks is known = 
     asked_same : (r src : ℕ) → request_of src (on_link r after) ≡ request_of src (on_link r t)
     asked_same r src = ap (λ (v : Trace w). request_of src (on_link r v)) after_is ∙ request-reply (link_of c) reply.0 t r src
 
-    served : (i : ℕ) → serving i (services after) ≡ (if not (is_acquire m.opcode) && (block_at m.address == i) then None else serving i (services t))
+    served : (i : ℕ) → service_of_block i (services after) ≡ (if not (is_acquire m.opcode) && (block_at m.address == i) then None else service_of_block i (services t))
     served i = performed-serving config (block_at m.address) i (service_for c m e.trace) t memory (ready-last config c k m e is.comes is.last)
 
 -- ---- an Acquire
@@ -227,5 +227,5 @@ traced-granted {w} {X} config request c k n b j m s u memory e blocks is known =
     asked_same : (r src : ℕ) → request_of src (on_link r after) ≡ request_of src (on_link r t)
     asked_same r src = ap (λ (v : Trace w). request_of src (on_link r v)) after_is ∙ request-reply (link_of c) reply.0 t r src
 
-    served : (i : ℕ) → serving i (services after) ≡ serving i (services t)
+    served : (i : ℕ) → service_of_block i (services after) ≡ service_of_block i (services t)
     served i = performed-serving config (block_at m.address) i (service_for c m e.trace) t memory (ready-last config c k m e is.comes is.last) ∙ rw is.acquires refl

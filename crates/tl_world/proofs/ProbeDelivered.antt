@@ -33,7 +33,7 @@ use Rattle.tl_client.proofs.HeldAfter.{same_block}
 use Rattle.tl_client.proofs.KeptOffered.{kept-offered}
 use Rattle.tl_manager.specs.Handing.{probe_of_block, grant_opcode}
 use Rattle.tl_manager.specs.Kept as manager
-use Rattle.tl_manager.specs.Slave.{level_of}
+use Rattle.tl_manager.specs.Offer.{level_of}
 use Rattle.tl_world.specs.Carried.{IsCarried}
 use Rattle.tl_world.specs.Follow.{Shadow, token_taken, kind_taken}
 use Rattle.tl_world.specs.Invariant.{IsInvariant}

@@ -21,8 +21,8 @@ use Rattle.tl_client.proofs.HeldAfter.{swapped}
 use Rattle.tl_manager.specs.Handing.{with_handed, probes, probe_beat, probe_of_block}
 use Rattle.tl_manager.specs.Holders as holders
 use Rattle.tl_manager.specs.Holders.{recorded, cap_probed, is_spared, probed}
-use Rattle.tl_manager.specs.Service.{Service, services, serving, least_untaken, trackers_of}
-use Rattle.tl_manager.specs.Slave.{End}
+use Rattle.tl_manager.specs.Service.{Service, services, service_of_block, least_untaken, trackers_of}
+use Rattle.tl_manager.specs.End.{End}
 use Rattle.tl_manager.proofs.Handed.{whole-taken}
 use Rattle.tl_manager.proofs.Probed.{probes-keep}
 use Rattle.tl_manager.proofs.Probes.{probes-within, probes-beyond, services-probes}
@@ -72,9 +72,9 @@ traced-probing {w} {X} config request c k n own source j m s u e blocks is known
       let differ : n ≡ i → ⊥ = λ f. ne (sym f) in
       probes-keep (pending (ProbeOf i)) d n j asked_clients t (λ h. missing-else_b i n j h (ne_eqb n i differ)) ∙ missing-beat c k m e.trace d i;
   serving_here =
-      ap (serving n) (services-probes n j asked_clients t) ∙ serving-last config c k n m e is.comes is.last is.for.2
+      ap (service_of_block n) (services-probes n j asked_clients t) ∙ serving-last config c k n m e is.comes is.last is.for.2
       ∙ sym (ap (λ (b : Block X). service_of_block b) here ∙ ap (λ (r : MessageA w). Some (record { tracker = tracker; link = link_of c; request = r })) (set-same n m request));
-  serving_else = λ i ne. ap (serving i) (services-probes n j asked_clients t) ∙ serving-others config c k n i m e is.comes is.last is.for.2 ne;
+  serving_else = λ i ne. ap (service_of_block i) (services-probes n j asked_clients t) ∙ serving-others config c k n i m e is.comes is.last is.for.2 ne;
   request_here = rw (here, set-same n m request) is.for;
   asked_here = λ r src o l f. asked_now r src o l (ap (λ (b : Block X). b.service) (sym here) ∙ f);
   asked_else = λ i r src o l ne f. asked_same r src ∙ request-beat c k m e.trace r src (λ same g. is.unwaited i src o l (f ∙ ap (λ z. Waits z o src l) same) (sym is.for.1 ∙ g));

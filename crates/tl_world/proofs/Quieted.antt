@@ -19,7 +19,7 @@ use Rattle.tl_rules.specs.History.{ends, block_at, is_grant, is_probe_ack, is_re
 use Rattle.tl_rules.proofs.Sent.{held-sent_d, pending-quiet}
 use Rattle.tl_burst.proofs.Splitting.{beats-positive}
 use Rattle.tl_manager.specs.Holders.{recorded}
-use Rattle.tl_manager.specs.Service.{services, serving}
+use Rattle.tl_manager.specs.Service.{services, service_of_block}
 use Rattle.tl_manager.proofs.Accesses.{services-release_ack}
 use Rattle.tl_manager.proofs.Handed.{after_sent, own_link, other_link, recorded-taken}
 use Rattle.tl_manager.proofs.Links.{own_beat, other_beat, beat-keeps, pending-closed}
@@ -188,7 +188,7 @@ managed-still request s z t u quiet still records missing known = record {
   probes = missing;
   acquires = λ c n. quiet.acquires c n ∙ known.acquires c n ∙ ap (λ (v : Service). is_own (view v c)) (sym (still.services n));
   grant_acks = λ c n. quiet.grants c n ∙ known.grant_acks c n ∙ ap (λ (v : Service). is_granting (view v c) || is_acknowledging (view v c)) (sym (still.services n));
-  serving_is = λ n. ap (serving n) quiet.serves ∙ known.serving_is n ∙ rw (still.services n, still.trackers n) refl;
+  serving_is = λ n. ap (service_of_block n) quiet.serves ∙ known.serving_is n ∙ rw (still.services n, still.trackers n) refl;
 }
 
 served-still : {X : Type 0} (s z : State X) → AreStill s z → (c : ℕ) (u : Use) → is_served c u z ≡ is_served c u s

@@ -29,7 +29,7 @@ use Rattle.tl_rules.proofs.Bursts.{control_of_legal, next_rule}
 use Rattle.tl_client.specs.Send.{probe_ack}
 use Rattle.tl_manager.specs.Kept.{illegal_message_at}
 use Rattle.tl_manager.specs.Service.{is_access_answer}
-use Rattle.tl_manager.specs.Slave.{level_of}
+use Rattle.tl_manager.specs.Offer.{level_of}
 use Rattle.tl_world.specs.Invariant.{IsInvariant}
 use Rattle.tl_world.specs.Phase.{Pair, View, Acquiring, Calm, Wants, Probing, Quiet, Sent, Answered, ok}
 use Rattle.tl_world.specs.Protocol.{State, Asked, Replied, view}

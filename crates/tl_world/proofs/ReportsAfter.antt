@@ -13,7 +13,7 @@ use Rattle.tl_params.specs.declared.param.Prune.{Prune}
 use Rattle.tl_params.specs.declared.param.Report.{Report}
 use Rattle.tl_rules.specs.Conformance.{on_link}
 use Rattle.tl_manager.specs.Handing.{Handed}
-use Rattle.tl_manager.specs.Slave.{deed}
+use Rattle.tl_manager.specs.Deed.{deed}
 use Rattle.tl_world.specs.declared.event.Event.TheVariants.{Deliver}
 use Rattle.tl_world.specs.Beside.{IsBeside, IsAccess, IsOpened}
 use Rattle.tl_world.specs.Follow.{Shadow, ack_taken, answers, kind_taken, last_taken, some_below, token_taken, with_state}

@@ -12,8 +12,8 @@ use Rattle.tl_rules.specs.Conformance.{Trace, on_link}
 use Rattle.tl_rules.specs.History.{pending, held, block_at, request_of}
 use Rattle.tl_rules.proofs.Sent.{held_unsaid, not_last, pending-quiet}
 use Rattle.tl_manager.specs.Holders.{recorded}
-use Rattle.tl_manager.specs.Service.{services, serving}
-use Rattle.tl_manager.specs.Slave.{End}
+use Rattle.tl_manager.specs.Service.{services, service_of_block}
+use Rattle.tl_manager.specs.End.{End}
 use Rattle.tl_manager.proofs.Ended.{services-part}
 use Rattle.tl_manager.proofs.Events.{services-request}
 use Rattle.tl_manager.proofs.Links.{own_beat, other_beat, beat-keeps}
@@ -58,7 +58,7 @@ pub traced-more : {w : ℕ} {X : Type 0} (config : Config) (request : ℕ → Me
 traced-more {w} {X} config request s c k m e is more unwaited known = record {
   recorded_is = λ d i. recorded-beat c k m e.trace d i ∙ known.recorded_is d i;
   probes = λ d i. missing-beat c k m e.trace d i ∙ known.probes d i;
-  serving_is = λ i. ap (serving i) (services-more config c k m e is more) ∙ known.serving_is i;
+  serving_is = λ i. ap (service_of_block i) (services-more config c k m e is more) ∙ known.serving_is i;
   requests = known.requests;
   asked = λ i r src own j f. request-beat c k m e.trace r src (λ same g. unwaited i src own j (ap (λ z. (s.block i).service) same ∙ f ∙ ap (λ z. Waits z own src j) same) g) ∙ known.asked i r src own j f;
 }
@@ -69,11 +69,11 @@ traced-more {w} {X} config request s c k m e is more unwaited known = record {
 pub services-last : {w : ℕ} (config : Config) (c k : ℕ) (m : MessageA w) (e : End w) → IsComing config c k m e → beats_of (A m) ≡ suc k → services (with_beat c m k e.trace) ≡ service_for c m e.trace ∷ services e.trace
 services-last config c k m e is last = services-request (link_of c) (a_beat_of m k) (service_for c m e.trace) e.trace (served-last config c k m e is last)
 
-pub serving-last : {w : ℕ} (config : Config) (c k n : ℕ) (m : MessageA w) (e : End w) → IsComing config c k m e → beats_of (A m) ≡ suc k → block_at m.address ≡ n → serving n (services (with_beat c m k e.trace)) ≡ Some (service_for c m e.trace)
-serving-last config c k n m e is last block = ap (serving n) (services-last config c k m e is last) ∙ rw (block, same_number n) refl
+pub serving-last : {w : ℕ} (config : Config) (c k n : ℕ) (m : MessageA w) (e : End w) → IsComing config c k m e → beats_of (A m) ≡ suc k → block_at m.address ≡ n → service_of_block n (services (with_beat c m k e.trace)) ≡ Some (service_for c m e.trace)
+serving-last config c k n m e is last block = ap (service_of_block n) (services-last config c k m e is last) ∙ rw (block, same_number n) refl
 
 pub serving-others : {w : ℕ} (config : Config) (c k n i : ℕ) (m : MessageA w) (e : End w) → IsComing config c k m e → beats_of (A m) ≡ suc k → block_at m.address ≡ n → (i ≡ n → ⊥)
-    → serving i (services (with_beat c m k e.trace)) ≡ serving i (services e.trace)
+    → service_of_block i (services (with_beat c m k e.trace)) ≡ service_of_block i (services e.trace)
 serving-others config c k n i m e is last block other =
     let differ : n ≡ i → ⊥ = λ f. other (sym f) in
-    ap (serving i) (services-last config c k m e is last) ∙ rw (block, ne_eqb n i differ) refl
+    ap (service_of_block i) (services-last config c k m e is last) ∙ rw (block, ne_eqb n i differ) refl

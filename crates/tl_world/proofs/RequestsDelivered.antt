@@ -19,8 +19,10 @@ use Rattle.tl_rules.proofs.Sent.{is_last, not_last}
 use Rattle.tl_client.specs.End.{Terms}
 use Rattle.tl_client.proofs.HeldAfter.{same_block}
 use Rattle.tl_manager.specs.Service.{services, is_in_service}
-use Rattle.tl_manager.specs.Slave as manager
-use Rattle.tl_manager.specs.Slave.{End, Passes, before_stall, must_wait, judged, offered, deed}
+use Rattle.tl_manager.specs.Offer as manager
+use Rattle.tl_manager.specs.Deed.{deed}
+use Rattle.tl_manager.specs.End.{End}
+use Rattle.tl_manager.specs.Offer.{Passes, before_stall, must_wait, judged, offered}
 use Rattle.tl_world.specs.Carried.{IsCarried}
 use Rattle.tl_world.specs.declared.event.Event.TheVariants.{Deliver}
 use Rattle.tl_world.specs.declared.event.Outcome.TheVariants as outcome

@@ -22,7 +22,9 @@ use Rattle.tl_manager.specs.Holders.{recorded, probed, cap_probed}
 use Rattle.tl_rules.specs.Conformance.{Trace, same_perm}
 use Rattle.tl_client.proofs.HeldAfter.{same_block}
 use Rattle.tl_manager.specs.Service as manager
-use Rattle.tl_manager.specs.Slave.{End, level_of, deed}
+use Rattle.tl_manager.specs.Deed.{deed}
+use Rattle.tl_manager.specs.End.{End}
+use Rattle.tl_manager.specs.Offer.{level_of}
 use Rattle.tl_manager.proofs.Events.{performed-access, performed-acquire}
 use Rattle.tl_world.specs.Follow.{answers, gift, is_unheld, probes_some}
 use Rattle.tl_world.specs.Invariant.{IsWell, is_out}

@@ -23,7 +23,9 @@ use Rattle.tl_manager.specs.Handing.{performed, cap_granted}
 use Rattle.tl_manager.specs.Holders as holders
 use Rattle.tl_manager.specs.Holders.{recorded, is_nobody, probed, cap_probed, is_spared}
 use Rattle.tl_manager.specs.Service.{services, is_in_service, least_untaken, trackers_of}
-use Rattle.tl_manager.specs.Slave.{End, must_wait, deed}
+use Rattle.tl_manager.specs.Deed.{deed}
+use Rattle.tl_manager.specs.End.{End}
+use Rattle.tl_manager.specs.Offer.{must_wait}
 use Rattle.tl_manager.proofs.Events.{deed-unprobed, deed-intent}
 use Rattle.tl_world.specs.Follow.{Shadow, some_below, probes_some, access_taken, request_taken, acquire_opcode, is_unheld, gift, acquire_taken, kind_taken}
 use Rattle.tl_world.specs.Invariant.{IsInvariant, cap_asked}

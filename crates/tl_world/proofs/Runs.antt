@@ -13,7 +13,8 @@ use Rattle.tl_client.specs.End as client
 use Rattle.tl_client.specs.Offer.{is_stalled, offered}
 use Rattle.tl_client.proofs.Stalls.{stalls-offered}
 use Rattle.tl_manager.specs.Kept as kept
-use Rattle.tl_manager.specs.Slave as manager
+use Rattle.tl_manager.specs.End as manager_end
+use Rattle.tl_manager.specs.Offer as manager
 use Rattle.tl_manager.proofs.Stalls.{stalls-answered}
 use Rattle.tl_world.specs.Delivery.{is_stall}
 use Rattle.tl_world.specs.Headline.{Continues}
@@ -43,7 +44,7 @@ abbrev pub IsTakenUp : {w : ℕ} → Result (Verdict × Option (Message w)) Rule
 IsTakenUp (Ok v) = ⊤
 IsTakenUp (Err rule) = ⊥
 
-abbrev pub IsTakenIn : {w : ℕ} → manager.Reception w × manager.End w → Type 0
+abbrev pub IsTakenIn : {w : ℕ} → manager.Reception w × manager_end.End w → Type 0
 IsTakenIn (manager.Refused rule, e) = ⊥
 IsTakenIn _ = ⊤
 
@@ -60,7 +61,7 @@ stall-judged (Ok (verdict.Stalled, m)) link ch x rest e s taken = refl
 stall-judged (Ok (verdict.Taken, m)) link ch x rest e s taken = refl
 stall-judged (Ok (verdict.Done source finish, m)) link ch x rest e s taken = refl
 
-stall-managed : {w : ℕ} (answer : manager.Reception w × manager.End w) (link : ℕ) (ch : Channel) (x : Beat w) (rest : List (Beat w)) (s : System w)
+stall-managed : {w : ℕ} (answer : manager.Reception w × manager_end.End w) (link : ℕ) (ch : Channel) (x : Beat w) (rest : List (Beat w)) (s : System w)
     → IsTakenIn answer → is_stall (manager_took link ch x rest answer s).outcome ≡ kept.is_stalled answer.0
 stall-managed (manager.Refused rule, e) link ch x rest s taken = absurd taken
 stall-managed (manager.Stalled, e) link ch x rest s taken = refl

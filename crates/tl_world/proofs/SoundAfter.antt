@@ -27,7 +27,9 @@ use Rattle.tl_client.proofs.Cases.{offered-cases}
 use Rattle.tl_client.proofs.Sound.{asked-sound, offered-sound}
 use Rattle.tl_manager.specs.Kept as manager
 use Rattle.tl_manager.specs.Kept.{Each}
-use Rattle.tl_manager.specs.Slave as slave
+use Rattle.tl_manager.specs.Deed as manager_deed
+use Rattle.tl_manager.specs.End as manager_end
+use Rattle.tl_manager.specs.Offer as slave
 use Rattle.tl_manager.proofs.Deeds.{deed_handable}
 use Rattle.tl_world.specs.declared.event.Event.{Event}
 use Rattle.tl_world.specs.declared.event.Event.TheVariants.{Ask, Deliver}
@@ -77,13 +79,13 @@ judged_good config c ch x queue (Ok (verdict.Taken, m)) e sys terms width known 
 judged_good config c ch x queue (Ok (verdict.Done source finish, m)) e sys terms width known sound fit first before d at =
     one_good config c m (with_client c e (with_channel c ch queue sys)) terms width known sound fit (all-popped (IsGood config) c ch x queue sys first before) d at
 
-manager_good : {w : ℕ} (config : Config) (link : Link) (ch : Channel) (x : Beat w) (queue : List (Beat w)) (j : slave.Judgement) (e : slave.End w) (sys : System w) → IsWidth w → manager.IsSound config (link, x)
+manager_good : {w : ℕ} (config : Config) (link : Link) (ch : Channel) (x : Beat w) (queue : List (Beat w)) (j : slave.Judgement) (e : manager_end.End w) (sys : System w) → IsWidth w → manager.IsSound config (link, x)
     → Each (manager.IsSound config) e.trace → sys.channels link.0 ch ≡ x ∷ queue → AllGood config sys → AllGood config (manager_took link.0 ch x queue (slave.offered_as j config link x e) sys).after
 manager_good config link ch x queue (slave.Breaks rule) e sys width sound trace first before d at = before d at
 manager_good config link ch x queue slave.Waits e sys width sound trace first before d at = before d at
 manager_good {w} config link ch x queue slave.Passes e sys width sound trace first before d at =
-    all-messages (IsGood config) (slave.deed config link x e).handed (with_manager (slave.taken link x (slave.deed config link x e) e) (with_channel link.0 ch queue sys))
-    (good-handed config (slave.deed config link x e).handed width (deed_handable config link x e width sound trace))
+    all-messages (IsGood config) (manager_deed.deed config link x e).handed (with_manager (slave.taken link x (manager_deed.deed config link x e) e) (with_channel link.0 ch queue sys))
+    (good-handed config (manager_deed.deed config link x e).handed width (deed_handable config link x e width sound trace))
     (all-popped (IsGood config) link.0 ch x queue sys first before) d at
 
 -- ---- an event

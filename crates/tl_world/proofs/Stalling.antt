@@ -27,8 +27,9 @@ use Rattle.tl_client.specs.End.{Terms}
 use Rattle.tl_client.specs.End as client
 use Rattle.tl_client.specs.Offer as offer
 use Rattle.tl_client.specs.Offer.{offered}
-use Rattle.tl_manager.specs.Slave as manager
-use Rattle.tl_manager.specs.Slave.{must_wait, Judgement, Breaks, Waits, Passes, breaks_or, waits_or, is_waiting, offered_as, judged_on, judged_at, open_level}
+use Rattle.tl_manager.specs.End as manager_end
+use Rattle.tl_manager.specs.Offer as manager
+use Rattle.tl_manager.specs.Offer.{must_wait, Judgement, Breaks, Waits, Passes, breaks_or, waits_or, is_waiting, offered_as, judged_on, judged_at, open_level}
 use Rattle.tl_manager.proofs.Stalls.{never-stalled}
 use Rattle.tl_world.specs.Beside.{IsLet}
 use Rattle.tl_world.specs.Coherent.{IsCoherent, started}
@@ -53,7 +54,7 @@ use Rattle.tl_world.proofs.Phases.{and_left}
 
 -- ---- a request at the manager
 
-waits-as-it-must : {w : ℕ} (config : Config) (link : _) (x : Beat w) (e : manager.End w) (a b : Option Rule) (must : Bool) (rest : Judgement) → is_waiting rest ≡ false
+waits-as-it-must : {w : ℕ} (config : Config) (link : _) (x : Beat w) (e : manager_end.End w) (a b : Option Rule) (must : Bool) (rest : Judgement) → is_waiting rest ≡ false
     → IsTakenIn (offered_as (breaks_or a (breaks_or b (waits_or must rest))) config link x e) → is_waiting (breaks_or a (breaks_or b (waits_or must rest))) ≡ must
 waits-as-it-must config link x e (Some r) b must rest silent taken = absurd taken
 waits-as-it-must config link x e None (Some r) must rest silent taken = absurd taken
@@ -65,7 +66,7 @@ passes-or-breaks (Some r) b = refl
 passes-or-breaks None (Some r) = refl
 passes-or-breaks None None = refl
 
-stalled-as-it-must : {w : ℕ} (config : Config) (link : _) (ch : Channel) (x : Beat w) (e : manager.End w) → IsTakenIn (manager.offered config link ch x e)
+stalled-as-it-must : {w : ℕ} (config : Config) (link : _) (ch : Channel) (x : Beat w) (e : manager_end.End w) → IsTakenIn (manager.offered config link ch x e)
     → manager.stalls config link ch x e ≡ must_wait config link x e.trace
 unfolding judged_at manager.offered manager.stalls
 stalled-as-it-must config link ch x e taken = go (open_level config link e) taken
@@ -142,7 +143,7 @@ emptiness {w} config terms link ch (x ∷ rest) s = go (is_to_client ch)
     of_client (Ok (verdict.Taken, m)) e = refl
     of_client (Ok (verdict.Done source f, m)) e = refl
 
-    of_manager : (a : manager.Reception w × manager.End w) → is_emptiness (manager_took link ch x rest a s).outcome ≡ false
+    of_manager : (a : manager.Reception w × manager_end.End w) → is_emptiness (manager_took link ch x rest a s).outcome ≡ false
     of_manager (manager.Refused rule, e) = refl
     of_manager (manager.Stalled, e) = refl
     of_manager (manager.Sent handed, e) = refl
@@ -163,7 +164,7 @@ moving-else {w} config terms link ch (x ∷ rest) s some unstalled = go (is_to_c
     of_client (Ok (verdict.Taken, m)) e f = refl
     of_client (Ok (verdict.Done source finish, m)) e f = refl
 
-    of_manager : (a : manager.Reception w × manager.End w) → is_stall (manager_took link ch x rest a s).outcome ≡ false → is_moving (manager_took link ch x rest a s).outcome ≡ true
+    of_manager : (a : manager.Reception w × manager_end.End w) → is_stall (manager_took link ch x rest a s).outcome ≡ false → is_moving (manager_took link ch x rest a s).outcome ≡ true
     of_manager (manager.Refused rule, e) f = absurd cc
     of_manager (manager.Stalled, e) f = absurd cc
     of_manager (manager.Sent handed, e) f = refl

@@ -20,7 +20,8 @@ use Rattle.tl_client.specs.Offer.{offered}
 use Rattle.tl_manager.specs.Bit.{bit_if}
 use Rattle.tl_manager.specs.Handing.{Handed}
 use Rattle.tl_manager.specs.Knows.{Knows}
-use Rattle.tl_manager.specs.Slave as manager
+use Rattle.tl_manager.specs.End as manager_end
+use Rattle.tl_manager.specs.Offer as manager
 use Rattle.tl_world.specs.Called.{IsAsked, IsOffered}
 use Rattle.tl_world.specs.Carrying.{place, Carries, Fit, AreKept, Deepen, AreMoved}
 use Rattle.tl_world.specs.Holds.{clients_of, Holds, HasRoom, IsStepped, is_stay}
@@ -285,12 +286,12 @@ module _ {w : ℕ} {A M : Type 0} (knows : A → End w → Type 0) (terms : A �
 
   module _ (old new : Parts w A M) (s : System w) (link : Link) (ch : Channel) (x : Beat w) (rest : List (Beat w)) (answer : manager.Reception w) (h : Holds knows terms perm_of config old s)
       (inside : link.0 < length old.clients.items) (first : s.channels link.0 ch ≡ x ∷ rest) (down : is_to_client ch ≡ false) (same_clients : new.clients.items ≡ old.clients.items)
-      (answers : (config : Config) (e : manager.End w) → Knows perm_of old.manager config e → answer ≡ (manager.offered config link ch x e).0)
-      (knowing : (config : Config) (e : manager.End w) → Knows perm_of old.manager config e → Knows perm_of new.manager config (manager.offered config link ch x e).1) where
+      (answers : (config : Config) (e : manager_end.End w) → Knows perm_of old.manager config e → answer ≡ (manager.offered config link ch x e).0)
+      (knowing : (config : Config) (e : manager_end.End w) → Knows perm_of old.manager config e → Knows perm_of new.manager config (manager.offered config link ch x e).1) where
     within : link.0 < clients_of config
     within = omega (arith, inside, h.one_client_each)
 
-    abbrev taken : manager.Reception w × manager.End w
+    abbrev taken : manager.Reception w × manager_end.End w
     taken = manager.offered config link ch x s.manager
 
     answered : answer ≡ taken.0
@@ -322,7 +323,7 @@ module _ {w : ℕ} {A M : Type 0} (knows : A → End w → Type 0) (terms : A �
         let again : taken.1 ≡ s.manager = stayed-manager config link ch x s.manager (sym answered ∙ stalled) in
         stepped-by old new (Deliver link ch) s (only outcome.Stalled s) outcome.Stalled
         (taken-in ∙ took-stalled taken link.0 ch x rest s (sym answered ∙ stalled)) refl
-        (manager-holds old new s s h same_clients (λ k. refl) (subst (λ (e : manager.End w). Knows perm_of new.manager config e) again (knowing config s.manager h.manager)) (as_made same) (carrying s (λ k c. refl) same))
+        (manager-holds old new s s h same_clients (λ k. refl) (subst (λ (e : manager_end.End w). Knows perm_of new.manager config e) again (knowing config s.manager h.manager)) (as_made same) (carrying s (λ k c. refl) same))
         (as_deep same)
 
     -- the first beat is taken away, and messages sent

@@ -12,8 +12,8 @@ use Rattle.tl_params.specs.declared.config.Config.{Config}
 use Rattle.tl_params.specs.declared.level.Level.{Level}
 use Rattle.tl_client.specs.End.{Terms}
 use Rattle.tl_manager.specs.Kept as kept
-use Rattle.tl_manager.specs.Service.{services, serving}
-use Rattle.tl_manager.specs.Slave.{level_of}
+use Rattle.tl_manager.specs.Service.{services, service_of_block}
+use Rattle.tl_manager.specs.Offer.{level_of}
 use Rattle.tl_manager.proofs.Granted.{of_served}
 use Rattle.tl_world.specs.Invariant.{resting}
 use Rattle.tl_world.specs.Log.{Log, after}
@@ -72,7 +72,7 @@ module _ {w : ℕ} (config : Config) (log : Log w) (mail : Mail w) (request : �
 
   not_acknowledging : (n : ℕ) → shown GrantAck c (s.block n) ≡ true → ⊥
   not_acknowledging n e =
-      let served : serving n (services (after config log).manager.trace) ≡ service_with (Some c) (s.block n).tracker (request n) =
+      let served : service_of_block n (services (after config log).manager.trace) ≡ service_with (Some c) (s.block n).tracker (request n) =
       matched.managed.serving_is n ∙ ap (λ (o : Option ℕ). service_with o (s.block n).tracker (request n)) (acknowledged_to (s.block n).service c e) in
       let performable = of_served (kept.IsPerformable config) n (services (after config log).manager.trace) _ served matched.manager_kept.requests in
       lawless (level_of config c) (message.A (request n)) (no_level config c is) performable.lawful

@@ -8,7 +8,7 @@ use Rattle.tl_params.specs.declared.param.Cap.{Cap}
 use Rattle.tl_rules.specs.Conformance.{Trace, on_link}
 use Rattle.tl_rules.specs.History.{pending, request_of}
 use Rattle.tl_manager.specs.Holders.{recorded}
-use Rattle.tl_manager.specs.Service.{services, serving}
+use Rattle.tl_manager.specs.Service.{services, service_of_block}
 use Rattle.tl_world.specs.Phase.{is_quiet, ok}
 use Rattle.tl_world.specs.Protocol.{Service, Free, Waits, GrantSent, GrantTaken, Block, State}
 use Rattle.tl_world.specs.Managed.{client_in, service_with}
@@ -25,8 +25,8 @@ pub record IsTracedAt {w : ℕ} {X : Type 0} (n : ℕ) (request after : ℕ → 
   pub recorded_else : (c i : ℕ) → (i ≡ n → ⊥) → recorded c i v ≡ recorded c i t
   pub probes_here : (c : ℕ) → pending (ProbeOf n) (on_link c v) ≡ not (is_quiet ((u.block n).pair c).probing)
   pub probes_else : (c i : ℕ) → (i ≡ n → ⊥) → pending (ProbeOf i) (on_link c v) ≡ pending (ProbeOf i) (on_link c t)
-  pub serving_here : serving n (services v) ≡ service_with (client_in (u.block n).service) (u.block n).tracker (after n)
-  pub serving_else : (i : ℕ) → (i ≡ n → ⊥) → serving i (services v) ≡ serving i (services t)
+  pub serving_here : service_of_block n (services v) ≡ service_with (client_in (u.block n).service) (u.block n).tracker (after n)
+  pub serving_else : (i : ℕ) → (i ≡ n → ⊥) → service_of_block i (services v) ≡ service_of_block i (services t)
   pub request_here : IsFor (u.block n).service n (after n)
   pub asked_here : (r source : ℕ) (own : Bool) (k : Cap) → (u.block n).service ≡ Waits r own source k → request_of source (on_link r v) ≡ Some (a_beat_of (after n) 0)
   pub asked_else : (i r source : ℕ) (own : Bool) (k : Cap) → (i ≡ n → ⊥) → (s.block i).service ≡ Waits r own source k → request_of source (on_link r v) ≡ request_of source (on_link r t)

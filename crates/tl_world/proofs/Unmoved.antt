@@ -14,7 +14,8 @@ use Rattle.tl_client.specs.Offer as offer
 use Rattle.tl_client.specs.Offer.{offered, is_stalled, silent, waits, broken_before, broken_later}
 use Rattle.tl_client.proofs.Stalls.{taken_now}
 use Rattle.tl_manager.specs.Handing.{Handed}
-use Rattle.tl_manager.specs.Slave as manager
+use Rattle.tl_manager.specs.End as manager_end
+use Rattle.tl_manager.specs.Offer as manager
 use Rattle.tl_world.specs.Holds.{is_stay}
 use Rattle.tl_world.specs.Step.{only, handing, handed_by, judged, outcome_of, manager_took}
 use Rattle.tl_world.specs.System.{System, with_client, with_manager, with_channel}
@@ -72,26 +73,26 @@ module _ {w : ℕ} where
 
   -- ---- the manager
 
-  abbrev Stood : manager.Reception w × manager.End w → manager.End w → Type 0
+  abbrev Stood : manager.Reception w × manager_end.End w → manager_end.End w → Type 0
   Stood p e = p.0 ≡ manager.Stalled → p.1 ≡ e
 
-  stood-as : (j : manager.Judgement) (config : Config) (link : Link) (x : Beat w) (e : manager.End w) → Stood (manager.offered_as j config link x e) e
+  stood-as : (j : manager.Judgement) (config : Config) (link : Link) (x : Beat w) (e : manager_end.End w) → Stood (manager.offered_as j config link x e) e
   stood-as (manager.Breaks rule) config link x e f = absurd cc
   stood-as manager.Waits config link x e f = refl
   stood-as manager.Passes config link x e f = absurd cc
 
-  pub stayed-manager : (config : Config) (link : Link) (ch : Channel) (x : Beat w) (e : manager.End w) → (manager.offered config link ch x e).0 ≡ manager.Stalled → (manager.offered config link ch x e).1 ≡ e
+  pub stayed-manager : (config : Config) (link : Link) (ch : Channel) (x : Beat w) (e : manager_end.End w) → (manager.offered config link ch x e).0 ≡ manager.Stalled → (manager.offered config link ch x e).1 ≡ e
   unfolding manager.offered
   stayed-manager config link ch x e f = stood-as (manager.judged config link ch x e) config link x e f
 
-  pub took-refused : (p : manager.Reception w × manager.End w) (rule : Rule) (link : ℕ) (ch : Channel) (x : Beat w) (rest : List (Beat w)) (s : System w) → p.0 ≡ manager.Refused rule
+  pub took-refused : (p : manager.Reception w × manager_end.End w) (rule : Rule) (link : ℕ) (ch : Channel) (x : Beat w) (rest : List (Beat w)) (s : System w) → p.0 ≡ manager.Refused rule
       → manager_took link ch x rest p s ≡ only outcome.Stalled (with_manager p.1 s)
   took-refused p rule link ch x rest s is = ap (λ (a : manager.Reception w). manager_took link ch x rest (a, p.1) s) is
 
-  pub took-stalled : (p : manager.Reception w × manager.End w) (link : ℕ) (ch : Channel) (x : Beat w) (rest : List (Beat w)) (s : System w) → p.0 ≡ manager.Stalled
+  pub took-stalled : (p : manager.Reception w × manager_end.End w) (link : ℕ) (ch : Channel) (x : Beat w) (rest : List (Beat w)) (s : System w) → p.0 ≡ manager.Stalled
       → manager_took link ch x rest p s ≡ only outcome.Stalled s
   took-stalled p link ch x rest s is = ap (λ (a : manager.Reception w). manager_took link ch x rest (a, p.1) s) is
 
-  pub took-sent : (p : manager.Reception w × manager.End w) (handed : Handed w) (link : ℕ) (ch : Channel) (x : Beat w) (rest : List (Beat w)) (s : System w) → p.0 ≡ manager.Sent handed
+  pub took-sent : (p : manager.Reception w × manager_end.End w) (handed : Handed w) (link : ℕ) (ch : Channel) (x : Beat w) (rest : List (Beat w)) (s : System w) → p.0 ≡ manager.Sent handed
       → manager_took link ch x rest p s ≡ handing (outcome.Moved x) handed (with_manager p.1 (with_channel link ch rest s))
   took-sent p handed link ch x rest s is = ap (λ (a : manager.Reception w). manager_took link ch x rest (a, p.1) s) is

@@ -15,7 +15,7 @@ use Rattle.tl_client.specs.declared.reply.Reply.{Reply}
 use Rattle.tl_client.specs.declared.reply.Reply.TheVariants as reply
 use Rattle.tl_client.specs.Ask.{copy_stored, whole_grow}
 use Rattle.tl_client.specs.Send.{access}
-use Rattle.tl_manager.specs.Slave.{End}
+use Rattle.tl_manager.specs.End.{End}
 use Rattle.tl_world.specs.Follow.{Shadow, asked, is_whole, taken_by_client, kind_taken}
 use Rattle.tl_world.specs.Invariant.{IsInvariant}
 use Rattle.tl_world.specs.Phase.{Pair, Sent, is_quiet}

@@ -26,7 +26,7 @@ use Rattle.tl_client.specs.Kept as client
 use Rattle.tl_manager.specs.Kept as manager
 use Rattle.tl_manager.specs.Kept.{illegal_message_at}
 use Rattle.tl_manager.specs.Service.{is_access_answer}
-use Rattle.tl_manager.specs.Slave.{level_of}
+use Rattle.tl_manager.specs.Offer.{level_of}
 use Rattle.tl_world.specs.Phase.{Pair, Acquiring, Calm, Wants}
 use Rattle.tl_world.specs.Token.{Acquire}
 use Rattle.tl_world.specs.Protocol.{Service, Waits, GrantSent, Block, State, Use, Closed, Asked, InService, Replied, Acquires}

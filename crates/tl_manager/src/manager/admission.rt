@@ -3,7 +3,7 @@
 ghost use Rattle.std.specs.Prelude.{◌≡◌};
 ghost use Rattle.tl_beat.specs.Width.{IsWidth};
 ghost use Rattle.tl_manager.specs.Admission.{admission_of, judged_by};
-ghost use Rattle.tl_manager.specs.Slave;
+ghost use Rattle.tl_manager.specs.Offer;
 
 use tl_beat::beat::Beat;
 use tl_rules::rule::Rule;
@@ -49,7 +49,7 @@ pub fn admit(
 
 /// Whether a beat is of a channel on which clients send.
 pub fn is_from_client<const W: usize>(beat: &Beat<W>) -> bool
-    ensures { result ≡ Slave.is_from_client beat.now }
+    ensures { result ≡ Offer.is_from_client beat.now }
 {
     matches!(beat, Beat::A(_) | Beat::C(_) | Beat::E(_))
 }

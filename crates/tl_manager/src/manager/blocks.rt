@@ -7,7 +7,7 @@ ghost use Rattle.tl_burst.specs.Burst.{beats_of, IsBlankAfter};
 ghost use Rattle.tl_rules.specs.Effect.{Memory, IsBlock, bytes_from, effect, answer_of};
 ghost use Rattle.tl_rules.specs.Legality.{illegal_message};
 ghost use Rattle.tl_manager.specs.Blocks.{AreBlocks};
-ghost use Rattle.tl_manager.specs.Slave.{with_block};
+ghost use Rattle.tl_manager.specs.Deed.{with_block};
 
 use std::alloc::{AllocError, Global};
 use tl_beat::opcode::Channel;

@@ -17,7 +17,8 @@ ghost use Rattle.tl_beat.specs.declared.beat.BeatC.{BeatC};
 ghost use Rattle.tl_beat.specs.declared.beat.BeatE.{BeatE};
 ghost use Rattle.tl_manager.specs.Handing.{performed};
 ghost use Rattle.tl_manager.specs.Ready.{IsTaken};
-ghost use Rattle.tl_manager.specs.Slave.{End, begun_with, settled, deed};
+ghost use Rattle.tl_manager.specs.Deed.{begun_with, finish, deed};
+ghost use Rattle.tl_manager.specs.End.{End};
 ghost use Rattle.tl_manager.specs.Holders;
 ghost use Rattle.tl_manager.specs.Holders.{is_above};
 ghost use Rattle.tl_manager.specs.Sending.{messages_of};
@@ -239,7 +240,7 @@ impl<const W: usize, D: Directory> Home<W, D> {
         requires few { length self.old.blocks.bytes.items ≤ 1024 }
         ensures done { (config : Config) (x : BeatC W) (e : End W) (memory : Memory) → IsReport config link block x e →
             IsReportedHome D.perm_of config self.old e.trace ((link, Beat.C x) ∷ e.trace) memory →
-            IsDone D.perm_of config self.new (messages_of result) ((link, Beat.C x) ∷ e.trace) (settled config block ((link, Beat.C x) ∷ e.trace) memory) }
+            IsDone D.perm_of config self.new (messages_of result) ((link, Beat.C x) ∷ e.trace) (finish config block ((link, Beat.C x) ∷ e.trace) memory) }
         ensures blocks { D.blocks self.new.directory ≡ D.blocks self.old.directory }
         ensures clients { D.clients self.new.directory ≡ D.clients self.old.directory }
         ensures count { length self.new.blocks.bytes.items ≡ length self.old.blocks.bytes.items }

@@ -12,9 +12,11 @@ ghost use Rattle.tl_manager.specs.Fresh.{fresh_wire};
 ghost use Rattle.tl_manager.specs.PartIs.{is_first_part, is_last_part};
 ghost use Rattle.tl_manager.specs.Sending.{messages_of};
 ghost use Rattle.tl_manager.specs.Service.{services, is_in_service};
-ghost use Rattle.tl_manager.specs.Slave;
+ghost use Rattle.tl_manager.specs.Offer;
 ghost use Rattle.tl_beat.specs.declared.opcode.Channel.{Channel};
-ghost use Rattle.tl_manager.specs.Slave.{End, deed, judged, open_level, refused, taken};
+ghost use Rattle.tl_manager.specs.Deed.{deed};
+ghost use Rattle.tl_manager.specs.End.{End};
+ghost use Rattle.tl_manager.specs.Offer.{judged, open_level, refused, taken};
 
 use crate::directory::Directory;
 use crate::manager::admission::{Admission, admit, is_from_client};
@@ -125,7 +127,7 @@ impl<const W: usize, D: Directory> Links<W, D> {
     /// Whether a beat is the last of a request that can't be served yet.
     fn must_wait(&self, beat: &Beat<W>, part: Part) -> bool
         ensures { (config : Config) (e : End W) (link : Link) → Knows D.perm_of self.now config e → IsPartOf beat.now part (on_link link.0 e.trace) →
-            result ≡ Slave.must_wait config link beat.now e.trace }
+            result ≡ Offer.must_wait config link beat.now e.trace }
     {
         match beat {
             Beat::A(x) => is_last(part) && self.is_busy(x.address / 64),
@@ -156,7 +158,7 @@ impl<const W: usize, D: Directory> Links<W, D> {
         requires known { IsManager D.perm_of D.blocks D.clients self.now }
         requires link { link.0 < length self.now.wires.items }
         requires takeable { IsTakeable beat.now }
-        requires theirs { Slave.is_from_client beat.now ≡ true }
+        requires theirs { Offer.is_from_client beat.now ≡ true }
         ensures { (config : Config) (e : End W) → Knows D.perm_of self.now config e → IsWire config wire.now link.0 e →
             result ≡ admission_of (judged_in_order config link beat.now e.trace) }
     {
@@ -194,7 +196,7 @@ impl<const W: usize, D: Directory> Links<W, D> {
     pub fn stalls(&self, link: Link, channel: Channel, beat: &Beat<W>) -> bool
         requires known { IsManager D.perm_of D.blocks D.clients self.now }
         ensures { (config : Config) (e : End W) → Knows D.perm_of self.now config e →
-            result ≡ Slave.stalls config link channel beat.now e }
+            result ≡ Offer.stalls config link channel beat.now e }
     {
         is_waiting(self.judge(link, channel, beat))
     }
@@ -228,7 +230,7 @@ impl<const W: usize, D: Directory> Links<W, D> {
         requires known { IsManager D.perm_of D.blocks D.clients self.old }
         requires link { link.0 < length self.old.wires.items }
         requires takeable { IsTakeable beat.now }
-        requires passes { (config : Config) (e : End W) → Knows D.perm_of self.old config e → (ch : Channel) × (judged config link ch beat.now e ≡ Slave.Passes) }
+        requires passes { (config : Config) (e : End W) → Knows D.perm_of self.old config e → (ch : Channel) × (judged config link ch beat.now e ≡ Offer.Passes) }
         ensures handed { (config : Config) (e : End W) → Knows D.perm_of self.old config e →
             messages_of result ≡ (deed config link beat.now e).handed }
         ensures knows { (config : Config) (e : End W) → Knows D.perm_of self.old config e →

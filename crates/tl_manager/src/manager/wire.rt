@@ -7,7 +7,7 @@ ghost use Rattle.tl_burst.specs.Messages.{breaks_burst};
 ghost use Rattle.tl_burst.specs.Part.{IsTakeable, part_of, completes};
 ghost use Rattle.tl_rules.specs.Conformance.{comes_in_request};
 ghost use Rattle.tl_manager.specs.BurstFor.{burst_for, burst_with};
-ghost use Rattle.tl_manager.specs.Slave.{is_from_client};
+ghost use Rattle.tl_manager.specs.Offer.{is_from_client};
 ghost use Rattle.tl_manager.specs.Releases.{comes_with, comes_of};
 ghost use Rattle.tl_manager.specs.Probed.{probe_in};
 ghost use Rattle.tl_manager.specs.Tracking.{request_in};

@@ -1,5 +1,5 @@
 use Rattle.std.proofs.Common.{refl, ap}
-use Rattle.tl_manager.specs.Slave
+use Rattle.tl_manager.specs.Offer
 use Rattle.tl_manager.proofs.Offered.{offered-broken, offered-waits, offered-passes, manager-after}
 use Rattle.tl_manager.proofs.manager.Manager.answer.Goals as goal
 
@@ -22,7 +22,7 @@ returns-in-Ok-Waits-clause-after g c = λ config e k. let inside = rw (← c.sel
 pub returns-in-Ok-Passes-clause-answer : goal.returns-in-Ok-Passes-clause-answer
 returns-in-Ok-Passes-clause-answer g c = λ config e k.
     let inside = rw (← c.self.view_is) at k in
-    rw (offered-passes config c.args.link c.args.channel c.args.beat.now e c.in-Ok-Passes.field-0 c.in-Ok-Passes.field-0-is (c.in-Ok-Passes.ensures.judged config e inside)) (ap (λ handed. Slave.Sent handed) (c.take.ensures.handed config e inside))
+    rw (offered-passes config c.args.link c.args.channel c.args.beat.now e c.in-Ok-Passes.field-0 c.in-Ok-Passes.field-0-is (c.in-Ok-Passes.ensures.judged config e inside)) (ap (λ handed. Offer.Sent handed) (c.take.ensures.handed config e inside))
 
 pub returns-in-Ok-Passes-clause-after : goal.returns-in-Ok-Passes-clause-after
 returns-in-Ok-Passes-clause-after g c = λ config e k.

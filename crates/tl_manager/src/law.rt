@@ -107,7 +107,7 @@ pub fn accounts_for_pending<const W: usize>()
     ensures sink { (config : Config) (e : End W) (client sink : ℕ) → IsKept config e →
         pending (GrantSink sink) (on_link client e.trace) ≡ is_any (is_granted_with client sink e.trace) (services e.trace) }
     ensures named { (config : Config) (e : End W) (block : ℕ) → IsKept config e →
-        IsNamed block e.trace (serving block (services e.trace)) }
+        IsNamed block e.trace (service_of_block block (services e.trace)) }
     ensures probe { (config : Config) (e : End W) (client block : ℕ) → IsKept config e →
         is_missing client block e.trace ≡ true → IsProbed client block e.trace }
     ensures awaited { (config : Config) (e : End W) (block : ℕ) → IsKept config e →

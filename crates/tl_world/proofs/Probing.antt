@@ -73,7 +73,7 @@ traced-probing {w} {X} config request c k n own source j m s u e blocks is known
       probes-keep (pending (ProbeOf i)) d n j asked_clients t (λ h. missing-else_b i n j h (ne_eqb n i differ)) ∙ missing-beat c k m e.trace d i;
   serving_here =
       ap (service_of_block n) (services-probes n j asked_clients t) ∙ serving-last config c k n m e is.comes is.last is.for.2
-      ∙ sym (ap (λ (b : Block X). service_of_block b) here ∙ ap (λ (r : MessageA w). Some (record { tracker = tracker; link = link_of c; request = r })) (set-same n m request));
+      ∙ sym (ap (λ (b : Block X). service_now b) here ∙ ap (λ (r : MessageA w). Some (record { tracker = tracker; link = link_of c; request = r })) (set-same n m request));
   serving_else = λ i ne. ap (service_of_block i) (services-probes n j asked_clients t) ∙ serving-others config c k n i m e is.comes is.last is.for.2 ne;
   request_here = rw (here, set-same n m request) is.for;
   asked_here = λ r src o l f. asked_now r src o l (ap (λ (b : Block X). b.service) (sym here) ∙ f);
@@ -95,8 +95,8 @@ traced-probing {w} {X} config request c k n own source j m s u e blocks is known
     new : Block X
     new = served_block c own source tracker j (s.block n)
 
-    service_of_block : Block X → Option (Service w)
-    service_of_block b = service_with (client_in b.service) b.tracker (set n m request n)
+    service_now : Block X → Option (Service w)
+    service_now b = service_with (client_in b.service) b.tracker (set n m request n)
 
     here : u.block n ≡ new
     here = blocks n ∙ set-same n new s.block

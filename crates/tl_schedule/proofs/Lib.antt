@@ -1,6 +1,6 @@
 pub mod Options
 pub mod NumberLemmas
-pub mod HeaderLemmas
+pub mod Headers
 pub mod FieldLemmas
 pub mod FieldLaws
 pub mod AccessLemmas

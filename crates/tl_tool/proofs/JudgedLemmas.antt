@@ -10,14 +10,15 @@ use Rattle.tl_beat.specs.declared.beat.Beat.{Beat}
 use Rattle.tl_beat.specs.declared.fault.LineFault.{LineFault}
 use Rattle.tl_beat.specs.declared.fault.LineFault.TheVariants.{F1}
 use Rattle.tl_beat.specs.Line.{Spells, line_fault}
+use Rattle.tl_params.specs.declared.header.Version.{Version}
 use Rattle.tl_params.specs.declared.level.Level.{Level}
-use Rattle.tl_params.specs.declared.level.Level.TheVariants as level
 use Rattle.tl_params.specs.declared.profile.Profile.{Profile}
-use Rattle.tl_params.specs.declared.profile.Profile.TheVariants as profile
 use Rattle.tl_params.specs.declared.rule.Rule.{Rule}
+use Rattle.tl_params.specs.declared.width.Width.{Width}
+use Rattle.tl_params.specs.declared.width.Width.TheVariants as width
+use Rattle.tl_params.specs.Header.{level_text, version_text}
+use Rattle.tl_params.proofs.Headers.{level-short, version-short}
 use Rattle.tl_rules.specs.Conformance.{Trace, broken_on_link}
-use Rattle.tl_words.specs.declared.command.Width.{Width}
-use Rattle.tl_words.specs.declared.command.Width.TheVariants as width
 use Rattle.tl_monitor.specs.declared.monitor.Monitor.{Monitor}
 use Rattle.tl_monitor.specs.Knows.{Knows}
 use Rattle.tl_tool.specs.declared.fault.Fault.{Fault}
@@ -31,11 +32,11 @@ use Rattle.tl_tool.specs.Fault.{fault_text}
 use Rattle.tl_tool.specs.Judged.{clean_text, IsAtFault, Judged, JudgedAfter}
 use Rattle.tl_tool.specs.Judging.{IsTotal, Judges, Stops, Finishes}
 use Rattle.tl_tool.specs.Lines.{IsOpen}
-use Rattle.tl_tool.specs.Trace.{Version, First, Second, Third, version_text, level_text, levels_text, header_line, trace_word, SpellsHeader}
+use Rattle.tl_tool.specs.Trace.{levels_text, header_line, trace_word, SpellsHeader}
 use Rattle.tl_tool.specs.Watching.{KnowsLines, KnowsTrace, Watches}
 use Rattle.tl_tool.specs.Width.{bytes_of}
 use Rattle.tl_tool.proofs.DecodedLemmas.{judged_line, open_fault}
-use Rattle.tl_tool.proofs.HeaderLemmas.{header_or_none}
+use Rattle.tl_tool.proofs.Headers.{header_or_none}
 
 -- ---- the header
 
@@ -127,26 +128,9 @@ all_clean (Sixteen m) read count was is says = λ lines before k counted. beats_
 
 -- ---- a header's line ends in LF, and is short
 
-level-short : (l : Level) → length (level_text l) ≤ 2
-level-short level.UL = omega arith
-level-short level.UH = omega arith
-level-short level.C = omega arith
-
 levels-short : (levels : List Level) → length (levels_text levels) ≤ 3 * length levels
 levels-short [] = omega arith
 levels-short (l ∷ levels) = omega (arith, length-append (level_text l) (levels_text levels), level-short l, levels-short levels)
-
-version-short : (version : Version) → length (version_text version) ≤ 6
-version-short First = omega arith
-version-short (Second width.Four) = omega arith
-version-short (Second width.Eight) = omega arith
-version-short (Second width.Sixteen) = omega arith
-version-short (Third width.Four profile.One) = omega arith
-version-short (Third width.Four profile.Two) = omega arith
-version-short (Third width.Eight profile.One) = omega arith
-version-short (Third width.Eight profile.Two) = omega arith
-version-short (Third width.Sixteen profile.One) = omega arith
-version-short (Third width.Sixteen profile.Two) = omega arith
 
 header-short : (version : Version) (levels : List Level) → length levels ≤ 16 → length (header_line version levels) ≤ 256
 header-short version levels few =

@@ -6,7 +6,7 @@ pub mod RunLemmas
 pub mod DecodedLemmas
 pub mod CutLemmas
 pub mod SpelledLemmas
-pub mod HeaderLemmas
+pub mod Headers
 pub mod JudgedLemmas
 pub mod OnceLemmas
 pub mod OpeningLemmas

@@ -13,8 +13,8 @@ use Rattle.tl_beat.proofs.SpelledLaws.{reading-spelled, one-beat}
 use Rattle.tl_params.specs.declared.level.Level.{Level}
 use Rattle.tl_params.specs.declared.profile.Profile.{Profile}
 use Rattle.tl_rules.specs.Conformance.{Trace, broken_on_link}
-use Rattle.tl_words.specs.declared.command.Width.{Width}
-use Rattle.tl_words.specs.declared.command.Width.TheVariants as width
+use Rattle.tl_params.specs.declared.width.Width.{Width}
+use Rattle.tl_params.specs.declared.width.Width.TheVariants as width
 use Rattle.tl_tool.specs.declared.fault.Fault.{Fault}
 use Rattle.tl_tool.specs.declared.fault.Fault.TheVariants.{Header, Line, Rule as Breaks, Event}
 use Rattle.tl_tool.specs.declared.status.Status.{Status}
@@ -22,7 +22,7 @@ use Rattle.tl_tool.specs.Decoded.{Decodes}
 use Rattle.tl_tool.specs.Fault.{fault_text}
 use Rattle.tl_tool.specs.Judged.{IsAtFault, Judged, JudgedAfter}
 use Rattle.tl_tool.specs.Width.{bytes_of}
-use Rattle.tl_tool.proofs.HeaderLemmas.{one_header}
+use Rattle.tl_tool.proofs.Headers.{one_header}
 
 -- the texts and the statuses are the same
 abbrev pub AreOne : List ℕ → List ℕ → Status → Status → Type 0

@@ -7,15 +7,12 @@ use Rattle.std.proofs.lemmas.Bool.{and_parts, leb-true}
 use Rattle.std.proofs.lemmas.Fmt.{length-decimal-le}
 use Rattle.tl_params.specs.declared.config.ClientConfig.{ClientConfig}
 use Rattle.tl_params.specs.declared.config.Config.{Config}
-use Rattle.tl_params.specs.declared.level.Level.{Level}
-use Rattle.tl_params.specs.declared.level.Level.TheVariants as level
-use Rattle.tl_params.specs.declared.profile.Profile.TheVariants as profile
+use Rattle.tl_params.specs.declared.header.Version.{Version}
 use Rattle.tl_params.specs.Config.{all_sources_fit, sources_fit}
+use Rattle.tl_params.specs.Header.{level_text, version_text}
 use Rattle.tl_params.specs.Range.{is_from_to}
-use Rattle.tl_schedule.specs.declared.header.Version.{Version}
-use Rattle.tl_schedule.specs.declared.header.Version.TheVariants.{First, Second, Third}
-use Rattle.tl_schedule.specs.declared.header.Width.TheVariants as width
-use Rattle.tl_schedule.specs.Schedule.{clients_text, level_text, schedule_line, schedule_word, version_text}
+use Rattle.tl_params.proofs.Headers.{level-short, version-short}
+use Rattle.tl_schedule.specs.Schedule.{clients_text, schedule_line, schedule_word}
 use Rattle.tl_tool.specs.Lines.{IsOpen}
 use Rattle.tl_tool.specs.Played.{HeadsSchedule}
 use Rattle.tl_tool.proofs.JudgedLemmas.{ends_in}
@@ -24,11 +21,6 @@ decimal-short : (limit k n : ℕ) → limit < 10 ^ k → limit < 2 ^ 64 → 0 < 
 decimal-short limit k n few small some fits =
     let le : n ≤ limit = leb-true n limit (and_parts (nat_le 1 n) (nat_le n limit) fits).1 in
     length-decimal-le k n some (omega arith) (omega arith)
-
-level-short : (l : Level) → length (level_text l) ≤ 2
-level-short level.UL = omega arith
-level-short level.UH = omega arith
-level-short level.C = omega arith
 
 client-parts : (xs ys : List ℕ) → length (32 ∷ (xs ++ 58 ∷ ys)) ≡ length xs + length ys + 2
 client-parts xs ys = omega (arith, length-append xs (58 ∷ ys))
@@ -44,18 +36,6 @@ clients-short (client ∷ clients) fits =
     let text : clients_text (client ∷ clients) ≡ 32 ∷ (level_text client.level ++ 58 ∷ (decimal client.sources ++ clients_text clients)) = simp append_assoc in
     let all : length (clients_text (client ∷ clients)) ≡ length (level_text client.level) + length (decimal client.sources ++ clients_text clients) + 2 = ap (λ (t : List ℕ). length t) text ∙ client-parts (level_text client.level) (decimal client.sources ++ clients_text clients) in
     omega (arith, digits, rest, name, tail, all)
-
-version-short : (version : Version) → length (version_text version) ≤ 6
-version-short First = omega arith
-version-short (Second width.Four) = omega arith
-version-short (Second width.Eight) = omega arith
-version-short (Second width.Sixteen) = omega arith
-version-short (Third width.Four profile.One) = omega arith
-version-short (Third width.Four profile.Two) = omega arith
-version-short (Third width.Eight profile.One) = omega arith
-version-short (Third width.Eight profile.Two) = omega arith
-version-short (Third width.Sixteen profile.One) = omega arith
-version-short (Third width.Sixteen profile.Two) = omega arith
 
 -- what stands before the LF
 abbrev front : Version → ℕ → ℕ → List ClientConfig → List ℕ

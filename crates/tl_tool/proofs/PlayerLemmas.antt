@@ -9,15 +9,16 @@ use Rattle.tl_beat.specs.Width.{IsWidth}
 use Rattle.tl_params.specs.declared.config.Config.{Config}
 use Rattle.tl_params.specs.Config.{config_fault}
 use Rattle.tl_schedule.specs.declared.header.Schedule.{Schedule}
-use Rattle.tl_schedule.specs.declared.header.Version.{Version}
-use Rattle.tl_schedule.specs.declared.header.Width as schedule_width
+use Rattle.tl_params.specs.declared.header.Version.{Version}
+use Rattle.tl_params.specs.declared.width.Width.{Width}
+use Rattle.tl_params.specs.Header.{profile_of, width_of}
 use Rattle.tl_schedule.specs.declared.line.EventFault.TheVariants.{F1}
 use Rattle.tl_schedule.specs.declared.line.Line.{Line}
 use Rattle.tl_schedule.specs.declared.line.Line.TheVariants as line_of
 use Rattle.tl_schedule.specs.EventLine.{SpellsLine, event_fault}
 use Rattle.tl_schedule.specs.HeaderReading.{Named, header_at}
-use Rattle.tl_schedule.specs.Schedule.{SpellsSchedule, profile_of, width_of}
-use Rattle.tl_schedule.proofs.HeaderLemmas.{read_spelled, spelled_read}
+use Rattle.tl_schedule.specs.Schedule.{SpellsSchedule}
+use Rattle.tl_schedule.proofs.Headers.{read_spelled, spelled_read}
 use Rattle.tl_world.specs.Headline.{IsGiven, AreTyped}
 use Rattle.tl_world.specs.Log.{Log, IsLog, after}
 use Rattle.tl_world.specs.Movable.{drained, next_delivery, with_delivery}
@@ -32,7 +33,7 @@ use Rattle.tl_tool.specs.declared.status.Status.TheVariants.{Clean, Broken}
 use Rattle.tl_tool.specs.Fault.{fault_text}
 use Rattle.tl_tool.specs.Judging.{Finishes, IsTotal, Judges, Stops}
 use Rattle.tl_tool.specs.Lines.{IsOpen}
-use Rattle.tl_tool.specs.Played.{HeadsSchedule, Played, PlayedAfter, Plays, deliveries_text, event_text, header_text, number_text, outcome_after, width_like}
+use Rattle.tl_tool.specs.Played.{HeadsSchedule, Played, PlayedAfter, Plays, deliveries_text, event_text, header_text, number_text, outcome_after}
 use Rattle.tl_tool.specs.Playing.{KnowsPlay, KnowsSchedule, Opens, PlaysLine, is_trace}
 use Rattle.tl_tool.specs.Stage.{Contained, Reaches}
 use Rattle.tl_tool.specs.Width.{bytes_of}
@@ -43,14 +44,14 @@ use Rattle.tl_tool.proofs.SaidLemmas.{open-fault, open-none, says-or-not, typed-
 -- ---- the header
 
 -- the first line is a header
-pub header-plays : (trace : Bool) (line : List ℕ) (version : Version) (wide : schedule_width.Width) (config : Config) (world : Contained (bytes_of (width_like wide))) → HeadsSchedule line version config → wide ≡ width_of version
+pub header-plays : (trace : Bool) (line : List ℕ) (version : Version) (wide : Width) (config : Config) (world : Contained (bytes_of wide)) → HeadsSchedule line version config → wide ≡ width_of version
     → Reaches config world [] → KnowsPlay trace world (line ∷ []) (header_text trace version config.clients.items)
 unfolding Played
 header-plays trace line version wide config world heads is reached = record {
   config = config;
   log = [];
   reached = reached;
-  before = λ more rest status played. inl (version, config, rest, heads, refl, subst (λ (x : schedule_width.Width). PlayedAfter {w = bytes_of (width_like x)} trace config 2 [] more rest status) is played);
+  before = λ more rest status played. inl (version, config, rest, heads, refl, subst (λ (x : Width). PlayedAfter {w = bytes_of x} trace config 2 [] more rest status) is played);
 }
 
 -- the first line is none
@@ -204,7 +205,7 @@ played-whole trace (line ∷ lines) = go (headed-or-not line)
   where
     go : IsHeaded line → (text : List ℕ) × (status : Status) × Played trace (line ∷ lines) text status
     go (inl (version, config, heads)) =
-        let wide = width_like (width_of version) in
+        let wide = width_of version in
         let (rest, status, played) = played-after {w = bytes_of wide} trace config 2 [] lines (given-first config (is_width_of wide) (header-fits line version config heads.spelled)) in
         (header_text trace version config.clients.items ++ rest, status, inl (version, config, rest, heads, refl, played))
     go (inr none) = (fault_text 1 Header, Broken, inr (none, refl, refl))

@@ -2,7 +2,7 @@
 use Rattle.std.proofs.Common.{ℕ, List, refl}
 use Rattle.tl_words.specs.declared.command.Command.{Command}
 use Rattle.tl_words.specs.declared.command.Command.TheVariants.{Decode, Monitor, Run}
-use Rattle.tl_words.specs.declared.command.Width.TheVariants.{Four, Eight, Sixteen}
+use Rattle.tl_params.specs.declared.width.Width.TheVariants.{Four, Eight, Sixteen}
 use Rattle.tl_tool.specs.declared.status.Status.{Status}
 use Rattle.tl_tool.specs.Told.{text_told}
 use Rattle.tl_tool.specs.Width.{bytes_of}

@@ -9,7 +9,8 @@ use crate::judge::Judge;
 use crate::opening::put_header;
 use crate::play::Stage;
 use std::alloc::{AllocError, Global};
-use tl_schedule::header::{Width, read_schedule};
+use tl_params::width::Width;
+use tl_schedule::header::read_schedule;
 use tl_schedule::line::EventFault;
 
 /// Plays the lines of a schedule: the header, and then what happens to a world of the clients that it

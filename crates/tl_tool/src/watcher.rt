@@ -15,7 +15,7 @@ use tl_beat::fault::LineFault;
 use tl_beat::read::read_line;
 use tl_monitor::fault::MonitorFault;
 use tl_monitor::monitor::Monitor;
-use tl_words::command::Width;
+use tl_params::width::Width;
 
 /// Judges the lines of a trace: the header, and then the beats of up to 16 links by a monitor.
 #[derive(Drop)]

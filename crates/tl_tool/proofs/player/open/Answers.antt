@@ -1,5 +1,5 @@
 use Rattle.std.proofs.Common.{sym, ◌∙◌}
-use Rattle.tl_schedule.specs.declared.header.Width.TheVariants.{Four, Eight, Sixteen}
+use Rattle.tl_params.specs.declared.width.Width.TheVariants.{Four, Eight, Sixteen}
 use Rattle.tl_tool.specs.Played.{header_text}
 use Rattle.tl_tool.specs.Playing.{is_trace}
 use Rattle.tl_tool.proofs.PlayerLemmas.{header-plays}

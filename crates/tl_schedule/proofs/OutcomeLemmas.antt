@@ -14,14 +14,14 @@ unfolding lane_digits
 one_more_byte x xs = refl
 
 -- before the first byte
-pub put-none : (bytes old : List ℕ) → old ≡ old ++ lane_digits (drop (length bytes - 0) bytes)
-put-none bytes old =
+pub append-none : (bytes old : List ℕ) → old ≡ old ++ lane_digits (drop (length bytes - 0) bytes)
+append-none bytes old =
     let past : drop (length bytes - 0) bytes ≡ [] = drop_all (length bytes - 0) bytes (omega arith) in
     rw (past, no_digits, append-nil) refl
 
-pub put-step : (i : ℕ) (bytes old out pair : List ℕ) → i < length bytes → pair ≡ digits 2 (get_or bytes (length bytes - 1 - i) 0)
+pub append-step : (i : ℕ) (bytes old out pair : List ℕ) → i < length bytes → pair ≡ digits 2 (get_or bytes (length bytes - 1 - i) 0)
     → out ≡ old ++ lane_digits (drop (length bytes - i) bytes) → out ++ pair ≡ old ++ lane_digits (drop (length bytes - (i + 1)) bytes)
-put-step i bytes old out pair lt two so_far =
+append-step i bytes old out pair lt two so_far =
     let at : length bytes - (i + 1) ≡ length bytes - 1 - i = omega arith in
     let after : length bytes - i ≡ suc (length bytes - 1 - i) = omega arith in
     let cut : drop (length bytes - 1 - i) bytes ≡ get_or bytes (length bytes - 1 - i) 0 ∷ drop (suc (length bytes - 1 - i)) bytes = drop-cons bytes (length bytes - 1 - i) 0 (omega arith) in

@@ -95,9 +95,9 @@ beats_end m count lines before was is says k counted =
     rw (says, number, ← append_assoc before was (clean_text (length k.trace))) (rw append-nil at (k.before [] (clean_text (length k.trace)) Clean (refl, refl)))
 
 -- what a monitor says of a line is what the judge says
-module _ {w : ℕ} (put : Monitor w → Watcher) (into : (m : Monitor w) (lines : List (List ℕ)) (text : List ℕ) → KnowsLines (put m) lines text → KnowsTrace m lines text)
-    (out : (m : Monitor w) (lines : List (List ℕ)) (text : List ℕ) → KnowsTrace m lines text → KnowsLines (put m) lines text) where
-  judges : (old new : Monitor w) (line was : List ℕ) (answer : Option Fault) → Watches old new line answer → Judges KnowsLines Judged (put old) (put new) line was was answer
+module _ {w : ℕ} (wrap : Monitor w → Watcher) (into : (m : Monitor w) (lines : List (List ℕ)) (text : List ℕ) → KnowsLines (wrap m) lines text → KnowsTrace m lines text)
+    (out : (m : Monitor w) (lines : List (List ℕ)) (text : List ℕ) → KnowsTrace m lines text → KnowsLines (wrap m) lines text) where
+  judges : (old new : Monitor w) (line was : List ℕ) (answer : Option Fault) → Watches old new line answer → Judges KnowsLines Judged (wrap old) (wrap new) line was was answer
   judges old new line was None watches = λ lines before known.
       let k = into old lines (before ++ was) known in
       let (link, beat, spells, good, knows) = watches k.levels k.profile k.trace k.known in
@@ -106,7 +106,7 @@ module _ {w : ℕ} (put : Monitor w → Watcher) (into : (m : Monitor w) (lines 
       let k = into old lines (before ++ was) known in
       beat_bad old lines before was line fault k (watches k.levels k.profile k.trace k.known)
 
-  pub watched : {E : Type 0} (old new : Monitor w) (line was : List ℕ) (r : Result (Option Fault) E) → IfOk r (Watches old new line) → IfOk r (Judges KnowsLines Judged (put old) (put new) line was was)
+  pub watched : {E : Type 0} (old new : Monitor w) (line was : List ℕ) (r : Result (Option Fault) E) → IfOk r (Watches old new line) → IfOk r (Judges KnowsLines Judged (wrap old) (wrap new) line was was)
   watched old new line was (Ok answer) watches = judges old new line was answer watches
   watched old new line was (Err e) watches = tt
 

@@ -114,15 +114,15 @@ lines-end : {w : ℕ} (trace : Bool) (world : Contained w) (lines : List (List �
 unfolding PlayedAfter
 lines-end trace world lines text k = rw (append-nil, append-nil) at (k.before [] [] Clean (refl, refl))
 
-module _ {w n : ℕ} (put : Contained w → Player n) (into : (m : Contained w) (lines : List (List ℕ)) (text : List ℕ) → KnowsSchedule (put m) lines text → KnowsPlay (is_trace n) m lines text)
-    (out : (m : Contained w) (lines : List (List ℕ)) (text : List ℕ) → KnowsPlay (is_trace n) m lines text → KnowsSchedule (put m) lines text) where
-  judges : (old new : Contained w) (line was is : List ℕ) (answer : Option Fault) → PlaysLine (is_trace n) old new line was is answer → Judges KnowsSchedule (Played (is_trace n)) (put old) (put new) line was is answer
+module _ {w n : ℕ} (wrap : Contained w → Player n) (into : (m : Contained w) (lines : List (List ℕ)) (text : List ℕ) → KnowsSchedule (wrap m) lines text → KnowsPlay (is_trace n) m lines text)
+    (out : (m : Contained w) (lines : List (List ℕ)) (text : List ℕ) → KnowsPlay (is_trace n) m lines text → KnowsSchedule (wrap m) lines text) where
+  judges : (old new : Contained w) (line was is : List ℕ) (answer : Option Fault) → PlaysLine (is_trace n) old new line was is answer → Judges KnowsSchedule (Played (is_trace n)) (wrap old) (wrap new) line was is answer
   judges old new line was is None plays = λ lines before known.
       out new (lines ++ line ∷ []) (before ++ is) (line-plays (is_trace n) old new lines before was is line (into old lines (before ++ was) known) plays)
   judges old new line was is (Some fault) (none, which, same) = λ lines before known.
       rw (which, same) (line-fails (is_trace n) old lines before was line (into old lines (before ++ was) known) none)
 
-  pub judged : {E : Type 0} (old new : Contained w) (line was is : List ℕ) (r : Result (Option Fault) E) → IfOk r (PlaysLine (is_trace n) old new line was is) → IfOk r (Judges KnowsSchedule (Played (is_trace n)) (put old) (put new) line was is)
+  pub judged : {E : Type 0} (old new : Contained w) (line was is : List ℕ) (r : Result (Option Fault) E) → IfOk r (PlaysLine (is_trace n) old new line was is) → IfOk r (Judges KnowsSchedule (Played (is_trace n)) (wrap old) (wrap new) line was is)
   judged old new line was is (Ok answer) plays = judges old new line was is answer plays
   judged old new line was is (Err e) plays = tt
 

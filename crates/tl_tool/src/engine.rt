@@ -11,7 +11,7 @@ ghost use Rattle.tl_tool.specs.declared.status.Status.{Status};
 
 use crate::judge::Judge;
 use crate::lines::Lines;
-use crate::put::put;
+use crate::output::write_all;
 use crate::status::{Status, ToolFault};
 use std::alloc::{AllocError, Global};
 use std::io::{Read, Write};
@@ -58,7 +58,7 @@ fn pass<J: Judge, W: Write>(
     ensures fault { IfErr result (λ fault. GivesUp lines.new.count fault ⊎ (fault ≡ ToolFault.Write)) }
 {
     let status = lines.feed(piece, out)?;
-    put(writer, out)?;
+    write_all(writer, out)?;
     out.clear();
     Ok(status)
 }
@@ -77,7 +77,7 @@ fn close<J: Judge, W: Write>(
     ensures fault { IfErr result (λ fault. GivesUp lines.new.count fault ⊎ (fault ≡ ToolFault.Write)) }
 {
     let status = lines.finish(out)?;
-    put(writer, out)?;
+    write_all(writer, out)?;
     Ok(status)
 }
 

@@ -5,7 +5,7 @@ ghost use Rattle.tl_tool.specs.Fault.{fault_text};
 ghost use Rattle.tl_tool.specs.Lines.{IsLine, IsOpen, LacksLf};
 ghost use Rattle.tl_tool.specs.Progress.{CountsLine, Feeds, FinishesInput, GivesUp, Progress, StopsAt};
 
-use crate::fault::{Fault, put_fault};
+use crate::fault::{Fault, append_fault};
 use crate::judge::Judge;
 use crate::status::{Status, ToolFault};
 use arrayvec::ArrayVec;
@@ -64,7 +64,7 @@ fn judge_line<J: Judge>(
             Ok(Status::Clean)
         }
         Some(fault) => {
-            put_fault(number, fault, out)?;
+            append_fault(number, fault, out)?;
             Ok(Status::Broken)
         }
     }
@@ -90,7 +90,7 @@ impl<J: Judge> Lines<J> {
         ensures fault { IfErr result (GivesUp self.now.count) }
     {
         let number = number_after(self.count)?;
-        put_fault(number, self.judge.open_fault(), out)?;
+        append_fault(number, self.judge.open_fault(), out)?;
         Ok(Status::Broken)
     }
 
@@ -149,7 +149,7 @@ impl<J: Judge> Lines<J> {
         match self.judge.finish(self.count, out)? {
             None => Ok(Status::Clean),
             Some(fault) => {
-                put_fault(number_after(self.count)?, fault, out)?;
+                append_fault(number_after(self.count)?, fault, out)?;
                 Ok(Status::Broken)
             }
         }

@@ -39,7 +39,7 @@ fn profile_word(profile: Profile) -> &'static str
 }
 
 /// Appends the version of a trace's header.
-fn put_version(version: Version, out: &mut Vec<u8>) -> Result<(), AllocError>
+fn append_version(version: Version, out: &mut Vec<u8>) -> Result<(), AllocError>
     ensures { OnOk result (out.new.items ≡ out.old.items ++ version_text version) }
 {
     match version {
@@ -68,7 +68,7 @@ fn level_word(level: Level) -> &'static str
 }
 
 /// Appends the levels of clients, each behind a space.
-fn put_levels(clients: &[ClientConfig], out: &mut Vec<u8>) -> Result<(), AllocError>
+fn append_levels(clients: &[ClientConfig], out: &mut Vec<u8>) -> Result<(), AllocError>
     ensures { OnOk result (out.new.items ≡ out.old.items ++ levels_text (map (λ client. client.level) clients.now)) }
 {
     for client in clients {
@@ -79,7 +79,7 @@ fn put_levels(clients: &[ClientConfig], out: &mut Vec<u8>) -> Result<(), AllocEr
 }
 
 /// Appends the header of a trace of these clients.
-fn put_trace_header(
+fn append_trace_header(
     version: Version,
     clients: &[ClientConfig],
     out: &mut Vec<u8>,
@@ -87,14 +87,14 @@ fn put_trace_header(
     ensures { OnOk result (out.new.items ≡ out.old.items ++ header_line version (map (λ client. client.level) clients.now)) }
 {
     out.extend_from_slice(b"tltrace ")?;
-    put_version(version, out)?;
-    put_levels(clients, out)?;
+    append_version(version, out)?;
+    append_levels(clients, out)?;
     out.push(b'\n')?;
     Ok(())
 }
 
 /// Appends the header of the trace, where one is to be written.
-pub fn put_header(
+pub fn append_header(
     trace: bool,
     version: Version,
     config: &Config,
@@ -103,7 +103,7 @@ pub fn put_header(
     ensures { OnOk result (out.new.items ≡ out.old.items ++ header_text trace version config.now.clients.items) }
 {
     if trace {
-        put_trace_header(version, config.clients.as_slice(), out)
+        append_trace_header(version, config.clients.as_slice(), out)
     } else {
         Ok(())
     }

@@ -10,7 +10,7 @@ use std::io::Write;
 
 /// Writes all of the bytes. A writer that fails or takes none of them is a `Write` fault, and a
 /// beginning of the bytes was written then.
-pub fn put<W: Write>(writer: &mut W, bytes: &[u8]) -> Result<(), ToolFault>
+pub fn write_all<W: Write>(writer: &mut W, bytes: &[u8]) -> Result<(), ToolFault>
     ensures ok { OnOk result (Appends (W.contents writer.old) (W.contents writer.new) bytes.now) }
     ensures err { OnErr result (AppendsPart (W.contents writer.old) (W.contents writer.new) bytes.now) }
     ensures fault { IfErr result (λ fault. fault ≡ ToolFault.Write) }
@@ -37,8 +37,8 @@ pub fn write_open_fault<W: Write>(name: &str, writer: &mut W) -> Result<(), Tool
     ensures err { OnErr result (AppendsPart (W.contents writer.old) (W.contents writer.new) (open_fault_text name.now)) }
     ensures fault { IfErr result (λ fault. fault ≡ ToolFault.Write) }
 {
-    put(writer, b"tltool: cannot open ")?;
-    put(writer, name.as_bytes())?;
-    put(writer, b"\n")?;
+    write_all(writer, b"tltool: cannot open ")?;
+    write_all(writer, name.as_bytes())?;
+    write_all(writer, b"\n")?;
     Ok(())
 }

@@ -19,7 +19,7 @@ use Rattle.tl_schedule.specs.Schedule.{IsSchedule, SpellsSchedule, clients_text,
 use Rattle.tl_schedule.specs.HeaderReading.{Named, byte_at, digit_at, number_at, client_of, client_at, clients_at, some_clients, named_at, header_at, named_by, GivesSchedule}
 use Rattle.tl_schedule.specs.Then.{◌>>=◌}
 use Rattle.tl_schedule.proofs.Options.{bind_some}
-use Rattle.tl_schedule.proofs.NumberLemmas.{number_taken, number_again}
+use Rattle.tl_schedule.proofs.Decimals.{number_taken, number_again}
 
 -- ---- what was read was spelled so
 

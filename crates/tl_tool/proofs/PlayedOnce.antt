@@ -16,9 +16,9 @@ use Rattle.tl_world.specs.Log.{Log}
 use Rattle.tl_tool.specs.declared.status.Status.{Status}
 use Rattle.tl_tool.specs.Played.{HeadsSchedule, Played, PlayedAfter, Plays, header_text}
 use Rattle.tl_tool.specs.Width.{bytes_of}
-use Rattle.tl_tool.proofs.OnceLemmas.{AreOne, is_width_of}
-use Rattle.tl_tool.proofs.PlayedLemmas.{drained-once}
-use Rattle.tl_tool.proofs.PlayerLemmas.{schedule_of}
+use Rattle.tl_tool.proofs.OneText.{AreOne, is_width_of}
+use Rattle.tl_tool.proofs.Played.{drained-once}
+use Rattle.tl_tool.proofs.Playing.{schedule_of}
 
 -- a line says one thing
 said-once : {w : ℕ} (line : List ℕ) (said other : Line w) → IsWidth w → SpellsLine line said → SpellsLine line other → said ≡ other

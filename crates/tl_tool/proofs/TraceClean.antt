@@ -52,12 +52,12 @@ use Rattle.tl_tool.specs.Lines.{lines_of}
 use Rattle.tl_tool.specs.Played.{HeadsSchedule, Played, PlayedAfter, Plays, deliveries_text, delivery_text, outcome_after}
 use Rattle.tl_tool.specs.Trace.{SpellsHeader, header_line, levels_text, trace_word}
 use Rattle.tl_tool.specs.Width.{bytes_of}
-use Rattle.tl_tool.proofs.LineLemmas.{lines_of-line}
-use Rattle.tl_tool.proofs.OnceLemmas.{is_width_of}
-use Rattle.tl_tool.proofs.PlayerLemmas.{given-first, header-fits}
-use Rattle.tl_tool.proofs.SaidLemmas.{ranged-spelled, typed-spelled}
+use Rattle.tl_tool.proofs.InputLines.{lines_of-line}
+use Rattle.tl_tool.proofs.OneText.{is_width_of}
+use Rattle.tl_tool.proofs.Playing.{given-first, header-fits}
+use Rattle.tl_tool.proofs.SaidLines.{ranged-spelled, typed-spelled}
 use Rattle.tl_tool.proofs.Unended.{lacks-beat, lacks-header}
-use Rattle.tl_tool.proofs.WritableLemmas.{delivered-writable, taken}
+use Rattle.tl_tool.proofs.Writable.{delivered-writable, taken}
 
 -- ---- the beats that a trace shows of what has happened, the newest first
 

@@ -1,5 +1,5 @@
 use Rattle.std.proofs.Common.{◌≡◌, ◌++◌, rules}
-use Rattle.tl_schedule.proofs.OutcomeLemmas.{append-none, append-step}
+use Rattle.tl_schedule.proofs.ByteDigits.{append-none, append-step}
 use Rattle.tl_schedule.proofs.outcome.append_bytes.Goals as goal
 
 pub loop-i-init : goal.loop-i-init

@@ -1,5 +1,5 @@
 use Rattle.std.proofs.lemmas.Result.{err_from_is_err_and}
-use Rattle.tl_tool.proofs.RunLemmas.{fails_unjudged, fails_closing}
+use Rattle.tl_tool.proofs.Runs.{fails_unjudged, fails_closing}
 use Rattle.tl_tool.proofs.engine.close.Goals as goal
 
 pub returns-in_err-status-clause-err : goal.returns-in_err-status-clause-err

@@ -1,7 +1,7 @@
 use Rattle.std.proofs.Common.{rules, take-add, ◌+◌}
 use Rattle.std.proofs.lemmas.List.{take_rest}
 use Rattle.std.proofs.KnownBytes.{Appends-trans, Appends-kept}
-use Rattle.tl_tool.proofs.PartLemmas.{part_of}
+use Rattle.tl_tool.proofs.Parts.{part_of}
 use Rattle.tl_tool.proofs.output.write_all.Goals as goal
 
 pub loop-done-preserved : goal.loop-done-preserved

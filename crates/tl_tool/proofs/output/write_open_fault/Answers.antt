@@ -1,7 +1,7 @@
 use Rattle.std.proofs.Common.{◌++◌, [], refl, codes}
 use Rattle.std.proofs.KnownBytes.{Appends-trans}
 use Rattle.std.proofs.lemmas.Result.{err_from_is_err_and}
-use Rattle.tl_tool.proofs.PartLemmas.{part_more, longer}
+use Rattle.tl_tool.proofs.Parts.{part_more, longer}
 use Rattle.tl_tool.proofs.output.write_open_fault.Goals as goal
 
 pub returns-in_err-write_all-clause-err : goal.returns-in_err-write_all-clause-err

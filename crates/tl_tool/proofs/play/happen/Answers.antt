@@ -1,7 +1,7 @@
 use Rattle.std.proofs.Common.{rules}
 use Rattle.std.specs.Prelude.{◌∷◌}
-use Rattle.tl_tool.proofs.WritableLemmas.{writable}
-use Rattle.tl_tool.proofs.PlayedLemmas.{happened}
+use Rattle.tl_tool.proofs.Writable.{writable}
+use Rattle.tl_tool.proofs.Played.{happened}
 use Rattle.tl_tool.proofs.play.happen.Goals as goal
 
 pub append_event-requires : goal.append_event-requires

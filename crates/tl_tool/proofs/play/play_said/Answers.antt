@@ -1,6 +1,6 @@
 use Rattle.std.proofs.Common.{sym}
 use Rattle.std.proofs.lemmas.List.{append-nil}
-use Rattle.tl_tool.proofs.PlayedLemmas.{drain-said, drain-told, event-said}
+use Rattle.tl_tool.proofs.Played.{drain-said, drain-told, event-said}
 use Rattle.tl_tool.proofs.play.play_said.Goals as goal
 
 pub returns-then-trace-clause-plays : goal.returns-then-trace-clause-plays

@@ -1,4 +1,4 @@
-use Rattle.tl_tool.proofs.SpelledLemmas.{text_a, text_b, text_c, text_d, text_e, long_a, long_b, long_c, long_d, long_e}
+use Rattle.tl_tool.proofs.BeatTexts.{text_a, text_b, text_c, text_d, text_e, long_a, long_b, long_c, long_d, long_e}
 use Rattle.tl_tool.proofs.text.append_beat.Goals as goal
 
 pub append_request-requires-clause-line : goal.append_request-requires-clause-line

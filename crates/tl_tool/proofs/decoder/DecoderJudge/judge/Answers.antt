@@ -1,5 +1,5 @@
 use Rattle.std.proofs.Common.{sym}
-use Rattle.tl_tool.proofs.DecodedLemmas.{good_line, bad_line}
+use Rattle.tl_tool.proofs.Decoded.{good_line, bad_line}
 use Rattle.tl_tool.proofs.decoder.DecoderJudge.judge.Goals as goal
 
 pub returns-in_ok-append_text-in-Ok : goal.returns-in_ok-append_text-in-Ok

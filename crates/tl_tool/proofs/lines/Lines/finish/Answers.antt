@@ -1,6 +1,6 @@
 use Rattle.std.proofs.Common.{rules, ◌≡◌, ◌++◌, ◌+◌}
 use Rattle.tl_tool.specs.Fault.{fault_text}
-use Rattle.tl_tool.proofs.ProgressLemmas.{empty_is, finishes_clean, finishes_broken, finishes_stopped}
+use Rattle.tl_tool.proofs.Progress.{empty_is, finishes_clean, finishes_broken, finishes_stopped}
 use Rattle.tl_tool.proofs.lines.Lines.finish.Goals as goal
 
 pub returns-then-not-is_empty-clause-finishes : goal.returns-then-not-is_empty-clause-finishes

@@ -1,5 +1,5 @@
 use Rattle.std.proofs.Common.{rules}
-use Rattle.tl_tool.proofs.JudgedLemmas.{header_missing, all_clean}
+use Rattle.tl_tool.proofs.Judged.{header_missing, all_clean}
 use Rattle.tl_tool.proofs.watcher.WatcherJudge.finish.Goals as goal
 
 pub returns-in-Waiting : goal.returns-in-Waiting

@@ -13,8 +13,8 @@ use Rattle.tl_tool.specs.Lines.{lines_of}
 use Rattle.tl_tool.specs.Parts.{AppendsPart}
 use Rattle.tl_tool.specs.Progress.{Progress, Feeds, FinishesInput}
 use Rattle.tl_tool.specs.Run.{Passes, FailsAfter, FailsAt, EndsAs}
-use Rattle.tl_tool.proofs.PartLemmas.{longer, part_more}
-use Rattle.tl_tool.proofs.ProgressLemmas.{all_lines}
+use Rattle.tl_tool.proofs.Parts.{longer, part_more}
+use Rattle.tl_tool.proofs.Progress.{all_lines}
 
 module _ {J : Type 0} (knows : J → List (List ℕ) → List ℕ → Type 0) (tells : List (List ℕ) → List ℕ → Status → Type 0) where
   same_text : (state : Lines J) (read before : List ℕ) → Progress knows state read before → Progress knows state read (before ++ [])

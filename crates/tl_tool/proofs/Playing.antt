@@ -37,9 +37,9 @@ use Rattle.tl_tool.specs.Played.{HeadsSchedule, Played, PlayedAfter, Plays, deli
 use Rattle.tl_tool.specs.Playing.{KnowsPlay, KnowsSchedule, Opens, PlaysLine, is_trace}
 use Rattle.tl_tool.specs.Stage.{Contained, Reaches}
 use Rattle.tl_tool.specs.Width.{bytes_of}
-use Rattle.tl_tool.proofs.OnceLemmas.{is_width_of}
-use Rattle.tl_tool.proofs.OpeningLemmas.{header-unopened}
-use Rattle.tl_tool.proofs.SaidLemmas.{open-fault, open-none, says-or-not, typed-spelled}
+use Rattle.tl_tool.proofs.OneText.{is_width_of}
+use Rattle.tl_tool.proofs.ShortHeaders.{header-unopened}
+use Rattle.tl_tool.proofs.SaidLines.{open-fault, open-none, says-or-not, typed-spelled}
 
 -- ---- the header
 

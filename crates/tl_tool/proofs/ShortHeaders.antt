@@ -15,7 +15,7 @@ use Rattle.tl_params.proofs.Headers.{level-short, version-short}
 use Rattle.tl_schedule.specs.Schedule.{clients_text, schedule_line, schedule_word}
 use Rattle.tl_tool.specs.Lines.{IsOpen}
 use Rattle.tl_tool.specs.Played.{HeadsSchedule}
-use Rattle.tl_tool.proofs.JudgedLemmas.{ends_in}
+use Rattle.tl_tool.proofs.Judged.{ends_in}
 
 decimal-short : (limit k n : ℕ) → limit < 10 ^ k → limit < 2 ^ 64 → 0 < k → is_from_to 1 limit n ≡ true → length (decimal n) ≤ k
 decimal-short limit k n few small some fits =

@@ -6,11 +6,11 @@ use Rattle.tl_params.specs.declared.width.Width.TheVariants.{Four, Eight, Sixtee
 use Rattle.tl_tool.specs.declared.status.Status.{Status}
 use Rattle.tl_tool.specs.Told.{text_told}
 use Rattle.tl_tool.specs.Width.{bytes_of}
-use Rattle.tl_tool.proofs.DecodedLemmas.{decodes, judged_line}
-use Rattle.tl_tool.proofs.JudgedLemmas.{judged_whole}
-use Rattle.tl_tool.proofs.OnceLemmas.{AreOne, decodes_once, is_width_of, judged_once}
+use Rattle.tl_tool.proofs.Decoded.{decodes, judged_line}
+use Rattle.tl_tool.proofs.Judged.{judged_whole}
+use Rattle.tl_tool.proofs.OneText.{AreOne, decodes_once, is_width_of, judged_once}
 use Rattle.tl_tool.proofs.PlayedOnce.{played-once}
-use Rattle.tl_tool.proofs.PlayerLemmas.{played-whole}
+use Rattle.tl_tool.proofs.Playing.{played-whole}
 
 pub told-once : (command : Command) (lines : List (List ℕ)) (text other : List ℕ) (status another : Status) → text_told command lines text status → text_told command lines other another → AreOne text other status another
 told-once (Decode width) = decodes_once (bytes_of width) 1 (is_width_of width)

@@ -35,7 +35,7 @@ use Rattle.tl_tool.specs.Lines.{IsOpen}
 use Rattle.tl_tool.specs.Trace.{levels_text, header_line, trace_word, SpellsHeader}
 use Rattle.tl_tool.specs.Watching.{KnowsLines, KnowsTrace, Watches}
 use Rattle.tl_tool.specs.Width.{bytes_of}
-use Rattle.tl_tool.proofs.DecodedLemmas.{judged_line, open_fault}
+use Rattle.tl_tool.proofs.Decoded.{judged_line, open_fault}
 use Rattle.tl_tool.proofs.Headers.{header_or_none}
 
 -- ---- the header

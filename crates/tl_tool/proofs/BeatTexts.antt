@@ -16,7 +16,7 @@ use Rattle.tl_beat.specs.Width.{IsWidth}
 use Rattle.tl_tool.specs.Cuts.{request_text, release_text, response_text, acknowledgement_text}
 use Rattle.tl_tool.specs.ParamNames.{a_param_name, b_param_name, c_param_name, d_param_name}
 use Rattle.tl_tool.specs.Text.{text_of}
-use Rattle.tl_tool.proofs.CutLemmas.{request_line, request_is, release_is, response_is, acknowledgement_is}
+use Rattle.tl_tool.proofs.Cuts.{request_line, request_is, release_is, response_is, acknowledgement_is}
 
 pub text_a : {w : ℕ} (line : List ℕ) (link : Link) (x : BeatA w) → IsWidth w → Spells line link (A x)
     → request_text (w / 4) line (a_name x.opcode) (a_param_name x.opcode x.param) ≡ text_of link (A x)

@@ -9,7 +9,7 @@ use std::io::{Read, Write};
 use std::process::ExitCode;
 use std::{fs, io};
 use tl_tool::command::Command;
-use tl_tool::put::put;
+use tl_tool::output::write_all;
 use tl_tool::status::{Status, ToolFault};
 use tl_tool::tool::run_tool;
 
@@ -105,8 +105,8 @@ fn tell<R: Read, W: Write>(
 ) -> Result<Status, ToolFault>
     ensures { IfOk result (Tells command name.now separator.now (R.remaining input.old) (R.remaining input.new) (W.contents output.old) (W.contents output.new)) }
 {
-    put(output, name.as_bytes())?;
-    put(output, separator)?;
+    write_all(output, name.as_bytes())?;
+    write_all(output, separator)?;
     run_tool(alloc, command, input, output)
 }
 

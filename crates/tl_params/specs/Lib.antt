@@ -1,4 +1,6 @@
 pub mod Config
+pub mod Header
+pub mod HeaderReading
 pub mod Names
 pub mod Param
 pub mod Range

@@ -3,6 +3,7 @@
 #![tactic(auto)]
 
 pub mod config;
+pub mod header;
 pub mod key;
 pub mod level;
 pub mod param;
@@ -11,3 +12,4 @@ pub mod profile;
 pub mod report;
 pub mod rule;
 mod sources;
+pub mod width;

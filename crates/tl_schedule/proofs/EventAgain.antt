@@ -23,7 +23,7 @@ use Rattle.tl_params.specs.Names.{arithmetic_name, grow_name, intent_name, logic
 use Rattle.tl_schedule.specs.EventLine.{Asked, Said, Get, Put, Part, Arith, Logic, Hint, Load, Store, Acquire, Whole, Release, Access, Deliver, AskedFits, Fits, asked_fields, asked_name, mask_digits, said_fields}
 use Rattle.tl_schedule.specs.EventReading.{ask_at}
 use Rattle.tl_schedule.specs.NameReading.{arithmetic_in, grow_in, intent_in, logical_in, prune_in}
-use Rattle.tl_schedule.proofs.AccessLemmas.{smaller_power}
+use Rattle.tl_schedule.proofs.AccessBytes.{smaller_power}
 use Rattle.tl_schedule.proofs.FieldLaws.{number_again, size_again, bytes_again, channel_again}
 
 -- ---- names

@@ -19,7 +19,8 @@ use Rattle.tl_schedule.specs.EventLine.{AreBytes, HasRoom}
 use Rattle.tl_schedule.specs.FieldReading.{with_rest, number_in, byte_of, pairs_in, bytes_in, at_most, size_in, before_fields, front, at_end, last}
 use Rattle.tl_schedule.specs.NameReading.{with_name}
 use Rattle.tl_schedule.specs.Then.{◌>>=◌}
-use Rattle.tl_schedule.proofs.Options.{bind_some, some_pair}
+use Rattle.tl_params.proofs.Options.{some_pair}
+use Rattle.tl_schedule.proofs.Options.{bind_some}
 
 some_is : {A : Type 0} {x y : A} → Some x ≡ Some y → x ≡ y
 some_is e = cc

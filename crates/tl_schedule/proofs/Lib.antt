@@ -1,11 +1,11 @@
 pub mod Options
-pub mod NumberLemmas
-pub mod HeaderLemmas
-pub mod FieldLemmas
+pub mod Decimals
+pub mod Headers
+pub mod Fields
 pub mod FieldLaws
-pub mod AccessLemmas
+pub mod AccessBytes
 pub mod EventMeant
 pub mod EventTaken
 pub mod EventAgain
 pub mod EventLaws
-pub mod OutcomeLemmas
+pub mod ByteDigits

@@ -75,10 +75,6 @@ last read fields = front read fields >>= λ a. at_end a.1 a.0
 
 -- ---- what a function returned is what reading gives
 
-abbrev pub GivesRest : {X : Type 0} → Option (X × Bor (List ℕ)) → Option (X × List ℕ) → Type 0
-GivesRest None read = read ≡ None
-GivesRest (Some x) read = read ≡ Some (x.0, x.1.now)
-
 abbrev pub Gives : {X : Type 0} → Option (X × Bor (List ℕ)) → Option (X × List (List ℕ)) → Type 0
 Gives None read = read ≡ None
 Gives (Some x) read = read ≡ Some (x.0, fields_behind x.1.now)

@@ -67,7 +67,7 @@ fn lanes<const W: usize>(size: u8, address: u32, beats: u8) -> u64
 }
 
 /// Writes the first bytes of an access from a lane on.
-fn put(payload: &mut [u8; 64], bytes: &[u8; 64], at: usize, end: usize)
+fn write_lanes(payload: &mut [u8; 64], bytes: &[u8; 64], at: usize, end: usize)
     requires order { at ≤ end }
     requires inside { end ≤ 64 }
     ensures { payload.new ≡ take at payload.old ++ (take (end - at) bytes.now ++ drop end payload.old) }
@@ -85,7 +85,7 @@ fn in_lanes<const W: usize>(size: u8, address: u32, bytes: [u8; 64]) -> [u8; 64]
         return bytes;
     }
     let mut payload = [0; 64];
-    put(&mut payload, &bytes, address as usize % W, W);
+    write_lanes(&mut payload, &bytes, address as usize % W, W);
     payload
 }
 

@@ -2,79 +2,21 @@
 
 ghost use Rattle.std.specs.Prelude.{◌≡◌, ◌≢◌, ◌≤◌, ◌++◌, List, ℕ, IfSome, MatchOption};
 ghost use Rattle.tl_params.specs.declared.config.ClientConfig.{ClientConfig};
-ghost use Rattle.tl_schedule.specs.declared.header.Version.{Version};
-ghost use Rattle.tl_schedule.specs.HeaderReading.{Gives, GivesClients, GivesSchedule, client_at, clients_at, decimal_from, digit_at, header_at, is_end, level_at, number_at, profile_at, space_at, starts_with_zero, version_at, width_at, within};
-ghost use Rattle.tl_schedule.specs.Schedule.{IsSchedule, SpellsSchedule, profile_of, schedule_word};
+ghost use Rattle.tl_params.specs.declared.header.Version.{Version};
+ghost use Rattle.tl_params.specs.Header.{profile_of};
+ghost use Rattle.tl_params.specs.HeaderReading.{Gives, GivesAll};
+ghost use Rattle.tl_schedule.specs.HeaderReading.{GivesSchedule, byte_at, client_at, clients_at, decimal_from, digit_at, header_at, number_at, starts_with_zero, within};
+ghost use Rattle.tl_schedule.specs.Schedule.{IsSchedule, SpellsSchedule, schedule_word};
 
 use arrayvec::ArrayVec;
 use tl_params::config::{ClientConfig, Config};
-use tl_params::level::Level;
-use tl_params::profile::Profile;
-
-/// The number of bytes that a beat holds.
-#[derive(Clone, Copy, Debug, PartialEq, Eq)]
-pub enum Width {
-    Four,
-    Eight,
-    Sixteen,
-}
-
-/// The version of a header. The first names neither the bytes of a beat nor the profile, which are
-/// 8 and the first then, and the second doesn't name the profile.
-#[derive(Clone, Copy, Debug, PartialEq, Eq)]
-pub enum Version {
-    First,
-    Second(Width),
-    Third(Width, Profile),
-}
+use tl_params::header::{Version, front_level, front_version, is_end};
 
 /// What the header of a schedule names.
 #[derive(Drop)]
 pub struct Schedule {
     pub version: Version,
     pub config: Config,
-}
-
-/// The width at the front, and what follows it.
-fn front_width(bytes: &[u8]) -> Option<(Width, &[u8])>
-    ensures { Gives result (width_at bytes.now) }
-{
-    match bytes {
-        [b'4', rest @ ..] => Some((Width::Four, rest)),
-        [b'8', rest @ ..] => Some((Width::Eight, rest)),
-        [b'1', b'6', rest @ ..] => Some((Width::Sixteen, rest)),
-        _ => None,
-    }
-}
-
-/// The profile at the front, behind a space, and what follows it.
-fn profile(bytes: &[u8]) -> Option<(Profile, &[u8])>
-    ensures { Gives result (profile_at bytes.now) }
-{
-    match bytes {
-        [b' ', b'1', rest @ ..] => Some((Profile::One, rest)),
-        [b' ', b'2', rest @ ..] => Some((Profile::Two, rest)),
-        _ => None,
-    }
-}
-
-/// The version at the front, with what it names, and what follows it.
-fn front_version(bytes: &[u8]) -> Option<(Version, &[u8])>
-    ensures { Gives result (version_at bytes.now) }
-{
-    match bytes {
-        [b'1', rest @ ..] => Some((Version::First, rest)),
-        [b'2', b' ', rest @ ..] => {
-            let (width, rest) = front_width(rest)?;
-            Some((Version::Second(width), rest))
-        }
-        [b'3', b' ', rest @ ..] => {
-            let (width, rest) = front_width(rest)?;
-            let (profile, rest) = profile(rest)?;
-            Some((Version::Third(width, profile), rest))
-        }
-        _ => None,
-    }
 }
 
 /// The decimal digit at the front, and what follows it.
@@ -128,24 +70,12 @@ fn number(bytes: &[u8], limit: u16) -> Option<(u16, &[u8])>
     digits(bytes, limit)
 }
 
-/// What follows a space.
-fn space(bytes: &[u8]) -> Option<&[u8]>
-    ensures { MatchOption result (space_at bytes.now ≡ None) (λ rest. space_at bytes.now ≡ Some rest.now) }
+/// What follows this byte.
+fn after(byte: u8, bytes: &[u8]) -> Option<&[u8]>
+    ensures { MatchOption result (byte_at byte bytes.now ≡ None) (λ rest. byte_at byte bytes.now ≡ Some rest.now) }
 {
     match bytes {
-        [b' ', rest @ ..] => Some(rest),
-        _ => None,
-    }
-}
-
-/// The level at the front, behind a space and before a colon, and what follows it.
-fn level(bytes: &[u8]) -> Option<(Level, &[u8])>
-    ensures { Gives result (level_at bytes.now) }
-{
-    match bytes {
-        [b' ', b'U', b'L', b':', rest @ ..] => Some((Level::UL, rest)),
-        [b' ', b'U', b'H', b':', rest @ ..] => Some((Level::UH, rest)),
-        [b' ', b'C', b':', rest @ ..] => Some((Level::C, rest)),
+        [c, rest @ ..] if *c == byte => Some(rest),
         _ => None,
     }
 }
@@ -154,8 +84,8 @@ fn level(bytes: &[u8]) -> Option<(Level, &[u8])>
 fn client(bytes: &[u8]) -> Option<(ClientConfig, &[u8])>
     ensures { Gives result (client_at bytes.now) }
 {
-    let (level, rest) = level(bytes)?;
-    let (sources, rest) = number(rest, 8)?;
+    let (level, rest) = front_level(bytes)?;
+    let (sources, rest) = number(after(b':', rest)?, 8)?;
     let client = ClientConfig {
         level,
         sources: sources as u8,
@@ -163,16 +93,9 @@ fn client(bytes: &[u8]) -> Option<(ClientConfig, &[u8])>
     Some((client, rest))
 }
 
-/// Whether nothing but the LF that ends a line is left.
-fn is_end(bytes: &[u8]) -> bool
-    ensures { result ≡ is_end bytes.now }
-{
-    matches!(bytes, [b'\n'])
-}
-
 /// The clients up to the LF that ends the line, at most 16.
 fn clients(bytes: &[u8]) -> Option<ArrayVec<ClientConfig, 16>>
-    ensures { GivesClients result (clients_at 16 bytes.now) }
+    ensures { GivesAll result (clients_at 16 bytes.now) }
 {
     let mut clients = ArrayVec::new();
     let mut rest = bytes;
@@ -193,38 +116,14 @@ fn after_word(line: &[u8]) -> Option<&[u8]>
     line.strip_prefix(b"tlsched ")
 }
 
-impl Version {
-    ghost use Rattle.tl_schedule.specs.Schedule.{profile_of, width_of};
-
-    /// The number of bytes that a beat holds.
-    pub fn width(self) -> Width
-        ensures { result ≡ width_of self }
-    {
-        match self {
-            Version::First => Width::Eight,
-            Version::Second(width) | Version::Third(width, _) => width,
-        }
-    }
-
-    /// The profile.
-    pub fn profile(self) -> Profile
-        ensures { result ≡ profile_of self }
-    {
-        match self {
-            Version::First | Version::Second(_) => Profile::One,
-            Version::Third(_, profile) => profile,
-        }
-    }
-}
-
 /// A whole header, from left to right.
 fn whole_header(line: &[u8]) -> Option<Schedule>
     ensures { GivesSchedule result (header_at line.now) }
 {
     let bytes = after_word(line)?;
     let (version, rest) = front_version(bytes)?;
-    let (blocks, rest) = number(space(rest)?, 1024)?;
-    let (trackers, rest) = number(space(rest)?, 8)?;
+    let (blocks, rest) = number(after(b' ', rest)?, 1024)?;
+    let (trackers, rest) = number(after(b' ', rest)?, 8)?;
     let clients = clients(rest)?;
     if clients.is_empty() {
         return None;

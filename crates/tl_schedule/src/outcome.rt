@@ -34,7 +34,7 @@ fn pair(byte: u8) -> [u8; 2]
 }
 
 /// Appends the digits of bytes, the last byte first.
-fn put_bytes(bytes: &[u8], out: &mut Vec<u8>) -> Result<(), AllocError>
+fn append_bytes(bytes: &[u8], out: &mut Vec<u8>) -> Result<(), AllocError>
     ensures { OnOk result (out.new.items ≡ out.old.items ++ lane_digits bytes.now) }
 {
     let count = bytes.len();
@@ -60,11 +60,11 @@ fn shown(size: u8, bytes: &[u8]) -> &[u8]
 }
 
 /// Appends the digits of the first `2^size` bytes.
-fn put_data(size: u8, bytes: &[u8], out: &mut Vec<u8>) -> Result<(), AllocError>
+fn append_data(size: u8, bytes: &[u8], out: &mut Vec<u8>) -> Result<(), AllocError>
     requires { length bytes.now ≤ 64 }
     ensures { OnOk result (out.new.items ≡ out.old.items ++ data_text size bytes.now) }
 {
-    put_bytes(shown(size, bytes), out)
+    append_bytes(shown(size, bytes), out)
 }
 
 fn busy_name(busy: Busy) -> &'static str
@@ -80,13 +80,13 @@ fn busy_name(busy: Busy) -> &'static str
 }
 
 /// Appends the answer to an operation.
-fn put_reply(size: u8, reply: Reply, out: &mut Vec<u8>) -> Result<(), AllocError>
+fn append_reply(size: u8, reply: Reply, out: &mut Vec<u8>) -> Result<(), AllocError>
     ensures { OnOk result (out.new.items ≡ out.old.items ++ reply_text size reply) }
 {
     match reply {
         Reply::Value(value) => {
             out.extend_from_slice(b"value ")?;
-            put_data(size, &value.to_le_bytes(), out)
+            append_data(size, &value.to_le_bytes(), out)
         }
         Reply::Stored => out.extend_from_slice(b"stored"),
         Reply::Miss => out.extend_from_slice(b"miss"),
@@ -112,7 +112,7 @@ fn perm_name(perm: Perm) -> &'static str
 }
 
 /// Appends how an operation ended.
-fn put_finish(finish: &Finish, out: &mut Vec<u8>) -> Result<(), AllocError>
+fn append_finish(finish: &Finish, out: &mut Vec<u8>) -> Result<(), AllocError>
     ensures { OnOk result (out.new.items ≡ out.old.items ++ finish_text finish.now) }
 {
     match finish {
@@ -120,7 +120,7 @@ fn put_finish(finish: &Finish, out: &mut Vec<u8>) -> Result<(), AllocError>
         Finish::Hint => out.extend_from_slice(b"hint"),
         Finish::Data(size, bytes) => {
             out.extend_from_slice(b"data ")?;
-            put_data(*size, bytes, out)
+            append_data(*size, bytes, out)
         }
         Finish::Granted(perm) => {
             out.extend_from_slice(b"granted ")?;
@@ -131,17 +131,21 @@ fn put_finish(finish: &Finish, out: &mut Vec<u8>) -> Result<(), AllocError>
 }
 
 /// Appends what stands behind a beat that ends an operation.
-fn put_done(source: u8, finish: &Finish, out: &mut Vec<u8>) -> Result<(), AllocError>
+fn append_done(source: u8, finish: &Finish, out: &mut Vec<u8>) -> Result<(), AllocError>
     ensures { OnOk result (out.new.items ≡ out.old.items ++ done_text source finish.now) }
 {
     out.extend_from_slice(b" done ")?;
     out.extend_from_slice(&pair(source))?;
     out.push(b' ')?;
-    put_finish(finish, out)
+    append_finish(finish, out)
 }
 
 /// Appends the line of a beat without its line feed.
-fn put_beat<const W: usize>(link: Link, beat: &Beat<W>, out: &mut Vec<u8>) -> Result<(), AllocError>
+fn append_beat<const W: usize>(
+    link: Link,
+    beat: &Beat<W>,
+    out: &mut Vec<u8>,
+) -> Result<(), AllocError>
     requires width { IsWidth W }
     requires writable { IsWritable beat.now }
     ensures { OnOk result (out.new.items ≡ out.old.items ++ spaced (fields_of link beat.now)) }
@@ -175,7 +179,7 @@ fn link_of<const W: usize>(event: &Event<W>) -> Link
 }
 
 /// Appends the text of what comes of an event.
-fn put_text<const W: usize>(
+fn append_text<const W: usize>(
     event: &Event<W>,
     outcome: &Outcome<W>,
     out: &mut Vec<u8>,
@@ -185,24 +189,24 @@ fn put_text<const W: usize>(
     ensures { OnOk result (out.new.items ≡ out.old.items ++ outcome_text event.now outcome.now) }
 {
     match outcome {
-        Outcome::Replied { reply } => put_reply(asked_size(event), *reply, out),
+        Outcome::Replied { reply } => append_reply(asked_size(event), *reply, out),
         Outcome::Empty => out.extend_from_slice(b"empty"),
         Outcome::Stalled => out.extend_from_slice(b"stalled"),
-        Outcome::Moved { beat } => put_beat(link_of(event), beat, out),
+        Outcome::Moved { beat } => append_beat(link_of(event), beat, out),
         Outcome::Done {
             beat,
             source,
             finish,
         } => {
-            put_beat(link_of(event), beat, out)?;
-            put_done(*source, finish, out)
+            append_beat(link_of(event), beat, out)?;
+            append_done(*source, finish, out)
         }
         Outcome::NoSuchClient => out.extend_from_slice(b"no client"),
     }
 }
 
 /// Appends the line of what comes of an event. A beat that was taken must have room in its line.
-pub fn put_outcome<const W: usize>(
+pub fn append_outcome<const W: usize>(
     event: &Event<W>,
     outcome: &Outcome<W>,
     out: &mut Vec<u8>,
@@ -211,13 +215,13 @@ pub fn put_outcome<const W: usize>(
     requires writable { HasLine outcome.now }
     ensures { OnOk result (out.new.items ≡ out.old.items ++ outcome_line event.now outcome.now) }
 {
-    put_text(event, outcome, out)?;
+    append_text(event, outcome, out)?;
     out.push(b'\n')?;
     Ok(())
 }
 
 /// Appends what a trace shows of an event: the line of the beat that was taken, if one was.
-pub fn put_trace<const W: usize>(
+pub fn append_trace<const W: usize>(
     event: &Event<W>,
     outcome: &Outcome<W>,
     out: &mut Vec<u8>,
@@ -235,7 +239,7 @@ pub fn put_trace<const W: usize>(
 }
 
 /// Appends `drained N`, behind the lines of N deliveries.
-pub fn put_drained(count: u64, out: &mut Vec<u8>) -> Result<(), AllocError>
+pub fn append_drained(count: u64, out: &mut Vec<u8>) -> Result<(), AllocError>
     ensures { OnOk result (out.new.items ≡ out.old.items ++ drained_line count) }
 {
     let mut digits = Buffer::new();

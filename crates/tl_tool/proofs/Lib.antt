@@ -1,20 +1,20 @@
 pub mod FirstLine
-pub mod LineLemmas
-pub mod PartLemmas
-pub mod ProgressLemmas
-pub mod RunLemmas
-pub mod DecodedLemmas
-pub mod CutLemmas
-pub mod SpelledLemmas
-pub mod HeaderLemmas
-pub mod JudgedLemmas
-pub mod OnceLemmas
-pub mod OpeningLemmas
-pub mod PlayedLemmas
+pub mod InputLines
+pub mod Parts
+pub mod Progress
+pub mod Runs
+pub mod Decoded
+pub mod Cuts
+pub mod BeatTexts
+pub mod Headers
+pub mod Judged
+pub mod OneText
+pub mod ShortHeaders
+pub mod Played
 mod PlayedOnce
-pub mod PlayerLemmas
-pub mod SaidLemmas
-pub mod WritableLemmas
-mod ToldLemmas
+pub mod Playing
+pub mod SaidLines
+pub mod Writable
+mod Told
 mod TraceClean
 mod Unended

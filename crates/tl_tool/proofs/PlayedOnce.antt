@@ -3,22 +3,22 @@ use Rattle.std.proofs.Common.{◌≡◌, ℕ, ◌+◌, Bool, List, [], ◌∷◌
 use Rattle.std.specs.Prelude.{Option, Some, None}
 use Rattle.tl_beat.specs.Width.{IsWidth}
 use Rattle.tl_params.specs.declared.config.Config.{Config}
-use Rattle.tl_schedule.specs.declared.header.Version.{Version}
+use Rattle.tl_params.specs.declared.header.Version.{Version}
 use Rattle.tl_schedule.specs.declared.line.Line.{Line}
 use Rattle.tl_schedule.specs.declared.line.Line.TheVariants as line_of
 use Rattle.tl_schedule.specs.EventLine.{SpellsLine}
 use Rattle.tl_schedule.specs.EventReading.{event_at}
 use Rattle.tl_schedule.specs.HeaderReading.{Named, header_at}
-use Rattle.tl_schedule.specs.Schedule.{width_of}
+use Rattle.tl_params.specs.Header.{width_of}
 use Rattle.tl_schedule.proofs.EventLaws.{said_read}
-use Rattle.tl_schedule.proofs.HeaderLemmas.{spelled_read}
+use Rattle.tl_schedule.proofs.Headers.{spelled_read}
 use Rattle.tl_world.specs.Log.{Log}
 use Rattle.tl_tool.specs.declared.status.Status.{Status}
-use Rattle.tl_tool.specs.Played.{HeadsSchedule, Played, PlayedAfter, Plays, header_text, width_like}
+use Rattle.tl_tool.specs.Played.{HeadsSchedule, Played, PlayedAfter, Plays, header_text}
 use Rattle.tl_tool.specs.Width.{bytes_of}
-use Rattle.tl_tool.proofs.OnceLemmas.{AreOne, is_width_of}
-use Rattle.tl_tool.proofs.PlayedLemmas.{drained-once}
-use Rattle.tl_tool.proofs.PlayerLemmas.{schedule_of}
+use Rattle.tl_tool.proofs.OneText.{AreOne, is_width_of}
+use Rattle.tl_tool.proofs.Played.{drained-once}
+use Rattle.tl_tool.proofs.Playing.{schedule_of}
 
 -- a line says one thing
 said-once : {w : ℕ} (line : List ℕ) (said other : Line w) → IsWidth w → SpellsLine line said → SpellsLine line other → said ≡ other
@@ -73,9 +73,9 @@ unfolding Played headed
 played-once trace [] text other status another d e = (d.0 ∙ sym e.0, d.1 ∙ sym e.1)
 played-once trace (line ∷ lines) text other status another (inl (version, config, rest, heads, is, d)) (inl (v, c, more, heads_so, so, e)) =
     let one : headed v c ≡ headed version config = heads-once line v version c config heads_so heads in
-    let wide = width_like (width_of version) in
+    let wide = width_of version in
     let same = played-after-once {w = bytes_of wide} trace config 2 [] lines rest more status another (is_width_of wide) d
-    (subst (λ (x : Headed). PlayedAfter {w = bytes_of (width_like (width_of x.0))} trace x.1 2 [] lines more another) one e) in
+    (subst (λ (x : Headed). PlayedAfter {w = bytes_of (width_of x.0)} trace x.1 2 [] lines more another) one e) in
     (is ∙ ap (λ (t : List ℕ). header_text trace version config.clients.items ++ t) same.0 ∙ sym (so ∙ ap (λ (x : Headed). header_text trace x.0 x.1.clients.items ++ more) one), same.1)
 played-once trace (line ∷ lines) text other status another (inl (version, config, rest, heads, is, d)) (inr (none, so, ends)) = absurd (none version config heads)
 played-once trace (line ∷ lines) text other status another (inr (none, is, ends)) (inl (version, config, rest, heads, so, e)) = absurd (none version config heads)

@@ -19,14 +19,13 @@ use Rattle.tl_rules.specs.Conformance.{Trace, broken_after, broken_at_level, bro
 use Rattle.tl_client.specs.End.{Terms}
 use Rattle.tl_manager.specs.Offer.{level_of}
 use Rattle.tl_manager.proofs.Placing.{limits}
-use Rattle.tl_schedule.specs.declared.header.Version.{Version}
-use Rattle.tl_schedule.specs.declared.header.Version.TheVariants as schedule
+use Rattle.tl_params.specs.declared.header.Version.{Version}
+use Rattle.tl_params.specs.Header.{version_text, width_of}
 use Rattle.tl_schedule.specs.declared.line.EventFault.{EventFault}
 use Rattle.tl_schedule.specs.declared.line.Line.{Line}
 use Rattle.tl_schedule.specs.declared.line.Line.TheVariants as line_of
 use Rattle.tl_schedule.specs.EventLine.{SpellsLine, event_fault}
 use Rattle.tl_schedule.specs.OutcomeLine.{trace_text}
-use Rattle.tl_schedule.specs.Schedule as schedule_header
 use Rattle.tl_world.specs.declared.event.Event.{Event}
 use Rattle.tl_world.specs.declared.event.Event.TheVariants.{Ask, Deliver}
 use Rattle.tl_world.specs.declared.event.Outcome.{Outcome}
@@ -43,7 +42,6 @@ use Rattle.tl_world.proofs.Flows.{asked-still, flows}
 use Rattle.tl_world.proofs.Goods.{level-terms}
 use Rattle.tl_world.proofs.Happened.{given-more}
 use Rattle.tl_world.proofs.Outstanding.{first-moved}
-use Rattle.tl_words.specs.declared.command.Width.{Width}
 use Rattle.tl_tool.specs.declared.fault.Fault.TheVariants.{Event as NoEvent}
 use Rattle.tl_tool.specs.declared.status.Status.{Status}
 use Rattle.tl_tool.specs.declared.status.Status.TheVariants.{Clean, Broken}
@@ -51,16 +49,15 @@ use Rattle.tl_tool.specs.Clean.{IsClean, IsCleanUpTo}
 use Rattle.tl_tool.specs.Fault.{fault_text}
 use Rattle.tl_tool.specs.Judged.{Judged, JudgedAfter, clean_text}
 use Rattle.tl_tool.specs.Lines.{lines_of}
-use Rattle.tl_tool.specs.Played.{HeadsSchedule, Played, PlayedAfter, Plays, deliveries_text, delivery_text, outcome_after, version_like, width_like}
-use Rattle.tl_tool.specs.Trace as header
-use Rattle.tl_tool.specs.Trace.{SpellsHeader, header_line, levels_text, trace_word, version_text}
+use Rattle.tl_tool.specs.Played.{HeadsSchedule, Played, PlayedAfter, Plays, deliveries_text, delivery_text, outcome_after}
+use Rattle.tl_tool.specs.Trace.{SpellsHeader, header_line, levels_text, trace_word}
 use Rattle.tl_tool.specs.Width.{bytes_of}
-use Rattle.tl_tool.proofs.LineLemmas.{lines_of-line}
-use Rattle.tl_tool.proofs.OnceLemmas.{is_width_of}
-use Rattle.tl_tool.proofs.PlayerLemmas.{given-first, header-fits}
-use Rattle.tl_tool.proofs.SaidLemmas.{ranged-spelled, typed-spelled}
+use Rattle.tl_tool.proofs.InputLines.{lines_of-line}
+use Rattle.tl_tool.proofs.OneText.{is_width_of}
+use Rattle.tl_tool.proofs.Playing.{given-first, header-fits}
+use Rattle.tl_tool.proofs.SaidLines.{ranged-spelled, typed-spelled}
 use Rattle.tl_tool.proofs.Unended.{lacks-beat, lacks-header}
-use Rattle.tl_tool.proofs.WritableLemmas.{delivered-writable, taken}
+use Rattle.tl_tool.proofs.Writable.{delivered-writable, taken}
 
 -- ---- the beats that a trace shows of what has happened, the newest first
 
@@ -271,39 +268,26 @@ clean-says levels p t (line ∷ lines) text (inl (link, x, spells, good, rest)) 
 clean-says levels p t (line ∷ lines) text (inr (fault, is, says, ends)) = absurd cc
 
 -- the header of the trace names what that of the schedule does
-abbrev wide : Version → Width
-wide version = width_like (schedule_header.width_of version)
-
-width-same : (version : Version) → header.width_of (version_like version) ≡ wide version
-width-same schedule.First = refl
-width-same (schedule.Second width) = refl
-width-same (schedule.Third width profile) = refl
-
-profile-same : (version : Version) → header.profile_of (version_like version) ≡ schedule_header.profile_of version
-profile-same schedule.First = refl
-profile-same (schedule.Second width) = refl
-profile-same (schedule.Third width profile) = refl
-
-trace-heads : (line : List ℕ) (version : Version) (config : Config) → HeadsSchedule line version config → SpellsHeader (header_line (version_like version) (levels_in config)) (wide version) config.profile (levels_in config)
+trace-heads : (line : List ℕ) (version : Version) (config : Config) → HeadsSchedule line version config → SpellsHeader (header_line version (levels_in config)) (width_of version) config.profile (levels_in config)
 trace-heads line version config heads =
     let counted = and_parts (nat_le 1 (length config.clients.items)) (nat_le (length config.clients.items) 16) heads.spelled.clients_fit in
     let same : length (levels_in config) ≡ length config.clients.items = length-map config.clients.items (λ client. client.level) in
     record {
-      version = version_like version;
+      version = version;
       is_line = refl;
-      of_width = width-same version;
-      of_profile = profile-same version ∙ sym heads.of_profile;
+      of_width = refl;
+      of_profile = sym heads.of_profile;
       so_many = (omega (arith, same, leb-true 1 (length config.clients.items) counted.0), omega (arith, same, leb-true (length config.clients.items) 16 counted.1));
     }
 
-headed-clean : (line : List ℕ) (version : Version) (config : Config) (trace verdict : List ℕ) → HeadsSchedule line version config → JudgedBehind {w = bytes_of (wide version)} config [] trace verdict
-    → IsClean (header_line (version_like version) (levels_in config) ++ trace)
+headed-clean : (line : List ℕ) (version : Version) (config : Config) (trace verdict : List ℕ) → HeadsSchedule line version config → JudgedBehind {w = bytes_of (width_of version)} config [] trace verdict
+    → IsClean (header_line version (levels_in config) ++ trace)
 unfolding Judged trace_of
 headed-clean line version config trace verdict heads judged =
-    let lines = lines_of-line (trace_word ++ version_text (version_like version) ++ levels_text (levels_in config)) trace (lacks-header (version_like version) (levels_in config)) in
+    let lines = lines_of-line (trace_word ++ version_text version ++ levels_text (levels_in config)) trace (lacks-header version (levels_in config)) in
     let all : 0 + length (lines_of trace) ≡ length (lines_of trace) = omega arith in
     let says : verdict ≡ clean_text (length (lines_of trace)) = clean-says (levels_in config) config.profile [] (lines_of trace) verdict judged ∙ ap clean_text all in
-    (length (lines_of trace), ap (λ (l : List (List ℕ)). length l) lines ∙ omega arith, rw lines (inl (wide version, config.profile, levels_in config, trace-heads line version config heads, rw says at judged)))
+    (length (lines_of trace), ap (λ (l : List (List ℕ)). length l) lines ∙ omega arith, rw lines (inl (width_of version, config.profile, levels_in config, trace-heads line version config heads, rw says at judged)))
 
 whole-clean : (top rest trace : List ℕ) (status : Status) → IsClean (top ++ trace) → Ends rest trace status → IsCleanUpTo (top ++ rest) status
 whole-clean top rest trace Clean clean is = rw is clean
@@ -314,6 +298,6 @@ pub trace-clean : (lines : List (List ℕ)) (text : List ℕ) (status : Status) 
 unfolding Played AreRanged
 trace-clean [] text status (is, ends) = rw ends (inl is)
 trace-clean (line ∷ lines) text status (inl (version, config, rest, heads, is, played)) =
-    let shows = shows-trace {w = bytes_of (wide version)} config 2 [] lines rest status (given-first config (is_width_of (wide version)) (header-fits line version config heads.spelled)) tt played in
-    rw is (whole-clean (header_line (version_like version) (levels_in config)) rest shows.trace status (headed-clean line version config shows.trace shows.verdict heads shows.judged) shows.ends)
+    let shows = shows-trace {w = bytes_of (width_of version)} config 2 [] lines rest status (given-first config (is_width_of (width_of version)) (header-fits line version config heads.spelled)) tt played in
+    rw is (whole-clean (header_line version (levels_in config)) rest shows.trace status (headed-clean line version config shows.trace shows.verdict heads shows.judged) shows.ends)
 trace-clean (line ∷ lines) text status (inr (none, is, ends)) = rw ends (inl is)

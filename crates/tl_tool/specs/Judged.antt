@@ -7,7 +7,7 @@ use Rattle.tl_beat.specs.Line.{Spells, line_fault}
 use Rattle.tl_params.specs.declared.level.Level.{Level}
 use Rattle.tl_params.specs.declared.profile.Profile.{Profile}
 use Rattle.tl_rules.specs.Conformance.{Trace, broken_on_link}
-use Rattle.tl_words.specs.declared.command.Width.{Width}
+use Rattle.tl_params.specs.declared.width.Width.{Width}
 use Rattle.tl_tool.specs.declared.fault.Fault.{Fault}
 use Rattle.tl_tool.specs.declared.fault.Fault.TheVariants.{Header, Line, Rule as Breaks, Event}
 use Rattle.tl_tool.specs.declared.status.Status.{Status}

@@ -4,17 +4,13 @@ use Rattle.tl_beat.specs.declared.beat.Link.{Link}
 use Rattle.tl_beat.specs.declared.opcode.Channel.{Channel}
 use Rattle.tl_params.specs.declared.config.ClientConfig.{ClientConfig}
 use Rattle.tl_params.specs.declared.config.Config.{Config}
-use Rattle.tl_schedule.specs.declared.header.Version.{Version}
-use Rattle.tl_schedule.specs.declared.header.Version.TheVariants as schedule
-use Rattle.tl_schedule.specs.declared.header.Width.TheVariants as schedule_width
-use Rattle.tl_schedule.specs.declared.header.Width as schedule_width_type
+use Rattle.tl_params.specs.declared.header.Version.{Version}
+use Rattle.tl_params.specs.Header.{profile_of, width_of}
 use Rattle.tl_schedule.specs.declared.line.Line.{Line}
 use Rattle.tl_schedule.specs.declared.line.Line.TheVariants as line_of
 use Rattle.tl_schedule.specs.EventLine.{SpellsLine, event_fault}
 use Rattle.tl_schedule.specs.OutcomeLine.{drained_line, outcome_line, trace_text}
-use Rattle.tl_schedule.specs.Schedule.{SpellsSchedule, profile_of, width_of}
-use Rattle.tl_words.specs.declared.command.Width.{Width}
-use Rattle.tl_words.specs.declared.command.Width.TheVariants as width
+use Rattle.tl_schedule.specs.Schedule.{SpellsSchedule}
 use Rattle.tl_world.specs.declared.event.Event.{Event}
 use Rattle.tl_world.specs.declared.event.Event.TheVariants.{Deliver}
 use Rattle.tl_world.specs.declared.event.Outcome.{Outcome}
@@ -26,7 +22,6 @@ use Rattle.tl_tool.specs.declared.fault.Fault.TheVariants.{Header, Event as NoEv
 use Rattle.tl_tool.specs.declared.status.Status.{Status}
 use Rattle.tl_tool.specs.declared.status.Status.TheVariants.{Clean, Broken}
 use Rattle.tl_tool.specs.Fault.{fault_text}
-use Rattle.tl_tool.specs.Trace as trace_header
 use Rattle.tl_tool.specs.Trace.{header_line}
 use Rattle.tl_tool.specs.Width.{bytes_of}
 
@@ -60,20 +55,10 @@ number_text true n = []
 
 -- ---- the header of the trace
 
-abbrev pub width_like : schedule_width_type.Width → Width
-width_like schedule_width.Four = width.Four
-width_like schedule_width.Eight = width.Eight
-width_like schedule_width.Sixteen = width.Sixteen
-
--- a trace's header has the version of the schedule's
-abbrev pub version_like : Version → trace_header.Version
-version_like schedule.First = trace_header.First
-version_like (schedule.Second width) = trace_header.Second (width_like width)
-version_like (schedule.Third width profile) = trace_header.Third (width_like width) profile
-
+-- it has the version of the schedule's
 abbrev pub header_text : Bool → Version → List ClientConfig → List ℕ
 header_text false version clients = []
-header_text true version clients = header_line (version_like version) (map (λ client. client.level) clients)
+header_text true version clients = header_line version (map (λ client. client.level) clients)
 
 -- ---- the lines
 
@@ -104,5 +89,5 @@ unfoldable pub Played : Bool → List (List ℕ) → List ℕ → Status → Typ
 Played trace [] text status = (text ≡ fault_text 1 Header) × (status ≡ Broken)
 Played trace (line ∷ lines) text status =
     ((version : Version) × (config : Config) × (rest : List ℕ) × HeadsSchedule line version config × (text ≡ header_text trace version config.clients.items ++ rest)
-    × PlayedAfter {w = bytes_of (width_like (width_of version))} trace config 2 [] lines rest status)
+    × PlayedAfter {w = bytes_of (width_of version)} trace config 2 [] lines rest status)
     ⊎ (((version : Version) (config : Config) → ¬ HeadsSchedule line version config) × (text ≡ fault_text 1 Header) × (status ≡ Broken))

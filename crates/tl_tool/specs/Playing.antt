@@ -1,7 +1,7 @@
 -- What a judge of schedules knows.
 use Rattle.std.specs.Prelude.{◌≡◌, ℕ, ◌+◌, Bool, ◌==◌, List, [], ◌∷◌, ◌++◌, length, Option, Some, None}
 use Rattle.tl_params.specs.declared.config.Config.{Config}
-use Rattle.tl_schedule.specs.declared.header.Version.{Version}
+use Rattle.tl_params.specs.declared.header.Version.{Version}
 use Rattle.tl_schedule.specs.declared.line.Line.{Line}
 use Rattle.tl_schedule.specs.EventLine.{SpellsLine, event_fault}
 use Rattle.tl_world.specs.declared.event.Event.{Event}

@@ -19,11 +19,15 @@ ended_lines bytes = count_by (λ b. b == 10) bytes
 abbrev pub AreWhole : List ℕ → Type 0
 AreWhole bytes = (bytes ≡ []) ⊎ ((front : List ℕ) × (bytes ≡ front ++ 10 ∷ []))
 
+-- how many lines have been judged
+abbrev pub lines_judged : {J : Type 0} → Lines J → ℕ
+lines_judged state = state.count
+
 -- after these bytes, none of whose lines was at fault, this text has been appended
 pub record Progress {J : Type 0} (knows : J → List (List ℕ) → List ℕ → Type 0) (state : Lines J) (read text : List ℕ) : Type 0 where
   pub lines : List (List ℕ)
   pub known : knows state.judge lines text
-  pub counted : state.count ≡ length lines
+  pub counted : lines_judged state ≡ length lines
   -- whatever follows continues the line that has begun
   pub cut : (more : List ℕ) → lines_of (read ++ more) ≡ lines ++ lines_of (state.begun.items ++ more)
   pub unended : LacksLf state.begun.items

@@ -14,7 +14,7 @@ use Rattle.tl_tool.specs.declared.watcher.Watcher.{Watcher}
 use Rattle.tl_tool.specs.declared.watcher.Watcher.TheVariants.{Waiting, Four, Eight, Sixteen}
 use Rattle.tl_tool.specs.Judged.{IsAtFault, Judged, JudgedAfter}
 use Rattle.tl_tool.specs.Trace.{SpellsHeader}
-use Rattle.tl_words.specs.declared.command.Width.{Width}
+use Rattle.tl_params.specs.declared.width.Width.{Width}
 
 -- what a monitor that knows a trace says of the next line: the line spells a beat that breaks no rule,
 -- and the monitor knows the longer trace, or the line is at fault

@@ -1,7 +1,7 @@
 -- The width of a beat as a number.
 use Rattle.std.specs.Prelude.{ℕ}
-use Rattle.tl_words.specs.declared.command.Width.{Width}
-use Rattle.tl_words.specs.declared.command.Width.TheVariants.{Four, Eight, Sixteen}
+use Rattle.tl_params.specs.declared.width.Width.{Width}
+use Rattle.tl_params.specs.declared.width.Width.TheVariants.{Four, Eight, Sixteen}
 
 -- the bytes of a beat
 abbrev pub bytes_of : Width → ℕ

@@ -5,7 +5,7 @@ ghost use Rattle.tl_tool.specs.Decoded.{DecodesBefore, DecodesTo, is_width};
 
 use crate::fault::Fault;
 use crate::judge::Judge;
-use crate::text::put_text;
+use crate::text::append_text;
 use std::alloc::AllocError;
 use tl_beat::fault::LineFault;
 use tl_beat::read::read_line;
@@ -25,7 +25,7 @@ impl<const W: usize> Judge for Decoder<W> {
     fn judge(&mut self, line: &[u8], out: &mut Vec<u8>) -> Result<Option<Fault>, AllocError> {
         match read_line::<W>(line) {
             Ok((_, beat)) => {
-                put_text(line, &beat, out)?;
+                append_text(line, &beat, out)?;
                 Ok(None)
             }
             Err(fault) => Ok(Some(Fault::Line(fault))),

@@ -5,13 +5,13 @@ ghost use Rattle.std.specs.Io.KnownBytes.{Appends, Consumes, IsAtEnd, Keeps};
 ghost use Rattle.tl_tool.specs.Judging.{IsTotal};
 ghost use Rattle.tl_tool.specs.Lines.{lines_of};
 ghost use Rattle.tl_tool.specs.Parts.{AppendsPart};
-ghost use Rattle.tl_tool.specs.Progress.{FinishesInput, GivesUp, Progress};
+ghost use Rattle.tl_tool.specs.Progress.{FinishesInput, GivesUp, Progress, lines_judged};
 ghost use Rattle.tl_tool.specs.Run.{FailsAfter, FailsAt, Passes, RunsTo};
 ghost use Rattle.tl_tool.specs.declared.status.Status.{Status};
 
 use crate::judge::Judge;
 use crate::lines::Lines;
-use crate::put::put;
+use crate::output::write_all;
 use crate::status::{Status, ToolFault};
 use std::alloc::{AllocError, Global};
 use std::io::{Read, Write};
@@ -55,10 +55,10 @@ fn pass<J: Judge, W: Write>(
     ensures ok { IfOk result (λ status. (said : List ℕ) × Appends (W.contents writer.old) (W.contents writer.new) said
         × Passes J.knows J.tells lines.old lines.new piece.now said status) }
     ensures err { OnErr result (FailsAfter J.knows J.tells lines.old piece.now (W.contents writer.old) (W.contents writer.new)) }
-    ensures fault { IfErr result (λ fault. GivesUp lines.new.count fault ⊎ (fault ≡ ToolFault.Write)) }
+    ensures fault { IfErr result (λ fault. GivesUp (lines_judged lines.new) fault ⊎ (fault ≡ ToolFault.Write)) }
 {
     let status = lines.feed(piece, out)?;
-    put(writer, out)?;
+    write_all(writer, out)?;
     out.clear();
     Ok(status)
 }
@@ -74,10 +74,10 @@ fn close<J: Judge, W: Write>(
     ensures ok { IfOk result (λ status. (said : List ℕ) × Appends (W.contents writer.old) (W.contents writer.new) said
         × FinishesInput J.knows J.tells lines.old [] said status) }
     ensures err { OnErr result (FailsAfter J.knows J.tells lines.old [] (W.contents writer.old) (W.contents writer.new)) }
-    ensures fault { IfErr result (λ fault. GivesUp lines.new.count fault ⊎ (fault ≡ ToolFault.Write)) }
+    ensures fault { IfErr result (λ fault. GivesUp (lines_judged lines.new) fault ⊎ (fault ≡ ToolFault.Write)) }
 {
     let status = lines.finish(out)?;
-    put(writer, out)?;
+    write_all(writer, out)?;
     Ok(status)
 }
 

@@ -39,7 +39,7 @@ impl Fault {
 
 #[tactic(auto, unfolding(crate::specs::Fault::fault_text))]
 /// Appends `line N X`, where line N is at fault for X.
-pub fn put_fault(number: u64, fault: Fault, out: &mut Vec<u8>) -> Result<(), AllocError>
+pub fn append_fault(number: u64, fault: Fault, out: &mut Vec<u8>) -> Result<(), AllocError>
     ensures { OnOk result (out.new.items ≡ out.old.items ++ fault_text number fault) }
 {
     let mut digits = Buffer::new();

@@ -3,14 +3,16 @@
 ghost use Rattle.std.specs.Prelude.{◌≡◌, ◌≢◌, ◌++◌, List, ℕ, IfSome, MatchOption};
 ghost use Rattle.tl_params.specs.declared.level.Level.{Level};
 ghost use Rattle.tl_params.specs.declared.profile.Profile.{Profile};
+ghost use Rattle.tl_params.specs.declared.width.Width.{Width};
+ghost use Rattle.tl_params.specs.HeaderReading.{GivesAll};
 ghost use Rattle.tl_tool.specs.Trace.{IsHeader, SpellsHeader, trace_word};
-ghost use Rattle.tl_tool.specs.TraceReading.{Gives, GivesHeader, GivesLevels, header_at, is_end, level_at, levels_at, profile_at, version_at, width_at};
-ghost use Rattle.tl_words.specs.declared.command.Width.{Width};
+ghost use Rattle.tl_tool.specs.TraceReading.{GivesHeader, header_at, levels_at};
 
 use arrayvec::ArrayVec;
+use tl_params::header::{front_level, front_version, is_end};
+use tl_params::width::Width;
 use tl_rules::level::Level;
 use tl_rules::profile::Profile;
-use tl_words::command::Width;
 
 /// What the header of a trace names: the bytes of a beat, the profile, and the levels of the links
 /// from link 0 on.
@@ -21,75 +23,14 @@ pub struct Header {
     pub levels: ArrayVec<Level, 16>,
 }
 
-/// The width at the front, and what follows it.
-fn width(bytes: &[u8]) -> Option<(Width, &[u8])>
-    ensures { Gives result (width_at bytes.now) }
-{
-    match bytes {
-        [b'4', rest @ ..] => Some((Width::Four, rest)),
-        [b'8', rest @ ..] => Some((Width::Eight, rest)),
-        [b'1', b'6', rest @ ..] => Some((Width::Sixteen, rest)),
-        _ => None,
-    }
-}
-
-/// The profile at the front, behind a space, and what follows it.
-fn profile(bytes: &[u8]) -> Option<(Profile, &[u8])>
-    ensures { Gives result (profile_at bytes.now) }
-{
-    match bytes {
-        [b' ', b'1', rest @ ..] => Some((Profile::One, rest)),
-        [b' ', b'2', rest @ ..] => Some((Profile::Two, rest)),
-        _ => None,
-    }
-}
-
-/// The version at the front with what it names, and the levels that follow.
-fn version(bytes: &[u8]) -> Option<((Width, Profile), &[u8])>
-    ensures { Gives result (version_at bytes.now) }
-{
-    match bytes {
-        [b'1', rest @ ..] => Some(((Width::Eight, Profile::One), rest)),
-        [b'2', b' ', rest @ ..] => {
-            let (width, rest) = width(rest)?;
-            Some(((width, Profile::One), rest))
-        }
-        [b'3', b' ', rest @ ..] => {
-            let (width, rest) = width(rest)?;
-            let (profile, rest) = profile(rest)?;
-            Some(((width, profile), rest))
-        }
-        _ => None,
-    }
-}
-
-/// The level at the front, behind a space, and what follows it.
-fn level(bytes: &[u8]) -> Option<(Level, &[u8])>
-    ensures { Gives result (level_at bytes.now) }
-{
-    match bytes {
-        [b' ', b'U', b'L', rest @ ..] => Some((Level::UL, rest)),
-        [b' ', b'U', b'H', rest @ ..] => Some((Level::UH, rest)),
-        [b' ', b'C', rest @ ..] => Some((Level::C, rest)),
-        _ => None,
-    }
-}
-
-/// Whether nothing but the LF that ends a line is left.
-fn is_end(bytes: &[u8]) -> bool
-    ensures { result ≡ is_end bytes.now }
-{
-    matches!(bytes, [b'\n'])
-}
-
 /// The levels up to the LF that ends the line, at most 16.
 fn levels(bytes: &[u8]) -> Option<ArrayVec<Level, 16>>
-    ensures { GivesLevels result (levels_at 16 bytes.now) }
+    ensures { GivesAll result (levels_at 16 bytes.now) }
 {
     let mut levels = ArrayVec::new();
     let mut rest = bytes;
     while !is_end(rest) {
-        let (level, after) = level(rest)?;
+        let (level, after) = front_level(rest)?;
         if levels.try_push(level).is_err() {
             return None;
         }
@@ -110,14 +51,14 @@ fn whole_header(line: &[u8]) -> Option<Header>
     ensures { GivesHeader result (header_at line.now) }
 {
     let bytes = after_word(line)?;
-    let ((width, profile), rest) = version(bytes)?;
+    let (version, rest) = front_version(bytes)?;
     let levels = levels(rest)?;
     if levels.is_empty() {
         return None;
     }
     Some(Header {
-        width,
-        profile,
+        width: version.width(),
+        profile: version.profile(),
         levels,
     })
 }

@@ -3,9 +3,9 @@
 ghost use Rattle.std.specs.Prelude.{◌≡◌, ◌+◌, ◌++◌, [], ◌≤◌, ◌<◌, ◌^◌, ◌-◌, ℕ, List, IfOk, IfErr, MatchOption, length};
 ghost use Rattle.tl_tool.specs.Fault.{fault_text};
 ghost use Rattle.tl_tool.specs.Lines.{IsLine, IsOpen, LacksLf};
-ghost use Rattle.tl_tool.specs.Progress.{CountsLine, Feeds, FinishesInput, GivesUp, Progress, StopsAt};
+ghost use Rattle.tl_tool.specs.Progress.{CountsLine, Feeds, FinishesInput, GivesUp, Progress, StopsAt, lines_judged};
 
-use crate::fault::{Fault, put_fault};
+use crate::fault::{Fault, append_fault};
 use crate::judge::Judge;
 use crate::status::{Status, ToolFault};
 use arrayvec::ArrayVec;
@@ -16,9 +16,9 @@ use std::alloc::AllocError;
 /// hasn't come.
 #[derive(Drop)]
 pub struct Lines<J> {
-    pub judge: J,
-    pub count: u64,
-    pub begun: ArrayVec<u8, 256>,
+    judge: J,
+    count: u64,
+    begun: ArrayVec<u8, 256>,
 }
 
 impl From<AllocError> for ToolFault {
@@ -64,7 +64,7 @@ fn judge_line<J: Judge>(
             Ok(Status::Clean)
         }
         Some(fault) => {
-            put_fault(number, fault, out)?;
+            append_fault(number, fault, out)?;
             Ok(Status::Broken)
         }
     }
@@ -87,10 +87,10 @@ impl<J: Judge> Lines<J> {
         ensures broken { IfOk result (λ status. status ≡ Status.Broken) }
         ensures stops { IfOk result (λ _. (line : List ℕ) → IsOpen line → StopsAt J.knows J.tells self.now.judge self.now.count line out.old.items out.new.items) }
         ensures says { IfOk result (λ _. (fault : Fault) × (out.new.items ≡ out.old.items ++ fault_text (self.now.count + 1) fault)) }
-        ensures fault { IfErr result (GivesUp self.now.count) }
+        ensures fault { IfErr result (GivesUp (lines_judged self.now)) }
     {
         let number = number_after(self.count)?;
-        put_fault(number, self.judge.open_fault(), out)?;
+        append_fault(number, self.judge.open_fault(), out)?;
         Ok(Status::Broken)
     }
 
@@ -98,7 +98,7 @@ impl<J: Judge> Lines<J> {
     fn take_line(&mut self, line: &[u8], out: &mut Vec<u8>) -> Result<Status, ToolFault>
         requires { IsLine line.now }
         ensures feeds { IfOk result (Feeds J.knows J.tells self.old self.new line.now out.old.items out.new.items) }
-        ensures fault { IfErr result (GivesUp self.new.count) }
+        ensures fault { IfErr result (GivesUp (lines_judged self.new)) }
     {
         if self.begun.is_empty() && line.len() <= 256 {
             return judge_line(&mut self.judge, &mut self.count, line, out);
@@ -115,7 +115,7 @@ impl<J: Judge> Lines<J> {
     fn keep(&mut self, rest: &[u8], out: &mut Vec<u8>) -> Result<Status, ToolFault>
         requires { LacksLf rest.now }
         ensures feeds { IfOk result (Feeds J.knows J.tells self.old self.new rest.now out.old.items out.new.items) }
-        ensures fault { IfErr result (GivesUp self.new.count) }
+        ensures fault { IfErr result (GivesUp (lines_judged self.new)) }
     {
         if self.begun.try_extend_from_slice(rest).is_err() || self.begun.is_full() {
             return self.stop(out);
@@ -126,7 +126,7 @@ impl<J: Judge> Lines<J> {
     /// Judges the lines that end in a piece of the input, and keeps the beginning of the next.
     pub fn feed(&mut self, piece: &[u8], out: &mut Vec<u8>) -> Result<Status, ToolFault>
         ensures feeds { IfOk result (Feeds J.knows J.tells self.old self.new piece.now out.old.items out.new.items) }
-        ensures fault { IfErr result (GivesUp self.new.count) }
+        ensures fault { IfErr result (GivesUp (lines_judged self.new)) }
     {
         let mut rest = piece;
         while let Some((line, after)) = first_line(rest) {
@@ -141,7 +141,7 @@ impl<J: Judge> Lines<J> {
     /// Judges the end of the input. A rest without LF is a line too.
     pub fn finish(&mut self, out: &mut Vec<u8>) -> Result<Status, ToolFault>
         ensures finishes { IfOk result (FinishesInput J.knows J.tells self.old out.old.items out.new.items) }
-        ensures fault { IfErr result (GivesUp self.new.count) }
+        ensures fault { IfErr result (GivesUp (lines_judged self.new)) }
     {
         if !self.begun.is_empty() {
             return self.stop(out);
@@ -149,7 +149,7 @@ impl<J: Judge> Lines<J> {
         match self.judge.finish(self.count, out)? {
             None => Ok(Status::Clean),
             Some(fault) => {
-                put_fault(number_after(self.count)?, fault, out)?;
+                append_fault(number_after(self.count)?, fault, out)?;
                 Ok(Status::Broken)
             }
         }

@@ -3,22 +3,24 @@
 ghost use Rattle.std.specs.Prelude.{◌≡◌, ◌++◌, [], map, IfOk, OnOk, None};
 ghost use Rattle.tl_beat.specs.Width.{IsWidth};
 ghost use Rattle.tl_params.specs.Config.{config_fault};
-ghost use Rattle.tl_tool.specs.Played.{header_text, version_like, width_like};
+ghost use Rattle.tl_params.specs.Header.{level_text, profile_text, version_text, width_text};
+ghost use Rattle.tl_tool.specs.Played.{header_text};
 ghost use Rattle.tl_tool.specs.Stage.{Reaches};
-ghost use Rattle.tl_tool.specs.Trace.{header_line, level_text, levels_text, profile_text, version_text, width_text};
+ghost use Rattle.tl_tool.specs.Trace.{header_line, levels_text};
 
 use std::alloc::{AllocError, Global};
 use tl_client::any::AnyClient;
 use tl_manager::bits::BitDirectory;
+use tl_params::header::Version;
+use tl_params::width::Width;
 use tl_rules::config::{ClientConfig, Config};
 use tl_rules::level::Level;
 use tl_rules::profile::Profile;
-use tl_schedule::header::{Version, Width};
 use tl_world::agents::agents_of;
 use tl_world::world::World;
 
 fn width_word(width: Width) -> &'static str
-    ensures { result.now ≡ width_text (width_like width) }
+    ensures { result.now ≡ width_text width }
 {
     match width {
         Width::Four => "4",
@@ -37,8 +39,8 @@ fn profile_word(profile: Profile) -> &'static str
 }
 
 /// Appends the version of a trace's header.
-fn put_version(version: Version, out: &mut Vec<u8>) -> Result<(), AllocError>
-    ensures { OnOk result (out.new.items ≡ out.old.items ++ version_text (version_like version)) }
+fn append_version(version: Version, out: &mut Vec<u8>) -> Result<(), AllocError>
+    ensures { OnOk result (out.new.items ≡ out.old.items ++ version_text version) }
 {
     match version {
         Version::First => out.extend_from_slice(b"1"),
@@ -66,7 +68,7 @@ fn level_word(level: Level) -> &'static str
 }
 
 /// Appends the levels of clients, each behind a space.
-fn put_levels(clients: &[ClientConfig], out: &mut Vec<u8>) -> Result<(), AllocError>
+fn append_levels(clients: &[ClientConfig], out: &mut Vec<u8>) -> Result<(), AllocError>
     ensures { OnOk result (out.new.items ≡ out.old.items ++ levels_text (map (λ client. client.level) clients.now)) }
 {
     for client in clients {
@@ -77,22 +79,22 @@ fn put_levels(clients: &[ClientConfig], out: &mut Vec<u8>) -> Result<(), AllocEr
 }
 
 /// Appends the header of a trace of these clients.
-fn put_trace_header(
+fn append_trace_header(
     version: Version,
     clients: &[ClientConfig],
     out: &mut Vec<u8>,
 ) -> Result<(), AllocError>
-    ensures { OnOk result (out.new.items ≡ out.old.items ++ header_line (version_like version) (map (λ client. client.level) clients.now)) }
+    ensures { OnOk result (out.new.items ≡ out.old.items ++ header_line version (map (λ client. client.level) clients.now)) }
 {
     out.extend_from_slice(b"tltrace ")?;
-    put_version(version, out)?;
-    put_levels(clients, out)?;
+    append_version(version, out)?;
+    append_levels(clients, out)?;
     out.push(b'\n')?;
     Ok(())
 }
 
 /// Appends the header of the trace, where one is to be written.
-pub fn put_header(
+pub fn append_header(
     trace: bool,
     version: Version,
     config: &Config,
@@ -101,7 +103,7 @@ pub fn put_header(
     ensures { OnOk result (out.new.items ≡ out.old.items ++ header_text trace version config.now.clients.items) }
 {
     if trace {
-        put_trace_header(version, config.clients.as_slice(), out)
+        append_trace_header(version, config.clients.as_slice(), out)
     } else {
         Ok(())
     }

@@ -16,12 +16,12 @@ use tl_client::any::AnyClient;
 use tl_manager::bits::BitDirectory;
 use tl_rules::config::Config;
 use tl_schedule::line::{Line, read_event};
-use tl_schedule::outcome::{put_drained, put_outcome, put_trace};
+use tl_schedule::outcome::{append_drained, append_outcome, append_trace};
 use tl_world::event::{Event, Outcome};
 use tl_world::world::World;
 
 /// Appends what is written of an event, or shown of it by a trace.
-fn put_event<const W: usize>(
+fn append_event<const W: usize>(
     trace: bool,
     event: &Event<W>,
     outcome: &Outcome<W>,
@@ -32,9 +32,9 @@ fn put_event<const W: usize>(
     ensures { OnOk result (out.new.items ≡ out.old.items ++ event_text trace event.now outcome.now) }
 {
     if trace {
-        put_trace(event, outcome, out)
+        append_trace(event, outcome, out)
     } else {
-        put_outcome(event, outcome, out)
+        append_outcome(event, outcome, out)
     }
 }
 
@@ -51,7 +51,7 @@ fn happen<const W: usize>(
     ensures still { IsPlayable world.new }
 {
     let outcome = world.step(event);
-    put_event(trace, &event, &outcome, out)
+    append_event(trace, &event, &outcome, out)
 }
 
 /// What is next is delivered until nothing is, and what comes of each delivery is appended: the number
@@ -97,7 +97,7 @@ fn play_said<const W: usize>(
             if trace {
                 Ok(())
             } else {
-                put_drained(count, out)
+                append_drained(count, out)
             }
         }
     }

@@ -6,10 +6,11 @@ ghost use Rattle.tl_tool.specs.Playing.{KnowsSchedule, Opens, is_trace};
 
 use crate::fault::Fault;
 use crate::judge::Judge;
-use crate::opening::put_header;
+use crate::opening::append_header;
 use crate::play::Stage;
 use std::alloc::{AllocError, Global};
-use tl_schedule::header::{Width, read_schedule};
+use tl_params::width::Width;
+use tl_schedule::header::read_schedule;
 use tl_schedule::line::EventFault;
 
 /// Plays the lines of a schedule: the header, and then what happens to a world of the clients that it
@@ -34,7 +35,7 @@ fn open<const TRACES: usize>(
     let Some(schedule) = read_schedule(line) else {
         return Ok(None);
     };
-    put_header(TRACES == 1, schedule.version, &schedule.config, out)?;
+    append_header(TRACES == 1, schedule.version, &schedule.config, out)?;
     let player = match schedule.version.width() {
         Width::Four => Player::Four(Stage::new(alloc, schedule.config)?),
         Width::Eight => Player::Eight(Stage::new(alloc, schedule.config)?),

@@ -25,7 +25,7 @@ fn param_text<'a>(line: &'a [u8], param: Option<&'a str>) -> &'a [u8]
 
 /// Appends bytes that there is room for.
 #[inline(always)]
-fn put(text: &mut ArrayVec<u8, 128>, bytes: &[u8])
+fn append(text: &mut ArrayVec<u8, 128>, bytes: &[u8])
     requires { length text.old.items + length bytes.now ≤ 128 }
     ensures text { text.new.items ≡ text.old.items ++ bytes.now }
     ensures len { length text.new.items ≡ length text.old.items + length bytes.now }
@@ -36,17 +36,17 @@ fn put(text: &mut ArrayVec<u8, 128>, bytes: &[u8])
 /// Link, channel, name and param.
 #[inline(always)]
 #[tactic(auto, unfolding(crate::specs::Cuts::head_text))]
-fn put_head(text: &mut ArrayVec<u8, 128>, line: &[u8], name: &str, param: Option<&str>)
+fn append_head(text: &mut ArrayVec<u8, 128>, line: &[u8], name: &str, param: Option<&str>)
     requires line { 13 ≤ length line.now }
     requires names { (length name.now ≤ 14) × IsShort (option_map (λ s. s.now) param) }
     requires empty { text.old.items ≡ [] }
     ensures text { text.new.items ≡ head_text line.now name.now (option_map (λ s. s.now) param.entry) }
     ensures len { length text.new.items ≤ 33 }
 {
-    put(text, &line[..5]);
-    put(text, name.as_bytes());
+    append(text, &line[..5]);
+    append(text, name.as_bytes());
     text.push(b' ');
-    put(text, param_text(line, param));
+    append(text, param_text(line, param));
 }
 
 /// Size, source and address of a line of channels A to C.
@@ -91,7 +91,7 @@ fn sink_block(line: &[u8]) -> [u8; 34]
 /// Data and the corrupt bit.
 #[inline(always)]
 #[tactic(auto, unfolding(crate::specs::Cuts::tail_text))]
-fn put_tail<const W: usize>(text: &mut ArrayVec<u8, 128>, tail: &[u8])
+fn append_tail<const W: usize>(text: &mut ArrayVec<u8, 128>, tail: &[u8])
     requires width { IsWidth W }
     requires tail { 3 ≤ length tail.now }
     requires room { length text.old.items + length tail.now + 14 ≤ 128 }
@@ -100,20 +100,20 @@ fn put_tail<const W: usize>(text: &mut ArrayVec<u8, 128>, tail: &[u8])
     let mut end = *b" corrupt=0\n";
     end[9] = tail[tail.len() - 2];
     let data = &tail[..tail.len() - 3];
-    put(text, b" data=");
+    append(text, b" data=");
     // A number of bytes that the compiler knows is copied without a call.
     if data.len() == 2 * W {
-        put(text, &data[..2 * W]);
+        append(text, &data[..2 * W]);
     } else {
-        put(text, data);
+        append(text, data);
     }
-    put(text, &end);
+    append(text, &end);
 }
 
 /// Size, source, address and mask of a line of channels A and B.
 #[inline(always)]
 #[tactic(auto, unfolding(crate::specs::Cuts::request_text))]
-fn put_request<const W: usize>(
+fn append_request<const W: usize>(
     text: &mut ArrayVec<u8, 128>,
     line: &[u8],
     name: &str,
@@ -126,17 +126,17 @@ fn put_request<const W: usize>(
     ensures { text.new.items ≡ request_text (W / 4) line.now name.now (option_map (λ s. s.now) param.entry) }
 {
     let mask = W / 4;
-    put_head(text, line, name, param);
-    put(text, &address_block(line));
-    put(text, b" mask=");
-    put(text, &line[23..23 + mask]);
-    put_tail::<W>(text, &line[24 + mask..]);
+    append_head(text, line, name, param);
+    append(text, &address_block(line));
+    append(text, b" mask=");
+    append(text, &line[23..23 + mask]);
+    append_tail::<W>(text, &line[24 + mask..]);
 }
 
 /// A line of channel C.
 #[inline(always)]
 #[tactic(auto, unfolding(crate::specs::Cuts::release_text))]
-fn put_release<const W: usize>(
+fn append_release<const W: usize>(
     text: &mut ArrayVec<u8, 128>,
     line: &[u8],
     name: &str,
@@ -148,15 +148,15 @@ fn put_release<const W: usize>(
     requires empty { text.old.items ≡ [] }
     ensures { text.new.items ≡ release_text line.now name.now (option_map (λ s. s.now) param.entry) }
 {
-    put_head(text, line, name, param);
-    put(text, &address_block(line));
-    put_tail::<W>(text, &line[23..]);
+    append_head(text, line, name, param);
+    append(text, &address_block(line));
+    append_tail::<W>(text, &line[23..]);
 }
 
 /// A line of channel D.
 #[inline(always)]
 #[tactic(auto, unfolding(crate::specs::Cuts::response_text))]
-fn put_response<const W: usize>(
+fn append_response<const W: usize>(
     text: &mut ArrayVec<u8, 128>,
     line: &[u8],
     name: &str,
@@ -168,27 +168,27 @@ fn put_response<const W: usize>(
     requires empty { text.old.items ≡ [] }
     ensures { text.new.items ≡ response_text line.now name.now (option_map (λ s. s.now) param.entry) }
 {
-    put_head(text, line, name, param);
-    put(text, &sink_block(line));
-    put_tail::<W>(text, &line[19..]);
+    append_head(text, line, name, param);
+    append(text, &sink_block(line));
+    append_tail::<W>(text, &line[19..]);
 }
 
 /// A line of channel E.
 #[inline(always)]
 #[tactic(auto, unfolding(crate::specs::Cuts::acknowledgement_text))]
-fn put_acknowledgement(text: &mut ArrayVec<u8, 128>, line: &[u8])
+fn append_acknowledgement(text: &mut ArrayVec<u8, 128>, line: &[u8])
     requires line { (5 ≤ length line.now) × (length line.now ≤ 63) }
     requires empty { text.old.items ≡ [] }
     ensures { text.new.items ≡ acknowledgement_text line.now }
 {
-    put(text, &line[..5]);
-    put(text, b"GrantAck sink=");
-    put(text, &line[5..]);
+    append(text, &line[..5]);
+    append(text, b"GrantAck sink=");
+    append(text, &line[5..]);
 }
 
 /// The readable line of the beat that a line spells.
 #[inline(always)]
-fn put_beat<const W: usize>(text: &mut ArrayVec<u8, 128>, line: &[u8], beat: &Beat<W>)
+fn append_beat<const W: usize>(text: &mut ArrayVec<u8, 128>, line: &[u8], beat: &Beat<W>)
     requires width { IsWidth W }
     requires spelled { (link : Link) × Spells line.now link beat.now }
     requires empty { text.old.items ≡ [] }
@@ -197,26 +197,26 @@ fn put_beat<const W: usize>(text: &mut ArrayVec<u8, 128>, line: &[u8], beat: &Be
     match beat {
         Beat::A(beat) => {
             let param = name_on_a(beat.opcode, beat.param);
-            put_request::<W>(text, line, beat.opcode.name(), param);
+            append_request::<W>(text, line, beat.opcode.name(), param);
         }
         Beat::B(beat) => {
             let param = name_on_b(beat.opcode, beat.param);
-            put_request::<W>(text, line, beat.opcode.name(), param);
+            append_request::<W>(text, line, beat.opcode.name(), param);
         }
         Beat::C(beat) => {
             let param = name_on_c(beat.opcode, beat.param);
-            put_release::<W>(text, line, beat.opcode.name(), param);
+            append_release::<W>(text, line, beat.opcode.name(), param);
         }
         Beat::D(beat) => {
             let param = name_on_d(beat.opcode, beat.param);
-            put_response::<W>(text, line, beat.opcode.name(), param);
+            append_response::<W>(text, line, beat.opcode.name(), param);
         }
-        Beat::E(_) => put_acknowledgement(text, line),
+        Beat::E(_) => append_acknowledgement(text, line),
     }
 }
 
 /// Appends the readable line of the beat that a line spells.
-pub fn put_text<const W: usize>(
+pub fn append_text<const W: usize>(
     line: &[u8],
     beat: &Beat<W>,
     out: &mut Vec<u8>,
@@ -226,6 +226,6 @@ pub fn put_text<const W: usize>(
     ensures { OnOk result ((link : Link) → Spells line.now link beat.now → out.new.items ≡ out.old.items ++ text_of link beat.now) }
 {
     let mut text = ArrayVec::new();
-    put_beat(&mut text, line, beat);
+    append_beat(&mut text, line, beat);
     out.extend_from_slice(text.as_slice())
 }

@@ -15,7 +15,7 @@ use tl_beat::fault::LineFault;
 use tl_beat::read::read_line;
 use tl_monitor::fault::MonitorFault;
 use tl_monitor::monitor::Monitor;
-use tl_words::command::Width;
+use tl_params::width::Width;
 
 /// Judges the lines of a trace: the header, and then the beats of up to 16 links by a monitor.
 #[derive(Drop)]
@@ -53,7 +53,7 @@ fn watch<const W: usize>(monitor: &mut Monitor<W>, line: &[u8]) -> Result<Option
 
 #[tactic(auto, unfolding(crate::specs::Judged::clean_text))]
 /// Appends `clean N`, where none of N beats is at fault.
-fn put_clean(number: u64, out: &mut Vec<u8>) -> Result<(), AllocError>
+fn append_clean(number: u64, out: &mut Vec<u8>) -> Result<(), AllocError>
     ensures { OnOk result (out.new.items ≡ out.old.items ++ clean_text number) }
 {
     let mut digits = Buffer::new();
@@ -109,7 +109,7 @@ impl Judge for Watcher {
         match self {
             Watcher::Waiting(_) => Ok(Some(Fault::Header)),
             _ => {
-                put_clean(count.saturating_sub(1), out)?;
+                append_clean(count.saturating_sub(1), out)?;
                 Ok(None)
             }
         }

@@ -5,8 +5,8 @@ use Rattle.clap.specs.declared.builder.action.ArgAction.TheVariants.{SetTrue}
 use Rattle.clap.specs.Words.{App, Row, Rule, Text, first_of, new_app, new_rule, with_rule, with_subcommand}
 use Rattle.tl_words.specs.declared.command.Command.{Command}
 use Rattle.tl_words.specs.declared.command.Command.TheVariants.{Decode, Monitor, Run}
-use Rattle.tl_words.specs.declared.command.Width.{Width}
-use Rattle.tl_words.specs.declared.command.Width.TheVariants.{Four, Eight, Sixteen}
+use Rattle.tl_params.specs.declared.width.Width.{Width}
+use Rattle.tl_params.specs.declared.width.Width.TheVariants.{Four, Eight, Sixteen}
 
 -- `--width BYTES`
 abbrev pub width_rule : Rule

@@ -1,12 +1,6 @@
 //! What the program can be asked to do.
 
-/// How many bytes of data a beat carries.
-#[derive(Clone, Copy, Debug, PartialEq, Eq)]
-pub enum Width {
-    Four,
-    Eight,
-    Sixteen,
-}
+pub use tl_params::width::Width;
 
 /// What the program does with its input.
 #[derive(Clone, Copy, Debug, PartialEq, Eq)]

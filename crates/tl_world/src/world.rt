@@ -29,7 +29,7 @@ use tl_rules::config::{Config, NewFault};
 use tl_rules::perm::Perm;
 
 /// Writes what came of an event.
-fn put<const W: usize>(outcomes: &mut [Outcome<W>], i: usize, outcome: Outcome<W>)
+fn set_outcome<const W: usize>(outcomes: &mut [Outcome<W>], i: usize, outcome: Outcome<W>)
     requires { i < length outcomes.old }
     ensures { outcomes.new ≡ slice_set outcomes.old i outcome.entry }
 {
@@ -105,7 +105,7 @@ impl<const W: usize, A: Agent<W>, D: Directory> World<W, A, D> {
         ensures number { length outcomes.new ≡ length outcomes.old }
     {
         for (i, event) in events.iter().enumerate() {
-            put(outcomes, i, self.step(*event));
+            set_outcome(outcomes, i, self.step(*event));
         }
     }
 

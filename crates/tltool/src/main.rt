@@ -7,7 +7,7 @@ ghost use Rattle.tl_tool.specs.Exit.{exit_status};
 use std::process::ExitCode;
 use std::{env, fs, io};
 use tl_tool::command::Command;
-use tl_tool::put::write_open_fault;
+use tl_tool::output::write_open_fault;
 use tl_tool::status::{Status, ToolFault, exit_of};
 use tl_tool::tool::run_tool;
 use tl_tool::words::{WordsFault, invocation, usage_status};

@@ -1,9 +1,11 @@
 //! Headers, and the lines beside them that are none.
 
-use crate::header::{Version, Width, read_schedule};
+use crate::header::read_schedule;
 use std::process::Abort;
+use tl_params::header::Version;
 use tl_params::level::Level;
 use tl_params::profile::Profile;
+use tl_params::width::Width;
 
 /// The header names these, and as many clients, of which the last is this one.
 fn names(
@@ -108,22 +110,6 @@ fn headers_of_each_version(rt: HostRuntime) {
     let sixteen_clients =
         "tlsched 1 1 1 C:1 C:1 C:1 C:1 C:1 C:1 C:1 C:1 C:1 C:1 C:1 C:1 C:1 C:1 C:1 UL:4\n";
     names(&rt, sixteen_clients, first, (1, 1, 16), (Level::UL, 4));
-}
-
-#[test]
-fn what_a_version_leaves_out(rt: HostRuntime) {
-    assert_eq!(rt; Version::First.width(), Width::Eight);
-    assert_eq!(rt; Version::First.profile(), Profile::One);
-    assert_eq!(rt; Version::Second(Width::Sixteen).width(), Width::Sixteen);
-    assert_eq!(rt; Version::Second(Width::Sixteen).profile(), Profile::One);
-    assert_eq!(rt;
-        Version::Third(Width::Four, Profile::Two).width(),
-        Width::Four
-    );
-    assert_eq!(rt;
-        Version::Third(Width::Four, Profile::Two).profile(),
-        Profile::Two
-    );
 }
 
 #[test]

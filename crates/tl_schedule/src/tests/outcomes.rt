@@ -2,7 +2,7 @@
 
 ghost use Rattle.tl_beat.specs.Width.{IsWidth};
 
-use crate::outcome::{put_drained, put_outcome, put_trace};
+use crate::outcome::{append_drained, append_outcome, append_trace};
 use std::process::Abort;
 use std::test::Fail;
 use tl_beat::beat::{Beat, BeatE, Link};
@@ -41,10 +41,10 @@ fn answers<const W: usize>(
 {
     let mut out = Vec::new(rt.alloc());
     let outcome: Outcome<W> = Outcome::Replied { reply };
-    put_outcome(&load(size), &outcome, &mut out)?;
+    append_outcome(&load(size), &outcome, &mut out)?;
     assert_eq!(rt; out.as_slice(), line.as_bytes(), "{line}");
     let mut trace = Vec::new(rt.alloc());
-    put_trace(&load(size), &outcome, &mut trace)?;
+    append_trace(&load(size), &outcome, &mut trace)?;
     assert!(rt; trace.is_empty(), "{line}");
     Ok(())
 }
@@ -63,11 +63,11 @@ fn ends<const W: usize>(
         finish,
     };
     let mut out = Vec::new(rt.alloc());
-    put_outcome(&delivery(), &outcome, &mut out)?;
+    append_outcome(&delivery(), &outcome, &mut out)?;
     let line = format!(in rt.alloc(); "{OPENED}{text}\n")?;
     assert_eq!(rt; out.as_slice(), line.as_bytes(), "{text}");
     let mut trace = Vec::new(rt.alloc());
-    put_trace(&delivery(), &outcome, &mut trace)?;
+    append_trace(&delivery(), &outcome, &mut trace)?;
     assert_eq!(rt; trace.as_slice(), b"01 E 03\n".as_slice(), "{text}");
     Ok(())
 }
@@ -86,10 +86,10 @@ fn stays<const W: usize>(
         Outcome::Stalled
     };
     let mut out = Vec::new(rt.alloc());
-    put_outcome(&delivery(), &outcome, &mut out)?;
+    append_outcome(&delivery(), &outcome, &mut out)?;
     assert_eq!(rt; out.as_slice(), line.as_bytes(), "{line}");
     let mut trace = Vec::new(rt.alloc());
-    put_trace(&delivery(), &outcome, &mut trace)?;
+    append_trace(&delivery(), &outcome, &mut trace)?;
     assert!(rt; trace.is_empty(), "{line}");
     Ok(())
 }
@@ -157,15 +157,15 @@ fn data_of_a_block(rt: HostRuntime) -> Result<(), Fail> {
 fn no_client_and_a_beat_that_moves(rt: HostRuntime) -> Result<(), Fail> {
     let mut out = Vec::new(rt.alloc());
     let none: Outcome<8> = Outcome::NoSuchClient;
-    put_outcome(&load(0), &none, &mut out)?;
+    append_outcome(&load(0), &none, &mut out)?;
     let moved: Outcome<8> = Outcome::Moved {
         beat: Beat::E(BeatE { sink: 7 }),
     };
-    put_outcome(&delivery(), &moved, &mut out)?;
-    put_trace(&load(0), &none, &mut out)?;
-    put_trace(&delivery(), &moved, &mut out)?;
-    put_drained(0, &mut out)?;
-    put_drained(160, &mut out)?;
+    append_outcome(&delivery(), &moved, &mut out)?;
+    append_trace(&load(0), &none, &mut out)?;
+    append_trace(&delivery(), &moved, &mut out)?;
+    append_drained(0, &mut out)?;
+    append_drained(160, &mut out)?;
     let text = b"no client\n01 E 07\n01 E 07\ndrained 0\ndrained 160\n";
     assert_eq!(rt; out.as_slice(), text.as_slice());
     Ok(())

@@ -1,5 +1,5 @@
 use super::*;
-use crate::put::write_open_fault;
+use crate::output::write_open_fault;
 use crate::status::exit_of;
 use std::alloc::AllocError;
 use std::fmt::Write as _;

@@ -1,5 +1,5 @@
 use Rattle.std.proofs.Common.{rules}
-use Rattle.tl_schedule.proofs.FieldLemmas.{one_piece, piece_before}
+use Rattle.tl_schedule.proofs.Fields.{one_piece, piece_before}
 use Rattle.tl_schedule.proofs.field.cut.Goals as goal
 
 pub returns-in-None : goal.returns-in-None

@@ -1,6 +1,6 @@
 use Rattle.std.proofs.Common.{rules, arith, ◌∙◌, sym, ◌≡◌, None}
 use Rattle.std.proofs.lemmas.List.{length-set}
-use Rattle.tl_schedule.proofs.FieldLemmas.{data-init, data-step, data-fails, data-done, data-left}
+use Rattle.tl_schedule.proofs.Fields.{data-init, data-step, data-fails, data-done, data-left}
 use Rattle.tl_schedule.proofs.field.data.Goals as goal
 
 pub loop-i-init : goal.loop-i-init

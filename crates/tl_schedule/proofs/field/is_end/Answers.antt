@@ -1,5 +1,5 @@
 use Rattle.std.proofs.Common.{◌∙◌}
-use Rattle.tl_schedule.proofs.FieldLemmas.{none_left}
+use Rattle.tl_schedule.proofs.Fields.{none_left}
 use Rattle.tl_schedule.proofs.field.is_end.Goals as goal
 
 pub returns : goal.returns

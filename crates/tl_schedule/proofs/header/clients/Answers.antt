@@ -1,14 +1,15 @@
 use Rattle.std.proofs.Common.{◌≡◌, ◌<◌, ◌++◌, ◌∷◌, [], length, length-append, rules, arith, None}
-use Rattle.tl_schedule.proofs.HeaderLemmas.{clients-next, clients-none, clients-full, clients-end}
+use Rattle.tl_params.proofs.UpTo.{all-read, next-is, none-is, too_many}
+use Rattle.tl_schedule.specs.HeaderReading.{client_at}
 use Rattle.tl_schedule.proofs.header.clients.Goals as goal
 
 pub returns-in_err-client : goal.returns-in_err-client
 returns-in_err-client c =
     let none : c.from_residual.result ≡ None = search rules in
-    rw none (clients-none _ _ _ c.loop-rest.invariant.few c.loop-rest.invariant.same (search rules) (search rules))
+    rw none (none-is client_at _ _ _ _ c.loop-rest.invariant.few c.loop-rest.invariant.same (search rules) (search rules))
 
 pub returns-then-is_err : goal.returns-then-is_err
-returns-then-is_err c = clients-full _ _ _ c.loop-rest.invariant.few c.loop-rest.invariant.same (search rules) (search rules)
+returns-then-is_err c = too_many client_at _ _ _ _ c.loop-rest.invariant.few c.loop-rest.invariant.same (search rules) (search rules)
 
 pub loop-rest-preserved : goal.loop-rest-preserved
 loop-rest-preserved c =
@@ -17,8 +18,8 @@ loop-rest-preserved c =
     let room : length done < 16 = search rules in
     rw pushed (record {
       few = omega (arith, length-append done (c.in_ok-client.client ∷ []));
-      same = clients-next _ _ _ c.loop-rest.invariant.few c.loop-rest.invariant.same _ _ (search rules) (search rules) room;
+      same = next-is client_at _ _ _ _ c.loop-rest.invariant.few c.loop-rest.invariant.same _ _ (search rules) (search rules) room;
     })
 
 pub returns : goal.returns
-returns c = clients-end _ _ _ c.loop-rest.invariant.few c.loop-rest.invariant.same (search rules)
+returns c = all-read client_at _ _ _ _ c.loop-rest.invariant.few c.loop-rest.invariant.same (search rules)

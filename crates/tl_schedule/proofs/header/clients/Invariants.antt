@@ -1,6 +1,6 @@
 use Rattle.std.proofs.Common.{◌≡◌, ◌≤◌, length, ◌-◌}
 use Rattle.tl_schedule.specs.HeaderReading.{clients_at}
-use Rattle.tl_schedule.proofs.HeaderLemmas.{behind}
+use Rattle.tl_params.proofs.UpTo.{behind}
 use Rattle.tl_schedule.proofs.header.clients.Given as goal
 
 abbrev pub invariant-loop-rest : goal.invariant-loop-rest

@@ -1,6 +1,6 @@
 use Rattle.std.proofs.Common.{rules, ◌∙◌}
 use Rattle.std.proofs.lemmas.Bool.Decides.{nat_tests}
-use Rattle.tl_schedule.proofs.NumberLemmas.{digit-step, too_great, no_digits, whole_number}
+use Rattle.tl_schedule.proofs.Decimals.{digit-step, too_great, no_digits, whole_number}
 use Rattle.tl_schedule.proofs.header.digits.Goals as goal
 
 pub returns-then-number-limit-clause-gives : goal.returns-then-number-limit-clause-gives

@@ -1,4 +1,4 @@
-use Rattle.tl_schedule.proofs.HeaderLemmas.{read_spelled, spelled_read}
+use Rattle.tl_schedule.proofs.Headers.{read_spelled, spelled_read}
 use Rattle.tl_schedule.proofs.header.read_schedule.Goals as goal
 
 pub returns-clause-spelled : goal.returns-clause-spelled

@@ -1,5 +1,5 @@
 use Rattle.std.proofs.Common.{arith}
-use Rattle.tl_schedule.proofs.AccessLemmas.{smaller_power}
+use Rattle.tl_schedule.proofs.AccessBytes.{smaller_power}
 use Rattle.tl_schedule.proofs.line.value_digits.Goals as goal
 
 pub returns-clause-value : goal.returns-clause-value

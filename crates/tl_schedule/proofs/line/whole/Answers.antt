@@ -1,5 +1,5 @@
 use Rattle.std.proofs.Common.{refl}
-use Rattle.tl_schedule.proofs.AccessLemmas.{block_bytes}
+use Rattle.tl_schedule.proofs.AccessBytes.{block_bytes}
 use Rattle.tl_schedule.proofs.line.whole.Goals as goal
 
 pub returns : goal.returns

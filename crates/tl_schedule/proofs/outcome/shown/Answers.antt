@@ -1,5 +1,5 @@
 use Rattle.std.proofs.Common.{arith}
-use Rattle.tl_schedule.proofs.OutcomeLemmas.{all_shown}
+use Rattle.tl_schedule.proofs.ByteDigits.{all_shown}
 use Rattle.tl_schedule.proofs.outcome.shown.Goals as goal
 
 pub returns-then-size-ge6 : goal.returns-then-size-ge6

@@ -2,7 +2,7 @@ use Rattle.std.proofs.Common.{rules, ap, []}
 use Rattle.std.specs.Prelude.{Ok}
 use Rattle.std.proofs.KnownBytes.{Appends-nil, Consumes-nil, Keeps-refl}
 use Rattle.std.proofs.lemmas.Result.{err_from_is_err_and}
-use Rattle.tl_tool.proofs.RunLemmas.{fails_at_start, fails_reading, fails_passing, ends_broken, goes_on, closed_ok, closed_err}
+use Rattle.tl_tool.proofs.Runs.{fails_at_start, fails_reading, fails_passing, ends_broken, goes_on, closed_ok, closed_err}
 use Rattle.tl_tool.proofs.engine.judge_input.Goals as goal
 
 pub returns-in_err-chunk-clause-err : goal.returns-in_err-chunk-clause-err

@@ -1,6 +1,6 @@
 use Rattle.std.proofs.Common.{◌≡◌, ◌≤◌, length, ◌-◌}
 use Rattle.tl_tool.specs.TraceReading.{levels_at}
-use Rattle.tl_tool.proofs.HeaderLemmas.{behind}
+use Rattle.tl_params.proofs.UpTo.{behind}
 use Rattle.tl_tool.proofs.header.levels.Given as goal
 
 abbrev pub invariant-loop-rest : goal.invariant-loop-rest

@@ -1,4 +1,4 @@
-use Rattle.tl_tool.proofs.HeaderLemmas.{read_spelled, spelled_read}
+use Rattle.tl_tool.proofs.Headers.{read_spelled, spelled_read}
 use Rattle.tl_tool.proofs.header.read_header.Goals as goal
 
 pub returns-clause-spelled : goal.returns-clause-spelled

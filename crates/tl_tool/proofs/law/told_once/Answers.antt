@@ -1,4 +1,4 @@
-use Rattle.tl_tool.proofs.ToldLemmas.{told-once}
+use Rattle.tl_tool.proofs.Told.{told-once}
 use Rattle.tl_tool.proofs.law.told_once.Goals as goal
 
 pub returns : goal.returns

@@ -1,7 +1,7 @@
 use Rattle.tl_params.specs.declared.config.Config.{Config}
 use Rattle.tl_world.specs.Log.{Log}
 use Rattle.tl_tool.specs.Stage.{Reaches}
-use Rattle.tl_tool.proofs.PlayedLemmas.{Delivered}
+use Rattle.tl_tool.proofs.Played.{Delivered}
 use Rattle.tl_tool.proofs.play.deliver_all.Given as goal
 
 abbrev pub invariant-loop-count : goal.invariant-loop-count

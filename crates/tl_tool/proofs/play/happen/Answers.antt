@@ -1,17 +1,17 @@
 use Rattle.std.proofs.Common.{rules}
 use Rattle.std.specs.Prelude.{◌∷◌}
-use Rattle.tl_tool.proofs.WritableLemmas.{writable}
-use Rattle.tl_tool.proofs.PlayedLemmas.{happened}
+use Rattle.tl_tool.proofs.Writable.{writable}
+use Rattle.tl_tool.proofs.Played.{happened}
 use Rattle.tl_tool.proofs.play.happen.Goals as goal
 
-pub put_event-requires : goal.put_event-requires
-put_event-requires g c =
+pub append_event-requires : goal.append_event-requires
+append_event-requires g c =
     let (config, log, reached) = c.requires.playable in
     let line = writable config log c.args.event c.step-outcome.result (c.step-outcome.ensures.reached config log reached).given in
     search (rules, line)
 
 pub returns-clause-happens : goal.returns-clause-happens
-returns-clause-happens g c = happened c.args.trace c.args.world.now c.step-outcome.new.self c.args.event c.step-outcome.result c.args.out.now.items c.put_event.new.out.items c.put_event.result c.put_event.ensures c.step-outcome.ensures.outcome c.step-outcome.ensures.reached
+returns-clause-happens g c = happened c.args.trace c.args.world.now c.step-outcome.new.self c.args.event c.step-outcome.result c.args.out.now.items c.append_event.new.out.items c.append_event.result c.append_event.ensures c.step-outcome.ensures.outcome c.step-outcome.ensures.reached
 
 pub returns-clause-still : goal.returns-clause-still
 returns-clause-still g c =

@@ -1,7 +1,7 @@
 use Rattle.std.proofs.Common.{refl}
-use Rattle.tl_tool.proofs.DecodedLemmas.{decodes_more, judged_line}
-use Rattle.tl_tool.proofs.JudgedLemmas.{judged_total}
-use Rattle.tl_tool.proofs.PlayerLemmas.{played-total}
+use Rattle.tl_tool.proofs.Decoded.{decodes_more, judged_line}
+use Rattle.tl_tool.proofs.Judged.{judged_total}
+use Rattle.tl_tool.proofs.Playing.{played-total}
 use Rattle.tl_tool.proofs.tool.run_tool.Goals as goal
 
 pub judge_input-requires-clause-total : goal.judge_input-requires-clause-total

@@ -1,5 +1,5 @@
-use Rattle.tl_words.specs.declared.command.Width.TheVariants.{Four, Eight, Sixteen}
-use Rattle.tl_tool.proofs.JudgedLemmas.{header_good}
+use Rattle.tl_params.specs.declared.width.Width.TheVariants.{Four, Eight, Sixteen}
+use Rattle.tl_tool.proofs.Judged.{header_good}
 use Rattle.tl_tool.proofs.watcher.begin.Goals as goal
 use Rattle.tl_tool.proofs.watcher.begin.Goals.{in-Four+in_ok-monitor_of-in-Four, in-Eight+in_ok-monitor_of-in-Eight, in-Sixteen+in_ok-monitor_of-in-Sixteen}
 

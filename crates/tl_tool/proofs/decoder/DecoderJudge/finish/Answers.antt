@@ -1,4 +1,4 @@
-use Rattle.tl_tool.proofs.DecodedLemmas.{before-end}
+use Rattle.tl_tool.proofs.Decoded.{before-end}
 use Rattle.tl_tool.proofs.decoder.DecoderJudge.finish.Goals as goal
 
 pub returns : goal.returns

@@ -1,5 +1,5 @@
 use Rattle.tl_beat.specs.declared.fault.LineFault.TheVariants.{F1}
-use Rattle.tl_tool.proofs.DecodedLemmas.{bad_line, open_fault}
+use Rattle.tl_tool.proofs.Decoded.{bad_line, open_fault}
 use Rattle.tl_tool.proofs.decoder.DecoderJudge.open_fault.Goals as goal
 
 pub returns : goal.returns

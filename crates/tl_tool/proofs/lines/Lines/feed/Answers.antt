@@ -1,7 +1,7 @@
 use Rattle.std.proofs.Common.{◌≡◌, ◌++◌, [], refl, ◌∙◌, ap, append_assoc}
 use Rattle.std.specs.Prelude.{List, ℕ}
 use Rattle.std.proofs.lemmas.List.{append-nil}
-use Rattle.tl_tool.proofs.ProgressLemmas.{feeds_then, feeds_until, feeds_last}
+use Rattle.tl_tool.proofs.Progress.{feeds_then, feeds_until, feeds_last}
 use Rattle.tl_tool.proofs.lines.Lines.feed.Goals as goal
 
 pub loop-line-init : goal.loop-line-init

@@ -1,6 +1,6 @@
 use Rattle.std.proofs.Common.{rules, arith, ◌≤◌, ◌+◌, [], length, refl, sym}
 use Rattle.std.proofs.lemmas.List.{append-nil}
-use Rattle.tl_tool.proofs.ProgressLemmas.{feeds_kept, feeds_stopped, refused}
+use Rattle.tl_tool.proofs.Progress.{feeds_kept, feeds_stopped, refused}
 use Rattle.tl_tool.proofs.lines.Lines.keep.Goals as goal
 use Rattle.tl_tool.proofs.lines.Lines.keep.Goals.{then-is_err-via-then-is_err, then-is_err-via-else-is_err+then-is_full}
 

@@ -1,5 +1,5 @@
 use Rattle.std.proofs.Common.{rules, arith, ◌≡◌, ◌≤◌, ◌<◌, ◌+◌, [], ◌∷◌, ◌++◌, length, refl, length-append}
-use Rattle.tl_tool.proofs.ProgressLemmas.{feeds_line, feeds_at_hand, feeds_stopped, refused}
+use Rattle.tl_tool.proofs.Progress.{feeds_line, feeds_at_hand, feeds_stopped, refused}
 use Rattle.tl_tool.proofs.lines.Lines.take_line.Goals as goal
 
 pub returns-then-line-le256-clause-feeds : goal.returns-then-line-le256-clause-feeds

@@ -1,4 +1,4 @@
-use Rattle.tl_tool.proofs.PlayerLemmas.{header-missing, all-played}
+use Rattle.tl_tool.proofs.Playing.{header-missing, all-played}
 use Rattle.tl_tool.proofs.player.PlayerJudge.finish.Goals as goal
 
 pub returns-in-Waiting : goal.returns-in-Waiting

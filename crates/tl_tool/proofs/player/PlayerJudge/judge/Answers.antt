@@ -1,5 +1,5 @@
 use Rattle.tl_tool.specs.declared.player.Player.TheVariants.{Four, Eight, Sixteen}
-use Rattle.tl_tool.proofs.PlayerLemmas.{header-opened, header-refused, judged}
+use Rattle.tl_tool.proofs.Playing.{header-opened, header-refused, judged}
 use Rattle.tl_tool.proofs.player.PlayerJudge.judge.Goals as goal
 
 pub returns-in-None : goal.returns-in-None

@@ -1,4 +1,4 @@
-use Rattle.tl_tool.proofs.PlayerLemmas.{header-open, line-open}
+use Rattle.tl_tool.proofs.Playing.{header-open, line-open}
 use Rattle.tl_tool.proofs.player.PlayerJudge.open_fault.Goals as goal
 
 pub returns-in-Waiting : goal.returns-in-Waiting

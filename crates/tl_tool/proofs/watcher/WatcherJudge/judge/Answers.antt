@@ -1,5 +1,5 @@
 use Rattle.tl_tool.specs.declared.watcher.Watcher.TheVariants.{Four, Eight, Sixteen}
-use Rattle.tl_tool.proofs.JudgedLemmas.{header_bad, watched}
+use Rattle.tl_tool.proofs.Judged.{header_bad, watched}
 use Rattle.tl_tool.proofs.watcher.WatcherJudge.judge.Goals as goal
 
 pub returns-in-None : goal.returns-in-None

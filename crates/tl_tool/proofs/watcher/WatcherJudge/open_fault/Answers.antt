@@ -1,4 +1,4 @@
-use Rattle.tl_tool.proofs.JudgedLemmas.{header_open, beat_open}
+use Rattle.tl_tool.proofs.Judged.{header_open, beat_open}
 use Rattle.tl_tool.proofs.watcher.WatcherJudge.open_fault.Goals as goal
 
 pub returns-in-Waiting : goal.returns-in-Waiting

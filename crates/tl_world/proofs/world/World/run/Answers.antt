@@ -16,10 +16,10 @@ returns-clause-reached g c = λ config log r.
 
 pub loop-i-preserved : goal.loop-i-preserved
 loop-i-preserved g c = record {
-  number = rw c.put.ensures (length-set c.loop-i.outcomes c.loop-i.i c.step.result ∙ c.loop-i.invariant.number);
+  number = rw c.set_outcome.ensures (length-set c.loop-i.outcomes c.loop-i.i c.step.result ∙ c.loop-i.invariant.number);
   reached = λ config log r.
       let inside : c.loop-i.i < length c.args.events.now = c.loop-i-test.true in
       let same : length c.args.events.now ≡ length c.loop-i.outcomes = c.requires ∙ sym c.loop-i.invariant.number in
-      rw (c.put.ensures, logged-next c.args.events.now c.loop-i.outcomes c.loop-i.i c.index-events-i.result c.index-events-i.result c.step.result log inside same (search rules))
+      rw (c.set_outcome.ensures, logged-next c.args.events.now c.loop-i.outcomes c.loop-i.i c.index-events-i.result c.index-events-i.result c.step.result log inside same (search rules))
       (c.step.ensures.reached config _ (c.loop-i.invariant.reached config log r));
 }

@@ -1,0 +1,11 @@
+use Rattle.std.proofs.Common.{◌≡◌, ◌++◌, rules}
+use Rattle.tl_schedule.proofs.ByteDigits.{append-none, append-step}
+use Rattle.tl_schedule.proofs.outcome.append_bytes.Goals as goal
+
+pub loop-i-init : goal.loop-i-init
+loop-i-init c = append-none c.args.bytes.now c.args.out.now.items
+
+pub loop-i-preserved : goal.loop-i-preserved
+loop-i-preserved c =
+    let appended : c.extend_from_slice.new.self.items ≡ c.loop-i.out.items ++ c.pair.result = search rules in
+    rw appended (append-step c.loop-i.i c.args.bytes.now c.args.out.now.items c.loop-i.out.items c.pair.result (search rules) (search rules) c.loop-i.invariant)

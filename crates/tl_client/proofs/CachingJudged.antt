@@ -79,24 +79,23 @@ knows-took {w} c d ch (beat.D x) e r knows judged took =
     go true is part last = last is
     go false is part last = part is
 
-stalls_if : (o : Option Rule) (b : Bool) → is_ok (ok_unless o) ≡ true → (is_none o && b) ≡ b
-stalls_if None b ok = refl
-stalls_if (Some rule) b ok = absurd cc
+stalls_if : (o : Option Rule) (b : Bool) → b ≡ true → is_ok (ok_unless o) ≡ (is_none o && b)
+stalls_if None b waits = sym waits
+stalls_if (Some rule) b waits = refl
 
-never_if : (o : Option Rule) (b : Bool) → is_ok (ok_unless o) ≡ false → (is_none o && b) ≡ false
-never_if None b ok = absurd cc
-never_if (Some rule) b ok = refl
+never_if : (o : Option Rule) (b : Bool) → b ≡ false → (is_none o && b) ≡ false
+never_if None b moves = moves
+never_if (Some rule) b moves = refl
 
--- whether a beat is stalled
-pub stalls-passed : {w : ℕ} (c : Caching w) (ch : Channel) (x : Beat w) (e : End w) (b : Bool) → KnowsCaching c e
-    → is_ok (ok_unless (first_if c.closed A3 (first_if (is_sent_on ch) L1 (illegal c.config.level ch x)))) ≡ true → b ≡ waits x e.past → b ≡ stalls (terms_of c) ch x e
+-- whether a beat is stalled: one that waits, by whether it breaks no rule
+pub stalls-waiting : {w : ℕ} (c : Caching w) (ch : Channel) (x : Beat w) (e : End w) (b : Bool) → KnowsCaching c e → waits x e.past ≡ true
+    → b ≡ is_ok (ok_unless (first_if c.closed A3 (first_if (is_sent_on ch) L1 (illegal c.config.level ch x)))) → b ≡ stalls (terms_of c) ch x e
 unfolding stalls
-stalls-passed c ch x e b knows ok is = is ∙ sym (ap (λ o. is_none o && waits x e.past) (before-known c ch x e knows) ∙ stalls_if _ _ ok)
+stalls-waiting c ch x e b knows waiting ok = ok ∙ stalls_if _ _ waiting ∙ sym (ap (λ o. is_none o && waits x e.past) (before-known c ch x e knows))
 
-pub stalls-broken : {w : ℕ} (c : Caching w) (ch : Channel) (x : Beat w) (e : End w) (b : Bool) → KnowsCaching c e
-    → is_ok (ok_unless (first_if c.closed A3 (first_if (is_sent_on ch) L1 (illegal c.config.level ch x)))) ≡ b → b ≡ false → b ≡ stalls (terms_of c) ch x e
+pub stalls-moving : {w : ℕ} (c : Caching w) (ch : Channel) (x : Beat w) (e : End w) (b : Bool) → b ≡ waits x e.past → b ≡ false → b ≡ stalls (terms_of c) ch x e
 unfolding stalls
-stalls-broken c ch x e b knows ok is = is ∙ sym (ap (λ o. is_none o && waits x e.past) (before-known c ch x e knows) ∙ never_if _ _ (ok ∙ is))
+stalls-moving c ch x e b is moving = moving ∙ sym (never_if _ _ (sym is ∙ moving))
 
 pub lawful : {w : ℕ} (terms : Terms) (ch : Channel) (x : Beat w) (e : End w) (o : Result Bool Rule) → IsJudged terms ch x e o → o ≡ Ok false → IsJudged terms ch x e (Ok false)
 lawful terms ch x e o judged is = subst (λ (r : Result Bool Rule). IsJudged terms ch x e r) is judged

@@ -128,7 +128,7 @@ impl<const W: usize> Agent<W> for Caching<W> {
     }
 
     fn stalls(&self, channel: Channel, beat: &Beat<W>) -> bool {
-        check_alone(self.closed, self.config.level, channel, beat).is_ok() && self.waits(beat)
+        self.waits(beat) && check_alone(self.closed, self.config.level, channel, beat).is_ok()
     }
 
     fn held(&self, block: u16) -> Perm {

@@ -196,6 +196,7 @@ pub mod Rows
 pub mod Runs
 pub mod Seen
 pub mod Sending
+pub mod SentProbes
 pub mod Served
 pub mod Settling
 pub mod Showing

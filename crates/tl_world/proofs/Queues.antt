@@ -1,10 +1,10 @@
 -- The channels of all links as one list of queues.
-use Rattle.std.proofs.Common.{◌≡◌, ℕ, suc, Bool, true, false, List, [], ◌∷◌, ◌++◌, ◌+◌, ◌≤◌, ◌<◌, length, take, drop, refl, sym, subst, ap, ◌∙◌, ◌⊎◌, inl, inr, arith}
+use Rattle.std.proofs.Common.{◌≡◌, ℕ, suc, Bool, true, false, List, [], ◌∷◌, ◌++◌, ◌+◌, ◌≤◌, ◌<◌, length, drop, refl, sym, ap, ◌∙◌, ◌⊎◌, inl, inr, arith}
 use Rattle.std.specs.Prelude.{not, ◌≢◌, ◌==◌, ◌&&◌, max, slice_index_or}
 use Rattle.std.specs.Int.{bit_at}
 use Rattle.std.proofs.Math.Nat.{max-eq_left}
 use Rattle.std.proofs.lemmas.Bool.{cases_eq, ne_eqb, eq-eqb}
-use Rattle.std.proofs.lemmas.List.{length-append, take_more, take-append-drop}
+use Rattle.std.proofs.lemmas.List.{length-append}
 use Rattle.circular_buffer.specs.Buffer.{Buffer, buffer}
 use Rattle.tl_beat.specs.Width.{IsWidth}
 use Rattle.tl_beat.specs.declared.beat.Beat.{Beat}
@@ -209,28 +209,18 @@ module _ {w : ℕ} where
   moved-still n rings s carried = record { carries = carried; deepen = λ k ch d lt. deepest_kept (slice_index_or rings.all.items (place k ch) d) }
 
   -- one more message of several
-  pub moved-more : (n : ℕ) (old now new : Rings w) (s : System w) (handed : Handed w) (i : ℕ) (x d : Link × Message w) → i < length handed → x ≡ slice_index_or handed i d → AreKept old now
-      → (Fit n old (with_messages handed s) → AreMoved n old now (with_messages (take i handed) s))
-      → (Carries n now (with_messages (take i handed) s) → Fit n now (with_message x.0.0 x.1 (with_messages (take i handed) s)) → AreMoved n now new (with_message x.0.0 x.1 (with_messages (take i handed) s)))
-      → Fit n old (with_messages handed s) → AreMoved n old new (with_messages (take (i + 1) handed) s)
+  pub moved-more : (n : ℕ) (old now new : Rings w) (s : System w) (before rest : Handed w) (x : Link × Message w) → AreKept old now → AreMoved n old now (with_messages before s)
+      → (Carries n now (with_messages before s) → Fit n now (with_message x.0.0 x.1 (with_messages before s)) → AreMoved n now new (with_message x.0.0 x.1 (with_messages before s)))
+      → Fit n old (with_messages (before ++ x ∷ rest) s) → AreMoved n old new (with_messages (before ++ x ∷ []) s)
   unfolding with_messages
-  moved-more n old now new s handed i x d inside is kept so_far next fits =
-      let first = so_far fits in
-      let next_is : take (i + 1) handed ≡ take i handed ++ x ∷ [] = rw is (take_more handed i d inside) in
-      let one : with_messages (take (i + 1) handed) s ≡ with_message x.0.0 x.1 (with_messages (take i handed) s) =
-      ap (λ (h : Handed w). with_messages h s) next_is ∙ messages-append (take i handed) (x ∷ []) s in
-      let last = next first.carries (room one) in
-      rw one (moved-then n old now new (with_messages (take i handed) s) _ first last (λ k ch. message-grows x.0.0 x.1 (with_messages (take i handed) s) k ch))
+  moved-more n old now new s before rest x kept first next fits =
+      rw (messages-append before (x ∷ []) s)
+      (moved-then n old now new (with_messages before s) _ first (next first.carries room) (λ k ch. message-grows x.0.0 x.1 (with_messages before s) k ch))
     where
-      part : (k : ℕ) (ch : Channel) → length ((with_messages (take (i + 1) handed) s).channels k ch) ≤ length ((with_messages handed s).channels k ch)
-      part k ch =
-          subst (λ (h : Handed w). length ((with_messages (take (i + 1) handed) s).channels k ch) ≤ length ((with_messages h s).channels k ch)) (take-append-drop (i + 1) handed)
-          (rw (messages-append (take (i + 1) handed) (drop (i + 1) handed) s) (messages-grow (drop (i + 1) handed) (with_messages (take (i + 1) handed) s) k ch))
-
-      room : with_messages (take (i + 1) handed) s ≡ with_message x.0.0 x.1 (with_messages (take i handed) s) → Fit n now (with_message x.0.0 x.1 (with_messages (take i handed) s))
-      room one k ch d lt =
-          let a = part k ch in
+      room : Fit n now (with_message x.0.0 x.1 (with_messages before s))
+      room k ch d lt =
+          let a = messages-grow rest (with_message x.0.0 x.1 (with_messages before s)) k ch in
           let b = fits k ch d lt in
           let c = kept.same_capacity (place k ch) d in
-          let e = ap (λ (z : System w). length (z.channels k ch)) one in
+          let e = ap (λ (z : System w). length (z.channels k ch)) (messages-append before (x ∷ rest) s) in
           omega (arith, a, b, c, e)

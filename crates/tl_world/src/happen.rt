@@ -52,101 +52,104 @@ fn outcome_of<const W: usize>(beat: Beat<W>, verdict: Verdict) -> Outcome<W>
 }
 
 impl<const W: usize, A: Agent<W>, D: Directory> Parts<W, A, D> {
-    /// A client of this number is asked.
-    fn ask(&mut self, client: u8, operation: Op<W>) -> Outcome<W>
+    /// A client of this number is asked. What comes of it is written where it is to stand, as below.
+    fn ask(&mut self, client: u8, operation: Op<W>, outcome: &mut Outcome<W>)
         requires width { IsWidth W }
         requires inside { client < length self.old.clients.items }
         ensures { (config : Config) (s : System W) → Holds A.knows A.terms D.perm_of config self.old s →
             HasRoom config (stepped config (Ask client operation.entry) s).after →
-            IsStepped A.knows A.terms D.perm_of config self.old self.new (Ask client operation.entry) result s }
+            IsStepped A.knows A.terms D.perm_of config self.old self.new (Ask client operation.entry) outcome.new s }
     {
         let (reply, message) = ask_at(&mut self.clients, usize::from(client), operation);
         self.rings.send_if_any(Link(client), &message);
-        Outcome::Replied { reply }
+        *outcome = Outcome::Replied { reply };
     }
 
     /// The first beat of a channel is brought to a client.
-    fn to_client(&mut self, link: Link, channel: Channel) -> Outcome<W>
+    fn to_client(&mut self, link: Link, channel: Channel, outcome: &mut Outcome<W>)
         requires width { IsWidth W }
         requires inside { link.0 < length self.old.clients.items }
         ensures { (config : Config) (s : System W) → Holds A.knows A.terms D.perm_of config self.old s →
             Step.is_to_client channel ≡ true → HasRoom config (stepped config (Deliver link channel) s).after →
-            IsStepped A.knows A.terms D.perm_of config self.old self.new (Deliver link channel) result s }
+            IsStepped A.knows A.terms D.perm_of config self.old self.new (Deliver link channel) outcome.new s }
     {
         let Some(beat) = self.rings.first(link, channel) else {
-            return Outcome::Empty;
+            *outcome = Outcome::Empty;
+            return;
         };
         match offer_at(&mut self.clients, usize::from(link.0), channel, beat) {
-            Err(_) => Outcome::Stalled,
+            Err(_) => *outcome = Outcome::Stalled,
             Ok((verdict, message)) => {
                 if stays(verdict) {
-                    return Outcome::Stalled;
+                    *outcome = Outcome::Stalled;
+                    return;
                 }
-                let outcome = outcome_of(*beat, verdict);
+                *outcome = outcome_of(*beat, verdict);
                 self.rings.drop_first(link, channel);
                 self.rings.send_if_any(link, &message);
-                outcome
             }
         }
     }
 
     /// The first beat of a channel is brought to the manager.
-    fn to_manager(&mut self, link: Link, channel: Channel) -> Outcome<W>
+    fn to_manager(&mut self, link: Link, channel: Channel, outcome: &mut Outcome<W>)
         requires width { IsWidth W }
         requires inside { link.0 < length self.old.clients.items }
         ensures { (config : Config) (s : System W) → Holds A.knows A.terms D.perm_of config self.old s →
             Step.is_to_client channel ≡ false → HasRoom config (stepped config (Deliver link channel) s).after →
-            IsStepped A.knows A.terms D.perm_of config self.old self.new (Deliver link channel) result s }
+            IsStepped A.knows A.terms D.perm_of config self.old self.new (Deliver link channel) outcome.new s }
     {
         let Some(beat) = self.rings.first(link, channel) else {
-            return Outcome::Empty;
+            *outcome = Outcome::Empty;
+            return;
         };
         match self.manager.answer(link, channel, beat) {
-            Err(_) => Outcome::Stalled,
-            Ok(None) => Outcome::Stalled,
+            Err(_) => *outcome = Outcome::Stalled,
+            Ok(None) => *outcome = Outcome::Stalled,
             Ok(Some(sending)) => {
-                let beat = *beat;
+                *outcome = Outcome::Moved { beat: *beat };
                 self.rings.drop_first(link, channel);
                 self.rings.send_out(&sending);
-                Outcome::Moved { beat }
             }
         }
     }
 
     /// The first beat of a channel of a client's link is brought to the end that takes it.
-    fn deliver(&mut self, link: Link, channel: Channel) -> Outcome<W>
+    fn deliver(&mut self, link: Link, channel: Channel, outcome: &mut Outcome<W>)
         requires width { IsWidth W }
         requires inside { link.0 < length self.old.clients.items }
         ensures { (config : Config) (s : System W) → Holds A.knows A.terms D.perm_of config self.old s →
             HasRoom config (stepped config (Deliver link channel) s).after →
-            IsStepped A.knows A.terms D.perm_of config self.old self.new (Deliver link channel) result s }
+            IsStepped A.knows A.terms D.perm_of config self.old self.new (Deliver link channel) outcome.new s }
     {
         if is_to_client(channel) {
-            self.to_client(link, channel)
+            self.to_client(link, channel, outcome)
         } else {
-            self.to_manager(link, channel)
+            self.to_manager(link, channel, outcome)
         }
     }
 
     /// Something happens.
-    pub fn happen(&mut self, event: Event<W>) -> Outcome<W>
+    pub fn happen(&mut self, event: Event<W>, outcome: &mut Outcome<W>)
         requires width { IsWidth W }
         ensures { (config : Config) (s : System W) → Holds A.knows A.terms D.perm_of config self.old s →
             HasRoom config (stepped config event.entry s).after →
-            IsStepped A.knows A.terms D.perm_of config self.old self.new event.entry result s }
+            IsStepped A.knows A.terms D.perm_of config self.old self.new event.entry outcome.new s }
     {
         match event {
             Event::Ask { client, operation } => {
                 if usize::from(client) >= self.clients.len() {
-                    return Outcome::NoSuchClient;
+                    *outcome = Outcome::NoSuchClient;
+                    return;
                 }
-                self.ask(client, operation)
+                self.ask(client, operation, outcome)
             }
             Event::Deliver { link, channel } => {
                 if usize::from(link.0) >= self.clients.len() {
-                    return Outcome::NoSuchClient;
+                    *outcome = Outcome::NoSuchClient;
+                    return;
                 }
-                self.deliver(link, channel)
+                self.deliver(link, channel, outcome)
             }
         }
     }

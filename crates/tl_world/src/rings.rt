@@ -16,7 +16,8 @@ use crate::ring::Ring;
 use tl_beat::beat::{Beat, Link};
 use tl_beat::opcode::Channel;
 use tl_burst::message::Message;
-use tl_manager::manager::reply::{Handed, Sending};
+use tl_manager::manager::reply::{Sending, probe};
+use tl_rules::param::Cap;
 
 fn channel_of<const W: usize>(message: &Message<W>) -> Channel
     ensures { result ≡ channel_of_message message.now }
@@ -65,6 +66,7 @@ pub struct Rings<const W: usize> {
 
 impl<const W: usize> Rings<W> {
     ghost use Rattle.tl_manager.specs.Sending.{messages_of};
+    ghost use Rattle.tl_manager.specs.declared.manager.reply.Sending.TheVariants.{Probes};
     ghost use Rattle.tl_world.specs.Carrying;
     ghost use Rattle.tl_world.specs.Carrying.{Carries, Fit, AreKept, AreMoved};
     ghost use Rattle.tl_world.specs.Step.{handed_by};
@@ -136,27 +138,20 @@ impl<const W: usize> Rings<W> {
         }
     }
 
-    /// Puts the beats of several messages behind those of their channels, the first first.
-    pub fn send_all(&mut self, handed: &Handed<W>)
+    /// Puts a Probe of a block behind those of channel B of each link whose bit is set, the lowest first.
+    fn send_probes(&mut self, block: u16, cap: Cap, clients: u16)
         requires { IsWidth W }
         ensures kept { AreKept self.old self.new }
-        ensures moved { (n : ℕ) (s : System W) → Carries n self.old s → Fit n self.old (with_messages handed.now.items s) →
-            AreMoved n self.old self.new (with_messages handed.now.items s) }
+        ensures moved { (n : ℕ) (s : System W) → Carries n self.old s → Fit n self.old (with_messages (messages_of (Probes block cap clients)) s) →
+            AreMoved n self.old self.new (with_messages (messages_of (Probes block cap clients)) s) }
     {
-        for (link, message) in handed.as_slice() {
-            self.send(*link, message);
+        let message = probe(u32::from(block), cap);
+        for client in 0..16u8 {
+            if (clients >> client) % 2 == 0 {
+                continue;
+            }
+            self.send(Link(client), &message);
         }
-    }
-
-    /// As `send_out`, for Probes. It is apart from it, so that the room for sixteen messages is made where
-    /// there are Probes alone.
-    fn send_probes(&mut self, sending: &Sending<W>)
-        requires { IsWidth W }
-        ensures kept { AreKept self.old self.new }
-        ensures moved { (n : ℕ) (s : System W) → Carries n self.old s → Fit n self.old (with_messages (messages_of sending.now) s) →
-            AreMoved n self.old self.new (with_messages (messages_of sending.now) s) }
-    {
-        self.send_all(&sending.handed());
     }
 
     /// Puts the beats of what a manager hands out behind those of their channels.
@@ -169,7 +164,11 @@ impl<const W: usize> Rings<W> {
         match sending {
             Sending::Nothing => {}
             Sending::One(sent) => self.send(sent.0, &sent.1),
-            Sending::Probes { .. } => self.send_probes(sending),
+            Sending::Probes {
+                block,
+                cap,
+                clients,
+            } => self.send_probes(*block, *cap, *clients),
         }
     }
 }

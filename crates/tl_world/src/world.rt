@@ -92,7 +92,8 @@ impl<const W: usize, A: Agent<W>, D: Directory> World<W, A, D> {
             result ≡ (stepped config event.entry (after config log)).outcome }
     {
         typed(&event);
-        let outcome = self.contents.parts.happen(event);
+        let mut outcome = Outcome::Empty;
+        self.contents.parts.happen(event, &mut outcome);
         self.contents.outstanding.count(&event, &outcome);
         outcome
     }

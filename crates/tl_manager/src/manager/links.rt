@@ -6,7 +6,7 @@ ghost use Rattle.tl_burst.specs.Part.{IsTakeable};
 ghost use Rattle.tl_beat.specs.declared.beat.Link.{Link};
 ghost use Rattle.tl_params.specs.declared.config.Config.{Config};
 ghost use Rattle.tl_manager.specs.Admission.{admission_of, judged_in_order, is_stall};
-ghost use Rattle.tl_rules.specs.Conformance.{on_link, broken_in_order};
+ghost use Rattle.tl_rules.specs.Conformance.{Trace, on_link, broken_in_order};
 ghost use Rattle.tl_params.specs.declared.perm.Perm.TheVariants as perm;
 ghost use Rattle.tl_manager.specs.Fresh.{fresh_wire};
 ghost use Rattle.tl_manager.specs.PartIs.{is_first_part, is_last_part};
@@ -59,6 +59,13 @@ fn is_waiting(judged: Result<Admission, Rule>) -> bool
         Ok(Admission::Passes) => false,
         Err(_) => false,
     }
+}
+
+/// Whether a beat is of a request: no other ever has to wait.
+fn may_wait<const W: usize>(beat: &Beat<W>) -> bool
+    ensures { result ≡ false → (config : Config) (link : Link) (t : Trace W) → Slave.must_wait config link beat.now t ≡ false }
+{
+    matches!(beat, Beat::A(_))
 }
 
 /// What a manager keeps.
@@ -198,7 +205,7 @@ impl<const W: usize, D: Directory> Links<W, D> {
         ensures { (config : Config) (e : End W) → Knows D.perm_of self.now config e →
             result ≡ Offer.stalls config link channel beat.now e }
     {
-        is_waiting(self.judge(link, channel, beat))
+        may_wait(beat) && is_waiting(self.judge(link, channel, beat))
     }
 
     /// Whether a link takes no beats: it was closed, or there is no such link.

@@ -35,7 +35,7 @@ pub enum Sending<const W: usize> {
 }
 
 /// A Probe of a block.
-fn probe<const W: usize>(block: u32, cap: Cap) -> Message<W>
+pub fn probe<const W: usize>(block: u32, cap: Cap) -> Message<W>
     requires width { IsWidth W }
     requires small { block < 2 ^ 26 }
     ensures { result ≡ probe_of_block block cap }

@@ -20,7 +20,7 @@ returns-in-Err g c = λ config s h up room.
 
 pub returns-else-stays : goal.returns-else-stays
 returns-else-stays g c = λ config s h up room.
-    rw c.outcome_of-outcome.ensures
+    rw c.outcome_of.ensures
     (steps-taken g.A.Agent.knows g.A.Agent.terms g.D.Directory.perm_of config c.args.self.now _ s c.args.link c.args.channel c.in-Some.beat.now _ c.offer_at.result h c.requires.inside
     (first-brought g.A.Agent.knows g.A.Agent.terms g.D.Directory.perm_of config c.args.self.now s c.args.link c.args.channel c.in-Some.beat.now h c.requires.inside c.in-Some.ensures.there) up (rw c.from.ensures at c.offer_at.ensures) refl
     c.drop_first.new.self c.in-Ok.verdict c.in-Ok.message (search rules) (search rules) c.drop_first.ensures.kept c.send_if_any.ensures.kept c.drop_first.ensures.moved c.send_if_any.ensures.moved room)

@@ -60,8 +60,30 @@ fn store(map: &mut BTreeMap<u32, Block>, block: u32, seen: Option<Block>)
     }
 }
 
-/// Writes what is seen of the block `last`, and answers what is seen of another, or of the same.
-fn turn(map: &mut BTreeMap<u32, Block>, last: u32, seen: Option<Block>, block: u32) -> Option<Block>
+/// Writes what is seen of the block `last`, and looks up another.
+fn seek(
+    map: &mut BTreeMap<u32, Block>,
+    last: u32,
+    seen: Option<Block>,
+    block: u32,
+) -> Option<Block>
+    requires stands { IsSeen map.old.entries last seen }
+    requires open { AreOpen map.old.entries }
+    ensures same { with_seen map.new.entries block result ≡ with_seen map.old.entries last seen }
+    ensures stands { IsSeen map.new.entries block result }
+    ensures open { AreOpen map.new.entries }
+{
+    store(map, last, seen);
+    map.get(&block).copied()
+}
+
+/// What is seen of a block, where the block `last` was seen before: a search only where it is another.
+fn turn(
+    map: &mut BTreeMap<u32, Block>,
+    last: u32,
+    seen: Option<Block>,
+    block: u32,
+) -> Option<Block>
     requires stands { IsSeen map.old.entries last seen }
     requires open { AreOpen map.old.entries }
     ensures same { with_seen map.new.entries block result ≡ with_seen map.old.entries last seen }
@@ -69,10 +91,10 @@ fn turn(map: &mut BTreeMap<u32, Block>, last: u32, seen: Option<Block>, block: u
     ensures open { AreOpen map.new.entries }
 {
     if block == last {
-        return seen;
+        seen
+    } else {
+        seek(map, last, seen, block)
     }
-    store(map, last, seen);
-    map.get(&block).copied()
 }
 
 /// Makes room in the map for a block of which something is open or held now, and takes the room of one

@@ -1,7 +1,7 @@
 use Rattle.std.proofs.Common.{◌≡◌, ◌∙◌, rules}
 use Rattle.tl_monitor.specs.Blocks.{block_found, AreOpen}
 use Rattle.tl_monitor.proofs.OpenBlocks.{found-same, found-stands, seen-open}
-use Rattle.tl_monitor.proofs.blocks.turn.Goals as goal
+use Rattle.tl_monitor.proofs.blocks.seek.Goals as goal
 
 pub returns-clause-same : goal.returns-clause-same
 returns-clause-same c =

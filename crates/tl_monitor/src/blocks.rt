@@ -4,7 +4,7 @@ ghost use Rattle.std.specs.Prelude.{ℕ, List, None, IfOk, OnOk, OnErr, if◌the
 ghost use Rattle.tl_rules.specs.declared.table.Block.{Block};
 ghost use Rattle.tl_rules.specs.Tables.{empty_block};
 ghost use Rattle.tl_monitor.specs.Count.{sum_below};
-ghost use Rattle.tl_monitor.specs.Blocks.{block_found, block_or_empty, block_in, is_held, open_of, AreOpen};
+ghost use Rattle.tl_monitor.specs.Blocks.{block_found, block_or_empty, block_in, is_held, open_of, with_seen, AreOpen, IsSeen};
 
 use std::alloc::{AllocError, Global};
 use std::collections::BTreeMap;
@@ -49,44 +49,105 @@ fn or_empty(found: Option<Block>) -> Block
     }
 }
 
-/// Says anew what is open and held of a block, as `Blocks::set` does, and answers what was.
-fn store(map: &mut BTreeMap<u32, Block>, block: u32, value: Block) -> Result<Block, AllocError>
-    ensures old { IfOk result (λ old. old ≡ block_in map.old.entries block) }
-    ensures changed { OnOk result ((k : ℕ) → block_in map.new.entries k ≡ (if k == block then value else block_in map.old.entries k)) }
-    ensures kept { AreOpen map.old.entries → AreOpen map.new.entries }
+/// Writes what is seen of a block into the map, where it stands there.
+fn store(map: &mut BTreeMap<u32, Block>, block: u32, seen: Option<Block>)
+    ensures { map.new.entries ≡ with_seen map.old.entries block seen }
+{
+    if let Some(value) = seen {
+        if let Some(stored) = map.get_mut(&block) {
+            *stored = value;
+        }
+    }
+}
+
+/// Writes what is seen of the block `last`, and looks up another.
+fn seek(
+    map: &mut BTreeMap<u32, Block>,
+    last: u32,
+    seen: Option<Block>,
+    block: u32,
+) -> Option<Block>
+    requires stands { IsSeen map.old.entries last seen }
+    requires open { AreOpen map.old.entries }
+    ensures same { with_seen map.new.entries block result ≡ with_seen map.old.entries last seen }
+    ensures stands { IsSeen map.new.entries block result }
+    ensures open { AreOpen map.new.entries }
+{
+    store(map, last, seen);
+    map.get(&block).copied()
+}
+
+/// What is seen of a block, where the block `last` was seen before: a search only where it is another.
+fn turn(
+    map: &mut BTreeMap<u32, Block>,
+    last: u32,
+    seen: Option<Block>,
+    block: u32,
+) -> Option<Block>
+    requires stands { IsSeen map.old.entries last seen }
+    requires open { AreOpen map.old.entries }
+    ensures same { with_seen map.new.entries block result ≡ with_seen map.old.entries last seen }
+    ensures stands { IsSeen map.new.entries block result }
+    ensures open { AreOpen map.new.entries }
+{
+    if block == last {
+        seen
+    } else {
+        seek(map, last, seen, block)
+    }
+}
+
+/// Makes room in the map for a block of which something is open or held now, and takes the room of one
+/// of which nothing is away. Answers what is seen of it then.
+fn make_room(
+    map: &mut BTreeMap<u32, Block>,
+    block: u32,
+    seen: Option<Block>,
+    value: Block,
+) -> Result<Option<Block>, AllocError>
+    requires stands { IsSeen map.old.entries block seen }
+    requires open { AreOpen map.old.entries }
+    ensures changed { IfOk result (λ new. (k : ℕ) → block_in (with_seen map.new.entries block new) k ≡ (if k == block then value else block_in map.old.entries k)) }
+    ensures stands { IfOk result (λ new. IsSeen map.new.entries block new) }
+    ensures open { AreOpen map.new.entries }
     ensures unchanged { OnErr result (map.new.entries ≡ map.old.entries) }
-    ensures new { OnErr result ((block_found map.old.entries block ≡ None) × (0 < open_of value)) }
+    ensures new { OnErr result ((seen ≡ None) × (0 < open_of value)) }
 {
     if open_of(&value) == 0 {
-        return Ok(or_empty(map.remove(&block)));
+        map.remove(&block);
+        return Ok(None);
     }
-    match map.insert(block, value) {
-        Ok(old) => Ok(or_empty(old)),
-        Err(_) => Err(AllocError),
+    match seen {
+        Some(_) => Ok(Some(value)),
+        None => match map.insert(block, value) {
+            Ok(_) => Ok(Some(value)),
+            Err(_) => Err(AllocError),
+        },
     }
 }
 
 /// What is open or held of blocks. A block of which nothing is isn't kept. A contract sees the blocks
 /// that are, in rising order, each with its number. The block of a beat is looked up once, however often
-/// the rules ask for it.
+/// the rules ask for it, and written once, when the next one is looked up.
 #[derive(Drop)]
 pub struct Blocks {
     map: BTreeMap<u32, Block>,
     len: usize,
     /// The block that was looked up or changed last.
     last: u32,
-    /// What is open and held of it.
-    seen: Block,
+    /// What is open and held of it, where something is. The map has an entry of it then, which may say
+    /// what was before.
+    seen: Option<Block>,
 }
 
 impl Model for Blocks {
     ghost Value = { List (ℕ × Block) };
 
-    ghost view = { λ b. b.map.entries };
+    ghost view = { λ b. with_seen b.map.entries b.last b.seen };
 
-    ghost invariant = { λ b. (b.len ≡ sum_below (2 ^ 32) (λ k. open_of (block_in b.map.entries k)))
+    ghost invariant = { λ b. (b.len ≡ sum_below (2 ^ 32) (λ k. open_of (block_in (with_seen b.map.entries b.last b.seen) k)))
         × AreOpen b.map.entries
-        × (b.seen ≡ block_in b.map.entries b.last) };
+        × IsSeen b.map.entries b.last b.seen };
 }
 
 impl Blocks {
@@ -98,7 +159,7 @@ impl Blocks {
             map: BTreeMap::new(alloc),
             len: 0,
             last: 0,
-            seen: EMPTY,
+            seen: None,
         }
     }
 
@@ -107,7 +168,7 @@ impl Blocks {
         ensures { result ≡ block_in self.now block }
     {
         if block == self.last {
-            self.seen
+            or_empty(self.seen)
         } else {
             or_empty(self.map.get(&block).copied())
         }
@@ -117,7 +178,7 @@ impl Blocks {
     pub fn look(&mut self, block: u32)
         ensures { self.new ≡ self.old }
     {
-        self.seen = self.get(block);
+        self.seen = turn(&mut self.map, self.last, self.seen, block);
         self.last = block;
     }
 
@@ -128,10 +189,11 @@ impl Blocks {
         ensures unchanged { OnErr result (self.new ≡ self.old) }
         ensures new { OnErr result ((block_in self.old block ≡ empty_block) × (0 < open_of value)) }
     {
-        let old = store(&mut self.map, block, value)?;
-        self.len = self.len - open_of(&old) + open_of(&value);
+        let old = turn(&mut self.map, self.last, self.seen, block);
         self.last = block;
-        self.seen = value;
+        self.seen = old;
+        self.seen = make_room(&mut self.map, block, old, value)?;
+        self.len = self.len - open_of(&or_empty(old)) + open_of(&value);
         Ok(())
     }
 

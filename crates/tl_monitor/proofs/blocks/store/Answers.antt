@@ -1,9 +1,10 @@
-use Rattle.std.proofs.Common.{arith, sym, ◌∙◌}
-use Rattle.std.proofs.lemmas.Grind.{common_steps}
-use Rattle.tl_monitor.proofs.OpenBlocks.{open-none}
+use Rattle.std.proofs.Common.{◌≡◌, ap, sym, ◌∙◌, rules}
+use Rattle.std.specs.Prelude.{None}
+use Rattle.tl_monitor.specs.Blocks.{block_found}
+use Rattle.tl_monitor.proofs.OpenBlocks.{seen-absent}
 use Rattle.tl_monitor.proofs.blocks.store.Goals as goal
 
-pub returns-then-open_of-eq0-clause-changed : goal.returns-then-open_of-eq0-clause-changed
-returns-then-open_of-eq0-clause-changed c = λ k.
-    let empty = open-none c.args.value (sym c.open_of.ensures.counted ∙ c.if-open_of-eq0.true) in
-    rw empty (grind (arith, common_steps, c.remove.ensures.updates.0 k))
+pub returns-in_default-get_mut : goal.returns-in_default-get_mut
+returns-in_default-get_mut c =
+    let none : block_found c.args.map.now.entries c.args.block ≡ None = search rules in
+    ap (λ m. m.entries) c.get_mut.follows.holds-at-none ∙ sym (seen-absent c.args.map.now.entries c.args.block c.args.seen none)

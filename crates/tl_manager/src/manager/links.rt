@@ -63,7 +63,7 @@ fn is_waiting(judged: Result<Admission, Rule>) -> bool
 
 /// Whether a beat is of a request: no other ever has to wait.
 fn may_wait<const W: usize>(beat: &Beat<W>) -> bool
-    ensures { result ≡ false → (config : Config) (link : Link) (t : Trace W) → Slave.must_wait config link beat.now t ≡ false }
+    ensures { result ≡ false → (config : Config) (link : Link) (t : Trace W) → Offer.must_wait config link beat.now t ≡ false }
 {
     matches!(beat, Beat::A(_))
 }

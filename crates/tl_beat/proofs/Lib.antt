@@ -6,11 +6,11 @@ pub mod Pieces
 pub mod Spaces
 pub mod LineAt
 pub mod Faults
-pub mod DigitLaws
+pub mod SpelledDigits
 pub mod DigitTable
 pub mod AtPlaces
 pub mod VectorLanes
-pub mod SpelledLaws
-pub mod ReadLaws
+pub mod SpelledLines
+pub mod ReadLines
 pub mod WellSpelled
 pub mod Written

@@ -17,8 +17,8 @@ use Rattle.tl_beat.specs.Digits.{is_digit, digit_value, is_dash}
 use Rattle.tl_beat.specs.Reading.{◌>>=◌}
 use Rattle.tl_beat.specs.FromLeft.{value_or_fault, digits_at, space_at, field_at, bit_of_byte, bit_field_at, lanes_at, some_lanes, data_at, at_end, head_at, tail_at, line_a_at, line_b_at, line_c_at, line_d_at, line_e_at, letter_in, spaces_in, body_at}
 use Rattle.tl_beat.proofs.Pieces.{NoSpace, after_first-piece}
-use Rattle.tl_beat.proofs.DigitLaws.{is_dash-true}
-use Rattle.tl_beat.proofs.ReadLaws.{ok_of, ok_is, ok_step}
+use Rattle.tl_beat.proofs.SpelledDigits.{is_dash-true}
+use Rattle.tl_beat.proofs.ReadLines.{ok_of, ok_is, ok_step}
 
 -- ---- spaces
 

@@ -7,7 +7,7 @@ pub mod Asked
 pub mod Answering
 pub mod Assembled
 pub mod Beginning
-pub mod BitLemmas
+pub mod WordBits
 pub mod Blocks
 pub mod Busy
 pub mod Carrying
@@ -61,7 +61,7 @@ pub mod Sources
 pub mod Stalls
 pub mod Steady
 pub mod SteadyReports
-pub mod TableLemmas
+pub mod Entries
 pub mod Taking
 pub mod Trackers
 pub mod Unmoved

@@ -5,7 +5,7 @@ use Rattle.std.proofs.lemmas.List.{append-nil}
 use Rattle.std.specs.Prelude.{Option, Some, None, option_map}
 use Rattle.tl_schedule.specs.EventLine.{filled}
 use Rattle.tl_schedule.specs.FieldReading.{bytes_in, last}
-use Rattle.tl_schedule.proofs.FieldLaws.{bytes_taken, last_taken}
+use Rattle.tl_schedule.proofs.SpelledFields.{bytes_taken, last_taken}
 
 pub smaller_power : (size : ℕ) → size ≤ 3 → 2 ^ size ≤ 8
 smaller_power size le = pow-le-pow_right {n = 2} (lit< tt) {i = size} {j = 3} le

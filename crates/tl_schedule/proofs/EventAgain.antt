@@ -5,7 +5,7 @@ use Rattle.tl_burst.proofs.Lanes.{block_size}
 use Rattle.tl_beat.specs.Digits.{digits, lane_digits}
 use Rattle.tl_beat.specs.Line.{letter, spaced}
 use Rattle.tl_beat.specs.Width.{IsWidth}
-use Rattle.tl_beat.proofs.DigitLaws.{digit_char-no_space, length-digits, length-lane_digits}
+use Rattle.tl_beat.proofs.SpelledDigits.{digit_char-no_space, length-digits, length-lane_digits}
 use Rattle.tl_beat.proofs.Pieces.{NoSpace, NoSpaces}
 use Rattle.tl_beat.specs.declared.opcode.Channel.{Channel}
 use Rattle.tl_beat.specs.declared.opcode.Channel.TheVariants as channel
@@ -24,7 +24,7 @@ use Rattle.tl_schedule.specs.EventLine.{Asked, Said, Get, Put, Part, Arith, Logi
 use Rattle.tl_schedule.specs.EventReading.{ask_at}
 use Rattle.tl_schedule.specs.NameReading.{arithmetic_in, grow_in, intent_in, logical_in, prune_in}
 use Rattle.tl_schedule.proofs.AccessBytes.{smaller_power}
-use Rattle.tl_schedule.proofs.FieldLaws.{number_again, size_again, bytes_again, channel_again}
+use Rattle.tl_schedule.proofs.SpelledFields.{number_again, size_again, bytes_again, channel_again}
 
 -- ---- names
 

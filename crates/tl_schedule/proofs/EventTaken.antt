@@ -10,7 +10,7 @@ use Rattle.tl_schedule.specs.EventLine.{Asked, Said, Get, Put, Part, Arith, Logi
 use Rattle.tl_schedule.specs.EventReading.{get_at, put_at, part_at, arith_at, logic_at, hint_at, asked_at, load_at, store_at, acquire_at, whole_at, release_at, access_at, deliver_at, said_at, ask_at}
 use Rattle.tl_schedule.specs.FieldReading.{bytes_in, front, last, number_in, size_in}
 use Rattle.tl_schedule.specs.NameReading.{arithmetic_in, arithmetics, grow_in, grows, intent_in, intents, logical_in, logicals, prune_in, prunes, word_in, word_name, words}
-use Rattle.tl_schedule.proofs.FieldLaws.{number_taken, size_taken, bytes_taken, name_taken, channel_taken, front_taken, end_taken, last_taken, map_taken}
+use Rattle.tl_schedule.proofs.SpelledFields.{number_taken, size_taken, bytes_taken, name_taken, channel_taken, front_taken, end_taken, last_taken, map_taken}
 use Rattle.tl_schedule.proofs.Options.{bind_some}
 
 -- ---- fields in a row

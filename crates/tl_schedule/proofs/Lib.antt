@@ -2,10 +2,10 @@ pub mod Options
 pub mod Decimals
 pub mod Headers
 pub mod Fields
-pub mod FieldLaws
+pub mod SpelledFields
 pub mod AccessBytes
 pub mod EventMeant
 pub mod EventTaken
 pub mod EventAgain
-pub mod EventLaws
+pub mod WholeLines
 pub mod ByteDigits

@@ -15,7 +15,7 @@ use Rattle.tl_beat.specs.declared.fault.LineFault.TheVariants.{F1}
 use Rattle.tl_beat.specs.Reading.{reading}
 use Rattle.tl_beat.specs.Width.{IsWidth}
 use Rattle.tl_beat.proofs.Faults.{reading-fault}
-use Rattle.tl_beat.proofs.ReadLaws.{reading-spells}
+use Rattle.tl_beat.proofs.ReadLines.{reading-spells}
 use Rattle.tl_beat.specs.First.{first_if}
 use Rattle.std.specs.Result.{result_err}
 use Rattle.tl_tool.specs.Lines.{IsOpen}

@@ -9,7 +9,7 @@ use Rattle.tl_beat.specs.Line.{Spells, line_fault}
 use Rattle.tl_beat.specs.Reading.{reading}
 use Rattle.tl_beat.specs.Width.{IsWidth}
 use Rattle.tl_beat.proofs.Faults.{reading-fault}
-use Rattle.tl_beat.proofs.SpelledLaws.{reading-spelled, one-beat}
+use Rattle.tl_beat.proofs.SpelledLines.{reading-spelled, one-beat}
 use Rattle.tl_params.specs.declared.level.Level.{Level}
 use Rattle.tl_params.specs.declared.profile.Profile.{Profile}
 use Rattle.tl_rules.specs.Conformance.{Trace, broken_on_link}

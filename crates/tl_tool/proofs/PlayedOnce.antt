@@ -10,7 +10,7 @@ use Rattle.tl_schedule.specs.EventLine.{SpellsLine}
 use Rattle.tl_schedule.specs.EventReading.{event_at}
 use Rattle.tl_schedule.specs.HeaderReading.{Named, header_at}
 use Rattle.tl_params.specs.Header.{width_of}
-use Rattle.tl_schedule.proofs.EventLaws.{said_read}
+use Rattle.tl_schedule.proofs.WholeLines.{said_read}
 use Rattle.tl_schedule.proofs.Headers.{spelled_read}
 use Rattle.tl_world.specs.Log.{Log}
 use Rattle.tl_tool.specs.declared.status.Status.{Status}

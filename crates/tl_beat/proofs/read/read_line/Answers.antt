@@ -2,8 +2,8 @@ use Rattle.std.proofs.Common.{ap, ◌∙◌}
 use Rattle.std.specs.Result.{result_err}
 use Rattle.tl_beat.proofs.LineAt.{line_at-is}
 use Rattle.tl_beat.proofs.Faults.{reading-fault}
-use Rattle.tl_beat.proofs.SpelledLaws.{reading-spelled, one-beat}
-use Rattle.tl_beat.proofs.ReadLaws.{ok-spells}
+use Rattle.tl_beat.proofs.SpelledLines.{reading-spelled, one-beat}
+use Rattle.tl_beat.proofs.ReadLines.{ok-spells}
 use Rattle.tl_beat.proofs.read.read_line.Goals as goal
 
 pub returns-clause-spelled : goal.returns-clause-spelled

@@ -1,4 +1,4 @@
-use Rattle.tl_schedule.proofs.EventLaws.{read_said, said_read, read_fault}
+use Rattle.tl_schedule.proofs.WholeLines.{read_said, said_read, read_fault}
 use Rattle.tl_schedule.proofs.line.read_event.Goals as goal
 
 pub returns-clause-spelled : goal.returns-clause-spelled

@@ -1,4 +1,4 @@
-use Rattle.tl_manager.proofs.BitLemmas.{holders-bit}
+use Rattle.tl_manager.proofs.WordBits.{holders-bit}
 use Rattle.tl_manager.proofs.bits.Words.holders.Goals as goal
 
 pub returns : goal.returns

@@ -1,4 +1,4 @@
-use Rattle.tl_manager.proofs.BitLemmas.{without-bit}
+use Rattle.tl_manager.proofs.WordBits.{without-bit}
 use Rattle.tl_manager.proofs.manager.home.without.Goals as goal
 
 pub returns : goal.returns

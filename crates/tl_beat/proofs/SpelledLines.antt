@@ -23,7 +23,7 @@ use Rattle.tl_beat.specs.Line.{fields_of, spaced, IsWritable, AreLanes, IsInRang
 use Rattle.tl_beat.specs.Reading.{at_most, reading_a, reading_b, reading_c, reading_d, reading_e, reading_fields, reading}
 use Rattle.tl_beat.specs.Width.{IsWidth}
 use Rattle.tl_beat.proofs.Pieces.{NoSpace, NoSpaces, pieces-spaced}
-use Rattle.tl_beat.proofs.DigitLaws.{digit_char-no_space, length-digits, number_in-digits, bit_in-text, length-lane_digits, data_in-text}
+use Rattle.tl_beat.proofs.SpelledDigits.{digit_char-no_space, length-digits, number_in-digits, bit_in-text, length-lane_digits, data_in-text}
 use Rattle.tl_beat.proofs.Made.{made_a-ok, made_b-ok, made_c-ok, made_d-ok}
 
 -- ---- opcodes and their codes

@@ -9,7 +9,7 @@ use Rattle.std.specs.Io.BufRead.{ends_with_byte}
 use Rattle.tl_beat.specs.Line.{pieces, spaced}
 use Rattle.tl_beat.specs.Width.{IsWidth}
 use Rattle.tl_beat.proofs.Pieces.{pieces-spaced, spaced-pieces}
-use Rattle.tl_beat.proofs.SpelledLaws.{ends_with_byte-line, without_last-line}
+use Rattle.tl_beat.proofs.SpelledLines.{ends_with_byte-line, without_last-line}
 use Rattle.tl_world.specs.declared.event.Event.{Event}
 use Rattle.tl_schedule.specs.declared.line.EventFault.{EventFault}
 use Rattle.tl_schedule.specs.declared.line.EventFault.TheVariants.{F1, F8}
@@ -20,7 +20,7 @@ use Rattle.tl_schedule.specs.EventReading.{ask_at, event_at, line_at, meant, mea
 use Rattle.tl_schedule.proofs.EventAgain.{ask_again, length-fields, said-no_spaces, said-short, said-some}
 use Rattle.tl_schedule.proofs.EventMeant.{meant-event}
 use Rattle.tl_schedule.proofs.EventTaken.{ask_taken}
-use Rattle.tl_schedule.proofs.FieldLaws.{map_taken}
+use Rattle.tl_schedule.proofs.SpelledFields.{map_taken}
 
 -- ---- a line and its line feed
 

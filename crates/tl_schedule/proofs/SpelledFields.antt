@@ -14,7 +14,7 @@ use Rattle.tl_beat.specs.Digits.{digits, lane_digits, is_digit, digit_value, is_
 use Rattle.tl_beat.specs.Line.{channel_named, channels, letter}
 use Rattle.tl_beat.specs.Names.{letter_of}
 use Rattle.tl_beat.specs.Reading as beat_reading
-use Rattle.tl_beat.proofs.DigitLaws.{number_in-digits, number_in-ok, data_in-text, data_in-ok}
+use Rattle.tl_beat.proofs.SpelledDigits.{number_in-digits, number_in-ok, data_in-text, data_in-ok}
 use Rattle.tl_schedule.specs.EventLine.{AreBytes, HasRoom}
 use Rattle.tl_schedule.specs.FieldReading.{with_rest, number_in, byte_of, pairs_in, bytes_in, at_most, size_in, before_fields, front, at_end, last}
 use Rattle.tl_schedule.specs.NameReading.{with_name}

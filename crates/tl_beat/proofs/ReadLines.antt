@@ -22,9 +22,9 @@ use Rattle.tl_beat.specs.Line.{fields_of, spaced, IsWritable, IsInRange, Spells,
 use Rattle.tl_beat.specs.Reading.{◌>>=◌, number_in, data_in, bit_in, at_most, agreement, made_a, made_b, made_c, made_d, linked, reading_a, reading_b, reading_c, reading_d, reading_e, reading_on, reading_fields, reading}
 use Rattle.tl_beat.specs.Width.{IsWidth}
 use Rattle.tl_beat.proofs.Pieces.{spaced-pieces}
-use Rattle.tl_beat.proofs.DigitLaws.{number_in-ok, bit_in-ok, data_in-ok}
+use Rattle.tl_beat.proofs.SpelledDigits.{number_in-ok, bit_in-ok, data_in-ok}
 use Rattle.tl_beat.specs.Names.{letter_of}
-use Rattle.tl_beat.proofs.SpelledLaws.{a_code-with, b_code-with, c_code-with, d_code-with, mask-below}
+use Rattle.tl_beat.proofs.SpelledLines.{a_code-with, b_code-with, c_code-with, d_code-with, mask-below}
 
 abbrev pub ok_of : {A : Type 0} → A → Result A LineFault
 ok_of x = Ok x

@@ -1,5 +1,5 @@
 -- Headers of schedules: what was spelled is read, and what was read was spelled so.
-use Rattle.std.proofs.Common.{◌≡◌, ◌<◌, ◌≤◌, ℕ, zero, suc, ◌-◌, List, [], ◌∷◌, ◌++◌, length, true, false, refl, ap, sym, ◌∙◌, arith, append_assoc, eqb, eqb-true, cond}
+use Rattle.std.proofs.Common.{◌≡◌, ◌<◌, ◌≤◌, ℕ, zero, suc, ◌-◌, List, [], ◌∷◌, ◌++◌, length, true, refl, ap, sym, ◌∙◌, arith, append_assoc}
 use Rattle.std.proofs.lemmas.Bool.Decides.{nat_tests}
 use Rattle.std.specs.Fmt.{decimal}
 use Rattle.std.specs.Prelude.{Bool, ◌&&◌, IfSome, Option, Some, None}
@@ -11,7 +11,7 @@ use Rattle.tl_params.specs.Config.{all_sources_fit, blocks_fit, trackers_fit, so
 use Rattle.tl_params.specs.Header.{is_end, level_text, version_text}
 use Rattle.tl_params.specs.HeaderReading.{after_word, level_at, onto, version_at}
 use Rattle.tl_params.specs.Range.{is_from_to}
-use Rattle.tl_params.proofs.Headers.{after_taken, is_end-taken, level_again, level_taken, more_levels, version_again, version_taken, versioned}
+use Rattle.tl_params.proofs.Headers.{after_taken, is_end-taken, level_again, level_taken, more_levels, version_again, version_taken}
 use Rattle.tl_params.proofs.Options.{some_pair}
 use Rattle.tl_params.proofs.UpTo.{all-so, up_to-end, up_to-step}
 use Rattle.tl_schedule.specs.declared.header.Schedule.{Schedule}

@@ -1,5 +1,5 @@
 -- What is left of a reading that gave something.
-use Rattle.std.proofs.Common.{◌≡◌, refl, ap}
+use Rattle.std.proofs.Common.{◌≡◌, refl}
 use Rattle.std.specs.Prelude.{Option, Some, None}
 use Rattle.tl_schedule.specs.Then.{◌>>=◌}
 

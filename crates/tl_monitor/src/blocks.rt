@@ -1,16 +1,20 @@
 //! A table of what is open of blocks, and of what is held of them.
 
-ghost use Rattle.std.specs.Prelude.{ℕ, List, None, IfOk, OnOk, OnErr, if◌then◌else◌, ◌==◌, ◌≡◌, ◌<◌, ◌≤◌, ◌^◌, ◌*◌};
+ghost use Rattle.std.specs.Prelude.{ℕ, List, [], None, length, slice_index_or, IfOk, OnOk, OnErr, if◌then◌else◌, ◌==◌, ◌≡◌, ◌<◌, ◌≤◌, ◌^◌, ◌*◌};
 ghost use Rattle.tl_rules.specs.declared.table.Block.{Block};
 ghost use Rattle.tl_rules.specs.Tables.{empty_block};
 ghost use Rattle.tl_monitor.specs.Count.{sum_below};
-ghost use Rattle.tl_monitor.specs.Blocks.{block_found, block_or_empty, block_in, is_held, open_of, with_seen, AreOpen, IsSeen};
+ghost use Rattle.tl_monitor.specs.Blocks.{block_or_empty, block_in, entries_of, is_held, open_of, tree_of, value_in, with_seen, with_value, AllOpen, AreOpen, IsSeen, IsValue};
 
 use std::alloc::{AllocError, Global};
+use std::array;
 use std::collections::BTreeMap;
 use std::marker::Model;
 use tl_rules::perm::Perm;
 use tl_rules::table::Block;
+
+/// How many trees the blocks stand in, by the low bits of their numbers.
+const TREES: usize = 256;
 
 /// A block of which nothing is open or held.
 const EMPTY: Block = Block {
@@ -49,12 +53,32 @@ fn or_empty(found: Option<Block>) -> Block
     }
 }
 
-/// Writes what is seen of a block into the map, where it stands there.
-fn store(map: &mut BTreeMap<u32, Block>, block: u32, seen: Option<Block>)
-    ensures { map.new.entries ≡ with_seen map.old.entries block seen }
+/// Trees in which no block stands.
+fn new_trees(alloc: Global) -> [BTreeMap<u32, Block>; TREES]
+    ensures empty { (i : ℕ) → slice_index_or (entries_of result) i [] ≡ [] }
+    ensures long { length result ≡ 256 }
+{
+    array::from_fn(
+        |_|
+            ensures { result.entries ≡ [] }
+        { BTreeMap::new(alloc) },
+    )
+}
+
+/// The tree that a block stands in.
+fn tree_of(block: u32) -> usize
+    ensures own { result ≡ tree_of block }
+    ensures below { result < 256 }
+{
+    block as usize % TREES
+}
+
+/// Writes what is seen of a block into its tree, where it stands there.
+fn store(tree: &mut BTreeMap<u32, Block>, block: u32, seen: Option<Block>)
+    ensures { tree.new.entries ≡ with_value tree.old.entries block seen }
 {
     if let Some(value) = seen {
-        if let Some(stored) = map.get_mut(&block) {
+        if let Some(stored) = tree.get_mut(&block) {
             *stored = value;
         }
     }
@@ -62,68 +86,89 @@ fn store(map: &mut BTreeMap<u32, Block>, block: u32, seen: Option<Block>)
 
 /// Writes what is seen of the block `last`, and looks up another.
 fn seek(
-    map: &mut BTreeMap<u32, Block>,
+    trees: &mut [BTreeMap<u32, Block>; TREES],
     last: u32,
     seen: Option<Block>,
     block: u32,
 ) -> Option<Block>
-    requires stands { IsSeen map.old.entries last seen }
-    requires open { AreOpen map.old.entries }
-    ensures same { with_seen map.new.entries block result ≡ with_seen map.old.entries last seen }
-    ensures stands { IsSeen map.new.entries block result }
-    ensures open { AreOpen map.new.entries }
+    requires stands { IsSeen (entries_of trees.old) last seen }
+    requires open { AreOpen (entries_of trees.old) }
+    ensures same { with_seen (entries_of trees.new) block result ≡ with_seen (entries_of trees.old) last seen }
+    ensures stands { IsSeen (entries_of trees.new) block result }
+    ensures open { AreOpen (entries_of trees.new) }
+    ensures long { length trees.new ≡ 256 }
 {
-    store(map, last, seen);
-    map.get(&block).copied()
+    store(&mut trees[tree_of(last)], last, seen);
+    trees[tree_of(block)].get(&block).copied()
 }
 
 /// What is seen of a block, where the block `last` was seen before: a search only where it is another.
 fn turn(
-    map: &mut BTreeMap<u32, Block>,
+    trees: &mut [BTreeMap<u32, Block>; TREES],
     last: u32,
     seen: Option<Block>,
     block: u32,
 ) -> Option<Block>
-    requires stands { IsSeen map.old.entries last seen }
-    requires open { AreOpen map.old.entries }
-    ensures same { with_seen map.new.entries block result ≡ with_seen map.old.entries last seen }
-    ensures stands { IsSeen map.new.entries block result }
-    ensures open { AreOpen map.new.entries }
+    requires stands { IsSeen (entries_of trees.old) last seen }
+    requires open { AreOpen (entries_of trees.old) }
+    ensures same { with_seen (entries_of trees.new) block result ≡ with_seen (entries_of trees.old) last seen }
+    ensures stands { IsSeen (entries_of trees.new) block result }
+    ensures open { AreOpen (entries_of trees.new) }
+    ensures long { length trees.new ≡ 256 }
 {
     if block == last {
         seen
     } else {
-        seek(map, last, seen, block)
+        seek(trees, last, seen, block)
     }
 }
 
-/// Makes room in the map for a block of which something is open or held now, and takes the room of one
+/// Makes room in its tree for a block of which something is open or held now, and takes the room of one
 /// of which nothing is away. Answers what is seen of it then.
-fn make_room(
-    map: &mut BTreeMap<u32, Block>,
+fn make_room_in(
+    tree: &mut BTreeMap<u32, Block>,
     block: u32,
     seen: Option<Block>,
     value: Block,
 ) -> Result<Option<Block>, AllocError>
-    requires stands { IsSeen map.old.entries block seen }
-    requires open { AreOpen map.old.entries }
-    ensures changed { IfOk result (λ new. (k : ℕ) → block_in (with_seen map.new.entries block new) k ≡ (if k == block then value else block_in map.old.entries k)) }
-    ensures stands { IfOk result (λ new. IsSeen map.new.entries block new) }
-    ensures open { AreOpen map.new.entries }
-    ensures unchanged { OnErr result (map.new.entries ≡ map.old.entries) }
+    requires stands { IsValue tree.old.entries block seen }
+    requires open { AllOpen tree.old.entries }
+    ensures changed { IfOk result (λ new. (k : ℕ) → value_in (with_value tree.new.entries block new) k ≡ (if k == block then value else value_in tree.old.entries k)) }
+    ensures stands { IfOk result (λ new. IsValue tree.new.entries block new) }
+    ensures open { AllOpen tree.new.entries }
+    ensures unchanged { OnErr result (tree.new.entries ≡ tree.old.entries) }
     ensures new { OnErr result ((seen ≡ None) × (0 < open_of value)) }
 {
     if open_of(&value) == 0 {
-        map.remove(&block);
+        tree.remove(&block);
         return Ok(None);
     }
     match seen {
         Some(_) => Ok(Some(value)),
-        None => match map.insert(block, value) {
+        None => match tree.insert(block, value) {
             Ok(_) => Ok(Some(value)),
             Err(_) => Err(AllocError),
         },
     }
+}
+
+/// The same in all trees.
+fn make_room(
+    trees: &mut [BTreeMap<u32, Block>; TREES],
+    block: u32,
+    seen: Option<Block>,
+    value: Block,
+) -> Result<Option<Block>, AllocError>
+    requires stands { IsSeen (entries_of trees.old) block seen }
+    requires open { AreOpen (entries_of trees.old) }
+    ensures changed { IfOk result (λ new. (k : ℕ) → block_in (with_seen (entries_of trees.new) block new) k ≡ (if k == block then value else block_in (entries_of trees.old) k)) }
+    ensures stands { IfOk result (λ new. IsSeen (entries_of trees.new) block new) }
+    ensures open { AreOpen (entries_of trees.new) }
+    ensures long { length trees.new ≡ 256 }
+    ensures unchanged { OnErr result (entries_of trees.new ≡ entries_of trees.old) }
+    ensures new { OnErr result ((seen ≡ None) × (0 < open_of value)) }
+{
+    make_room_in(&mut trees[tree_of(block)], block, seen, value)
 }
 
 /// What is open or held of blocks. A block of which nothing is isn't kept. A contract sees the blocks
@@ -131,7 +176,7 @@ fn make_room(
 /// the rules ask for it, and written once, when the next one is looked up.
 #[derive(Drop)]
 pub struct Blocks {
-    map: BTreeMap<u32, Block>,
+    trees: [BTreeMap<u32, Block>; TREES],
     len: usize,
     /// The block that was looked up or changed last.
     last: u32,
@@ -141,13 +186,14 @@ pub struct Blocks {
 }
 
 impl Model for Blocks {
-    ghost Value = { List (ℕ × Block) };
+    ghost Value = { List (List (ℕ × Block)) };
 
-    ghost view = { λ b. with_seen b.map.entries b.last b.seen };
+    ghost view = { λ b. with_seen (entries_of b.trees) b.last b.seen };
 
-    ghost invariant = { λ b. (b.len ≡ sum_below (2 ^ 32) (λ k. open_of (block_in (with_seen b.map.entries b.last b.seen) k)))
-        × AreOpen b.map.entries
-        × IsSeen b.map.entries b.last b.seen };
+    ghost invariant = { λ b. (b.len ≡ sum_below (2 ^ 32) (λ k. open_of (block_in (with_seen (entries_of b.trees) b.last b.seen) k)))
+        × AreOpen (entries_of b.trees)
+        × IsSeen (entries_of b.trees) b.last b.seen
+        × (length b.trees ≡ 256) };
 }
 
 impl Blocks {
@@ -156,7 +202,7 @@ impl Blocks {
         ensures { (k : ℕ) → block_in result k ≡ empty_block }
     {
         Blocks {
-            map: BTreeMap::new(alloc),
+            trees: new_trees(alloc),
             len: 0,
             last: 0,
             seen: None,
@@ -170,7 +216,7 @@ impl Blocks {
         if block == self.last {
             or_empty(self.seen)
         } else {
-            or_empty(self.map.get(&block).copied())
+            or_empty(self.trees[tree_of(block)].get(&block).copied())
         }
     }
 
@@ -178,7 +224,7 @@ impl Blocks {
     pub fn look(&mut self, block: u32)
         ensures { self.new ≡ self.old }
     {
-        self.seen = turn(&mut self.map, self.last, self.seen, block);
+        self.seen = turn(&mut self.trees, self.last, self.seen, block);
         self.last = block;
     }
 
@@ -189,10 +235,10 @@ impl Blocks {
         ensures unchanged { OnErr result (self.new ≡ self.old) }
         ensures new { OnErr result ((block_in self.old block ≡ empty_block) × (0 < open_of value)) }
     {
-        let old = turn(&mut self.map, self.last, self.seen, block);
+        let old = turn(&mut self.trees, self.last, self.seen, block);
         self.last = block;
         self.seen = old;
-        self.seen = make_room(&mut self.map, block, old, value)?;
+        self.seen = make_room(&mut self.trees, block, old, value)?;
         self.len = self.len - open_of(&or_empty(old)) + open_of(&value);
         Ok(())
     }

@@ -1,20 +1,26 @@
-use Rattle.std.proofs.Common.{◌≡◌, arith, ap, sym, ◌∙◌, rules}
-use Rattle.std.proofs.lemmas.Grind.{common_steps}
-use Rattle.std.specs.Prelude.{Some}
-use Rattle.tl_monitor.specs.Blocks.{block_in, block_found}
-use Rattle.tl_monitor.proofs.OpenBlocks.{open-none, seen-in, found-same}
+use Rattle.std.proofs.Common.{arith}
+use Rattle.std.proofs.lemmas.Result.{IfOk-weaker, on_err_weaker}
+use Rattle.tl_monitor.proofs.OpenBlocks.{changed-open, changed-said, changed-stands, stays}
 use Rattle.tl_monitor.proofs.blocks.make_room.Goals as goal
 
-pub returns-then-open_of-eq0-clause-changed : goal.returns-then-open_of-eq0-clause-changed
-returns-then-open_of-eq0-clause-changed c = λ k.
-    let empty = open-none c.args.value (sym c.open_of.ensures.counted ∙ c.if-open_of-eq0.true) in
-    rw empty (grind (arith, common_steps, c.remove.ensures.updates.0 k))
+pub returns-clause-changed : goal.returns-clause-changed
+returns-clause-changed c =
+    IfOk-weaker c.make_room_in.result _ _
+    (λ new h. changed-said c.args.trees.now c.index-trees-tree_of.result c.make_room_in.new.tree c.args.block c.tree_of.result c.args.value new c.tree_of.ensures.own c.told-trees h)
+    c.make_room_in.ensures.changed
 
-pub returns-in-Some-clause-changed : goal.returns-in-Some-clause-changed
-returns-in-Some-clause-changed c = λ k.
-    seen-in c.args.map.now.entries c.args.block (Some c.args.value) k (search rules)
+pub returns-clause-stands : goal.returns-clause-stands
+returns-clause-stands c =
+    IfOk-weaker c.make_room_in.result _ _
+    (λ new h. changed-stands c.args.trees.now c.make_room_in.new.tree c.args.block c.tree_of.result new c.tree_of.ensures.own c.told-trees h)
+    c.make_room_in.ensures.stands
 
-pub returns-in-Ok-clause-changed : goal.returns-in-Ok-clause-changed
-returns-in-Ok-clause-changed c = λ k.
-    let here : Some c.args.value ≡ block_found c.insert.new.self.entries c.args.block = sym c.in-Ok.ensures.updates.1 in
-    ap (λ es. block_in es k) (found-same c.insert.new.self.entries c.args.block (Some c.args.value) here) ∙ grind (arith, common_steps, c.in-Ok.ensures.updates.0 k)
+pub returns-clause-open : goal.returns-clause-open
+returns-clause-open c =
+    changed-open c.args.trees.now c.make_room_in.new.tree c.args.block c.tree_of.result c.tree_of.ensures.own c.told-trees c.requires.open c.make_room_in.ensures.open
+
+pub returns-clause-unchanged : goal.returns-clause-unchanged
+returns-clause-unchanged c =
+    on_err_weaker c.make_room_in.result
+    (stays c.args.trees.now c.index-trees-tree_of.result c.make_room_in.new.tree c.args.block c.tree_of.result c.tree_of.ensures.own (omega (arith, c.told-trees, c.tree_of.ensures.below)))
+    c.make_room_in.ensures.unchanged

@@ -1,12 +1,13 @@
-use Rattle.std.proofs.Common.{ap}
-use Rattle.std.specs.Prelude.{◌≡◌, Option, Some, None}
-use Rattle.tl_monitor.specs.Blocks.{block_found, block_in}
-use Rattle.tl_monitor.proofs.OpenBlocks.{all-none}
+use Rattle.std.specs.Prelude.{None}
+use Rattle.tl_monitor.specs.Blocks.{entries_of, with_seen}
+use Rattle.tl_monitor.proofs.OpenBlocks.{all-none, new-in, new-open, new-seen}
 use Rattle.tl_monitor.proofs.blocks.Blocks.new.Goals as goal
 
 pub invariant_of-result : goal.invariant_of-result
 invariant_of-result c =
-    (all-none c.new.result.entries (λ k. ap (λ e. block_in e k) c.new.ensures.empty), λ k b is. absurd (no_entry (ap (λ e. block_found e k) c.new.ensures.empty) is), ap (λ e. block_found e 0) c.new.ensures.empty)
-  where
-    no_entry : {A : Type 0} {x : Option A} {b : A} → x ≡ None → x ≡ Some b → ⊥
-    no_entry e f = cc
+    let trees = entries_of c.new_trees.result in
+    let empty = c.new_trees.ensures.empty in
+    (all-none (with_seen trees 0 None) (new-in trees empty), new-open trees empty, new-seen trees empty, c.new_trees.ensures.long)
+
+pub returns : goal.returns
+returns c = new-in (entries_of c.new_trees.result) c.new_trees.ensures.empty

@@ -171,8 +171,8 @@ fn make_room(
     make_room_in(&mut trees[tree_of(block)], block, seen, value)
 }
 
-/// What is open or held of blocks. A block of which nothing is isn't kept. A contract sees the blocks
-/// that are, in rising order, each with its number. The block of a beat is looked up once, however often
+/// What is open or held of blocks. A block of which nothing is isn't kept. A contract sees the trees,
+/// in each the blocks that are, in rising order, with their numbers. The block of a beat is looked up once, however often
 /// the rules ask for it, and written once, when the next one is looked up.
 #[derive(Drop)]
 pub struct Blocks {

@@ -2,7 +2,7 @@
 use Rattle.std.proofs.Common.{◌≡◌, ℕ, zero, suc, ◌<◌, Bool, true, refl, arith, inl, inr}
 use Rattle.std.specs.Prelude.{◌==◌, ◌&&◌, ◌⊎◌, slice_index_or}
 use Rattle.std.proofs.lemmas.Bool.{eqb-true, and_parts}
-use Rattle.tl_beat.specs.declared.field.TheConstants.{VALUES}
+use Rattle.tl_beat.specs.declared.read.field.TheConstants.{VALUES}
 use Rattle.tl_beat.specs.declared.text.TheConstants.{DIGITS}
 use Rattle.tl_beat.specs.Digits.{digit_char}
 use Rattle.tl_beat.specs.FromLeft.{value_or_16}

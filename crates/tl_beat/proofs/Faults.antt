@@ -9,8 +9,8 @@ use Rattle.tl_beat.specs.declared.beat.BeatB.{BeatB}
 use Rattle.tl_beat.specs.declared.beat.BeatC.{BeatC}
 use Rattle.tl_beat.specs.declared.beat.BeatD.{BeatD}
 use Rattle.tl_beat.specs.declared.beat.Beat.TheVariants as beat
-use Rattle.tl_beat.specs.declared.opcode.Channel.{Channel}
-use Rattle.tl_beat.specs.declared.opcode.Channel.TheVariants as channel
+use Rattle.tl_beat.specs.declared.channel.Channel.{Channel}
+use Rattle.tl_beat.specs.declared.channel.Channel.TheVariants as channel
 use Rattle.tl_beat.specs.declared.opcode.OpA.{OpA}
 use Rattle.tl_beat.specs.declared.opcode.OpB.{OpB}
 use Rattle.tl_beat.specs.declared.opcode.OpC.{OpC}
@@ -58,7 +58,8 @@ opcode-fault None carries greatest param field build = refl
 opcode-fault {Op} {A} (Some o) carries greatest param field build = go (nat_lt greatest param)
   where
     go : (b : Bool)
-        → result_err (cond b (Err F5) (Ok param) >>= λ p. agreement (is_some (data_of field)) (carries o) >>= λ h. built (build o p h)) ≡ first_if b F5 (first_if (is_misplaced (Some (carries o)) field) F6 None)
+        → result_err (cond b (Err F5) (Ok param) >>= λ p. agreement (is_some (data_of field)) (carries o) >>= λ h. built (build o p h)) ≡ first_if b F5
+        (first_if (is_misplaced (Some (carries o)) field) F6 None)
     go true = refl
     go false = agreement-fault (is_some (data_of field)) (carries o) (build o param) ∙ misplaced (is_dash field) (carries o) (lanes_before [] field) field refl
 
@@ -87,7 +88,16 @@ built_d size source sink denied lanes corrupt opcode param h =
 reading_a-fault : (w : ℕ) (fs : List (List ℕ)) → result_err (reading_a {w = w} fs) ≡ channel_fault w (Some channel.A) fs
 unfolding reading_a
 reading_a-fault w (link ∷ letter ∷ opcode ∷ param ∷ size ∷ source ∷ address ∷ mask ∷ lanes ∷ corrupt ∷ []) =
-    checked (is_digits 2 link) (value_of link) _ _ _ (checked (is_digits 1 opcode) (value_of opcode) _ _ _ (checked (is_digits 1 param) (value_of param) _ _ _ (checked (is_digits 1 size) (value_of size) _ _ _ (checked (is_digits 2 source) (value_of source) _ _ _ (checked (is_digits 8 address) (value_of address) _ _ _ (checked (is_digits (w / 4) mask) (value_of mask) _ _ _ (checked (is_data w lanes) (data_of lanes) _ _ _ (checked (is_bit corrupt) (bit_of corrupt) _ _ _ ((result_err-map (made_a {w = w} (value_of opcode) (value_of param) (value_of size) (value_of source) (value_of address) (value_of mask) (data_of lanes) (bit_of corrupt)) (λ y. linked {w = w} (value_of link) (beat.A y))) ∙ opcode-fault (a_with (value_of opcode)) a_carries_data 7 (value_of param) lanes (built_a {w = w} (value_of size) (value_of source) (value_of address) (value_of mask) (data_of lanes) (bit_of corrupt)))))))))))
+    checked (is_digits 2 link) (value_of link) _ _ _ (checked (is_digits 1 opcode) (value_of opcode) _ _ _
+    (checked (is_digits 1 param) (value_of param) _ _ _
+    (checked (is_digits 1 size) (value_of size) _ _ _ (checked (is_digits 2 source) (value_of source) _ _ _
+    (checked (is_digits 8 address) (value_of address) _ _ _
+    (checked (is_digits (w / 4) mask) (value_of mask) _ _ _
+    (checked (is_data w lanes) (data_of lanes) _ _ _ (checked (is_bit corrupt) (bit_of corrupt) _ _ _
+    ((result_err-map (made_a {w = w} (value_of opcode) (value_of param) (value_of size) (value_of source) (value_of address) (value_of mask)
+    (data_of lanes) (bit_of corrupt)) (λ y. linked {w = w} (value_of link) (beat.A y)))
+    ∙ opcode-fault (a_with (value_of opcode)) a_carries_data 7 (value_of param) lanes
+    (built_a {w = w} (value_of size) (value_of source) (value_of address) (value_of mask) (data_of lanes) (bit_of corrupt)))))))))))
 reading_a-fault w (link ∷ letter ∷ opcode ∷ param ∷ size ∷ source ∷ address ∷ mask ∷ lanes ∷ corrupt ∷ f ∷ fs) =
     sym (unless_equal (length (link ∷ letter ∷ opcode ∷ param ∷ size ∷ source ∷ address ∷ mask ∷ lanes ∷ corrupt ∷ f ∷ fs)) 10 _ _ (λ e. omega arith))
 reading_a-fault w fs = refl
@@ -95,7 +105,16 @@ reading_a-fault w fs = refl
 reading_b-fault : (w : ℕ) (fs : List (List ℕ)) → result_err (reading_b {w = w} fs) ≡ channel_fault w (Some channel.B) fs
 unfolding reading_b
 reading_b-fault w (link ∷ letter ∷ opcode ∷ param ∷ size ∷ source ∷ address ∷ mask ∷ lanes ∷ corrupt ∷ []) =
-    checked (is_digits 2 link) (value_of link) _ _ _ (checked (is_digits 1 opcode) (value_of opcode) _ _ _ (checked (is_digits 1 param) (value_of param) _ _ _ (checked (is_digits 1 size) (value_of size) _ _ _ (checked (is_digits 2 source) (value_of source) _ _ _ (checked (is_digits 8 address) (value_of address) _ _ _ (checked (is_digits (w / 4) mask) (value_of mask) _ _ _ (checked (is_data w lanes) (data_of lanes) _ _ _ (checked (is_bit corrupt) (bit_of corrupt) _ _ _ ((result_err-map (made_b {w = w} (value_of opcode) (value_of param) (value_of size) (value_of source) (value_of address) (value_of mask) (data_of lanes) (bit_of corrupt)) (λ y. linked {w = w} (value_of link) (beat.B y))) ∙ opcode-fault (b_with (value_of opcode)) b_carries_data 7 (value_of param) lanes (built_b {w = w} (value_of size) (value_of source) (value_of address) (value_of mask) (data_of lanes) (bit_of corrupt)))))))))))
+    checked (is_digits 2 link) (value_of link) _ _ _ (checked (is_digits 1 opcode) (value_of opcode) _ _ _
+    (checked (is_digits 1 param) (value_of param) _ _ _
+    (checked (is_digits 1 size) (value_of size) _ _ _ (checked (is_digits 2 source) (value_of source) _ _ _
+    (checked (is_digits 8 address) (value_of address) _ _ _
+    (checked (is_digits (w / 4) mask) (value_of mask) _ _ _
+    (checked (is_data w lanes) (data_of lanes) _ _ _ (checked (is_bit corrupt) (bit_of corrupt) _ _ _
+    ((result_err-map (made_b {w = w} (value_of opcode) (value_of param) (value_of size) (value_of source) (value_of address) (value_of mask)
+    (data_of lanes) (bit_of corrupt)) (λ y. linked {w = w} (value_of link) (beat.B y)))
+    ∙ opcode-fault (b_with (value_of opcode)) b_carries_data 7 (value_of param) lanes
+    (built_b {w = w} (value_of size) (value_of source) (value_of address) (value_of mask) (data_of lanes) (bit_of corrupt)))))))))))
 reading_b-fault w (link ∷ letter ∷ opcode ∷ param ∷ size ∷ source ∷ address ∷ mask ∷ lanes ∷ corrupt ∷ f ∷ fs) =
     sym (unless_equal (length (link ∷ letter ∷ opcode ∷ param ∷ size ∷ source ∷ address ∷ mask ∷ lanes ∷ corrupt ∷ f ∷ fs)) 10 _ _ (λ e. omega arith))
 reading_b-fault w fs = refl
@@ -103,7 +122,15 @@ reading_b-fault w fs = refl
 reading_c-fault : (w : ℕ) (fs : List (List ℕ)) → result_err (reading_c {w = w} fs) ≡ channel_fault w (Some channel.C) fs
 unfolding reading_c
 reading_c-fault w (link ∷ letter ∷ opcode ∷ param ∷ size ∷ source ∷ address ∷ lanes ∷ corrupt ∷ []) =
-    checked (is_digits 2 link) (value_of link) _ _ _ (checked (is_digits 1 opcode) (value_of opcode) _ _ _ (checked (is_digits 1 param) (value_of param) _ _ _ (checked (is_digits 1 size) (value_of size) _ _ _ (checked (is_digits 2 source) (value_of source) _ _ _ (checked (is_digits 8 address) (value_of address) _ _ _ (checked (is_data w lanes) (data_of lanes) _ _ _ (checked (is_bit corrupt) (bit_of corrupt) _ _ _ ((result_err-map (made_c {w = w} (value_of opcode) (value_of param) (value_of size) (value_of source) (value_of address) (data_of lanes) (bit_of corrupt)) (λ y. linked {w = w} (value_of link) (beat.C y))) ∙ opcode-fault (c_with (value_of opcode)) c_carries_data 7 (value_of param) lanes (built_c {w = w} (value_of size) (value_of source) (value_of address) (data_of lanes) (bit_of corrupt))))))))))
+    checked (is_digits 2 link) (value_of link) _ _ _ (checked (is_digits 1 opcode) (value_of opcode) _ _ _
+    (checked (is_digits 1 param) (value_of param) _ _ _
+    (checked (is_digits 1 size) (value_of size) _ _ _ (checked (is_digits 2 source) (value_of source) _ _ _
+    (checked (is_digits 8 address) (value_of address) _ _ _
+    (checked (is_data w lanes) (data_of lanes) _ _ _ (checked (is_bit corrupt) (bit_of corrupt) _ _ _
+    ((result_err-map (made_c {w = w} (value_of opcode) (value_of param) (value_of size) (value_of source) (value_of address) (data_of lanes)
+    (bit_of corrupt)) (λ y. linked {w = w} (value_of link) (beat.C y)))
+    ∙ opcode-fault (c_with (value_of opcode)) c_carries_data 7 (value_of param) lanes
+    (built_c {w = w} (value_of size) (value_of source) (value_of address) (data_of lanes) (bit_of corrupt))))))))))
 reading_c-fault w (link ∷ letter ∷ opcode ∷ param ∷ size ∷ source ∷ address ∷ lanes ∷ corrupt ∷ f ∷ fs) =
     sym (unless_equal (length (link ∷ letter ∷ opcode ∷ param ∷ size ∷ source ∷ address ∷ lanes ∷ corrupt ∷ f ∷ fs)) 9 _ _ (λ e. omega arith))
 reading_c-fault w fs = refl
@@ -111,7 +138,15 @@ reading_c-fault w fs = refl
 reading_d-fault : (w : ℕ) (fs : List (List ℕ)) → result_err (reading_d {w = w} fs) ≡ channel_fault w (Some channel.D) fs
 unfolding reading_d
 reading_d-fault w (link ∷ letter ∷ opcode ∷ param ∷ size ∷ source ∷ sink ∷ denied ∷ lanes ∷ corrupt ∷ []) =
-    checked (is_digits 2 link) (value_of link) _ _ _ (checked (is_digits 1 opcode) (value_of opcode) _ _ _ (checked (is_digits 1 param) (value_of param) _ _ _ (checked (is_digits 1 size) (value_of size) _ _ _ (checked (is_digits 2 source) (value_of source) _ _ _ (checked (is_digits 2 sink) (value_of sink) _ _ _ (checked (is_bit denied) (bit_of denied) _ _ _ (checked (is_data w lanes) (data_of lanes) _ _ _ (checked (is_bit corrupt) (bit_of corrupt) _ _ _ ((result_err-map (made_d {w = w} (value_of opcode) (value_of param) (value_of size) (value_of source) (value_of sink) (bit_of denied) (data_of lanes) (bit_of corrupt)) (λ y. linked {w = w} (value_of link) (beat.D y))) ∙ opcode-fault (d_with (value_of opcode)) d_carries_data 3 (value_of param) lanes (built_d {w = w} (value_of size) (value_of source) (value_of sink) (bit_of denied) (data_of lanes) (bit_of corrupt)))))))))))
+    checked (is_digits 2 link) (value_of link) _ _ _ (checked (is_digits 1 opcode) (value_of opcode) _ _ _
+    (checked (is_digits 1 param) (value_of param) _ _ _
+    (checked (is_digits 1 size) (value_of size) _ _ _ (checked (is_digits 2 source) (value_of source) _ _ _
+    (checked (is_digits 2 sink) (value_of sink) _ _ _ (checked (is_bit denied) (bit_of denied) _ _ _
+    (checked (is_data w lanes) (data_of lanes) _ _ _ (checked (is_bit corrupt) (bit_of corrupt) _ _ _
+    ((result_err-map (made_d {w = w} (value_of opcode) (value_of param) (value_of size) (value_of source) (value_of sink) (bit_of denied)
+    (data_of lanes) (bit_of corrupt)) (λ y. linked {w = w} (value_of link) (beat.D y)))
+    ∙ opcode-fault (d_with (value_of opcode)) d_carries_data 3 (value_of param) lanes
+    (built_d {w = w} (value_of size) (value_of source) (value_of sink) (bit_of denied) (data_of lanes) (bit_of corrupt)))))))))))
 reading_d-fault w (link ∷ letter ∷ opcode ∷ param ∷ size ∷ source ∷ sink ∷ denied ∷ lanes ∷ corrupt ∷ f ∷ fs) =
     sym (unless_equal (length (link ∷ letter ∷ opcode ∷ param ∷ size ∷ source ∷ sink ∷ denied ∷ lanes ∷ corrupt ∷ f ∷ fs)) 10 _ _ (λ e. omega arith))
 reading_d-fault w fs = refl

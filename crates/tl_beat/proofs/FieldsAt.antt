@@ -7,7 +7,7 @@ use Rattle.std.specs.Prelude.{Result, Ok, Err, Option, Some, None, ◌==◌, ◌
 use Rattle.std.proofs.lemmas.Bool.{eqb-true, le-leb}
 use Rattle.tl_beat.specs.declared.fault.LineFault.{LineFault}
 use Rattle.tl_beat.specs.declared.fault.LineFault.TheVariants.{F3}
-use Rattle.tl_beat.specs.declared.channel.Head.{Head}
+use Rattle.tl_beat.specs.declared.read.line.Head.{Head}
 use Rattle.tl_beat.specs.Digits.{is_digit, digit_value, is_digits, value_from, value_of, is_pairs, lanes_before, is_dash, is_data, data_of, is_bit, bit_of}
 use Rattle.tl_beat.specs.Reading.{◌>>=◌, number_in, data_in, bit_in}
 use Rattle.tl_beat.specs.FromLeft.{value_or_fault, digits_at, space_at, field_at, bit_of_byte, bit_field_at, lanes_at, some_lanes, data_at, head_at, tail_at, at_end}
@@ -35,7 +35,8 @@ digits-spaced (suc n) number (c ∷ cs) rest none = go (is_digit c) (digits-spac
   where
     go : (b : Bool)
         → (digits_at (16 * number + digit_value c) n (cs ++ 32 ∷ rest) >>= λ x. space_at x.1 >>= with_number x.0) ≡ found (is_digits n cs) (value_from (16 * number + digit_value c) cs) rest
-        → ((value_or_fault (cond b (Some (digit_value c)) None) (cs ++ 32 ∷ rest) >>= λ d. digits_at (16 * number + d.0) n d.1) >>= λ x. space_at x.1 >>= with_number x.0) ≡ found (b && is_digits n cs) (value_from (16 * number + digit_value c) cs) rest
+        → ((value_or_fault (cond b (Some (digit_value c)) None) (cs ++ 32 ∷ rest) >>= λ d. digits_at (16 * number + d.0) n d.1) >>= λ x.
+        space_at x.1 >>= with_number x.0) ≡ found (b && is_digits n cs) (value_from (16 * number + digit_value c) cs) rest
     go true h = h
     go false h = refl
 
@@ -51,7 +52,8 @@ digits-end (suc n) number [] = refl
 digits-end (suc n) number (c ∷ cs) = go (is_digit c) (digits-end n (16 * number + digit_value c) cs)
   where
     go : (b : Bool) → (digits_at (16 * number + digit_value c) n cs >>= at_end) ≡ cond (is_digits n cs) (Ok (value_from (16 * number + digit_value c) cs)) (Err F3)
-        → ((value_or_fault (cond b (Some (digit_value c)) None) cs >>= λ d. digits_at (16 * number + d.0) n d.1) >>= at_end) ≡ cond (b && is_digits n cs) (Ok (value_from (16 * number + digit_value c) cs)) (Err F3)
+        → ((value_or_fault (cond b (Some (digit_value c)) None) cs >>= λ d. digits_at (16 * number + d.0) n d.1) >>= at_end) ≡ cond (b && is_digits n cs)
+        (Ok (value_from (16 * number + digit_value c) cs)) (Err F3)
     go true h = h
     go false h = refl
 
@@ -68,7 +70,8 @@ lanes_at-is (suc n) lanes (c ∷ []) = refl
 lanes_at-is (suc n) lanes (c ∷ d ∷ cs) = go (is_digit c && is_digit d) (lanes_at-is n ((16 * digit_value c + digit_value d) ∷ lanes) cs)
   where
     go : (b : Bool) → lanes_at ((16 * digit_value c + digit_value d) ∷ lanes) n cs ≡ cond (is_pairs n cs) (Ok (lanes_before ((16 * digit_value c + digit_value d) ∷ lanes) cs)) (Err F3)
-        → (cond b (with_number (16 * digit_value c + digit_value d) cs) (Err F3) >>= λ lane. lanes_at (lane.0 ∷ lanes) n lane.1) ≡ cond (b && is_pairs n cs) (Ok (lanes_before ((16 * digit_value c + digit_value d) ∷ lanes) cs)) (Err F3)
+        → (cond b (with_number (16 * digit_value c + digit_value d) cs) (Err F3) >>= λ lane. lanes_at (lane.0 ∷ lanes) n lane.1) ≡ cond (b && is_pairs n cs)
+        (Ok (lanes_before ((16 * digit_value c + digit_value d) ∷ lanes) cs)) (Err F3)
     go true h = h
     go false h = refl
 
@@ -145,7 +148,9 @@ pub then_head : {A : Type 0} (link opcode param size source : List ℕ) (letter 
     ≡ (number_in 2 link >>= λ l. number_in 1 opcode >>= λ o. number_in 1 param >>= λ p. number_in 1 size >>= λ s. number_in 2 source >>= λ t. next l o p s t)
 unfolding head_at
 then_head link opcode param size source letter rest more next nl nc np ns nt same =
-    then_number_in 2 link _ _ more _ nl (λ l. then_number_in 1 opcode _ _ more _ nc (λ o. then_number_in 1 param _ _ more _ np (λ p. then_number_in 1 size _ _ more _ ns (λ s. then_number_in 2 source _ _ more _ nt (λ t. same l o p s t)))))
+    then_number_in 2 link _ _ more _ nl (λ l. then_number_in 1 opcode _ _ more _ nc
+    (λ o. then_number_in 1 param _ _ more _ np (λ p. then_number_in 1 size _ _ more _ ns
+    (λ s. then_number_in 2 source _ _ more _ nt (λ t. same l o p s t)))))
 
 -- ---- data and the corrupt bit
 
@@ -160,7 +165,8 @@ not_spaced (c ∷ cs) [] np nq many =
     let len : length ((c ∷ cs) ++ 32 ∷ []) ≡ length (c ∷ cs) + 1 = length-append (c ∷ cs) (32 ∷ []) in
     let at : length ((c ∷ cs) ++ 32 ∷ []) - 2 ≡ length cs = omega (arith, len) in
     let short : length cs < length (c ∷ cs) = omega arith in
-    and_false _ _ (ap (λ (i : ℕ). get_or ((c ∷ cs) ++ 32 ∷ []) i 0 == 32) at ∙ ap (λ (b : ℕ). b == 32) (get_or-append (c ∷ cs) (32 ∷ []) 0 (length cs) short) ∙ NoSpace-get (c ∷ cs) (length cs) np short)
+    and_false _ _ (ap (λ (i : ℕ). get_or ((c ∷ cs) ++ 32 ∷ []) i 0 == 32) at ∙ ap (λ (b : ℕ). b == 32) (get_or-append (c ∷ cs) (32 ∷ []) 0 (length cs) short)
+    ∙ NoSpace-get (c ∷ cs) (length cs) np short)
 not_spaced p (c ∷ []) np nq many = absurd (many (omega arith))
 not_spaced p (c ∷ d ∷ cs) np nq many =
     let q : List ℕ = c ∷ d ∷ cs in

@@ -53,7 +53,8 @@ lanes-eight w i lanes field piece eight new r le len cut read is so_far =
     let place : w - 8 * (i + 1) + 8 ≡ w - 8 * i = omega arith in
     let behind : 16 * (i + 1) ≡ 16 * i + 16 = omega arith in
     let front : length (take n lanes) ≡ n = length-take-le n lanes (omega arith) in
-    let more : drop n new ≡ eight ++ drop (w - 8 * i) lanes = ap (drop n) is ∙ drop_at (take n lanes) (eight ++ drop (w - 8 * (i + 1) + 8) lanes) n front ∙ ap (λ (k : ℕ). eight ++ drop k lanes) place in
+    let more : drop n new ≡ eight ++ drop (w - 8 * i) lanes = ap (drop n) is ∙ drop_at (take n lanes) (eight ++ drop (w - 8 * (i + 1) + 8) lanes) n front
+    ∙ ap (λ (k : ℕ). eight ++ drop k lanes) place in
     let rest : drop (16 * (i + 1)) field ≡ drop 16 (drop (16 * i) field) = ap (λ (k : ℕ). drop k field) behind ∙ sym (drop-drop 16 (16 * i) field) in
     let whole : drop (16 * i) field ≡ piece ++ drop 16 (drop (16 * i) field) = sym (take-append-drop 16 (drop (16 * i) field)) ∙ ap (λ (p : List ℕ). p ++ drop 16 (drop (16 * i) field)) (sym cut) in
     ap (λ (p : List ℕ). lanes_at p n (drop (16 * (i + 1)) field)) more ∙ ap (λ (p : List ℕ). lanes_at (eight ++ drop (w - 8 * i) lanes) n p) rest

@@ -6,7 +6,7 @@ use Rattle.std.proofs.lemmas.Bool.{ne_eqb, le-ltb}
 use Rattle.tl_beat.specs.declared.beat.Link.{Link}
 use Rattle.tl_beat.specs.declared.beat.Beat.{Beat}
 use Rattle.tl_beat.specs.declared.beat.Beat.TheVariants.{E}
-use Rattle.tl_beat.specs.declared.opcode.Channel.TheVariants as channel
+use Rattle.tl_beat.specs.declared.channel.Channel.TheVariants as channel
 use Rattle.tl_beat.specs.declared.fault.LineFault.{LineFault}
 use Rattle.tl_beat.specs.declared.fault.LineFault.TheVariants.{F1, F2}
 use Rattle.tl_beat.specs.Line.{spaced, pieces, channel_named, without_last}
@@ -33,7 +33,9 @@ line_a-reads : {w : ℕ} (n : ℕ) (link : List ℕ) (letter : ℕ) (fs : List (
     → cond (n == 9) (line_a_at {w = w} (spaced (link ∷ (letter ∷ []) ∷ fs))) (Err F1) ≡ reading_a {w = w} (link ∷ (letter ∷ []) ∷ fs)
 unfolding line_a_at reading_a spaced
 line_a-reads {w} n link letter (opcode ∷ param ∷ size ∷ source ∷ address ∷ mask ∷ lanes ∷ corrupt ∷ []) e nl ns =
-    rw e (then_head link opcode param size source letter _ _ _ nl ns.0 ns.1.0 ns.1.1.0 ns.1.1.1.0 (λ l o p s t. then_number 8 address _ _ _ ns.1.1.1.1.0 (λ a. then_number (w / 4) mask _ _ _ ns.1.1.1.1.1.0 (λ m. then_tail w lanes corrupt _ _ ns.1.1.1.1.1.1.0 ns.1.1.1.1.1.1.1.0 (λ d b. refl)))))
+    rw e (then_head link opcode param size source letter _ _ _ nl ns.0 ns.1.0 ns.1.1.0 ns.1.1.1.0
+    (λ l o p s t. then_number 8 address _ _ _ ns.1.1.1.1.0
+    (λ a. then_number (w / 4) mask _ _ _ ns.1.1.1.1.1.0 (λ m. then_tail w lanes corrupt _ _ ns.1.1.1.1.1.1.0 ns.1.1.1.1.1.1.1.0 (λ d b. refl)))))
 line_a-reads n link letter (opcode ∷ param ∷ size ∷ source ∷ address ∷ mask ∷ lanes ∷ corrupt ∷ more ∷ fs) e nl ns = unless_equal n 9 _ _ (λ f. omega arith)
 line_a-reads n link letter fs e nl ns = rw e refl
 
@@ -41,7 +43,9 @@ line_b-reads : {w : ℕ} (n : ℕ) (link : List ℕ) (letter : ℕ) (fs : List (
     → cond (n == 9) (line_b_at {w = w} (spaced (link ∷ (letter ∷ []) ∷ fs))) (Err F1) ≡ reading_b {w = w} (link ∷ (letter ∷ []) ∷ fs)
 unfolding line_b_at reading_b spaced
 line_b-reads {w} n link letter (opcode ∷ param ∷ size ∷ source ∷ address ∷ mask ∷ lanes ∷ corrupt ∷ []) e nl ns =
-    rw e (then_head link opcode param size source letter _ _ _ nl ns.0 ns.1.0 ns.1.1.0 ns.1.1.1.0 (λ l o p s t. then_number 8 address _ _ _ ns.1.1.1.1.0 (λ a. then_number (w / 4) mask _ _ _ ns.1.1.1.1.1.0 (λ m. then_tail w lanes corrupt _ _ ns.1.1.1.1.1.1.0 ns.1.1.1.1.1.1.1.0 (λ d b. refl)))))
+    rw e (then_head link opcode param size source letter _ _ _ nl ns.0 ns.1.0 ns.1.1.0 ns.1.1.1.0
+    (λ l o p s t. then_number 8 address _ _ _ ns.1.1.1.1.0
+    (λ a. then_number (w / 4) mask _ _ _ ns.1.1.1.1.1.0 (λ m. then_tail w lanes corrupt _ _ ns.1.1.1.1.1.1.0 ns.1.1.1.1.1.1.1.0 (λ d b. refl)))))
 line_b-reads n link letter (opcode ∷ param ∷ size ∷ source ∷ address ∷ mask ∷ lanes ∷ corrupt ∷ more ∷ fs) e nl ns = unless_equal n 9 _ _ (λ f. omega arith)
 line_b-reads n link letter fs e nl ns = rw e refl
 
@@ -49,7 +53,8 @@ line_c-reads : {w : ℕ} (n : ℕ) (link : List ℕ) (letter : ℕ) (fs : List (
     → cond (n == 8) (line_c_at {w = w} (spaced (link ∷ (letter ∷ []) ∷ fs))) (Err F1) ≡ reading_c {w = w} (link ∷ (letter ∷ []) ∷ fs)
 unfolding line_c_at reading_c spaced
 line_c-reads {w} n link letter (opcode ∷ param ∷ size ∷ source ∷ address ∷ lanes ∷ corrupt ∷ []) e nl ns =
-    rw e (then_head link opcode param size source letter _ _ _ nl ns.0 ns.1.0 ns.1.1.0 ns.1.1.1.0 (λ l o p s t. then_number 8 address _ _ _ ns.1.1.1.1.0 (λ a. then_tail w lanes corrupt _ _ ns.1.1.1.1.1.0 ns.1.1.1.1.1.1.0 (λ d b. refl))))
+    rw e (then_head link opcode param size source letter _ _ _ nl ns.0 ns.1.0 ns.1.1.0 ns.1.1.1.0
+    (λ l o p s t. then_number 8 address _ _ _ ns.1.1.1.1.0 (λ a. then_tail w lanes corrupt _ _ ns.1.1.1.1.1.0 ns.1.1.1.1.1.1.0 (λ d b. refl))))
 line_c-reads n link letter (opcode ∷ param ∷ size ∷ source ∷ address ∷ lanes ∷ corrupt ∷ more ∷ fs) e nl ns = unless_equal n 8 _ _ (λ f. omega arith)
 line_c-reads n link letter fs e nl ns = rw e refl
 
@@ -57,7 +62,9 @@ line_d-reads : {w : ℕ} (n : ℕ) (link : List ℕ) (letter : ℕ) (fs : List (
     → cond (n == 9) (line_d_at {w = w} (spaced (link ∷ (letter ∷ []) ∷ fs))) (Err F1) ≡ reading_d {w = w} (link ∷ (letter ∷ []) ∷ fs)
 unfolding line_d_at reading_d spaced
 line_d-reads {w} n link letter (opcode ∷ param ∷ size ∷ source ∷ sink ∷ denied ∷ lanes ∷ corrupt ∷ []) e nl ns =
-    rw e (then_head link opcode param size source letter _ _ _ nl ns.0 ns.1.0 ns.1.1.0 ns.1.1.1.0 (λ l o p s t. then_number 2 sink _ _ _ ns.1.1.1.1.0 (λ k. then_bit denied _ _ _ ns.1.1.1.1.1.0 (λ n. then_tail w lanes corrupt _ _ ns.1.1.1.1.1.1.0 ns.1.1.1.1.1.1.1.0 (λ d b. refl)))))
+    rw e (then_head link opcode param size source letter _ _ _ nl ns.0 ns.1.0 ns.1.1.0 ns.1.1.1.0
+    (λ l o p s t. then_number 2 sink _ _ _ ns.1.1.1.1.0
+    (λ k. then_bit denied _ _ _ ns.1.1.1.1.1.0 (λ n. then_tail w lanes corrupt _ _ ns.1.1.1.1.1.1.0 ns.1.1.1.1.1.1.1.0 (λ d b. refl)))))
 line_d-reads n link letter (opcode ∷ param ∷ size ∷ source ∷ sink ∷ denied ∷ lanes ∷ corrupt ∷ more ∷ fs) e nl ns = unless_equal n 9 _ _ (λ f. omega arith)
 line_d-reads n link letter fs e nl ns = rw e refl
 
@@ -65,7 +72,8 @@ line_e-reads : {w : ℕ} (n : ℕ) (link : List ℕ) (letter : ℕ) (fs : List (
     → cond (n == 2) (line_e_at {w = w} (spaced (link ∷ (letter ∷ []) ∷ fs))) (Err F1) ≡ reading_e {w = w} (link ∷ (letter ∷ []) ∷ fs)
 unfolding line_e_at reading_e spaced
 line_e-reads {w} n link letter (sink ∷ []) e nl ns =
-    rw e (then_number 2 link _ _ _ nl (λ l. sym (bind-assoc (digits_at 0 2 sink) at_end (acknowledged {w = w} l)) ∙ ap (λ (r : Result ℕ LineFault). r >>= acknowledged {w = w} l) (digits_at-end 2 sink)))
+    rw e (then_number 2 link _ _ _ nl (λ l. sym (bind-assoc (digits_at 0 2 sink) at_end (acknowledged {w = w} l))
+    ∙ ap (λ (r : Result ℕ LineFault). r >>= acknowledged {w = w} l) (digits_at-end 2 sink)))
 line_e-reads n link letter (sink ∷ more ∷ fs) e nl ns = unless_equal n 2 _ _ (λ f. omega arith)
 line_e-reads n link letter fs e nl ns = rw e refl
 
@@ -82,7 +90,9 @@ with_letter {w} n link c fs same nl ns =
     go : (a b d e f : Bool) {ra rb rc rd re : Read w}
         → ra ≡ reading_a (link ∷ (c ∷ []) ∷ fs) → rb ≡ reading_b (link ∷ (c ∷ []) ∷ fs) → rc ≡ reading_c (link ∷ (c ∷ []) ∷ fs) → rd ≡ reading_d (link ∷ (c ∷ []) ∷ fs)
         → re ≡ reading_e (link ∷ (c ∷ []) ∷ fs)
-        → line_of_letter a b d e f ra rb rc rd re ≡ reading_on (cond a (Some channel.A) (cond b (Some channel.B) (cond d (Some channel.C) (cond e (Some channel.D) (cond f (Some channel.E) None))))) (link ∷ (c ∷ []) ∷ fs)
+        → line_of_letter a b d e f ra rb rc rd re ≡ reading_on
+        (cond a (Some channel.A) (cond b (Some channel.B) (cond d (Some channel.C) (cond e (Some channel.D) (cond f (Some channel.E) None)))))
+        (link ∷ (c ∷ []) ∷ fs)
     go true b d e f pa pb pc pd pe = pa
     go false true d e f pa pb pc pd pe = pb
     go false false true e f pa pb pc pd pe = pc
@@ -131,7 +141,8 @@ fields-read {w} n (p ∷ q ∷ fs) e ns =
 -- a line without its line feed
 pub body_at-is : (w : ℕ) (body : List ℕ) → body_at {w = w} body ≡ reading_fields {w = w} (pieces body)
 body_at-is w body =
-    subst (λ (b : List ℕ). cond (spaces_in body == 0) (Err F1) (line_with {w = w} (letter_in (after_first (λ b. b == 32) b)) (spaces_in body) b) ≡ reading_fields {w = w} (pieces body)) (spaced-pieces body)
+    subst (λ (b : List ℕ). cond (spaces_in body == 0) (Err F1) (line_with {w = w} (letter_in (after_first (λ b. b == 32) b)) (spaces_in body) b)
+    ≡ reading_fields {w = w} (pieces body)) (spaced-pieces body)
     (fields-read (spaces_in body) (pieces body) (length-pieces body) (NoSpaces-pieces body))
 
 pub line_at-is : (w : ℕ) (line : List ℕ) → line_at {w = w} line ≡ reading w line

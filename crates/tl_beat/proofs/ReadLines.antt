@@ -12,14 +12,15 @@ use Rattle.tl_beat.specs.declared.beat.BeatC.{BeatC}
 use Rattle.tl_beat.specs.declared.beat.BeatD.{BeatD}
 use Rattle.tl_beat.specs.declared.beat.Beat.{Beat}
 use Rattle.tl_beat.specs.declared.beat.Beat.TheVariants as beat
-use Rattle.tl_beat.specs.declared.opcode.Channel.{Channel}
-use Rattle.tl_beat.specs.declared.opcode.Channel.TheVariants as channel
+use Rattle.tl_beat.specs.declared.channel.Channel.{Channel}
+use Rattle.tl_beat.specs.declared.channel.Channel.TheVariants as channel
 use Rattle.tl_beat.specs.declared.fault.LineFault.{LineFault}
 use Rattle.tl_beat.specs.declared.fault.LineFault.TheVariants.{F1, F4, F5}
 use Rattle.tl_beat.specs.Opcode.{a_code, b_code, c_code, d_code, a_with, b_with, c_with, d_with, a_carries_data, b_carries_data, c_carries_data, d_carries_data}
 use Rattle.tl_beat.specs.Digits.{digits, lanes_text, bit_text}
 use Rattle.tl_beat.specs.Line.{fields_of, spaced, IsWritable, IsInRange, Spells, pieces, field, letter, channel_named, without_last}
-use Rattle.tl_beat.specs.Reading.{◌>>=◌, number_in, data_in, bit_in, at_most, agreement, made_a, made_b, made_c, made_d, linked, reading_a, reading_b, reading_c, reading_d, reading_e, reading_on, reading_fields, reading}
+use Rattle.tl_beat.specs.Reading.{◌>>=◌, number_in, data_in, bit_in, at_most, agreement, made_a, made_b, made_c, made_d, linked, reading_a, reading_b}
+use Rattle.tl_beat.specs.Reading.{reading_c, reading_d, reading_e, reading_on, reading_fields, reading}
 use Rattle.tl_beat.specs.Width.{IsWidth}
 use Rattle.tl_beat.proofs.Pieces.{spaced-pieces}
 use Rattle.tl_beat.proofs.SpelledDigits.{number_in-ok, bit_in-ok, data_in-ok}
@@ -76,7 +77,8 @@ record IsMadeA {w : ℕ} (y : BeatA w) (code given : ℕ) (size_given source_giv
   lanes : y.lanes ≡ lanes_given
   corrupt : y.corrupt ≡ corrupt_given
 
-made_a-is : {w : ℕ} (y : BeatA w) (code given : ℕ) (size source address mask : ℕ) (lanes : Option (List ℕ)) (corrupt : Bool) → made_a {w = w} code given size source address mask lanes corrupt ≡ Ok y → IsMadeA y code given size source address mask lanes corrupt
+made_a-is : {w : ℕ} (y : BeatA w) (code given : ℕ) (size source address mask : ℕ) (lanes : Option (List ℕ)) (corrupt : Bool)
+    → made_a {w = w} code given size source address mask lanes corrupt ≡ Ok y → IsMadeA y code given size source address mask lanes corrupt
 made_a-is {w} y code given size source address mask lanes corrupt e =
     ok_step (ok_or (a_with code) F4) _ y _ e (λ o is_o e1.
     ok_step (at_most 7 given) _ y _ e1 (λ p is_p e2.
@@ -106,7 +108,8 @@ record IsMadeB {w : ℕ} (y : BeatB w) (code given : ℕ) (size_given source_giv
   lanes : y.lanes ≡ lanes_given
   corrupt : y.corrupt ≡ corrupt_given
 
-made_b-is : {w : ℕ} (y : BeatB w) (code given : ℕ) (size source address mask : ℕ) (lanes : Option (List ℕ)) (corrupt : Bool) → made_b {w = w} code given size source address mask lanes corrupt ≡ Ok y → IsMadeB y code given size source address mask lanes corrupt
+made_b-is : {w : ℕ} (y : BeatB w) (code given : ℕ) (size source address mask : ℕ) (lanes : Option (List ℕ)) (corrupt : Bool)
+    → made_b {w = w} code given size source address mask lanes corrupt ≡ Ok y → IsMadeB y code given size source address mask lanes corrupt
 made_b-is {w} y code given size source address mask lanes corrupt e =
     ok_step (ok_or (b_with code) F4) _ y _ e (λ o is_o e1.
     ok_step (at_most 7 given) _ y _ e1 (λ p is_p e2.
@@ -135,7 +138,8 @@ record IsMadeC {w : ℕ} (y : BeatC w) (code given : ℕ) (size_given source_giv
   lanes : y.lanes ≡ lanes_given
   corrupt : y.corrupt ≡ corrupt_given
 
-made_c-is : {w : ℕ} (y : BeatC w) (code given : ℕ) (size source address : ℕ) (lanes : Option (List ℕ)) (corrupt : Bool) → made_c {w = w} code given size source address lanes corrupt ≡ Ok y → IsMadeC y code given size source address lanes corrupt
+made_c-is : {w : ℕ} (y : BeatC w) (code given : ℕ) (size source address : ℕ) (lanes : Option (List ℕ)) (corrupt : Bool)
+    → made_c {w = w} code given size source address lanes corrupt ≡ Ok y → IsMadeC y code given size source address lanes corrupt
 made_c-is {w} y code given size source address lanes corrupt e =
     ok_step (ok_or (c_with code) F4) _ y _ e (λ o is_o e1.
     ok_step (at_most 7 given) _ y _ e1 (λ p is_p e2.
@@ -164,7 +168,8 @@ record IsMadeD {w : ℕ} (y : BeatD w) (code given : ℕ) (size_given source_giv
   lanes : y.lanes ≡ lanes_given
   corrupt : y.corrupt ≡ corrupt_given
 
-made_d-is : {w : ℕ} (y : BeatD w) (code given : ℕ) (size source sink : ℕ) (denied : Bool) (lanes : Option (List ℕ)) (corrupt : Bool) → made_d {w = w} code given size source sink denied lanes corrupt ≡ Ok y → IsMadeD y code given size source sink denied lanes corrupt
+made_d-is : {w : ℕ} (y : BeatD w) (code given : ℕ) (size source sink : ℕ) (denied : Bool) (lanes : Option (List ℕ)) (corrupt : Bool)
+    → made_d {w = w} code given size source sink denied lanes corrupt ≡ Ok y → IsMadeD y code given size source sink denied lanes corrupt
 made_d-is {w} y code given size source sink denied lanes corrupt e =
     ok_step (ok_or (d_with code) F4) _ y _ e (λ o is_o e1.
     ok_step (at_most 3 given) _ y _ e1 (λ p is_p e2.
@@ -241,7 +246,9 @@ reading_a-fields {w} (linked_to ∷ second ∷ opcode ∷ param ∷ size ∷ sou
     let same : linked {w = w} v1 (beat.A y) ≡ (link, x) = ok_is last in
     subst (λ (z : Link × Beat w). AreFields (linked_to ∷ second ∷ opcode ∷ param ∷ size ∷ source ∷ address ∷ mask ∷ lanes ∷ corrupt ∷ []) z.0 z.1) same (record {
       are =
-          cons_same q_link (cons_same q_letter (cons_same q_opcode (cons_same q_param (cons_same q_size (cons_same q_source (cons_same q_address (cons_same q_mask (cons_same q_lanes (cons_same q_corrupt (refl))))))))));
+          cons_same q_link (cons_same q_letter (cons_same q_opcode
+          (cons_same q_param (cons_same q_size (cons_same q_source
+          (cons_same q_address (cons_same q_mask (cons_same q_lanes (cons_same q_corrupt (refl))))))))));
       link_in_range = omega (arith, s_linked_to.fits);
       writable = (omega (arith, m.param.small), omega (arith, m.size, s_size.fits), rw m.mask (mask-below w v7 width s_mask.fits));
       in_range = (omega (arith, m.source, s_source.fits), omega (arith, m.address, s_address.fits), rw m.lanes s_lanes.are_lanes);
@@ -284,7 +291,9 @@ reading_b-fields {w} (linked_to ∷ second ∷ opcode ∷ param ∷ size ∷ sou
     let same : linked {w = w} v1 (beat.B y) ≡ (link, x) = ok_is last in
     subst (λ (z : Link × Beat w). AreFields (linked_to ∷ second ∷ opcode ∷ param ∷ size ∷ source ∷ address ∷ mask ∷ lanes ∷ corrupt ∷ []) z.0 z.1) same (record {
       are =
-          cons_same q_link (cons_same q_letter (cons_same q_opcode (cons_same q_param (cons_same q_size (cons_same q_source (cons_same q_address (cons_same q_mask (cons_same q_lanes (cons_same q_corrupt (refl))))))))));
+          cons_same q_link (cons_same q_letter (cons_same q_opcode
+          (cons_same q_param (cons_same q_size (cons_same q_source
+          (cons_same q_address (cons_same q_mask (cons_same q_lanes (cons_same q_corrupt (refl))))))))));
       link_in_range = omega (arith, s_linked_to.fits);
       writable = (omega (arith, m.param.small), omega (arith, m.size, s_size.fits), rw m.mask (mask-below w v7 width s_mask.fits));
       in_range = (omega (arith, m.source, s_source.fits), omega (arith, m.address, s_address.fits), rw m.lanes s_lanes.are_lanes);
@@ -367,7 +376,9 @@ reading_d-fields {w} (linked_to ∷ second ∷ opcode ∷ param ∷ size ∷ sou
     let same : linked {w = w} v1 (beat.D y) ≡ (link, x) = ok_is last in
     subst (λ (z : Link × Beat w). AreFields (linked_to ∷ second ∷ opcode ∷ param ∷ size ∷ source ∷ sink ∷ denied ∷ lanes ∷ corrupt ∷ []) z.0 z.1) same (record {
       are =
-          cons_same q_link (cons_same q_letter (cons_same q_opcode (cons_same q_param (cons_same q_size (cons_same q_source (cons_same q_sink (cons_same q_denied (cons_same q_lanes (cons_same q_corrupt (refl))))))))));
+          cons_same q_link (cons_same q_letter (cons_same q_opcode
+          (cons_same q_param (cons_same q_size (cons_same q_source
+          (cons_same q_sink (cons_same q_denied (cons_same q_lanes (cons_same q_corrupt (refl))))))))));
       link_in_range = omega (arith, s_linked_to.fits);
       writable = (omega (arith, m.param.small), omega (arith, m.size, s_size.fits));
       in_range = (omega (arith, m.source, s_source.fits), omega (arith, m.sink, s_sink.fits), rw m.lanes s_lanes.are_lanes);
@@ -415,7 +426,8 @@ line-whole line e =
     let both = and_parts (nat_lt 0 (length line)) (get_or line (length line - 1) 0 == 10) e in
     let some : 0 < length line = ltb-true 0 (length line) both.0 in
     let last : get_or line (length line - 1) 0 ≡ 10 = eqb-true (get_or line (length line - 1) 0) 10 both.1 in
-    let rest : drop (length line - 1) line ≡ 10 ∷ [] = drop-cons line (length line - 1) 0 (omega arith) ∙ ap₂ (λ (x : ℕ) (xs : List ℕ). x ∷ xs) last (drop_all (suc (length line - 1)) line (omega arith)) in
+    let rest : drop (length line - 1) line ≡ 10 ∷ [] = drop-cons line (length line - 1) 0 (omega arith)
+    ∙ ap₂ (λ (x : ℕ) (xs : List ℕ). x ∷ xs) last (drop_all (suc (length line - 1)) line (omega arith)) in
     sym (take-append-drop (length line - 1) line) ∙ ap (λ (xs : List ℕ). take (length line - 1) line ++ xs) rest
 
 pub reading-spells : {w : ℕ} (line : List ℕ) (link : Link) (x : Beat w) → IsWidth w → reading w line ≡ Ok (link, x) → Spells line link x

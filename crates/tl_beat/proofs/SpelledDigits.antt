@@ -195,7 +195,8 @@ data_in-text w None all = refl
 data_in-text w (Some lanes) all =
     let count : length lanes + 0 ≡ w = omega (arith, all.0) in
     let pairs : is_pairs w (lane_digits lanes) ≡ true = rw (← count, ← append-nil (lane_digits lanes)) (is_pairs-digits lanes [] 0 pairs-none) in
-    let back : lanes_before [] (lane_digits lanes) ≡ lanes = ap (lanes_before []) (sym (append-nil (lane_digits lanes))) ∙ lanes_before-digits lanes [] [] (bytes-of_all lanes all.1) ∙ lanes_before-none (lanes ++ []) ∙ append-nil lanes in
+    let back : lanes_before [] (lane_digits lanes) ≡ lanes = ap (lanes_before []) (sym (append-nil (lane_digits lanes)))
+    ∙ lanes_before-digits lanes [] [] (bytes-of_all lanes all.1) ∙ lanes_before-none (lanes ++ []) ∙ append-nil lanes in
     rw (pairs-no_dash w (lane_digits lanes) pairs, pairs, back) refl
 
 -- lanes that were read, before others

@@ -1,5 +1,6 @@
 -- What a line spells is read.
-use Rattle.std.proofs.Common.{◌≡◌, ℕ, zero, suc, ◌+◌, ◌-◌, ◌*◌, ◌/◌, ◌%◌, ◌^◌, ◌<◌, ◌≤◌, Bool, true, false, cond, List, [], ◌∷◌, ◌++◌, length, get_or, take, refl, sym, ap, ap₂, ◌∙◌, arith, length-append, inl, inr}
+use Rattle.std.proofs.Common.{◌≡◌, ℕ, zero, suc, ◌+◌, ◌-◌, ◌*◌, ◌/◌, ◌%◌, ◌^◌, ◌<◌, ◌≤◌, Bool, true, false, cond, List, [], ◌∷◌, ◌++◌, length, get_or, take}
+use Rattle.std.proofs.Common.{refl, sym, ap, ap₂, ◌∙◌, arith, length-append, inl, inr}
 use Rattle.std.proofs.Math.Seq.{get_or-append_seam, take-append_seam}
 use Rattle.std.proofs.lemmas.Bool.{eqb-true, lt-ltb, le-ltb}
 use Rattle.std.specs.Prelude.{Result, Ok, Option, Some, None, ◌==◌, ◌&&◌, nat_lt}
@@ -184,25 +185,136 @@ length-spaced (f ∷ []) = omega arith
 length-spaced (f ∷ g ∷ fs) = omega (arith, length-append f (32 ∷ spaced (g ∷ fs)), length-spaced (g ∷ fs))
 
 fields-no_space : {w : ℕ} (link : Link) (x : Beat w) → NoSpaces (fields_of link x)
-fields-no_space {w} link (beat.A x) =
-    (NoSpace-digits 2 link.0, ((refl, tt), (NoSpace-digits 1 (a_code x.opcode), (NoSpace-digits 1 x.param, (NoSpace-digits 1 x.size, (NoSpace-digits 2 x.source, (NoSpace-digits 8 x.address, (NoSpace-digits (w / 4) x.mask, (NoSpace-lanes x.lanes, (NoSpace-bit x.corrupt, tt))))))))))
-fields-no_space {w} link (beat.B x) =
-    (NoSpace-digits 2 link.0, ((refl, tt), (NoSpace-digits 1 (b_code x.opcode), (NoSpace-digits 1 x.param, (NoSpace-digits 1 x.size, (NoSpace-digits 2 x.source, (NoSpace-digits 8 x.address, (NoSpace-digits (w / 4) x.mask, (NoSpace-lanes x.lanes, (NoSpace-bit x.corrupt, tt))))))))))
-fields-no_space {w} link (beat.C x) =
-    (NoSpace-digits 2 link.0, ((refl, tt), (NoSpace-digits 1 (c_code x.opcode), (NoSpace-digits 1 x.param, (NoSpace-digits 1 x.size, (NoSpace-digits 2 x.source, (NoSpace-digits 8 x.address, (NoSpace-lanes x.lanes, (NoSpace-bit x.corrupt, tt)))))))))
-fields-no_space {w} link (beat.D x) =
-    (NoSpace-digits 2 link.0, ((refl, tt), (NoSpace-digits 1 (d_code x.opcode), (NoSpace-digits 1 x.param, (NoSpace-digits 1 x.size, (NoSpace-digits 2 x.source, (NoSpace-digits 2 x.sink, (NoSpace-bit x.denied, (NoSpace-lanes x.lanes, (NoSpace-bit x.corrupt, tt))))))))))
+fields-no_space {w} link (beat.A x) = (
+  NoSpace-digits 2 link.0,
+  (
+    (refl, tt),
+    (
+      NoSpace-digits 1 (a_code x.opcode),
+      (
+        NoSpace-digits 1 x.param,
+        (
+          NoSpace-digits 1 x.size,
+          (
+            NoSpace-digits 2 x.source,
+            (
+              NoSpace-digits 8 x.address,
+              (NoSpace-digits (w / 4) x.mask, (NoSpace-lanes x.lanes, (NoSpace-bit x.corrupt, tt))),
+            ),
+          ),
+        ),
+      ),
+    ),
+  ),
+)
+fields-no_space {w} link (beat.B x) = (
+  NoSpace-digits 2 link.0,
+  (
+    (refl, tt),
+    (
+      NoSpace-digits 1 (b_code x.opcode),
+      (
+        NoSpace-digits 1 x.param,
+        (
+          NoSpace-digits 1 x.size,
+          (
+            NoSpace-digits 2 x.source,
+            (
+              NoSpace-digits 8 x.address,
+              (NoSpace-digits (w / 4) x.mask, (NoSpace-lanes x.lanes, (NoSpace-bit x.corrupt, tt))),
+            ),
+          ),
+        ),
+      ),
+    ),
+  ),
+)
+fields-no_space {w} link (beat.C x) = (
+  NoSpace-digits 2 link.0,
+  (
+    (refl, tt),
+    (
+      NoSpace-digits 1 (c_code x.opcode),
+      (
+        NoSpace-digits 1 x.param,
+        (
+          NoSpace-digits 1 x.size,
+          (NoSpace-digits 2 x.source, (NoSpace-digits 8 x.address, (NoSpace-lanes x.lanes, (NoSpace-bit x.corrupt, tt)))),
+        ),
+      ),
+    ),
+  ),
+)
+fields-no_space {w} link (beat.D x) = (
+  NoSpace-digits 2 link.0,
+  (
+    (refl, tt),
+    (
+      NoSpace-digits 1 (d_code x.opcode),
+      (
+        NoSpace-digits 1 x.param,
+        (
+          NoSpace-digits 1 x.size,
+          (NoSpace-digits 2 x.source, (NoSpace-digits 2 x.sink, (NoSpace-bit x.denied, (NoSpace-lanes x.lanes, (NoSpace-bit x.corrupt, tt))))),
+        ),
+      ),
+    ),
+  ),
+)
 fields-no_space {w} link (beat.E x) = (NoSpace-digits 2 link.0, ((refl, tt), (NoSpace-digits 2 x.sink, tt)))
 
 fields-short : {w : ℕ} (link : Link) (x : Beat w) → w ≤ 16 → IsInRange x → total (fields_of link x) ≤ 255
 fields-short {w} link (beat.A x) small within =
-    omega (arith, length-digits 2 link.0, length-digits 1 (a_code x.opcode), length-digits 1 x.param, length-digits 1 x.size, length-digits 2 x.source, length-digits 8 x.address, length-digits (w / 4) x.mask, length-lanes w x.lanes small within.2, length-bit x.corrupt)
+    omega (
+      arith,
+      length-digits 2 link.0,
+      length-digits 1 (a_code x.opcode),
+      length-digits 1 x.param,
+      length-digits 1 x.size,
+      length-digits 2 x.source,
+      length-digits 8 x.address,
+      length-digits (w / 4) x.mask,
+      length-lanes w x.lanes small within.2,
+      length-bit x.corrupt,
+    )
 fields-short {w} link (beat.B x) small within =
-    omega (arith, length-digits 2 link.0, length-digits 1 (b_code x.opcode), length-digits 1 x.param, length-digits 1 x.size, length-digits 2 x.source, length-digits 8 x.address, length-digits (w / 4) x.mask, length-lanes w x.lanes small within.2, length-bit x.corrupt)
+    omega (
+      arith,
+      length-digits 2 link.0,
+      length-digits 1 (b_code x.opcode),
+      length-digits 1 x.param,
+      length-digits 1 x.size,
+      length-digits 2 x.source,
+      length-digits 8 x.address,
+      length-digits (w / 4) x.mask,
+      length-lanes w x.lanes small within.2,
+      length-bit x.corrupt,
+    )
 fields-short {w} link (beat.C x) small within =
-    omega (arith, length-digits 2 link.0, length-digits 1 (c_code x.opcode), length-digits 1 x.param, length-digits 1 x.size, length-digits 2 x.source, length-digits 8 x.address, length-lanes w x.lanes small within.2, length-bit x.corrupt)
+    omega (
+      arith,
+      length-digits 2 link.0,
+      length-digits 1 (c_code x.opcode),
+      length-digits 1 x.param,
+      length-digits 1 x.size,
+      length-digits 2 x.source,
+      length-digits 8 x.address,
+      length-lanes w x.lanes small within.2,
+      length-bit x.corrupt,
+    )
 fields-short {w} link (beat.D x) small within =
-    omega (arith, length-digits 2 link.0, length-digits 1 (d_code x.opcode), length-digits 1 x.param, length-digits 1 x.size, length-digits 2 x.source, length-digits 2 x.sink, length-bit x.denied, length-lanes w x.lanes small within.2, length-bit x.corrupt)
+    omega (
+      arith,
+      length-digits 2 link.0,
+      length-digits 1 (d_code x.opcode),
+      length-digits 1 x.param,
+      length-digits 1 x.size,
+      length-digits 2 x.source,
+      length-digits 2 x.sink,
+      length-bit x.denied,
+      length-lanes w x.lanes small within.2,
+      length-bit x.corrupt,
+    )
 fields-short {w} link (beat.E x) small within = omega (arith, length-digits 2 link.0, length-digits 2 x.sink)
 
 -- ---- what is spelled is read
@@ -211,14 +323,57 @@ fields-read : {w : ℕ} (link : Link) (x : Beat w) → IsWidth w → link.0 < 2 
 unfolding reading_fields reading_a reading_b reading_c reading_d reading_e
 fields-read {w} link (beat.A x) width l writable within =
     let m = mask-fits w x.mask width writable.2 in
-    rw (number_in-digits 2 link.0 (omega arith), number_in-digits 1 (a_code x.opcode) (a_code-digit x.opcode), number_in-digits 1 x.param (omega arith), number_in-digits 1 x.size (omega arith), number_in-digits 2 x.source (omega arith), number_in-digits 8 x.address (omega arith), number_in-digits (w / 4) x.mask m, data_in-text w x.lanes within.2, bit_in-text x.corrupt, ← made_a-ok x (a_code x.opcode) x.param (a_with-code x.opcode) (at_most-ok 7 x.param (omega arith))) refl
+    rw (
+      number_in-digits 2 link.0 (omega arith),
+      number_in-digits 1 (a_code x.opcode) (a_code-digit x.opcode),
+      number_in-digits 1 x.param (omega arith),
+      number_in-digits 1 x.size (omega arith),
+      number_in-digits 2 x.source (omega arith),
+      number_in-digits 8 x.address (omega arith),
+      number_in-digits (w / 4) x.mask m,
+      data_in-text w x.lanes within.2,
+      bit_in-text x.corrupt,
+      ← made_a-ok x (a_code x.opcode) x.param (a_with-code x.opcode) (at_most-ok 7 x.param (omega arith)),
+    ) refl
 fields-read {w} link (beat.B x) width l writable within =
     let m = mask-fits w x.mask width writable.2 in
-    rw (number_in-digits 2 link.0 (omega arith), number_in-digits 1 (b_code x.opcode) (b_code-digit x.opcode), number_in-digits 1 x.param (omega arith), number_in-digits 1 x.size (omega arith), number_in-digits 2 x.source (omega arith), number_in-digits 8 x.address (omega arith), number_in-digits (w / 4) x.mask m, data_in-text w x.lanes within.2, bit_in-text x.corrupt, ← made_b-ok x (b_code x.opcode) x.param (b_with-code x.opcode) (at_most-ok 7 x.param (omega arith))) refl
+    rw (
+      number_in-digits 2 link.0 (omega arith),
+      number_in-digits 1 (b_code x.opcode) (b_code-digit x.opcode),
+      number_in-digits 1 x.param (omega arith),
+      number_in-digits 1 x.size (omega arith),
+      number_in-digits 2 x.source (omega arith),
+      number_in-digits 8 x.address (omega arith),
+      number_in-digits (w / 4) x.mask m,
+      data_in-text w x.lanes within.2,
+      bit_in-text x.corrupt,
+      ← made_b-ok x (b_code x.opcode) x.param (b_with-code x.opcode) (at_most-ok 7 x.param (omega arith)),
+    ) refl
 fields-read {w} link (beat.C x) width l writable within =
-    rw (number_in-digits 2 link.0 (omega arith), number_in-digits 1 (c_code x.opcode) (c_code-digit x.opcode), number_in-digits 1 x.param (omega arith), number_in-digits 1 x.size (omega arith), number_in-digits 2 x.source (omega arith), number_in-digits 8 x.address (omega arith), data_in-text w x.lanes within.2, bit_in-text x.corrupt, ← made_c-ok x (c_code x.opcode) x.param (c_with-code x.opcode) (at_most-ok 7 x.param (omega arith))) refl
+    rw (
+      number_in-digits 2 link.0 (omega arith),
+      number_in-digits 1 (c_code x.opcode) (c_code-digit x.opcode),
+      number_in-digits 1 x.param (omega arith),
+      number_in-digits 1 x.size (omega arith),
+      number_in-digits 2 x.source (omega arith),
+      number_in-digits 8 x.address (omega arith),
+      data_in-text w x.lanes within.2,
+      bit_in-text x.corrupt,
+      ← made_c-ok x (c_code x.opcode) x.param (c_with-code x.opcode) (at_most-ok 7 x.param (omega arith)),
+    ) refl
 fields-read {w} link (beat.D x) width l writable within =
-    rw (number_in-digits 2 link.0 (omega arith), number_in-digits 1 (d_code x.opcode) (d_code-digit x.opcode), number_in-digits 1 x.param (omega arith), number_in-digits 1 x.size (omega arith), number_in-digits 2 x.source (omega arith), number_in-digits 2 x.sink (omega arith), bit_in-text x.denied, data_in-text w x.lanes within.2, bit_in-text x.corrupt, ← made_d-ok x (d_code x.opcode) x.param (d_with-code x.opcode) (at_most-ok 3 x.param (omega arith))) refl
+    rw (
+      number_in-digits 2 link.0 (omega arith),
+      number_in-digits 1 (d_code x.opcode) (d_code-digit x.opcode),
+      number_in-digits 1 x.param (omega arith),
+      number_in-digits 1 x.size (omega arith),
+      number_in-digits 2 x.source (omega arith),
+      number_in-digits 2 x.sink (omega arith),
+      bit_in-text x.denied,
+      data_in-text w x.lanes within.2,
+      bit_in-text x.corrupt,
+      ← made_d-ok x (d_code x.opcode) x.param (d_with-code x.opcode) (at_most-ok 3 x.param (omega arith)),
+    ) refl
 fields-read {w} link (beat.E x) width l writable within = rw (number_in-digits 2 link.0 (omega arith), number_in-digits 2 x.sink (omega arith)) refl
 
 pub without_last-line : (body : List ℕ) → without_last (body ++ 10 ∷ []) ≡ body
@@ -230,7 +385,8 @@ pub ends_with_byte-line : (body : List ℕ) → ends_with_byte 10 (body ++ 10 �
 ends_with_byte-line body =
     let len : length (body ++ 10 ∷ []) - 1 ≡ length body = omega (arith, length-append body (10 ∷ [])) in
     let some : nat_lt 0 (length (body ++ 10 ∷ [])) ≡ true = lt-ltb 0 (length (body ++ 10 ∷ [])) (omega (arith, length-append body (10 ∷ []))) in
-    let last : (get_or (body ++ 10 ∷ []) (length (body ++ 10 ∷ []) - 1) 0 == 10) ≡ true = ap (λ (i : ℕ). get_or (body ++ 10 ∷ []) i 0 == 10) len ∙ ap (λ (b : ℕ). b == 10) (get_or-append_seam body 10 [] 0) in
+    let last : (get_or (body ++ 10 ∷ []) (length (body ++ 10 ∷ []) - 1) 0 == 10) ≡ true = ap (λ (i : ℕ). get_or (body ++ 10 ∷ []) i 0 == 10) len
+    ∙ ap (λ (b : ℕ). b == 10) (get_or-append_seam body 10 [] 0) in
     ap₂ (λ (p q : Bool). p && q) some last
 
 reading-line : (w : ℕ) (body : List ℕ) → length body ≤ 255 → reading w (body ++ 10 ∷ []) ≡ reading_fields (pieces body)

@@ -10,12 +10,13 @@ use Rattle.std.specs.List.{after_first}
 use Rattle.std.specs.Result.{result_ok}
 use Rattle.tl_beat.specs.declared.beat.Link.{Link}
 use Rattle.tl_beat.specs.declared.beat.Beat.{Beat}
-use Rattle.tl_beat.specs.declared.channel.Head.{Head}
+use Rattle.tl_beat.specs.declared.read.line.Head.{Head}
 use Rattle.tl_beat.specs.declared.fault.LineFault.{LineFault}
 use Rattle.tl_beat.specs.declared.fault.LineFault.TheVariants.{F3}
 use Rattle.tl_beat.specs.Digits.{is_digit, digit_value, is_dash}
 use Rattle.tl_beat.specs.Reading.{◌>>=◌}
-use Rattle.tl_beat.specs.FromLeft.{value_or_fault, digits_at, space_at, field_at, bit_of_byte, bit_field_at, lanes_at, some_lanes, data_at, at_end, head_at, tail_at, line_a_at, line_b_at, line_c_at, line_d_at, line_e_at, letter_in, spaces_in, body_at}
+use Rattle.tl_beat.specs.FromLeft.{value_or_fault, digits_at, space_at, field_at, bit_of_byte, bit_field_at, lanes_at, some_lanes, data_at, at_end, head_at}
+use Rattle.tl_beat.specs.FromLeft.{tail_at, line_a_at, line_b_at, line_c_at, line_d_at, line_e_at, letter_in, spaces_in, body_at}
 use Rattle.tl_beat.proofs.Pieces.{NoSpace, after_first-piece}
 use Rattle.tl_beat.proofs.SpelledDigits.{is_dash-true}
 use Rattle.tl_beat.proofs.ReadLines.{ok_of, ok_is, ok_step}
@@ -147,7 +148,8 @@ tail-spaces w bytes read e = go (nat_le 2 (length bytes) && (slice_index bytes (
         let long : 2 ≤ length bytes = leb-true 2 (length bytes) parts.0 in
         let space : get_or bytes (length bytes - 2) 0 ≡ 32 = eqb-true _ 32 parts.1 in
         let after : suc (length bytes - 2) ≡ length bytes - 1 = omega arith in
-        let one : drop (length bytes - 1) bytes ≡ last ∷ [] = drop-cons bytes (length bytes - 1) 0 (omega arith) ∙ ap (λ (xs : List ℕ). last ∷ xs) (drop_all (suc (length bytes - 1)) bytes (omega arith)) in
+        let one : drop (length bytes - 1) bytes ≡ last ∷ [] = drop-cons bytes (length bytes - 1) 0 (omega arith)
+        ∙ ap (λ (xs : List ℕ). last ∷ xs) (drop_all (suc (length bytes - 1)) bytes (omega arith)) in
         let two : drop (length bytes - 2) bytes ≡ 32 ∷ last ∷ [] = drop-cons bytes (length bytes - 2) 0 (omega arith) ∙ rw (space, after, one) refl in
         let whole : bytes ≡ front ++ 32 ∷ last ∷ [] = sym (take-append-drop (length bytes - 2) bytes) ∙ ap (λ (xs : List ℕ). front ++ xs) two in
         let alone : spaces_in (last ∷ []) ≡ 0 = cons-spaces last [] ∙ ap (λ (b : Bool). cond b 1 0 + 0) (bit-no_space last corrupt k) in
@@ -175,7 +177,9 @@ letter-behind c (x ∷ y ∷ []) (a ∷ b ∷ cs) none two some apart h3 h4 = re
 letter-front : (c v : ℕ) (bytes rest : List ℕ) → 0 < c → (c == 32) ≡ false → slice_index bytes 3 ≡ c → slice_index bytes 4 ≡ 32 → field_at 2 bytes ≡ Ok (v, rest) → IsFront c 2 bytes (drop 2 rest)
 letter-front c v bytes rest some apart h3 h4 e =
     let t = field-begins 2 v bytes rest e in
-    subst (λ (b : List ℕ). IsFront c 2 b (drop 2 rest)) (sym t.is) (letter-behind c t.piece rest t.none t.count some apart (ap (λ (b : List ℕ). slice_index b 3) (sym t.is) ∙ h3) (ap (λ (b : List ℕ). slice_index b 4) (sym t.is) ∙ h4))
+    subst (λ (b : List ℕ). IsFront c 2 b (drop 2 rest)) (sym t.is)
+    (letter-behind c t.piece rest t.none t.count some apart (ap (λ (b : List ℕ). slice_index b 3) (sym t.is) ∙ h3)
+    (ap (λ (b : List ℕ). slice_index b 4) (sym t.is) ∙ h4))
 
 more-front : (c n m : ℕ) (bytes rest left : List ℕ) → IsFront c n bytes rest → spaces_in rest ≡ spaces_in left + m → IsFront c (m + n) bytes left
 more-front c n m bytes rest left front e = record { named = front.named; spaces = omega (arith, front.spaces, e) }

@@ -1,13 +1,14 @@
 -- A line read from left to right, as the code goes; only private clauses cite this.
 use denote.Ref.{Bor}
-use Rattle.std.specs.Prelude.{◌≡◌, ℕ, zero, suc, ◌+◌, ◌*◌, ◌-◌, ◌/◌, Bool, true, false, not, ◌&&◌, ◌||◌, List, [], ◌∷◌, length, take, drop, count_by, Option, Some, None, Result, Ok, Err, nat_le, nat_lt, slice_index, ◌==◌, if◌then◌else◌}
+use Rattle.std.specs.Prelude.{◌≡◌, ℕ, zero, suc, ◌+◌, ◌*◌, ◌-◌, ◌/◌, Bool, true, false, not, ◌&&◌, ◌||◌, List, [], ◌∷◌, length, take, drop, count_by, Option}
+use Rattle.std.specs.Prelude.{Some, None, Result, Ok, Err, nat_le, nat_lt, slice_index, ◌==◌, if◌then◌else◌}
 use Rattle.std.specs.List.{after_first}
 use Rattle.std.specs.Io.BufRead.{ends_with_byte}
 use Rattle.tl_beat.specs.declared.beat.Link.{Link}
 use Rattle.tl_beat.specs.declared.beat.Beat.{Beat}
 use Rattle.tl_beat.specs.declared.beat.Beat.TheVariants as beat
 use Rattle.tl_beat.specs.declared.fault.LineFault.{LineFault}
-use Rattle.tl_beat.specs.declared.channel.Head.{Head}
+use Rattle.tl_beat.specs.declared.read.line.Head.{Head}
 use Rattle.tl_beat.specs.declared.fault.LineFault.TheVariants.{F1, F2, F3}
 use Rattle.tl_beat.specs.Digits.{is_digit, digit_value, is_dash}
 use Rattle.tl_beat.specs.Reading.{◌>>=◌, made_a, made_b, made_c, made_d, linked}

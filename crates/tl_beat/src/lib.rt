@@ -2,9 +2,8 @@
 #![tactic(auto)]
 
 pub mod beat;
-mod channel;
+pub mod channel;
 pub mod fault;
-mod field;
 mod lanes;
 pub mod opcode;
 pub mod read;

@@ -3,17 +3,6 @@
 
 ghost use Rattle.std.specs.Prelude.{◌≡◌};
 
-/// A channel of a link, in rising priority. A, C and E go from the client to the manager, B and D
-/// from the manager to the client.
-#[derive(Clone, Copy, Debug, PartialEq, Eq)]
-pub enum Channel {
-    A,
-    B,
-    C,
-    D,
-    E,
-}
-
 /// The opcodes of channel A.
 #[derive(Clone, Copy, Debug, PartialEq, Eq)]
 pub enum OpA {

@@ -1,5 +1,8 @@
 //! Reading a line of text as a beat.
 
+mod field;
+mod line;
+
 ghost use Rattle.std.specs.Prelude.{◌≡◌, ◌==◌, ◌^◌, ◌<◌, ℕ, List, Some, Ok, IfOk, IfSome, position};
 ghost use Rattle.std.specs.List.{after_first};
 ghost use Rattle.std.specs.Result.{result_err};
@@ -10,8 +13,8 @@ ghost use Rattle.tl_beat.specs.Line.{Spells, line_fault};
 ghost use Rattle.tl_beat.specs.Width.{IsWidth};
 
 use crate::beat::{Beat, Link};
-use crate::channel::{line_a, line_b, line_c, line_d, line_e};
 use crate::fault::LineFault;
+use crate::read::line::{line_a, line_b, line_c, line_d, line_e};
 
 /// The byte after the first space, if it is a field of its own.
 fn letter(bytes: &[u8]) -> Option<u8>

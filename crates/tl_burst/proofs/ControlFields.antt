@@ -37,7 +37,9 @@ lanes_of_opcode w i payload carries has lanes e f h = rw (f, ← e) h
 
 -- the opcode of a code
 abbrev a_op : ℕ → OpA
-a_op n = if n == 0 then a.PutFullData else (if n == 1 then a.PutPartialData else (if n == 2 then a.ArithmeticData else (if n == 3 then a.LogicalData else (if n == 4 then a.Get else (if n == 5 then a.Intent else (if n == 6 then a.AcquireBlock else a.AcquirePerm))))))
+a_op n = if n == 0 then a.PutFullData else (if n == 1 then a.PutPartialData
+    else (if n == 2 then a.ArithmeticData else (if n == 3 then a.LogicalData
+    else (if n == 4 then a.Get else (if n == 5 then a.Intent else (if n == 6 then a.AcquireBlock else a.AcquirePerm))))))
 
 a_op_back : (x : OpA) → a_op (a_code x) ≡ x
 a_op_back a.PutFullData = refl
@@ -65,11 +67,14 @@ pub a_beat_here : {w : ℕ} (m : MessageA w) (i : ℕ) (x : BeatA w) → IsTrue 
     → mask_at w m.mask i ≡ x.mask → bit m.corrupt i ≡ x.corrupt → a_beat_of m i ≡ x
 a_beat_here {w} m i x same lanes mask corrupt =
     let c = control_a x (a_beat_of m 0) same in
-    same_a (a_beat_of m i) x (sym c.0) (sym c.1) (sym c.2) (sym c.3) (sym c.4) mask (lanes_of_opcode w i m.payload (a_carries_data m.opcode) (a_carries_data x.opcode) x.lanes x.carries (ap a_carries_data (sym c.0)) lanes) corrupt
+    same_a (a_beat_of m i) x (sym c.0) (sym c.1) (sym c.2) (sym c.3) (sym c.4) mask
+    (lanes_of_opcode w i m.payload (a_carries_data m.opcode) (a_carries_data x.opcode) x.lanes x.carries (ap a_carries_data (sym c.0)) lanes) corrupt
 
 -- the opcode of a code
 abbrev b_op : ℕ → OpB
-b_op n = if n == 0 then b.PutFullData else (if n == 1 then b.PutPartialData else (if n == 2 then b.ArithmeticData else (if n == 3 then b.LogicalData else (if n == 4 then b.Get else (if n == 5 then b.Intent else (if n == 6 then b.ProbeBlock else b.ProbePerm))))))
+b_op n = if n == 0 then b.PutFullData else (if n == 1 then b.PutPartialData
+    else (if n == 2 then b.ArithmeticData else (if n == 3 then b.LogicalData
+    else (if n == 4 then b.Get else (if n == 5 then b.Intent else (if n == 6 then b.ProbeBlock else b.ProbePerm))))))
 
 b_op_back : (x : OpB) → b_op (b_code x) ≡ x
 b_op_back b.PutFullData = refl
@@ -97,11 +102,13 @@ pub b_beat_here : {w : ℕ} (m : MessageB w) (i : ℕ) (x : BeatB w) → IsTrue 
     → mask_at w m.mask i ≡ x.mask → bit m.corrupt i ≡ x.corrupt → b_beat_of m i ≡ x
 b_beat_here {w} m i x same lanes mask corrupt =
     let c = control_b x (b_beat_of m 0) same in
-    same_b (b_beat_of m i) x (sym c.0) (sym c.1) (sym c.2) (sym c.3) (sym c.4) mask (lanes_of_opcode w i m.payload (b_carries_data m.opcode) (b_carries_data x.opcode) x.lanes x.carries (ap b_carries_data (sym c.0)) lanes) corrupt
+    same_b (b_beat_of m i) x (sym c.0) (sym c.1) (sym c.2) (sym c.3) (sym c.4) mask
+    (lanes_of_opcode w i m.payload (b_carries_data m.opcode) (b_carries_data x.opcode) x.lanes x.carries (ap b_carries_data (sym c.0)) lanes) corrupt
 
 -- the opcode of a code
 abbrev c_op : ℕ → OpC
-c_op n = if n == 0 then c.AccessAck else (if n == 1 then c.AccessAckData else (if n == 2 then c.HintAck else (if n == 4 then c.ProbeAck else (if n == 5 then c.ProbeAckData else (if n == 6 then c.Release else c.ReleaseData)))))
+c_op n = if n == 0 then c.AccessAck else (if n == 1 then c.AccessAckData
+    else (if n == 2 then c.HintAck else (if n == 4 then c.ProbeAck else (if n == 5 then c.ProbeAckData else (if n == 6 then c.Release else c.ReleaseData)))))
 
 c_op_back : (x : OpC) → c_op (c_code x) ≡ x
 c_op_back c.AccessAck = refl
@@ -128,7 +135,8 @@ pub c_beat_here : {w : ℕ} (m : MessageC w) (i : ℕ) (x : BeatC w) → IsTrue 
     → bit m.corrupt i ≡ x.corrupt → c_beat_of m i ≡ x
 c_beat_here {w} m i x same lanes corrupt =
     let c = control_c x (c_beat_of m 0) same in
-    same_c (c_beat_of m i) x (sym c.0) (sym c.1) (sym c.2) (sym c.3) (sym c.4) (lanes_of_opcode w i m.payload (c_carries_data m.opcode) (c_carries_data x.opcode) x.lanes x.carries (ap c_carries_data (sym c.0)) lanes) corrupt
+    same_c (c_beat_of m i) x (sym c.0) (sym c.1) (sym c.2) (sym c.3) (sym c.4)
+    (lanes_of_opcode w i m.payload (c_carries_data m.opcode) (c_carries_data x.opcode) x.lanes x.carries (ap c_carries_data (sym c.0)) lanes) corrupt
 
 -- the opcode of a code
 abbrev d_op : ℕ → OpD
@@ -160,4 +168,5 @@ pub d_beat_here : {w : ℕ} (m : MessageD w) (i : ℕ) (x : BeatD w) → IsTrue 
     → bit m.corrupt i ≡ x.corrupt → d_beat_of m i ≡ x
 d_beat_here {w} m i x same lanes corrupt =
     let c = control_d x (d_beat_of m 0) same in
-    same_d (d_beat_of m i) x (sym c.0) (sym c.1) (sym c.2) (sym c.3) (sym c.4) (sym c.5) (lanes_of_opcode w i m.payload (d_carries_data m.opcode) (d_carries_data x.opcode) x.lanes x.carries (ap d_carries_data (sym c.0)) lanes) corrupt
+    same_d (d_beat_of m i) x (sym c.0) (sym c.1) (sym c.2) (sym c.3) (sym c.4) (sym c.5)
+    (lanes_of_opcode w i m.payload (d_carries_data m.opcode) (d_carries_data x.opcode) x.lanes x.carries (ap d_carries_data (sym c.0)) lanes) corrupt

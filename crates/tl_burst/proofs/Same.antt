@@ -29,7 +29,8 @@ same_made_a w x y h k e =
 pub same_a : {w : ℕ} (x y : BeatA w) → x.opcode ≡ y.opcode → x.param ≡ y.param → x.size ≡ y.size → x.source ≡ y.source → x.address ≡ y.address → x.mask ≡ y.mask → x.lanes ≡ y.lanes
     → x.corrupt ≡ y.corrupt → x ≡ y
 same_a {w} x y e0 e1 e2 e3 e4 e5 e6 e7 =
-    let e : (x.opcode, x.param, x.size, x.source, x.address, x.mask, x.lanes, x.corrupt) ≡ (y.opcode, y.param, y.size, y.source, y.address, y.mask, y.lanes, y.corrupt) = rw (e0, e1, e2, e3, e4, e5, e6, e7) refl in
+    let e : (x.opcode, x.param, x.size, x.source, x.address, x.mask, x.lanes, x.corrupt)
+    ≡ (y.opcode, y.param, y.size, y.source, y.address, y.mask, y.lanes, y.corrupt) = rw (e0, e1, e2, e3, e4, e5, e6, e7) refl in
     same_made_a w (x.opcode, x.param, x.size, x.source, x.address, x.mask, x.lanes, x.corrupt) (y.opcode, y.param, y.size, y.source, y.address, y.mask, y.lanes, y.corrupt) x.carries y.carries e
 
 abbrev FieldsB : Type 0
@@ -49,7 +50,8 @@ same_made_b w x y h k e =
 pub same_b : {w : ℕ} (x y : BeatB w) → x.opcode ≡ y.opcode → x.param ≡ y.param → x.size ≡ y.size → x.source ≡ y.source → x.address ≡ y.address → x.mask ≡ y.mask → x.lanes ≡ y.lanes
     → x.corrupt ≡ y.corrupt → x ≡ y
 same_b {w} x y e0 e1 e2 e3 e4 e5 e6 e7 =
-    let e : (x.opcode, x.param, x.size, x.source, x.address, x.mask, x.lanes, x.corrupt) ≡ (y.opcode, y.param, y.size, y.source, y.address, y.mask, y.lanes, y.corrupt) = rw (e0, e1, e2, e3, e4, e5, e6, e7) refl in
+    let e : (x.opcode, x.param, x.size, x.source, x.address, x.mask, x.lanes, x.corrupt)
+    ≡ (y.opcode, y.param, y.size, y.source, y.address, y.mask, y.lanes, y.corrupt) = rw (e0, e1, e2, e3, e4, e5, e6, e7) refl in
     same_made_b w (x.opcode, x.param, x.size, x.source, x.address, x.mask, x.lanes, x.corrupt) (y.opcode, y.param, y.size, y.source, y.address, y.mask, y.lanes, y.corrupt) x.carries y.carries e
 
 abbrev FieldsC : Type 0
@@ -88,5 +90,6 @@ same_made_d w x y h k e =
 pub same_d : {w : ℕ} (x y : BeatD w) → x.opcode ≡ y.opcode → x.param ≡ y.param → x.size ≡ y.size → x.source ≡ y.source → x.sink ≡ y.sink → x.denied ≡ y.denied → x.lanes ≡ y.lanes
     → x.corrupt ≡ y.corrupt → x ≡ y
 same_d {w} x y e0 e1 e2 e3 e4 e5 e6 e7 =
-    let e : (x.opcode, x.param, x.size, x.source, x.sink, x.denied, x.lanes, x.corrupt) ≡ (y.opcode, y.param, y.size, y.source, y.sink, y.denied, y.lanes, y.corrupt) = rw (e0, e1, e2, e3, e4, e5, e6, e7) refl in
+    let e : (x.opcode, x.param, x.size, x.source, x.sink, x.denied, x.lanes, x.corrupt)
+    ≡ (y.opcode, y.param, y.size, y.source, y.sink, y.denied, y.lanes, y.corrupt) = rw (e0, e1, e2, e3, e4, e5, e6, e7) refl in
     same_made_d w (x.opcode, x.param, x.size, x.source, x.sink, x.denied, x.lanes, x.corrupt) (y.opcode, y.param, y.size, y.source, y.sink, y.denied, y.lanes, y.corrupt) x.carries y.carries e

@@ -80,7 +80,8 @@ same_made_a w x y h k e = subst (λ (z : FieldsA). (l : z.2 ≤ 6) → made_a w 
 same_fields_a : {w : ℕ} (m k : MessageA w) → m.opcode ≡ k.opcode → m.param ≡ k.param → m.size ≡ k.size → m.source ≡ k.source → m.address ≡ k.address → m.payload ≡ k.payload → m.mask ≡ k.mask
     → m.corrupt ≡ k.corrupt → m ≡ k
 same_fields_a {w} m k e0 e1 e2 e3 e4 e5 e6 e7 =
-    let e : (m.opcode, m.param, m.size, m.source, m.address, m.payload, m.mask, m.corrupt) ≡ (k.opcode, k.param, k.size, k.source, k.address, k.payload, k.mask, k.corrupt) = rw (e0, e1, e2, e3, e4, e5, e6, e7) refl in
+    let e : (m.opcode, m.param, m.size, m.source, m.address, m.payload, m.mask, m.corrupt)
+    ≡ (k.opcode, k.param, k.size, k.source, k.address, k.payload, k.mask, k.corrupt) = rw (e0, e1, e2, e3, e4, e5, e6, e7) refl in
     same_made_a w (m.opcode, m.param, m.size, m.source, m.address, m.payload, m.mask, m.corrupt) (k.opcode, k.param, k.size, k.source, k.address, k.payload, k.mask, k.corrupt) m.small k.small e
 
 same_a : {w : ℕ} (m k : MessageA w) (n : ℕ) → 0 < n → ((i : ℕ) → i < n → a_beat_of m i ≡ a_beat_of k i) → IsBlankAfter n (A m) → IsBlankAfter n (A k) → m ≡ k
@@ -90,7 +91,8 @@ same_a {w} m k n some same blank_m blank_k =
     let lanes : (i : ℕ) → i < n → lanes_at (a_carries_data m.opcode) w m.payload i ≡ lanes_at (a_carries_data m.opcode) w k.payload i =
     λ i lt. ap (λ (x : BeatA w). x.lanes) (same i lt) ∙ ap (λ b. lanes_at b w k.payload i) carries in
     let zero_k : IsZeroFrom (if a_carries_data m.opcode then w * n else 0) k.payload = subst (λ b. IsZeroFrom (if b then w * n else 0) k.payload) carries blank_k.0 in
-    same_fields_a m k (ap (λ (x : BeatA w). x.opcode) (same 0 some)) (ap (λ (x : BeatA w). x.param) (same 0 some)) (ap (λ (x : BeatA w). x.size) (same 0 some)) (ap (λ (x : BeatA w). x.source) (same 0 some)) (ap (λ (x : BeatA w). x.address) (same 0 some))
+    same_fields_a m k (ap (λ (x : BeatA w). x.opcode) (same 0 some)) (ap (λ (x : BeatA w). x.param) (same 0 some)) (ap (λ (x : BeatA w). x.size) (same 0 some))
+    (ap (λ (x : BeatA w). x.source) (same 0 some)) (ap (λ (x : BeatA w). x.address) (same 0 some))
     (payload_same (a_carries_data m.opcode) w n m.payload k.payload lanes blank_m.0 zero_k) (mask_same w n m.mask k.mask (λ i lt. ap (λ (x : BeatA w). x.mask) (same i lt)) blank_m.1 blank_k.1)
     (bits_same n m.corrupt k.corrupt (λ i lt. ap (λ (x : BeatA w). x.corrupt) (same i lt)) blank_m.2 blank_k.2)
 
@@ -106,7 +108,8 @@ same_made_b w x y h k e = subst (λ (z : FieldsB). (l : z.2 ≤ 6) → made_b w 
 same_fields_b : {w : ℕ} (m k : MessageB w) → m.opcode ≡ k.opcode → m.param ≡ k.param → m.size ≡ k.size → m.source ≡ k.source → m.address ≡ k.address → m.payload ≡ k.payload → m.mask ≡ k.mask
     → m.corrupt ≡ k.corrupt → m ≡ k
 same_fields_b {w} m k e0 e1 e2 e3 e4 e5 e6 e7 =
-    let e : (m.opcode, m.param, m.size, m.source, m.address, m.payload, m.mask, m.corrupt) ≡ (k.opcode, k.param, k.size, k.source, k.address, k.payload, k.mask, k.corrupt) = rw (e0, e1, e2, e3, e4, e5, e6, e7) refl in
+    let e : (m.opcode, m.param, m.size, m.source, m.address, m.payload, m.mask, m.corrupt)
+    ≡ (k.opcode, k.param, k.size, k.source, k.address, k.payload, k.mask, k.corrupt) = rw (e0, e1, e2, e3, e4, e5, e6, e7) refl in
     same_made_b w (m.opcode, m.param, m.size, m.source, m.address, m.payload, m.mask, m.corrupt) (k.opcode, k.param, k.size, k.source, k.address, k.payload, k.mask, k.corrupt) m.small k.small e
 
 same_b : {w : ℕ} (m k : MessageB w) (n : ℕ) → 0 < n → ((i : ℕ) → i < n → b_beat_of m i ≡ b_beat_of k i) → IsBlankAfter n (B m) → IsBlankAfter n (B k) → m ≡ k
@@ -116,7 +119,8 @@ same_b {w} m k n some same blank_m blank_k =
     let lanes : (i : ℕ) → i < n → lanes_at (b_carries_data m.opcode) w m.payload i ≡ lanes_at (b_carries_data m.opcode) w k.payload i =
     λ i lt. ap (λ (x : BeatB w). x.lanes) (same i lt) ∙ ap (λ b. lanes_at b w k.payload i) carries in
     let zero_k : IsZeroFrom (if b_carries_data m.opcode then w * n else 0) k.payload = subst (λ b. IsZeroFrom (if b then w * n else 0) k.payload) carries blank_k.0 in
-    same_fields_b m k (ap (λ (x : BeatB w). x.opcode) (same 0 some)) (ap (λ (x : BeatB w). x.param) (same 0 some)) (ap (λ (x : BeatB w). x.size) (same 0 some)) (ap (λ (x : BeatB w). x.source) (same 0 some)) (ap (λ (x : BeatB w). x.address) (same 0 some))
+    same_fields_b m k (ap (λ (x : BeatB w). x.opcode) (same 0 some)) (ap (λ (x : BeatB w). x.param) (same 0 some)) (ap (λ (x : BeatB w). x.size) (same 0 some))
+    (ap (λ (x : BeatB w). x.source) (same 0 some)) (ap (λ (x : BeatB w). x.address) (same 0 some))
     (payload_same (b_carries_data m.opcode) w n m.payload k.payload lanes blank_m.0 zero_k) (mask_same w n m.mask k.mask (λ i lt. ap (λ (x : BeatB w). x.mask) (same i lt)) blank_m.1 blank_k.1)
     (bits_same n m.corrupt k.corrupt (λ i lt. ap (λ (x : BeatB w). x.corrupt) (same i lt)) blank_m.2 blank_k.2)
 
@@ -142,7 +146,8 @@ same_c {w} m k n some same blank_m blank_k =
     let lanes : (i : ℕ) → i < n → lanes_at (c_carries_data m.opcode) w m.payload i ≡ lanes_at (c_carries_data m.opcode) w k.payload i =
     λ i lt. ap (λ (x : BeatC w). x.lanes) (same i lt) ∙ ap (λ b. lanes_at b w k.payload i) carries in
     let zero_k : IsZeroFrom (if c_carries_data m.opcode then w * n else 0) k.payload = subst (λ b. IsZeroFrom (if b then w * n else 0) k.payload) carries blank_k.0 in
-    same_fields_c m k (ap (λ (x : BeatC w). x.opcode) (same 0 some)) (ap (λ (x : BeatC w). x.param) (same 0 some)) (ap (λ (x : BeatC w). x.size) (same 0 some)) (ap (λ (x : BeatC w). x.source) (same 0 some)) (ap (λ (x : BeatC w). x.address) (same 0 some))
+    same_fields_c m k (ap (λ (x : BeatC w). x.opcode) (same 0 some)) (ap (λ (x : BeatC w). x.param) (same 0 some)) (ap (λ (x : BeatC w). x.size) (same 0 some))
+    (ap (λ (x : BeatC w). x.source) (same 0 some)) (ap (λ (x : BeatC w). x.address) (same 0 some))
     (payload_same (c_carries_data m.opcode) w n m.payload k.payload lanes blank_m.0 zero_k)
     (bits_same n m.corrupt k.corrupt (λ i lt. ap (λ (x : BeatC w). x.corrupt) (same i lt)) blank_m.1 blank_k.1)
 
@@ -158,7 +163,8 @@ same_made_d w x y h k e = subst (λ (z : FieldsD). (l : z.2 ≤ 6) → made_d w 
 same_fields_d : {w : ℕ} (m k : MessageD w) → m.opcode ≡ k.opcode → m.param ≡ k.param → m.size ≡ k.size → m.source ≡ k.source → m.sink ≡ k.sink → m.denied ≡ k.denied → m.payload ≡ k.payload
     → m.corrupt ≡ k.corrupt → m ≡ k
 same_fields_d {w} m k e0 e1 e2 e3 e4 e5 e6 e7 =
-    let e : (m.opcode, m.param, m.size, m.source, m.sink, m.denied, m.payload, m.corrupt) ≡ (k.opcode, k.param, k.size, k.source, k.sink, k.denied, k.payload, k.corrupt) = rw (e0, e1, e2, e3, e4, e5, e6, e7) refl in
+    let e : (m.opcode, m.param, m.size, m.source, m.sink, m.denied, m.payload, m.corrupt)
+    ≡ (k.opcode, k.param, k.size, k.source, k.sink, k.denied, k.payload, k.corrupt) = rw (e0, e1, e2, e3, e4, e5, e6, e7) refl in
     same_made_d w (m.opcode, m.param, m.size, m.source, m.sink, m.denied, m.payload, m.corrupt) (k.opcode, k.param, k.size, k.source, k.sink, k.denied, k.payload, k.corrupt) m.small k.small e
 
 same_d : {w : ℕ} (m k : MessageD w) (n : ℕ) → 0 < n → ((i : ℕ) → i < n → d_beat_of m i ≡ d_beat_of k i) → IsBlankAfter n (D m) → IsBlankAfter n (D k) → m ≡ k
@@ -168,7 +174,8 @@ same_d {w} m k n some same blank_m blank_k =
     let lanes : (i : ℕ) → i < n → lanes_at (d_carries_data m.opcode) w m.payload i ≡ lanes_at (d_carries_data m.opcode) w k.payload i =
     λ i lt. ap (λ (x : BeatD w). x.lanes) (same i lt) ∙ ap (λ b. lanes_at b w k.payload i) carries in
     let zero_k : IsZeroFrom (if d_carries_data m.opcode then w * n else 0) k.payload = subst (λ b. IsZeroFrom (if b then w * n else 0) k.payload) carries blank_k.0 in
-    same_fields_d m k (ap (λ (x : BeatD w). x.opcode) (same 0 some)) (ap (λ (x : BeatD w). x.param) (same 0 some)) (ap (λ (x : BeatD w). x.size) (same 0 some)) (ap (λ (x : BeatD w). x.source) (same 0 some)) (ap (λ (x : BeatD w). x.sink) (same 0 some)) (ap (λ (x : BeatD w). x.denied) (same 0 some))
+    same_fields_d m k (ap (λ (x : BeatD w). x.opcode) (same 0 some)) (ap (λ (x : BeatD w). x.param) (same 0 some)) (ap (λ (x : BeatD w). x.size) (same 0 some))
+    (ap (λ (x : BeatD w). x.source) (same 0 some)) (ap (λ (x : BeatD w). x.sink) (same 0 some)) (ap (λ (x : BeatD w). x.denied) (same 0 some))
     (payload_same (d_carries_data m.opcode) w n m.payload k.payload lanes blank_m.0 zero_k)
     (bits_same n m.corrupt k.corrupt (λ i lt. ap (λ (x : BeatD w). x.corrupt) (same i lt)) blank_m.1 blank_k.1)
 

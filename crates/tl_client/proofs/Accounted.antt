@@ -7,8 +7,8 @@ use Rattle.tl_beat.specs.declared.beat.Beat.{Beat}
 use Rattle.tl_beat.specs.declared.beat.Beat.TheVariants as beat
 use Rattle.tl_beat.specs.declared.beat.BeatB.{BeatB}
 use Rattle.tl_beat.specs.declared.beat.BeatD.{BeatD}
-use Rattle.tl_beat.specs.declared.opcode.Channel.{Channel}
-use Rattle.tl_beat.specs.declared.opcode.Channel.TheVariants as channel
+use Rattle.tl_beat.specs.declared.channel.Channel.{Channel}
+use Rattle.tl_beat.specs.declared.channel.Channel.TheVariants as channel
 use Rattle.tl_beat.specs.declared.opcode.OpA.TheVariants as a
 use Rattle.tl_beat.specs.declared.opcode.OpB.{OpB}
 use Rattle.tl_beat.specs.declared.opcode.OpB.TheVariants as b
@@ -100,11 +100,17 @@ accounted_done {w} terms (AcquireWhole block bytes) e is kept four two one old =
 accounted_done terms (Release block prune) e is kept four two one old =
     let idle = or_parts (pending (AcquireOf block) e.past) (pending (ReleaseOf block) e.past) two in
     let free = (least_free-some (λ s. pending (ReleaseSource s) e.past) 0 terms.sources one).0 in
-    subst (λ t. IsAccounted t) (sym (kept_past block (prune_right prune) _)) (accounted_release prune (source_or_0 (free_release terms e.past)) block (copy_at e block) e.past is kept.c_whole free idle.0 idle.1 old)
+    subst (λ t. IsAccounted t) (sym (kept_past block (prune_right prune) _))
+    (accounted_release prune (source_or_0 (free_release terms e.past)) block (copy_at e block) e.past is kept.c_whole free idle.0 idle.1 old)
 accounted_done {w} terms (Access (A x)) e is kept four two one old =
     let plain = (no_acquire terms.level x.opcode (not-false (is_access_of terms.level x.opcode) four)).0 in
     accounted_a (sourced (source_or_0 (free_request terms e.past)) x) e.past is kept.a_whole
-    (record { free = free_source terms e.past one; unacquired = λ acquires. absurd (both_ways (is_acquire x.opcode) plain acquires); unreleased = λ acquires. absurd (both_ways (is_acquire x.opcode) plain acquires) }) old
+    (record {
+      free = free_source terms e.past one;
+      unacquired = λ acquires. absurd (both_ways (is_acquire x.opcode) plain acquires);
+      unreleased = λ acquires.
+          absurd (both_ways (is_acquire x.opcode) plain acquires);
+    }) old
 accounted_done terms (Access (B m)) e is kept four two one old = old
 accounted_done terms (Access (C m)) e is kept four two one old = old
 accounted_done terms (Access (D m)) e is kept four two one old = old
@@ -155,7 +161,8 @@ accounted_probed x e is kept old =
 
 -- ---- a response
 
-accounted_grant : {w : ℕ} (x : BeatD w) (t : History w) → IsWidth w → IsFit x t → ends (beat.D x) t ≡ true → unfinished channel.E t ≡ [] → IsAccounted t → IsAccounted (sent (E (record { sink = x.sink })) (beat.D x ∷ t))
+accounted_grant : {w : ℕ} (x : BeatD w) (t : History w) → IsWidth w → IsFit x t → ends (beat.D x) t ≡ true → unfinished channel.E t ≡ [] → IsAccounted t
+    → IsAccounted (sent (E (record { sink = x.sink })) (beat.D x ∷ t))
 accounted_grant x t is fits last none old = record {
   claimed = claimed-e (record { sink = x.sink }) (beat.D x ∷ t) is ((unfinished-d x t).3 ∙ none) (claimed-d x t fits old.claimed);
   acked = acked-grant x (record { sink = x.sink }) t is fits last refl none old.acked;

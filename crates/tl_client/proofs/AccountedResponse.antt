@@ -8,7 +8,7 @@ use Rattle.tl_beat.specs.declared.beat.Beat.TheVariants as beat
 use Rattle.tl_beat.specs.declared.beat.BeatA.{BeatA}
 use Rattle.tl_beat.specs.declared.beat.BeatC.{BeatC}
 use Rattle.tl_beat.specs.declared.beat.BeatD.{BeatD}
-use Rattle.tl_beat.specs.declared.opcode.Channel.TheVariants as channel
+use Rattle.tl_beat.specs.declared.channel.Channel.TheVariants as channel
 use Rattle.tl_beat.specs.declared.opcode.OpA.{OpA}
 use Rattle.tl_beat.specs.declared.opcode.OpA.TheVariants as a
 use Rattle.tl_beat.specs.declared.opcode.OpD.{OpD}
@@ -102,7 +102,8 @@ claimed-d {w} x t fits old = record {
       let p = still_releases k (closes_release x t s) (open_release s t) (rw (open_release-d s x t) at e) in
       let q = still_releases k (closes_release x t r) (open_release r t) (rw (open_release-d r x t) at f) in
       old.release_once s r k p.1 q.1;
-  apart = λ k e. let p = still (ends (beat.D x) t && grants k x t) (pending (AcquireOf k) t) (sym (acquire_of-d k x t) ∙ e) in release_now k ∙ falls (acks_block k) (pending (ReleaseOf k) t) (old.apart k p.1);
+  apart = λ k e. let p = still (ends (beat.D x) t && grants k x t) (pending (AcquireOf k) t) (sym (acquire_of-d k x t) ∙ e) in release_now k
+      ∙ falls (acks_block k) (pending (ReleaseOf k) t) (old.apart k p.1);
 }
   where
     acks_block : ℕ → Bool
@@ -149,7 +150,9 @@ claimed-d {w} x t fits old = record {
           let live : pending (ReleaseSource x.source) t ≡ true = (fits.acks kind.0).0 in
           let own : releases k (open_release x.source t) ≡ true = rw live kind.1 in
           let source = old.release_once x.source s k own e in
-          absurd (both_ways (closes_release x t s) open_still (and_from (ends (beat.D x) t) (is_release_ack x.opcode && (x.source == s)) last.0 (and_from (is_release_ack x.opcode) (x.source == s) kind.0 (eq-eqb x.source s source))))
+          absurd (both_ways (closes_release x t s) open_still
+          (and_from (ends (beat.D x) t) (is_release_ack x.opcode && (x.source == s)) last.0
+          (and_from (is_release_ack x.opcode) (x.source == s) kind.0 (eq-eqb x.source s source))))
     ]
 
 -- ---- Grants

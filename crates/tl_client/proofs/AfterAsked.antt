@@ -58,7 +58,8 @@ after_load address size perm.None e = record { past_is = refl; closed_is = refl;
 after_load address size perm.Branch e = record { past_is = refl; closed_is = refl; copies_are = λ k. refl; waiting_is = λ k. refl }
 after_load address size perm.Trunk e = record { past_is = refl; closed_is = refl; copies_are = λ k. refl; waiting_is = λ k. refl }
 
-unwritten : {w : ℕ} (address size value : ℕ) (p : Perm) (e : End w) (k : ℕ) → held (block_at address) e.past ≡ p → same_perm perm.Trunk p ≡ false → e.copies k ≡ copy_left {w = w} None (Store address size value) k (held k e.past) (e.copies k)
+unwritten : {w : ℕ} (address size value : ℕ) (p : Perm) (e : End w) (k : ℕ) → held (block_at address) e.past ≡ p → same_perm perm.Trunk p ≡ false
+    → e.copies k ≡ copy_left {w = w} None (Store address size value) k (held k e.past) (e.copies k)
 unwritten address size value p e k is low = go (cases_Bool (k == block_at address))
   where
     go : ((k == block_at address) ≡ true) ⊎ ((k == block_at address) ≡ false)
@@ -67,11 +68,14 @@ unwritten address size value p e k is low = go (cases_Bool (k == block_at addres
     go (inl here) = let there : same_perm perm.Trunk (held k e.past) ≡ false = rw (eqb-true k (block_at address) here, is) low in rw (here, there) refl
 
 written : {w : ℕ} (address size value : ℕ) (e : End w) (k : ℕ) → held (block_at address) e.past ≡ perm.Trunk
-    → cond (k == block_at address) (Some (copy_stored address size value (copy_at e (block_at address)))) (e.copies k) ≡ copy_left {w = w} None (Store address size value) k (held k e.past) (e.copies k)
+    → cond (k == block_at address) (Some (copy_stored address size value (copy_at e (block_at address)))) (e.copies k) ≡ copy_left {w = w} None
+    (Store address size value) k (held k e.past) (e.copies k)
 written address size value e k is = go (cases_Bool (k == block_at address))
   where
     go : ((k == block_at address) ≡ true) ⊎ ((k == block_at address) ≡ false)
-        → cond (k == block_at address) (Some (copy_stored address size value (copy_at e (block_at address)))) (e.copies k) ≡ cond ((k == block_at address) && same_perm perm.Trunk (held k e.past)) (Some (copy_stored address size value (unwrap_or (e.copies k) zeros))) (e.copies k)
+        → cond (k == block_at address) (Some (copy_stored address size value (copy_at e (block_at address)))) (e.copies k) ≡ cond
+        ((k == block_at address) && same_perm perm.Trunk (held k e.past)) (Some (copy_stored address size value (unwrap_or (e.copies k) zeros)))
+        (e.copies k)
     go (inr other) = rw other refl
     go (inl here) =
         let same : k ≡ block_at address = eqb-true k (block_at address) here in

@@ -6,8 +6,8 @@ use Rattle.tl_beat.specs.declared.beat.Beat.{Beat}
 use Rattle.tl_beat.specs.declared.beat.Beat.TheVariants as beat
 use Rattle.tl_beat.specs.declared.beat.BeatA.{BeatA}
 use Rattle.tl_beat.specs.declared.beat.BeatD.{BeatD}
-use Rattle.tl_beat.specs.declared.opcode.Channel.{Channel}
-use Rattle.tl_beat.specs.declared.opcode.Channel.TheVariants as channel
+use Rattle.tl_beat.specs.declared.channel.Channel.{Channel}
+use Rattle.tl_beat.specs.declared.channel.Channel.TheVariants as channel
 use Rattle.tl_beat.specs.declared.opcode.OpA.{OpA}
 use Rattle.tl_beat.specs.declared.opcode.OpA.TheVariants as a
 use Rattle.tl_beat.specs.declared.opcode.OpD.{OpD}
@@ -105,9 +105,21 @@ ended_is {w} opcode x finish e f g = go opcode
   where
     go : (opcode : OpD) → IsTaken (beat.D x) e (ended opcode x finish f)
     go d.Grant =
-        record { past_is = ap (λ t. sent_if_any (handed (ended d.Grant x finish f).answer) t) g.same_past; closed_is = g.same_closed ∙ or_false e.closed; copies_are = g.new_copies; waiting_is = g.new_waiting }
+        record {
+          past_is = ap (λ t. sent_if_any (handed (ended d.Grant x finish f).answer) t) g.same_past;
+          closed_is = g.same_closed
+              ∙ or_false e.closed;
+          copies_are = g.new_copies;
+          waiting_is = g.new_waiting;
+        }
     go d.GrantData =
-        record { past_is = ap (λ t. sent_if_any (handed (ended d.GrantData x finish f).answer) t) g.same_past; closed_is = g.same_closed ∙ or_false e.closed; copies_are = g.new_copies; waiting_is = g.new_waiting }
+        record {
+          past_is = ap (λ t. sent_if_any (handed (ended d.GrantData x finish f).answer) t) g.same_past;
+          closed_is = g.same_closed
+              ∙ or_false e.closed;
+          copies_are = g.new_copies;
+          waiting_is = g.new_waiting;
+        }
     go d.AccessAck = record { past_is = g.same_past; closed_is = g.same_closed ∙ or_false e.closed; copies_are = g.new_copies; waiting_is = g.new_waiting }
     go d.AccessAckData = record { past_is = g.same_past; closed_is = g.same_closed ∙ or_false e.closed; copies_are = g.new_copies; waiting_is = g.new_waiting }
     go d.HintAck = record { past_is = g.same_past; closed_is = g.same_closed ∙ or_false e.closed; copies_are = g.new_copies; waiting_is = g.new_waiting }

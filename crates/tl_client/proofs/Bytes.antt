@@ -8,8 +8,8 @@ use Rattle.tl_beat.specs.declared.beat.Beat.TheVariants as beat
 use Rattle.tl_beat.specs.declared.beat.BeatA.{BeatA}
 use Rattle.tl_beat.specs.declared.beat.BeatB.{BeatB}
 use Rattle.tl_beat.specs.declared.beat.BeatD.{BeatD}
-use Rattle.tl_beat.specs.declared.opcode.Channel.{Channel}
-use Rattle.tl_beat.specs.declared.opcode.Channel.TheVariants as channel
+use Rattle.tl_beat.specs.declared.channel.Channel.{Channel}
+use Rattle.tl_beat.specs.declared.channel.Channel.TheVariants as channel
 use Rattle.tl_beat.specs.declared.opcode.OpD.{OpD}
 use Rattle.tl_beat.specs.declared.opcode.OpD.TheVariants as d
 use Rattle.tl_burst.specs.declared.message.Message.TheVariants.{A, B, C, D, E}
@@ -91,7 +91,8 @@ long_done terms (Access (E m)) e free typed long = long
 
 pub bytes-asked : {w : ℕ} (terms : Terms) (op : Op w) (e : End w) → IsWidth w → IsKept e → IsTypedOp op → HasBytes e → HasBytes (asked terms op e).after
 bytes-asked {w} terms op e is kept typed old =
-    let long : AreLong (asked terms op e).after = asked-cases terms op e (λ o. AreLong o.after) (λ b. (old.long_copies, old.long_waiting)) (λ free. long_done terms op e free typed (old.long_copies, old.long_waiting)) in
+    let long : AreLong (asked terms op e).after = asked-cases terms op e (λ o. AreLong o.after) (λ b. (old.long_copies, old.long_waiting))
+    (λ free. long_done terms op e free typed (old.long_copies, old.long_waiting)) in
     let same = unfinished-asked terms op e channel.D is kept in
     record {
       long_copies = long.0;
@@ -180,10 +181,12 @@ heard_taken {w} (beat.D x) e = go (ends (beat.D x) e.past) _ (ended-cases x.opco
 
 pub bytes-offered : {w : ℕ} (terms : Terms) (ch : Channel) (x : Beat w) (e : End w) → IsWidth w → IsKept e → IsTyped x → HasBytes e → HasBytes (offered terms ch x e).after
 bytes-offered {w} terms ch x e is kept typed old =
-    let long : AreLong (offered terms ch x e).after = offered-cases terms ch x e (λ o. AreLong o.after) (λ r. (old.long_copies, old.long_waiting)) (old.long_copies, old.long_waiting) (λ passed. long_taken terms ch x e is typed passed old) in
+    let long : AreLong (offered terms ch x e).after = offered-cases terms ch x e (λ o. AreLong o.after) (λ r. (old.long_copies, old.long_waiting))
+    (old.long_copies, old.long_waiting) (λ passed. long_taken terms ch x e is typed passed old) in
     let same = unfinished-offered terms ch x e channel.D is kept in
     let burst : IsBurstKept (unfinished channel.D (heard (offered terms ch x e).answer x e.past)) = offered-cases terms ch x e (λ o. IsBurstKept (unfinished channel.D (heard o.answer x e.past)))
-    (λ r. (old.typed_burst, old.short_burst)) (old.typed_burst, old.short_burst) (λ passed. subst (λ t. IsBurstKept (unfinished channel.D t)) (sym (heard_taken x e)) (burst_heard terms ch x e is typed passed old)) in
+    (λ r. (old.typed_burst, old.short_burst)) (old.typed_burst, old.short_burst)
+    (λ passed. subst (λ t. IsBurstKept (unfinished channel.D t)) (sym (heard_taken x e)) (burst_heard terms ch x e is typed passed old)) in
     record {
       long_copies = long.0;
       long_waiting = long.1;

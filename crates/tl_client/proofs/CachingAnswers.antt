@@ -117,13 +117,15 @@ answered_release terms op e prune block copy None because replies messages = ans
 answered_release terms op e prune block copy (Some s) because replies messages = answered_done terms op e _ because refl replies messages
 
 load_answer : {w : ℕ} (address size : ℕ) (p : Perm) (e : End w) (bytes : List ℕ) → copy_at e (block_at address) ≡ bytes
-    → ((load address size p e).reply ≡ cond (holds p) (reply.Value (loaded address size bytes)) reply.Miss) × ((load address size p e).message ≡ None) × (busy_in (cond (holds p) (reply.Value (loaded address size bytes)) reply.Miss) ≡ None)
+    → ((load address size p e).reply ≡ cond (holds p) (reply.Value (loaded address size bytes)) reply.Miss) × ((load address size p e).message ≡ None)
+    × (busy_in (cond (holds p) (reply.Value (loaded address size bytes)) reply.Miss) ≡ None)
 load_answer address size perm.None e bytes is = (refl, refl, refl)
 load_answer address size perm.Branch e bytes is = (rw is refl, refl, refl)
 load_answer address size perm.Trunk e bytes is = (rw is refl, refl, refl)
 
 store_answer : {w : ℕ} (address size value : ℕ) (p : Perm) (e : End w)
-    → ((store address size value p e).reply ≡ cond (same_perm perm.Trunk p) reply.Stored reply.Miss) × ((store address size value p e).message ≡ None) × (busy_in (cond (same_perm perm.Trunk p) reply.Stored reply.Miss) ≡ None)
+    → ((store address size value p e).reply ≡ cond (same_perm perm.Trunk p) reply.Stored reply.Miss) × ((store address size value p e).message ≡ None)
+    × (busy_in (cond (same_perm perm.Trunk p) reply.Stored reply.Miss) ≡ None)
 store_answer address size value perm.None e = (refl, refl, refl)
 store_answer address size value perm.Branch e = (refl, refl, refl)
 store_answer address size value perm.Trunk e = (refl, refl, refl)
@@ -140,13 +142,17 @@ answered c (Store address size value) e knows free =
     rw (knows.held_is (block_at address)) (answered_done (terms_of c) (Store address size value) e _ (busy-free c (Store address size value) e knows free) replies.2 replies.0 replies.1)
 answered c (Acquire block grow) e knows free =
     let source = free_request-known c e knows in
-    answered_request (terms_of c) (Acquire block grow) e (acquisition a.AcquireBlock grow 0 block) (free_in c.requests c.config.sources) (rw source at (busy-free c (Acquire block grow) e knows free)) (rw source refl) (rw source refl)
+    answered_request (terms_of c) (Acquire block grow) e (acquisition a.AcquireBlock grow 0 block) (free_in c.requests c.config.sources)
+    (rw source at (busy-free c (Acquire block grow) e knows free)) (rw source refl) (rw source refl)
 answered c (AcquireWhole block bytes) e knows free =
     let source = free_request-known c e knows in
-    answered_request (terms_of c) (AcquireWhole block bytes) e (acquisition a.AcquirePerm (whole_grow (held_in c.table block)) 0 block) (free_in c.requests c.config.sources) (rw source at (busy-free c (AcquireWhole block bytes) e knows free)) (rw source refl) (rw (source, knows.held_is block) refl)
+    answered_request (terms_of c) (AcquireWhole block bytes) e (acquisition a.AcquirePerm (whole_grow (held_in c.table block)) 0 block)
+    (free_in c.requests c.config.sources) (rw source at (busy-free c (AcquireWhole block bytes) e knows free)) (rw source refl)
+    (rw (source, knows.held_is block) refl)
 answered c (Release block prune) e knows free =
     let source = free_release-known c e knows in
-    answered_release (terms_of c) (Release block prune) e prune block (bytes_in c block) (free_in c.releases c.config.sources) (rw source at (busy-free c (Release block prune) e knows free)) (rw source refl) (rw (source, copy-known c e block knows) refl)
+    answered_release (terms_of c) (Release block prune) e prune block (bytes_in c block) (free_in c.releases c.config.sources)
+    (rw source at (busy-free c (Release block prune) e knows free)) (rw source refl) (rw (source, copy-known c e block knows) refl)
 answered c (Access (message.A m)) e knows free =
     let source = free_request-known c e knows in
     answered_request (terms_of c) (Access (message.A m)) e m (free_in c.requests c.config.sources) (rw source at (busy-free c (Access (message.A m)) e knows free)) (rw source refl) (rw source refl)

@@ -3,7 +3,7 @@ use Rattle.std.proofs.Common.{◌≡◌, ℕ, Bool, true, false, cond, ◌&&◌,
 use Rattle.std.specs.Prelude.{◌==◌}
 use Rattle.tl_beat.specs.declared.beat.BeatA.{BeatA}
 use Rattle.tl_beat.specs.declared.beat.BeatC.{BeatC}
-use Rattle.tl_beat.specs.declared.opcode.Channel.TheVariants as channel
+use Rattle.tl_beat.specs.declared.channel.Channel.TheVariants as channel
 use Rattle.tl_burst.specs.declared.message.Message.{Message}
 use Rattle.tl_burst.specs.declared.message.Message.TheVariants as message
 use Rattle.tl_burst.specs.Burst.{a_beat_of, c_beat_of}
@@ -89,12 +89,15 @@ knows-asked {w} c d op e r knows free does =
       copies_are = λ k. does.copies k ∙ rw (← said.busy_is, knows.held_is k, knows.copies_are k) (sym (copies-asked (terms_of c) op e k));
       waiting_are = λ k. does.waiting k ∙ rw (← said.busy_is, knows.waiting_are k) (sym (waiting-asked (terms_of c) op e k));
       requests_are =
-          λ s. does.requests s ∙ rw (← said.message_is, knows.requests_are s) (opened-fields s (asked (terms_of c) op e).message (open_beat s e.past)) ∙ sym (ap fields_of (open-asked (terms_of c) op e s c.width knows.kept));
+          λ s. does.requests s ∙ rw (← said.message_is, knows.requests_are s) (opened-fields s (asked (terms_of c) op e).message (open_beat s e.past))
+          ∙ sym (ap fields_of (open-asked (terms_of c) op e s c.width knows.kept));
       releases_are =
-          λ s. does.releases s ∙ rw (← said.message_is, knows.releases_are s) (released-fields s (asked (terms_of c) op e).message (open_release s e.past)) ∙ sym (ap release_fields (open_release-asked (terms_of c) op e s c.width knows.kept));
+          λ s. does.releases s ∙ rw (← said.message_is, knows.releases_are s) (released-fields s (asked (terms_of c) op e).message (open_release s e.past))
+          ∙ sym (ap release_fields (open_release-asked (terms_of c) op e s c.width knows.kept));
       response_is = does.response ∙ knows.response_is ∙ sym burst;
       granting_is = λ k. ap (is_granting k) does.granting ∙ knows.granting_is k ∙ sym (knows.accounted.acked.acks k)
-          ∙ sym (pending-asked (terms_of c) op e (GrantAckOf k) c.width knows.kept ∙ ack_unsaid k (asked (terms_of c) op e).reply (asked (terms_of c) op e).message e.past (started-asked (terms_of c) op e))
+          ∙ sym (pending-asked (terms_of c) op e (GrantAckOf k) c.width knows.kept
+          ∙ ack_unsaid k (asked (terms_of c) op e).reply (asked (terms_of c) op e).message e.past (started-asked (terms_of c) op e))
           ∙ accounted.acked.acks k;
       sink_is = λ s. ap (has_sink s) does.granting ∙ knows.sink_is s ∙ ap (comes_in_grant s) (sym burst);
       kept = kept;

@@ -35,11 +35,13 @@ written address size value at count old new small at_is count_is is = is ∙ rw 
 
 one_block : {w : ℕ} (c : Caching w) (address size value : ℕ) (bytes : List ℕ) (k : ℕ) → held_in c.table (block_at address) ≡ perm.Trunk
     → bytes ≡ copy_stored address size value (bytes_in c (block_at address))
-    → cond (k == block_at address) (Some bytes) (copy_in c.table k) ≡ cond ((k == block_at address) && same_perm perm.Trunk (held_in c.table k)) (Some (copy_stored address size value (unwrap_or (copy_in c.table k) zeros))) (copy_in c.table k)
+    → cond (k == block_at address) (Some bytes) (copy_in c.table k) ≡ cond ((k == block_at address) && same_perm perm.Trunk (held_in c.table k))
+    (Some (copy_stored address size value (unwrap_or (copy_in c.table k) zeros))) (copy_in c.table k)
 one_block c address size value bytes k trunk is = go (k == block_at address) (λ e. eqb-true k (block_at address) e)
   where
     go : (b : Bool) → (b ≡ true → k ≡ block_at address)
-        → cond b (Some bytes) (copy_in c.table k) ≡ cond (b && same_perm perm.Trunk (held_in c.table k)) (Some (copy_stored address size value (unwrap_or (copy_in c.table k) zeros))) (copy_in c.table k)
+        → cond b (Some bytes) (copy_in c.table k) ≡ cond (b && same_perm perm.Trunk (held_in c.table k))
+        (Some (copy_stored address size value (unwrap_or (copy_in c.table k) zeros))) (copy_in c.table k)
     go false same = refl
     go true same = rw (same refl, trunk, is) refl
 

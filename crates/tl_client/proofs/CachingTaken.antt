@@ -3,8 +3,8 @@ use Rattle.std.proofs.Common.{◌≡◌, ℕ, Bool, true, false, ◌&&◌, ◌||
 use Rattle.std.specs.Prelude.{Result, Ok}
 use Rattle.tl_beat.specs.declared.beat.Beat.{Beat}
 use Rattle.tl_beat.specs.declared.beat.Beat.TheVariants as beat
-use Rattle.tl_beat.specs.declared.opcode.Channel.{Channel}
-use Rattle.tl_beat.specs.declared.opcode.Channel.TheVariants as channel
+use Rattle.tl_beat.specs.declared.channel.Channel.{Channel}
+use Rattle.tl_beat.specs.declared.channel.Channel.TheVariants as channel
 use Rattle.tl_burst.specs.declared.message.Message.{Message}
 use Rattle.tl_burst.specs.Messages.{History, unfinished}
 use Rattle.tl_params.specs.declared.rule.Rule.{Rule}
@@ -87,7 +87,8 @@ knows-after {w} c d ch x e a knows is takes follows =
       requests_are = λ s. follows.requests s ∙ ap fields_of (sym (open-offered (terms_of c) ch x e s c.width knows.kept ∙ rw is (takes.opens s e.past)));
       releases_are = λ s. follows.releases s ∙ ap release_fields (sym (open_release-offered (terms_of c) ch x e s c.width knows.kept ∙ rw is (takes.opens_release s e.past)));
       response_is = follows.response ∙ sym burst;
-      granting_is = λ k. follows.granting k ∙ sym (ap (λ b. comes_granting k b after.past) burst ∙ same_granting k (unfinished channel.D (x ∷ e.past)) after.past e.past (λ s. request-offered (terms_of c) ch x e s c.width knows.kept));
+      granting_is = λ k. follows.granting k ∙ sym (ap (λ b. comes_granting k b after.past) burst
+          ∙ same_granting k (unfinished channel.D (x ∷ e.past)) after.past e.past (λ s. request-offered (terms_of c) ch x e s c.width knows.kept));
       sink_is = λ s. follows.sink s ∙ ap (comes_in_grant s) (sym burst);
       kept = kept-offered (terms_of c) ch x e c.width knows.kept;
       accounted = accounted-offered (terms_of c) ch x e c.width knows.kept knows.accounted;

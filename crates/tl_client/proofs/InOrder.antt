@@ -7,8 +7,8 @@ use Rattle.tl_beat.specs.declared.beat.Beat.{Beat}
 use Rattle.tl_beat.specs.declared.beat.Beat.TheVariants as beat
 use Rattle.tl_beat.specs.declared.beat.BeatB.{BeatB}
 use Rattle.tl_beat.specs.declared.beat.BeatD.{BeatD}
-use Rattle.tl_beat.specs.declared.opcode.Channel.{Channel}
-use Rattle.tl_beat.specs.declared.opcode.Channel.TheVariants as channel
+use Rattle.tl_beat.specs.declared.channel.Channel.{Channel}
+use Rattle.tl_beat.specs.declared.channel.Channel.TheVariants as channel
 use Rattle.tl_beat.specs.declared.opcode.OpA.TheVariants as a
 use Rattle.tl_beat.specs.declared.opcode.OpB.{OpB}
 use Rattle.tl_beat.specs.declared.opcode.OpB.TheVariants as b
@@ -69,7 +69,8 @@ rules_a false before released grows fine = refl
 rules_a true before released grows fine = let p = fine refl in rw (p.0, p.1, p.2) refl
 
 in_order_a : {w : ℕ} (p : Profile) (m : MessageA w) (t : History w) → unfinished channel.A t ≡ [] → pending (RequestSource m.source) t ≡ false
-    → (is_acquire m.opcode ≡ true → (pending (AcquireOf (block_at m.address)) t ≡ false) × (pending (ReleaseOf (block_at m.address)) t ≡ false) × (grows_from m.param (held (block_at m.address) t) ≡ true))
+    → (is_acquire m.opcode ≡ true → (pending (AcquireOf (block_at m.address)) t ≡ false) × (pending (ReleaseOf (block_at m.address)) t ≡ false)
+    × (grows_from m.param (held (block_at m.address) t) ≡ true))
     → broken_in_order p (beat_of (A m) 0) t ≡ None
 unfolding broken_order
 in_order_a p m t none free fine =
@@ -128,19 +129,24 @@ in_order_done terms (Store address size value) e kept free = in_order_store term
 in_order_done {w} terms (Acquire block grow) e kept free =
     let idle = or_parts (pending (AcquireOf block) e.past) (pending (ReleaseOf block) e.past) free.b2 in
     let left = not-false (same_perm (grow_left grow) (held_at e block)) free.b3 in
-    in_order_a terms.profile (acquisition {w = w} a.AcquireBlock grow (source_or_0 (free_request terms e.past)) block) e.past kept.a_whole (least_free-some (λ s. pending (RequestSource s) e.past) 0 terms.sources free.b1).0
+    in_order_a terms.profile (acquisition {w = w} a.AcquireBlock grow (source_or_0 (free_request terms e.past)) block) e.past kept.a_whole
+    (least_free-some (λ s. pending (RequestSource s) e.past) 0 terms.sources free.b1).0
     (λ acquires. at_block block (grow_code grow) e.past idle.0 idle.1 (grown_from grow (held_at e block) left))
 in_order_done {w} terms (AcquireWhole block bytes) e kept free =
     let idle = or_parts (pending (AcquireOf block) e.past) (pending (ReleaseOf block) e.past) free.b2 in
-    in_order_a terms.profile (acquisition {w = w} a.AcquirePerm (whole_grow (held_at e block)) (source_or_0 (free_request terms e.past)) block) e.past kept.a_whole (least_free-some (λ s. pending (RequestSource s) e.past) 0 terms.sources free.b1).0
+    in_order_a terms.profile (acquisition {w = w} a.AcquirePerm (whole_grow (held_at e block)) (source_or_0 (free_request terms e.past)) block) e.past
+    kept.a_whole (least_free-some (λ s. pending (RequestSource s) e.past) 0 terms.sources free.b1).0
     (λ acquires. at_block block (grow_code (whole_grow (held_at e block))) e.past idle.0 idle.1 (grown_whole (held_at e block) free.b3))
 in_order_done terms (Release block prune) e kept free =
     let idle = or_parts (pending (AcquireOf block) e.past) (pending (ReleaseOf block) e.past) free.b2 in
-    in_order_release terms.profile prune (source_or_0 (free_release terms e.past)) block (copy_at e block) e.past kept.c_whole (least_free-some (λ s. pending (ReleaseSource s) e.past) 0 terms.sources free.b1).0 idle.0 idle.1
+    in_order_release terms.profile prune (source_or_0 (free_release terms e.past)) block (copy_at e block) e.past kept.c_whole
+    (least_free-some (λ s. pending (ReleaseSource s) e.past) 0 terms.sources free.b1).0 idle.0 idle.1
     (not-false (same_perm (prune_left prune) (held_at e block)) free.b3)
 in_order_done terms (Access (A m)) e kept free =
     let plain = (no_acquire terms.level m.opcode (not-false (is_access_of terms.level m.opcode) free.b4)).0 in
-    in_order_a terms.profile (sourced (source_or_0 (free_request terms e.past)) m) e.past kept.a_whole (least_free-some (λ s. pending (RequestSource s) e.past) 0 terms.sources free.b1).0 (λ acquires. absurd (both_ways (is_acquire m.opcode) plain acquires))
+    in_order_a terms.profile (sourced (source_or_0 (free_request terms e.past)) m) e.past kept.a_whole
+    (least_free-some (λ s. pending (RequestSource s) e.past) 0 terms.sources free.b1).0
+    (λ acquires. absurd (both_ways (is_acquire m.opcode) plain acquires))
 in_order_done terms (Access (B m)) e kept free = tt
 in_order_done terms (Access (C m)) e kept free = tt
 in_order_done terms (Access (D m)) e kept free = tt
@@ -198,14 +204,16 @@ bare_report : {w : ℕ} (profile : Profile) (x : BeatB w) (p : Perm) (u : Histor
 unfolding broken_order
 bare_report {w} profile x p u is =
     rw (is.whole, is.found, is.held_is) (rules_c (pending (ProbeOf (block_at (64 * block_at x.address))) u) false (pending (ReleaseOf (block_at (64 * block_at x.address))) u)
-    (not (is_report_at (report_code (report_for x p)) (cap_of x.param) p)) is.probed refl is.unreleased (not_so (is_report_at (report_code (report_for x p)) (cap_of x.param) p) (reported_so (cap_of x.param) p is.named)))
+    (not (is_report_at (report_code (report_for x p)) (cap_of x.param) p)) is.probed refl is.unreleased
+    (not_so (is_report_at (report_code (report_for x p)) (cap_of x.param) p) (reported_so (cap_of x.param) p is.named)))
 
 data_report : {w : ℕ} (profile : Profile) (x : BeatB w) (p : Perm) (copy : List ℕ) (u : History w) → is_probe_block x.opcode ≡ true → IsProbed x p u
     → IsInOrder profile (Some (on_c c.ProbeAckData (report_code (report_for x p)) 0 (block_at x.address) copy)) u
 unfolding broken_order
 data_report {w} profile x p copy u kind is =
     rw (is.whole, is.found, is.held_is) (rules_c (pending (ProbeOf (block_at (64 * block_at x.address))) u) (not (is_probe_block x.opcode)) (pending (ReleaseOf (block_at (64 * block_at x.address))) u)
-    (not (is_report_at (report_code (report_for x p)) (cap_of x.param) p)) is.probed (not_so (is_probe_block x.opcode) kind) is.unreleased (not_so (is_report_at (report_code (report_for x p)) (cap_of x.param) p) (reported_so (cap_of x.param) p is.named)))
+    (not (is_report_at (report_code (report_for x p)) (cap_of x.param) p)) is.probed (not_so (is_probe_block x.opcode) kind) is.unreleased
+    (not_so (is_report_at (report_code (report_for x p)) (cap_of x.param) p) (reported_so (cap_of x.param) p is.named)))
 
 in_order_ack : {w : ℕ} (profile : Profile) (opcode : OpB) (q : Perm) (x : BeatB w) (p : Perm) (copy : List ℕ) (u : History w) → x.opcode ≡ opcode → IsProbed x p u
     → IsInOrder profile (Some (probe_ack opcode q (report_for x p) (block_at x.address) copy)) u
@@ -258,13 +266,15 @@ in_order_taken terms ch (beat.A x) e kept account passed = tt
 in_order_taken terms ch (beat.C x) e kept account passed = tt
 in_order_taken terms ch (beat.E x) e kept account passed = tt
 in_order_taken terms ch (beat.B x) e kept account passed =
-    in_order_ack terms.profile x.opcode (held_at e (block_at x.address)) x (held_at e (block_at x.address)) (copy_at e (block_at x.address)) (beat.B x ∷ e.past) refl (probed_so terms ch x e kept passed)
+    in_order_ack terms.profile x.opcode (held_at e (block_at x.address)) x (held_at e (block_at x.address)) (copy_at e (block_at x.address))
+    (beat.B x ∷ e.past) refl (probed_so terms ch x e kept passed)
 in_order_taken {w} terms ch (beat.D x) e kept account passed =
     go (ends (beat.D x) e.past) refl _ (λ last. ended-cases x.opcode x _ _ (λ o. IsInOrder terms.profile (handed o.answer) (heard o.answer (beat.D x) e.past))
     (λ grants. in_order_grant_ack terms.profile x e.past kept.e_whole last grants (fit terms.profile x e.past account.acked passed.order) account.acked.sinks) (λ other. tt))
   where
     go : (b : Bool) → ends (beat.D x) e.past ≡ b → (o : Offered w) → (ends (beat.D x) e.past ≡ true → IsInOrder terms.profile (handed o.answer) (heard o.answer (beat.D x) e.past))
-        → IsInOrder terms.profile (handed (cond b o (silent Taken (with_past (beat.D x ∷ e.past) e))).answer) (heard (cond b o (silent Taken (with_past (beat.D x ∷ e.past) e))).answer (beat.D x) e.past)
+        → IsInOrder terms.profile (handed (cond b o (silent Taken (with_past (beat.D x ∷ e.past) e))).answer)
+        (heard (cond b o (silent Taken (with_past (beat.D x ∷ e.past) e))).answer (beat.D x) e.past)
     go true last o h = h last
     go false more o h = tt
 

@@ -8,8 +8,8 @@ use Rattle.tl_beat.specs.declared.beat.Beat.TheVariants as beat
 use Rattle.tl_beat.specs.declared.beat.BeatA.{BeatA}
 use Rattle.tl_beat.specs.declared.beat.BeatB.{BeatB}
 use Rattle.tl_beat.specs.declared.beat.BeatD.{BeatD}
-use Rattle.tl_beat.specs.declared.opcode.Channel.{Channel}
-use Rattle.tl_beat.specs.declared.opcode.Channel.TheVariants as channel
+use Rattle.tl_beat.specs.declared.channel.Channel.{Channel}
+use Rattle.tl_beat.specs.declared.channel.Channel.TheVariants as channel
 use Rattle.tl_beat.specs.declared.opcode.OpA.TheVariants as a
 use Rattle.tl_beat.specs.declared.opcode.OpC.TheVariants as c
 use Rattle.tl_burst.specs.declared.message.Message.TheVariants.{A, B, C, D, E}
@@ -84,7 +84,8 @@ inside_c {w} terms m t is none below falls old = record {
   holds_inside = λ k e. old.holds_inside k (falls k e);
   requests_below = λ s e. old.requests_below s (sym (pending-whole (RequestSource s) (C m) t none (beats-positive (C m) is)) ∙ e);
   releases_below = λ s e. opened_below (is_release m.opcode && (m.source == s)) (pending (ReleaseSource s) t) s terms.sources
-      (λ same. let parts = and_parts (is_release m.opcode) (m.source == s) same in let source = eqb-true m.source s parts.1 in let low = below parts.0 in omega (arith, low, source)) (old.releases_below s)
+      (λ same. let parts = and_parts (is_release m.opcode) (m.source == s) same in let source = eqb-true m.source s parts.1 in let low =
+      below parts.0 in omega (arith, low, source)) (old.releases_below s)
       (sym (pending-whole (ReleaseSource s) (C m) t none (beats-positive (C m) is)) ∙ e);
 }
 
@@ -135,15 +136,19 @@ inside_done : {w : ℕ} (terms : Terms) (op : Op w) (e : End w) → IsWidth w �
 inside_done terms (Load address size) e is kept free old = inside_load terms address size (held_at e (block_at address)) e old
 inside_done terms (Store address size value) e is kept free old = inside_store terms address size value (held_at e (block_at address)) e old
 inside_done terms (Acquire block grow) e is kept free old =
-    inside_a terms (acquisition a.AcquireBlock grow (source_or_0 (free_request terms e.past)) block) e.past is kept.a_whole (own_source terms e.past free.b1) (λ acquires. holdable terms block free.b4 free.b5) old
+    inside_a terms (acquisition a.AcquireBlock grow (source_or_0 (free_request terms e.past)) block) e.past is kept.a_whole (own_source terms e.past free.b1)
+    (λ acquires. holdable terms block free.b4 free.b5) old
 inside_done terms (AcquireWhole block bytes) e is kept free old =
-    inside_a terms (acquisition a.AcquirePerm (whole_grow (held_at e block)) (source_or_0 (free_request terms e.past)) block) e.past is kept.a_whole (own_source terms e.past free.b1) (λ acquires. holdable terms block free.b4 free.b5) old
+    inside_a terms (acquisition a.AcquirePerm (whole_grow (held_at e block)) (source_or_0 (free_request terms e.past)) block) e.past is kept.a_whole
+    (own_source terms e.past free.b1) (λ acquires. holdable terms block free.b4 free.b5) old
 inside_done terms (Release block prune) e is kept free old =
     subst (λ t. IsInside terms t) (sym (kept_past block (prune_right prune) _))
-    (inside_release terms prune (source_or_0 (free_release terms e.past)) block (copy_at e block) e.past is kept.c_whole (own_release terms e.past free.b1) (not-false (same_perm (prune_left prune) (held_at e block)) free.b3) old)
+    (inside_release terms prune (source_or_0 (free_release terms e.past)) block (copy_at e block) e.past is kept.c_whole (own_release terms e.past free.b1)
+    (not-false (same_perm (prune_left prune) (held_at e block)) free.b3) old)
 inside_done terms (Access (A x)) e is kept free old =
     let plain = (no_acquire terms.level x.opcode (not-false (is_access_of terms.level x.opcode) free.b4)).0 in
-    inside_a terms (sourced (source_or_0 (free_request terms e.past)) x) e.past is kept.a_whole (own_source terms e.past free.b1) (λ acquires. absurd (both_ways (is_acquire x.opcode) plain acquires)) old
+    inside_a terms (sourced (source_or_0 (free_request terms e.past)) x) e.past is kept.a_whole (own_source terms e.past free.b1)
+    (λ acquires. absurd (both_ways (is_acquire x.opcode) plain acquires)) old
 inside_done terms (Access (B m)) e is kept free old = old
 inside_done terms (Access (C m)) e is kept free old = old
 inside_done terms (Access (D m)) e is kept free old = old
@@ -219,7 +224,8 @@ inside_taken_d {w} terms x e is kept order old = go (ends (beat.D x) e.past)
     go : (b : Bool) → IsInside terms (cond b (responded x (request_of x.source e.past) payload e) (silent Taken (with_past (beat.D x ∷ e.past) e))).after.past
     go false = now
     go true = ended-cases x.opcode x _ (granted x.opcode (request_of x.source e.past) payload (with_past (beat.D x ∷ e.past) e)) (λ o. IsInside terms o.after.past)
-        (λ grant. subst (λ t. IsInside terms (sent (E (record { sink = x.sink })) t)) (sym same) (inside_e terms (record { sink = x.sink }) (beat.D x ∷ e.past) is ((unfinished-d x e.past).3 ∙ kept.e_whole) now))
+        (λ grant. subst (λ t. IsInside terms (sent (E (record { sink = x.sink })) t)) (sym same)
+        (inside_e terms (record { sink = x.sink }) (beat.D x ∷ e.past) is ((unfinished-d x e.past).3 ∙ kept.e_whole) now))
         (λ other. subst (λ t. IsInside terms t) (sym same) now)
 
 inside_taken : {w : ℕ} (terms : Terms) (ch : Channel) (x : Beat w) (e : End w) → IsWidth w → IsKept e → IsPassed terms ch x e → IsInside terms e.past → IsInside terms (taken x e).after.past

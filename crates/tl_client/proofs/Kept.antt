@@ -5,7 +5,7 @@ use Rattle.std.proofs.lemmas.Bool.{and_parts, eqb-true, both_ways, cases_Bool}
 use Rattle.tl_beat.specs.Width.{IsWidth}
 use Rattle.tl_beat.specs.declared.beat.Beat.{Beat}
 use Rattle.tl_beat.specs.declared.beat.Beat.TheVariants as beat
-use Rattle.tl_beat.specs.declared.opcode.Channel.TheVariants as channel
+use Rattle.tl_beat.specs.declared.channel.Channel.TheVariants as channel
 use Rattle.tl_burst.specs.declared.message.Message.TheVariants.{A, C, E}
 use Rattle.tl_burst.specs.declared.message.MessageA.{MessageA}
 use Rattle.tl_burst.specs.declared.message.MessageC.{MessageC}
@@ -88,7 +88,8 @@ kept-a e f m is kept may past copies more new = record {
   e_whole = rw past (unfinished-sent_other channel.E (A m) e.past refl ∙ kept.e_whole);
   copies_held = λ k. rw (past, copies k, held-sent_unsaid k (A m) e.past (λ i t. refl)) (kept.copies_held k);
   awaited = λ s k h. awaited_a e f m s k (m.source == s) kept refl more new (rw (past, open_beat-a s m e.past is kept.a_whole) at h);
-  once = λ s r k h i. once_a e m s r k (m.source == s) (m.source == r) kept may refl refl (rw (past, open_beat-a s m e.past is kept.a_whole) at h) (rw (past, open_beat-a r m e.past is kept.a_whole) at i);
+  once = λ s r k h i. once_a e m s r k (m.source == s) (m.source == r) kept may refl refl (rw (past, open_beat-a s m e.past is kept.a_whole) at h)
+      (rw (past, open_beat-a r m e.past is kept.a_whole) at i);
   outstanding = λ s k h. rw (past, acquire_of-a k m e.past is kept.a_whole) (outstanding_a e m s k (m.source == s) kept (rw (past, open_beat-a s m e.past is kept.a_whole) at h));
   granting = rw (past, unfinished-sent_other channel.D (A m) e.past refl) (granting_a (unfinished channel.D e.past) m e.past is kept.a_whole may.free kept.granting);
 }

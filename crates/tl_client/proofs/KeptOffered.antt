@@ -6,8 +6,8 @@ use Rattle.tl_beat.specs.declared.beat.Beat.{Beat}
 use Rattle.tl_beat.specs.declared.beat.Beat.TheVariants as beat
 use Rattle.tl_beat.specs.declared.beat.BeatB.{BeatB}
 use Rattle.tl_beat.specs.declared.beat.BeatD.{BeatD}
-use Rattle.tl_beat.specs.declared.opcode.Channel.{Channel}
-use Rattle.tl_beat.specs.declared.opcode.Channel.TheVariants as channel
+use Rattle.tl_beat.specs.declared.channel.Channel.{Channel}
+use Rattle.tl_beat.specs.declared.channel.Channel.TheVariants as channel
 use Rattle.tl_beat.specs.declared.opcode.OpB.{OpB}
 use Rattle.tl_beat.specs.declared.opcode.OpB.TheVariants as b
 use Rattle.tl_beat.specs.declared.opcode.OpC.TheVariants as c
@@ -50,7 +50,8 @@ unfolding unfinished
 single_b x t bare none = rw (none, bare) refl
 
 other_b : {w : ℕ} (x : BeatB w) (t : History w)
-    → (unfinished channel.A (beat.B x ∷ t) ≡ unfinished channel.A t) × (unfinished channel.C (beat.B x ∷ t) ≡ unfinished channel.C t) × (unfinished channel.D (beat.B x ∷ t) ≡ unfinished channel.D t) × (unfinished channel.E (beat.B x ∷ t) ≡ unfinished channel.E t)
+    → (unfinished channel.A (beat.B x ∷ t) ≡ unfinished channel.A t) × (unfinished channel.C (beat.B x ∷ t) ≡ unfinished channel.C t)
+    × (unfinished channel.D (beat.B x ∷ t) ≡ unfinished channel.D t) × (unfinished channel.E (beat.B x ∷ t) ≡ unfinished channel.E t)
 unfolding unfinished
 other_b x t = (refl, refl, refl, refl)
 
@@ -134,7 +135,18 @@ kept_taken terms ch (beat.E x) e is kept way legal none = absurd (incoming_only 
 
 kept_shut : {w : ℕ} (e : End w) → IsKept e → IsKept (shut e)
 kept_shut e kept =
-    record { a_whole = kept.a_whole; b_whole = kept.b_whole; c_whole = kept.c_whole; e_whole = kept.e_whole; copies_held = kept.copies_held; awaited = kept.awaited; once = kept.once; outstanding = kept.outstanding; granting = kept.granting }
+    record {
+      a_whole = kept.a_whole;
+      b_whole = kept.b_whole;
+      c_whole = kept.c_whole;
+      e_whole = kept.e_whole;
+      copies_held = kept.copies_held;
+      awaited =
+          kept.awaited;
+      once = kept.once;
+      outstanding = kept.outstanding;
+      granting = kept.granting;
+    }
 
 kept_later : {w : ℕ} (o : Option Rule) (x : Beat w) (e : End w) → IsKept e → (o ≡ None → IsKept (taken x e).after) → IsKept (judged_later o x e).after
 kept_later (Some r) x e kept more = kept_shut e kept

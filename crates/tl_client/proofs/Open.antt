@@ -5,8 +5,8 @@ use Rattle.tl_beat.specs.declared.beat.Beat.{Beat}
 use Rattle.tl_beat.specs.declared.beat.Beat.TheVariants as beat
 use Rattle.tl_beat.specs.declared.beat.BeatB.{BeatB}
 use Rattle.tl_beat.specs.declared.beat.BeatD.{BeatD}
-use Rattle.tl_beat.specs.declared.opcode.Channel.{Channel}
-use Rattle.tl_beat.specs.declared.opcode.Channel.TheVariants as channel
+use Rattle.tl_beat.specs.declared.channel.Channel.{Channel}
+use Rattle.tl_beat.specs.declared.channel.Channel.TheVariants as channel
 use Rattle.tl_beat.specs.declared.opcode.OpA.TheVariants as a
 use Rattle.tl_beat.specs.declared.opcode.OpC.TheVariants as c
 use Rattle.tl_burst.specs.declared.message.Message.{Message}
@@ -70,9 +70,13 @@ opens_done terms (AcquireWhole block bytes) e s is kept = opens_a s (acquisition
 opens_done terms (Release block prune) e s is kept =
     let source = source_or_0 (free_release terms e.past) in
     subst (λ u. OpensBy s (Some (release prune source block (copy_at e block))) e.past u) (sym (kept_past block (prune_right prune) _))
-    (release-cases prune source block (copy_at e block) (λ m. OpensBy s (Some m) e.past (sent m e.past))
-    (open_beat-c s (about c.ReleaseData (prune_code prune) source block (copy_at e block)) e.past is kept.c_whole, open_release-c s (about c.ReleaseData (prune_code prune) source block (copy_at e block)) e.past is kept.c_whole refl)
-    (open_beat-c s (about c.Release (prune_code prune) source block zeros) e.past is kept.c_whole, open_release-c s (about c.Release (prune_code prune) source block zeros) e.past is kept.c_whole refl))
+    (release-cases prune source block (copy_at e block) (λ m. OpensBy s (Some m) e.past (sent m e.past)) (
+      open_beat-c s (about c.ReleaseData (prune_code prune) source block (copy_at e block)) e.past is kept.c_whole,
+      open_release-c s (about c.ReleaseData (prune_code prune) source block (copy_at e block)) e.past is kept.c_whole refl,
+    ) (
+      open_beat-c s (about c.Release (prune_code prune) source block zeros) e.past is kept.c_whole,
+      open_release-c s (about c.Release (prune_code prune) source block zeros) e.past is kept.c_whole refl,
+    ))
 opens_done terms (Access (A m)) e s is kept = opens_a s (sourced (source_or_0 (free_request terms e.past)) m) e.past is kept.a_whole
 opens_done terms (Access (B m)) e s is kept = (refl, refl)
 opens_done terms (Access (C m)) e s is kept = (refl, refl)
@@ -138,8 +142,13 @@ opens_d : {w : ℕ} (s : ℕ) (x : BeatD w) (t : History w) → OpensAfter s (be
 opens_d s x t = (open_beat-d s x t, open_release-d s x t)
 
 opens_e : {w : ℕ} (s : ℕ) (m : MessageE) (x : Beat w) (t u : History w) → IsWidth w → unfinished channel.E u ≡ [] → OpensAfter s x t u → OpensAfter s x t (sent (E m) u)
-opens_e {w} s m x t u is none before =
-    (open_beat-e s m u is none ∙ before.0, rw (pending-whole (ReleaseSource s) (E m) u none (beats-positive {w = w} (E m) is), release_of-whole s (E m) u none (beats-positive {w = w} (E m) is)) before.1)
+opens_e {w} s m x t u is none before = (
+  open_beat-e s m u is none ∙ before.0,
+  rw (
+    pending-whole (ReleaseSource s) (E m) u none (beats-positive {w = w} (E m) is),
+    release_of-whole s (E m) u none (beats-positive {w = w} (E m) is),
+  ) before.1,
+)
 
 opens_answered : {w : ℕ} (s : ℕ) (x : BeatD w) (e : End w) → IsWidth w → IsKept e → OpensAs s (taken (beat.D x) e) (beat.D x) e.past
 opens_answered {w} s x e is kept = go (ends (beat.D x) e.past)

@@ -6,7 +6,7 @@ use Rattle.tl_beat.specs.declared.beat.Beat.TheVariants as beat
 use Rattle.tl_beat.specs.declared.beat.BeatA.{BeatA}
 use Rattle.tl_beat.specs.declared.beat.BeatB.{BeatB}
 use Rattle.tl_beat.specs.declared.beat.BeatD.{BeatD}
-use Rattle.tl_beat.specs.declared.opcode.Channel.TheVariants as channel
+use Rattle.tl_beat.specs.declared.channel.Channel.TheVariants as channel
 use Rattle.tl_burst.specs.declared.message.Message.{Message}
 use Rattle.tl_burst.specs.declared.message.Message.TheVariants.{A, C, E}
 use Rattle.tl_burst.specs.declared.message.MessageA.{MessageA}
@@ -96,6 +96,8 @@ acquire_of-d k x t = pending-closed (AcquireOf k) (beat.D x) t refl
 -- ---- what is unfinished after a response
 
 pub unfinished-d : {w : ℕ} (x : BeatD w) (t : History w)
-    → (unfinished channel.A (beat.D x ∷ t) ≡ unfinished channel.A t) × (unfinished channel.B (beat.D x ∷ t) ≡ unfinished channel.B t) × (unfinished channel.C (beat.D x ∷ t) ≡ unfinished channel.C t) × (unfinished channel.E (beat.D x ∷ t) ≡ unfinished channel.E t) × (unfinished channel.D (beat.D x ∷ t) ≡ grown (beat.D x) (unfinished channel.D t))
+    → (unfinished channel.A (beat.D x ∷ t) ≡ unfinished channel.A t) × (unfinished channel.B (beat.D x ∷ t) ≡ unfinished channel.B t)
+    × (unfinished channel.C (beat.D x ∷ t) ≡ unfinished channel.C t) × (unfinished channel.E (beat.D x ∷ t) ≡ unfinished channel.E t)
+    × (unfinished channel.D (beat.D x ∷ t) ≡ grown (beat.D x) (unfinished channel.D t))
 unfolding unfinished
 unfinished-d x t = (refl, refl, refl, refl, refl)

@@ -6,8 +6,8 @@ use Rattle.tl_beat.specs.declared.beat.Beat.{Beat}
 use Rattle.tl_beat.specs.declared.beat.Beat.TheVariants as beat
 use Rattle.tl_beat.specs.declared.beat.BeatB.{BeatB}
 use Rattle.tl_beat.specs.declared.beat.BeatD.{BeatD}
-use Rattle.tl_beat.specs.declared.opcode.Channel.{Channel}
-use Rattle.tl_beat.specs.declared.opcode.Channel.TheVariants as channel
+use Rattle.tl_beat.specs.declared.channel.Channel.{Channel}
+use Rattle.tl_beat.specs.declared.channel.Channel.TheVariants as channel
 use Rattle.tl_beat.specs.declared.opcode.OpB.{OpB}
 use Rattle.tl_beat.specs.declared.opcode.OpB.TheVariants as b
 use Rattle.tl_beat.specs.declared.opcode.OpD.{OpD}
@@ -114,7 +114,8 @@ free_ended d.ReleaseAck x f g t none = tt
 free_taken : {w : ℕ} (x : Beat w) (e : End w) → IsKept e → IsFreeAfter (taken x e) x e.past
 free_taken (beat.A x) e kept = tt
 free_taken (beat.B x) e kept =
-    free_probe_ack x.opcode (held_at e (block_at x.address)) (report_for x (held_at e (block_at x.address))) (block_at x.address) (copy_at e (block_at x.address)) (beat.B x ∷ e.past) (still_whole x e.past ∙ kept.c_whole)
+    free_probe_ack x.opcode (held_at e (block_at x.address)) (report_for x (held_at e (block_at x.address))) (block_at x.address)
+    (copy_at e (block_at x.address)) (beat.B x ∷ e.past) (still_whole x e.past ∙ kept.c_whole)
 free_taken (beat.C x) e kept = tt
 free_taken {w} (beat.D x) e kept = go (ends (beat.D x) e.past) _ (free_ended x.opcode x _ _ e.past ((unfinished-d x e.past).3 ∙ kept.e_whole))
   where

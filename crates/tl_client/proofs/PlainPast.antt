@@ -4,7 +4,7 @@ use Rattle.std.specs.Prelude.{Result, is_some}
 use Rattle.tl_beat.specs.declared.beat.Beat.{Beat}
 use Rattle.tl_beat.specs.declared.beat.Beat.TheVariants.{D}
 use Rattle.tl_beat.specs.declared.beat.BeatD.{BeatD}
-use Rattle.tl_beat.specs.declared.opcode.Channel.TheVariants as channel
+use Rattle.tl_beat.specs.declared.channel.Channel.TheVariants as channel
 use Rattle.tl_beat.specs.First.{first_if}
 use Rattle.tl_burst.specs.declared.part.Broken.{Broken}
 use Rattle.tl_burst.specs.declared.part.Part.{Part}

@@ -7,8 +7,8 @@ use Rattle.std.proofs.lemmas.Nat.{pow_pos}
 use Rattle.tl_beat.specs.Width.{IsWidth}
 use Rattle.tl_beat.specs.declared.beat.Beat.{Beat}
 use Rattle.tl_beat.specs.declared.beat.Beat.TheVariants as beat
-use Rattle.tl_beat.specs.declared.opcode.Channel.{Channel}
-use Rattle.tl_beat.specs.declared.opcode.Channel.TheVariants as channel
+use Rattle.tl_beat.specs.declared.channel.Channel.{Channel}
+use Rattle.tl_beat.specs.declared.channel.Channel.TheVariants as channel
 use Rattle.tl_beat.specs.declared.opcode.OpA.{OpA}
 use Rattle.tl_beat.specs.declared.opcode.OpA.TheVariants as a
 use Rattle.tl_beat.specs.declared.opcode.OpC.{OpC}
@@ -48,7 +48,8 @@ below_power w =
 of_map : (blocks block : ℕ) → leb blocks block ≡ false → leb blocks (block_at (64 * block)) ≡ false
 of_map blocks block e = rw (same_block block) e
 
-proper_acquire : {w : ℕ} (blocks : ℕ) (opcode : OpA) (grow : Grow) (source block : ℕ) → a_carries_data opcode ≡ false → leb blocks block ≡ false → IsProper {w = w} blocks (acquire opcode grow source block)
+proper_acquire : {w : ℕ} (blocks : ℕ) (opcode : OpA) (grow : Grow) (source block : ℕ) → a_carries_data opcode ≡ false → leb blocks block ≡ false
+    → IsProper {w = w} blocks (acquire opcode grow source block)
 proper_acquire {w} blocks opcode grow source block bare inside = record {
   has_block = refl;
   is_blank = rw bare (refl, below_power w, lit< tt);
@@ -62,7 +63,8 @@ whole_block w (inl e) = rw e refl
 whole_block w (inr (inl e)) = rw e refl
 whole_block w (inr (inr e)) = rw e refl
 
-proper_data : {w : ℕ} (blocks : ℕ) (opcode : OpC) (param source block : ℕ) (payload : List ℕ) → IsWidth w → c_carries_data opcode ≡ true → length payload ≡ 64 → leb blocks block ≡ false → IsProper {w = w} blocks (on_c opcode param source block payload)
+proper_data : {w : ℕ} (blocks : ℕ) (opcode : OpC) (param source block : ℕ) (payload : List ℕ) → IsWidth w → c_carries_data opcode ≡ true → length payload ≡ 64
+    → leb blocks block ≡ false → IsProper {w = w} blocks (on_c opcode param source block payload)
 proper_data {w} blocks opcode param source block payload is carries long inside = record {
   has_block = long;
   is_blank = rw carries (all_carried, pow_pos (data_beats w 6));

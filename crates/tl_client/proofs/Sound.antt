@@ -8,8 +8,8 @@ use Rattle.tl_beat.specs.declared.beat.Beat.{Beat}
 use Rattle.tl_beat.specs.declared.beat.Beat.TheVariants as beat
 use Rattle.tl_beat.specs.declared.beat.BeatB.{BeatB}
 use Rattle.tl_beat.specs.declared.beat.BeatD.{BeatD}
-use Rattle.tl_beat.specs.declared.opcode.Channel.{Channel}
-use Rattle.tl_beat.specs.declared.opcode.Channel.TheVariants as channel
+use Rattle.tl_beat.specs.declared.channel.Channel.{Channel}
+use Rattle.tl_beat.specs.declared.channel.Channel.TheVariants as channel
 use Rattle.tl_beat.specs.declared.opcode.OpD.{OpD}
 use Rattle.tl_beat.specs.declared.opcode.OpD.TheVariants as d
 use Rattle.tl_beat.specs.declared.opcode.OpA.TheVariants as a
@@ -96,11 +96,13 @@ sound_acquire_perm w g source block is = record {
   is_clean = refl;
 }
 
-legal_about : (w : ℕ) (opcode : OpC) (param source block i : ℕ) (payload : List ℕ) → answers_forwarded opcode ≡ false → c_has_param opcode param ≡ true → c_has_source opcode source ≡ true → illegal {w = w} level.C channel.C (beat_of (on_c opcode param source block payload) i) ≡ None
+legal_about : (w : ℕ) (opcode : OpC) (param source block i : ℕ) (payload : List ℕ) → answers_forwarded opcode ≡ false → c_has_param opcode param ≡ true
+    → c_has_source opcode source ≡ true → illegal {w = w} level.C channel.C (beat_of (on_c opcode param source block payload) i) ≡ None
 unfolding illegal
 legal_about w opcode param source block i payload code named sourced = rw (code, named, sourced, block_aligned block, no_bit i) refl
 
-sound_on_c : (w : ℕ) (opcode : OpC) (param source block : ℕ) (payload : List ℕ) → answers_forwarded opcode ≡ false → c_has_param opcode param ≡ true → c_has_source opcode source ≡ true → IsSound {w = w} level.C (on_c opcode param source block payload)
+sound_on_c : (w : ℕ) (opcode : OpC) (param source block : ℕ) (payload : List ℕ) → answers_forwarded opcode ≡ false → c_has_param opcode param ≡ true
+    → c_has_source opcode source ≡ true → IsSound {w = w} level.C (on_c opcode param source block payload)
 sound_on_c w opcode param source block payload code named sourced = record {
   is_legal = legal_from_beats level.C channel.C (on_c opcode param source block payload) (λ i lt. legal_about w opcode param source block i payload code named sourced);
   is_clean = refl;
@@ -185,11 +187,14 @@ done_sound : {w : ℕ} (terms : Terms) (op : Op w) (e : End w) → IsWidth w →
 done_sound terms (Load address size) e is four five = no_message terms.level address size (held_at e (block_at address)) e
 done_sound terms (Store address size value) e is four five = no_message_stored terms.level address size value (held_at e (block_at address)) e
 done_sound {w} terms (Acquire block grow) e is four five =
-    at_c terms.level (acquire a.AcquireBlock grow (source_or_0 (free_request terms e.past)) block) (not-false (has_transfers terms.level) four) (sound_acquire w grow (source_or_0 (free_request terms e.past)) block is)
+    at_c terms.level (acquire a.AcquireBlock grow (source_or_0 (free_request terms e.past)) block) (not-false (has_transfers terms.level) four)
+    (sound_acquire w grow (source_or_0 (free_request terms e.past)) block is)
 done_sound {w} terms (AcquireWhole block bytes) e is four five =
-    at_c terms.level (acquire a.AcquirePerm (whole_grow (held_at e block)) (source_or_0 (free_request terms e.past)) block) (not-false (has_transfers terms.level) four) (sound_acquire_perm w (whole_grow (held_at e block)) (source_or_0 (free_request terms e.past)) block is)
+    at_c terms.level (acquire a.AcquirePerm (whole_grow (held_at e block)) (source_or_0 (free_request terms e.past)) block)
+    (not-false (has_transfers terms.level) four) (sound_acquire_perm w (whole_grow (held_at e block)) (source_or_0 (free_request terms e.past)) block is)
 done_sound {w} terms (Release block prune) e is four five =
-    at_c terms.level (release prune (source_or_0 (free_release terms e.past)) block (copy_at e block)) (not-false (has_transfers terms.level) four) (sound_release w prune (source_or_0 (free_release terms e.past)) block (copy_at e block))
+    at_c terms.level (release prune (source_or_0 (free_release terms e.past)) block (copy_at e block)) (not-false (has_transfers terms.level) four)
+    (sound_release w prune (source_or_0 (free_release terms e.past)) block (copy_at e block))
 done_sound terms (Access (A m)) e is four five =
     let sound = and_parts (is_none (illegal_message terms.level channel.A (A m))) (is_clean m) (formed_access terms (A m) five) in
     let clean = and_parts (eqb m.corrupt 0) _ sound.1 in

@@ -6,10 +6,11 @@ ghost use Rattle.tl_client.specs.Ask;
 ghost use Rattle.tl_client.specs.Plain;
 
 use crate::operation::Op;
-use tl_beat::opcode::{Channel, OpA};
+use tl_beat::channel::Channel;
+use tl_beat::opcode::OpA;
 use tl_burst::message::{Message, MessageA};
 use tl_rules::blank::is_blank;
-use tl_rules::check::check;
+use tl_rules::legality::message::check;
 use tl_rules::level::Level;
 
 /// Whether the level has the access.

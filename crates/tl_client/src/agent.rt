@@ -12,7 +12,7 @@ use crate::operation::Op;
 use crate::reply::Reply;
 use crate::verdict::Verdict;
 use tl_beat::beat::Beat;
-use tl_beat::opcode::Channel;
+use tl_beat::channel::Channel;
 use tl_burst::message::Message;
 use tl_rules::perm::Perm;
 use tl_rules::rule::Rule;

@@ -11,7 +11,7 @@ use crate::reply::Reply;
 use crate::verdict::Verdict;
 use std::alloc::Global;
 use tl_beat::beat::Beat;
-use tl_beat::opcode::Channel;
+use tl_beat::channel::Channel;
 use tl_burst::message::Message;
 use tl_rules::config::{ClientConfig, NewFault};
 use tl_rules::level::Level;

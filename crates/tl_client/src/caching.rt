@@ -21,7 +21,7 @@ use crate::verdict::Verdict;
 use std::alloc::Global;
 use table::Table;
 use tl_beat::beat::Beat;
-use tl_beat::opcode::Channel;
+use tl_beat::channel::Channel;
 use tl_burst::assembler::Assembler;
 use tl_burst::message::Message;
 use tl_rules::config::{ClientConfig, NewFault};

@@ -3,8 +3,8 @@
 ghost use Rattle.std.specs.Prelude.{ℕ, if◌then◌else◌, ◌≡◌, ◌<◌, ◌≤◌, ◌+◌, ◌%◌, ◌^◌, ◌||◌, [], true, false, length, slice_index_or, List, Option, None, Some, Ok, Err};
 ghost use Rattle.tl_beat.specs.declared.beat.Beat.{Beat};
 ghost use Rattle.tl_beat.specs.declared.beat.BeatD.{BeatD};
-ghost use Rattle.tl_beat.specs.declared.opcode.Channel.{Channel};
-ghost use Rattle.tl_beat.specs.declared.opcode.Channel.TheVariants as channel;
+ghost use Rattle.tl_beat.specs.declared.channel.Channel.{Channel};
+ghost use Rattle.tl_beat.specs.declared.channel.Channel.TheVariants as channel;
 ghost use Rattle.tl_beat.specs.Width.{IsWidth};
 ghost use Rattle.tl_burst.specs.declared.message.Message.{Message};
 ghost use Rattle.tl_burst.specs.Messages.{unfinished};

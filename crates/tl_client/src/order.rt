@@ -12,9 +12,9 @@ ghost use Rattle.tl_rules.specs.Conformance;
 ghost use Rattle.tl_rules.specs.Legality.{illegal};
 
 use tl_beat::beat::Beat;
-use tl_beat::opcode::Channel;
+use tl_beat::channel::Channel;
 use tl_burst::part::{Broken, Part};
-use tl_rules::legality::check_beat;
+use tl_rules::legality::beat::check_beat;
 use tl_rules::level::Level;
 use tl_rules::order::broken_order;
 use tl_rules::past::Past;

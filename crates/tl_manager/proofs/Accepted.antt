@@ -6,7 +6,7 @@ use Rattle.tl_beat.specs.declared.beat.Beat.{Beat}
 use Rattle.tl_beat.specs.declared.beat.Beat.TheVariants as beat
 use Rattle.tl_beat.specs.declared.beat.BeatA.{BeatA}
 use Rattle.tl_beat.specs.declared.beat.Link.{Link}
-use Rattle.tl_beat.specs.declared.opcode.Channel.TheVariants as channel
+use Rattle.tl_beat.specs.declared.channel.Channel.TheVariants as channel
 use Rattle.tl_burst.specs.Messages.{History, unfinished}
 use Rattle.tl_params.specs.declared.key.Key.TheVariants.{RequestSource, AcquireOf, GrantSink, GrantAckOf, ProbeOf}
 use Rattle.tl_rules.specs.Conformance.{Trace, on_link, comes_in_request}
@@ -74,7 +74,8 @@ unfolding probe_of
 probe_of-a k x t = refl
 
 -- a block that the beat opens no Acquire of
-pub same-else : {w : ℕ} (link : Link) (x : BeatA w) (t : Trace w) (k : ℕ) → Place x (on_link link.0 t) → IsAccounted t → service_of_block k (services ((link, beat.A x) ∷ t)) ≡ service_of_block k (services t)
+pub same-else : {w : ℕ} (link : Link) (x : BeatA w) (t : Trace w) (k : ℕ) → Place x (on_link link.0 t) → IsAccounted t
+    → service_of_block k (services ((link, beat.A x) ∷ t)) ≡ service_of_block k (services t)
     → pending (AcquireOf k) (beat.A x ∷ on_link link.0 t) ≡ pending (AcquireOf k) (on_link link.0 t) → IsSame k t ((link, beat.A x) ∷ t)
 same-else {w} link x t k place ok serves acquires = record {
   serves = serves;

@@ -4,7 +4,7 @@ use Rattle.std.specs.Prelude.{filter, if◌then◌else◌}
 use Rattle.std.proofs.lemmas.Bool.{eqb-true, eq-eqb, and_parts}
 use Rattle.tl_beat.specs.Width.{IsWidth}
 use Rattle.tl_beat.specs.declared.beat.Link.{Link}
-use Rattle.tl_beat.specs.declared.opcode.Channel.TheVariants as channel
+use Rattle.tl_beat.specs.declared.channel.Channel.TheVariants as channel
 use Rattle.tl_beat.specs.declared.opcode.OpD.{OpD}
 use Rattle.tl_beat.specs.declared.opcode.OpD.TheVariants as d
 use Rattle.tl_burst.specs.declared.message.Message.TheVariants.{D}
@@ -96,7 +96,8 @@ pub services-answer : {w : ℕ} (n : ℕ) (s : Service w) (m : MessageD w) (t : 
 services-answer {w} n s m t is answer access ok =
     services-sent s.link (D m) t is.width refl is.whole
     ∙ filter-same (λ v. not (is_ended_by (s.link, beat_of (D m) 0) v)) (λ v. not (block_at v.request.address == n)) (services t)
-    (each_both (λ v. is_asking s.link.0 s.request.source t v ≡ true → v ≡ s) (λ v. (block_at v.request.address == n) ≡ true → v ≡ s) (λ v. not (is_ended_by (s.link, beat_of (D m) 0) v) ≡ not (block_at v.request.address == n)) (services t)
+    (each_both (λ v. is_asking s.link.0 s.request.source t v ≡ true → v ≡ s) (λ v. (block_at v.request.address == n) ≡ true → v ≡ s)
+    (λ v. not (is_ended_by (s.link, beat_of (D m) 0) v) ≡ not (block_at v.request.address == n)) (services t)
     (λ v alone mine. ap not (both_ways (is_ended_by (s.link, beat_of (D m) 0) v) (block_at v.request.address == n) (λ e. of_block v (alone (asking v e))) (λ e. ended v (mine e))))
     (asks-alone n s m t is ok) (same_block n (services t) s is.blocks_apart is.serves))
   where
@@ -140,7 +141,8 @@ accounted-answer {w} n s m t is answer access ok = record {
 
     counted : (c q : ℕ) → count_where (is_asking c q u) (services u) ≡ count_where (asks_else n c q t) (services t)
     counted c q =
-        ap (count_where (is_asking c q u)) (services-answer n s m t is answer access ok) ∙ counted-kept t u c q (filter (λ v. not (block_at v.request.address == n)) (services t)) (λ v. granted-still s.link m t v is.width is.whole other)
+        ap (count_where (is_asking c q u)) (services-answer n s m t is answer access ok)
+        ∙ counted-kept t u c q (filter (λ v. not (block_at v.request.address == n)) (services t)) (λ v. granted-still s.link m t v is.width is.whole other)
         ∙ count-filter (λ v. not (block_at v.request.address == n)) (is_asking c q t) (services t)
 
     gone : service_of_block n (services u) ≡ None

@@ -5,7 +5,7 @@ use Rattle.std.proofs.lemmas.Bool.{eqb-true, eq-eqb, and_parts, or_parts, not-fa
 use Rattle.tl_beat.specs.declared.beat.Beat.TheVariants as beat
 use Rattle.tl_beat.specs.declared.beat.BeatE.{BeatE}
 use Rattle.tl_beat.specs.declared.beat.Link.{Link}
-use Rattle.tl_beat.specs.declared.opcode.Channel.TheVariants as channel
+use Rattle.tl_beat.specs.declared.channel.Channel.TheVariants as channel
 use Rattle.tl_burst.specs.Messages.{History, unfinished}
 use Rattle.tl_params.specs.declared.key.Key.TheVariants.{RequestSource, AcquireOf, GrantSink, GrantAckOf, ProbeOf}
 use Rattle.tl_params.specs.declared.profile.Profile.{Profile}
@@ -73,7 +73,8 @@ granted-left {w} link x t s e = go (is_acquire s.request.opcode) (link.0 == s.li
 
     apart : (b : Bool) → (x.sink == s.tracker) ≡ b → is_acquire s.request.opcode ≡ true → (link.0 == s.link.0) ≡ true → b ≡ false
     apart true f acquires here = absurd (
-        let ended : is_ended_by (link, beat.E x) s ≡ true = rw (acquires, eq-eqb s.link.0 link.0 (sym (eqb-true link.0 s.link.0 here)), eq-eqb s.tracker x.sink (sym (eqb-true x.sink s.tracker f))) refl in
+        let ended : is_ended_by (link, beat.E x) s ≡ true =
+        rw (acquires, eq-eqb s.link.0 link.0 (sym (eqb-true link.0 s.link.0 here)), eq-eqb s.tracker x.sink (sym (eqb-true x.sink s.tracker f))) refl in
         cc)
     apart false f acquires here = refl
 
@@ -202,7 +203,8 @@ handled-e {w} link x t k o is pends apart ok = go o is (serving_after ∙ ap (if
             ap (pending (GrantAckOf k)) (other_beat c link (beat.E x) t f) ∙ ok.grants c ∙ ap (is_granted_to c t) e
             ∙ ap (λ i. (i == c) && is_granted t s) link_is ∙ ap (λ b. b && is_granted t s) f
 
-    left : (s : Service w) → service_of_block k (services t) ≡ Some s → (b : Bool) → is_ended_by (link, beat.E x) s ≡ b → service_of_block k (services u) ≡ (if not b then Some s else None) → IsHandled k u
+    left : (s : Service w) → service_of_block k (services t) ≡ Some s → (b : Bool) → is_ended_by (link, beat.E x) s ≡ b
+        → service_of_block k (services u) ≡ (if not b then Some s else None) → IsHandled k u
     left s e true ended after = gone s e ended after
     left s e false kept after =
         handled-same k t u
@@ -226,7 +228,12 @@ pub accounted-e : {w : ℕ} (link : Link) (x : BeatE) (t : Trace w) → pending 
     → IsAccounted ((link, beat.E x) ∷ t)
 accounted-e {w} link x t pends apart ok = record {
   sources = λ c q.
-      rw (beat-keeps (unfinished channel.A) c link (beat.E x) t (burst-e x), beat-keeps (pending (RequestSource q)) c link (beat.E x) t (λ h. pending-quiet (RequestSource q) (beat.E x) h refl refl), counted c q) (ok.sources c q);
+      rw (
+        beat-keeps (unfinished channel.A) c link (beat.E x) t (burst-e x),
+        beat-keeps (pending (RequestSource q)) c link (beat.E x) t (λ h. pending-quiet (RequestSource q) (beat.E x) h refl refl),
+        counted c q,
+      )
+      (ok.sources c q);
   begun = λ c. begun-kept t u c (beat-keeps (unfinished channel.A) c link (beat.E x) t (burst-e x)) (λ q. beat-keeps (request_of q) c link (beat.E x) t (request_of-e q x)) ok;
   reports = λ c.
       reports-kept t u c (beat-keeps (unfinished channel.C) c link (beat.E x) t (burst-ec x))

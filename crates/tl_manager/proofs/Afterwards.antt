@@ -5,8 +5,8 @@ use Rattle.tl_beat.specs.Width.{IsWidth}
 use Rattle.tl_beat.specs.declared.beat.Beat.{Beat}
 use Rattle.tl_beat.specs.declared.beat.Beat.TheVariants as beat
 use Rattle.tl_beat.specs.declared.beat.Link.{Link}
-use Rattle.tl_beat.specs.declared.opcode.Channel.{Channel}
-use Rattle.tl_beat.specs.declared.opcode.Channel.TheVariants as channel
+use Rattle.tl_beat.specs.declared.channel.Channel.{Channel}
+use Rattle.tl_beat.specs.declared.channel.Channel.TheVariants as channel
 use Rattle.tl_burst.specs.declared.message.Message.{Message}
 use Rattle.tl_burst.specs.declared.message.Message.TheVariants.{A, B, C, D, E}
 use Rattle.tl_burst.specs.Burst.{beat_of}
@@ -93,7 +93,8 @@ unfinished_as (Breaks r) config link ch x e c on_ch width typed is before theirs
 unfinished_as Waits config link ch x e c on_ch width typed is before theirs = refl
 unfinished_as Passes config link ch x e c on_ch width typed is before theirs =
     let ok = passed config link ch x e typed is in
-    unfinished-handed config c on_ch (deed config link x e).handed ((link, x) ∷ e.trace) theirs (deed_handable config link x e width ok.sound before.sound) ∙ ap (unfinished on_ch) (link-taken c link x e.trace)
+    unfinished-handed config c on_ch (deed config link x e).handed ((link, x) ∷ e.trace) theirs (deed_handable config link x e width ok.sound before.sound)
+    ∙ ap (unfinished on_ch) (link-taken c link x e.trace)
 
 pub unfinished-offered : {w : ℕ} (config : Config) (link : Link) (ch : Channel) (x : Beat w) (e : End w) (c : ℕ) (on_ch : Channel) → IsWidth w → IsTyped x → IsKept config e
     → is_of_clients on_ch ≡ true
@@ -143,7 +144,8 @@ missing_as (Breaks r) config link ch x e c k width typed is before = refl
 missing_as Waits config link ch x e c k width typed is before = refl
 missing_as Passes config link ch x e c k width typed is before =
     let ok = passed config link ch x e typed is in
-    missing-handed config c k (deed config link x e).handed ((link, x) ∷ e.trace) width (deed_handable config link x e width ok.sound before.sound) (λ d. whole-taken d link x e.trace ok.theirs (before.whole d))
+    missing-handed config c k (deed config link x e).handed ((link, x) ∷ e.trace) width (deed_handable config link x e width ok.sound before.sound)
+    (λ d. whole-taken d link x e.trace ok.theirs (before.whole d))
     ∙ ap (missing_with c k (deed config link x e).handed) (missing-taken c k link x e.trace ok.theirs)
 
 pub missing-offered : {w : ℕ} (config : Config) (link : Link) (ch : Channel) (x : Beat w) (e : End w) (c k : ℕ) → IsWidth w → IsTyped x → IsKept config e

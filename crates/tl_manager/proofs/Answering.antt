@@ -65,7 +65,8 @@ performed-still {w} config n k s v t memory is other e = go (is_acquire s.reques
         record {
           serves = same ∙ serves (is_acquire s.request.opcode);
           granted = subst (λ (i : Message w). is_granted (after_sent s.link i t) v ≡ is_granted t v) (sym m.1) (granted-elsewhere n k s v m.0 t grants other e);
-          missing = λ c. subst (λ (i : Message w). is_missing c k (after_sent s.link i t) ≡ is_missing c k t) (sym m.1) (reply-quiet (ProbeOf k) s.link m.0 t c is.width reply.whole (λ f. (refl, refl)));
+          missing = λ c. subst (λ (i : Message w). is_missing c k (after_sent s.link i t) ≡ is_missing c k t) (sym m.1)
+              (reply-quiet (ProbeOf k) s.link m.0 t c is.width reply.whole (λ f. (refl, refl)));
         }
     go false access same =
         let m = answer_is s.request (answer_of (A s.request) (effect (A s.request) memory).1) in
@@ -73,7 +74,8 @@ performed-still {w} config n k s v t memory is other e = go (is_acquire s.reques
         record {
           serves = same ∙ serves (is_acquire s.request.opcode);
           granted = subst (λ (i : Message w). is_granted (after_sent s.link i t) v ≡ is_granted t v) (sym m.1) (granted-still s.link m.0 t v is.width reply.whole (answer_kind m.0.opcode m.2));
-          missing = λ c. subst (λ (i : Message w). is_missing c k (after_sent s.link i t) ≡ is_missing c k t) (sym m.1) (reply-quiet (ProbeOf k) s.link m.0 t c is.width reply.whole (λ f. (refl, refl)));
+          missing = λ c. subst (λ (i : Message w). is_missing c k (after_sent s.link i t) ≡ is_missing c k t) (sym m.1)
+              (reply-quiet (ProbeOf k) s.link m.0 t c is.width reply.whole (λ f. (refl, refl)));
         }
 
 -- trackers of others
@@ -126,7 +128,8 @@ recorded-answer {w} link request kind t c b width whole =
             go true = refl
             go false = refl
 
-pub home-performed : {w : ℕ} {D : Type 0} (perm_of : D → ℕ → ℕ → Perm) (config : Config) (old new : Home w D) (number : ℕ) (link : Link) (request : MessageA w) (kind : Answer) (t : Trace w) (memory : Memory)
+pub home-performed : {w : ℕ} {D : Type 0} (perm_of : D → ℕ → ℕ → Perm) (config : Config) (old new : Home w D) (number : ℕ) (link : Link) (request : MessageA w)
+    (kind : Answer) (t : Trace w) (memory : Memory)
     → is_acquire request.opcode ≡ false → new.profile ≡ old.profile → new.directory ≡ old.directory → new.trackers.count ≡ old.trackers.count
     → ((n : ℕ) → tracker_at new.trackers n ≡ (if number == n then Free else tracker_at old.trackers n))
     → AreBlocks new.blocks.bytes.items (effect (A request) memory).0 → kind ≡ answer_of (A request) (effect (A request) memory).1
@@ -143,7 +146,9 @@ home-performed {w} {D} perm_of config old new number link request kind t memory 
         tracked = λ i all. tracker-changed number i Free (tracker_at new.trackers) (tracker_at old.trackers) t (with_handed (performed config s t memory).handed t) trackers
             (freed-performed config (block_at request.address) s t memory at.ready access)
             (λ n other ok. tracked-performed config (block_at request.address) n s (tracker_at old.trackers n) t memory at.ready other ok) home.tracked;
-        records = λ b c. ap (λ d. perm_of d b c) directory ∙ home.records b c ∙ sym (ap (λ (d : Deed w). recorded c b (with_handed d.handed t)) deed_is ∙ recorded-answer link request (answer_of (A request) (effect (A request) memory).1) t c b at.ready.width (at.ready.whole c));
+        records = λ b c. ap (λ d. perm_of d b c) directory ∙ home.records b c
+            ∙ sym (ap (λ (d : Deed w). recorded c b (with_handed d.handed t)) deed_is
+            ∙ recorded-answer link request (answer_of (A request) (effect (A request) memory).1) t c b at.ready.width (at.ready.whole c));
         bytes = subst (AreBlocks new.blocks.bytes.items) (sym (ap (λ (d : Deed w). d.memory) deed_is)) bytes;
       },
     )

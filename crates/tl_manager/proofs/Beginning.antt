@@ -53,7 +53,8 @@ pub probed-word : {w : ℕ} (config : Config) (number : ℕ) (link : Link) (requ
     → IsWord config word (is_probed (service_with number link request) c t)
 probed-word config number link request c word perm_at t sound bits records = record {
   bits = λ client. bits client ∙ ap (λ p. bit_if (is_above c p && not (is_acquire request.opcode && (link.0 == client)))) (records client);
-  past = λ client past. ap (λ p. is_above c p && not (is_acquire request.opcode && (link.0 == client))) (recorded-past config (block_at request.address) client t sound past) ∙ none-above c (not (is_acquire request.opcode && (link.0 == client)));
+  past = λ client past. ap (λ p. is_above c p && not (is_acquire request.opcode && (link.0 == client)))
+      (recorded-past config (block_at request.address) client t sound past) ∙ none-above c (not (is_acquire request.opcode && (link.0 == client)));
 }
 
 -- ---- the deed
@@ -62,7 +63,8 @@ pub probing-none : {w : ℕ} (deed : Deed w) (block : ℕ) (c : Cap) (clients : 
 probing-none deed block c [] memory e = refl
 probing-none deed block c (d ∷ ds) memory e = absurd cc
 
-pub probing-some : {w : ℕ} (deed : Deed w) (block : ℕ) (c : Cap) (clients : List ℕ) (memory : Memory) → is_nobody clients ≡ false → probing_or deed block c clients memory ≡ record { handed = probes block c clients; memory = memory }
+pub probing-some : {w : ℕ} (deed : Deed w) (block : ℕ) (c : Cap) (clients : List ℕ) (memory : Memory) → is_nobody clients ≡ false
+    → probing_or deed block c clients memory ≡ record { handed = probes block c clients; memory = memory }
 probing-some deed block c [] memory e = absurd cc
 probing-some deed block c (d ∷ ds) memory e = refl
 
@@ -97,7 +99,8 @@ missing-after {w} config s c t client is none = elim (cases_lt client (length co
         ap (pending (ProbeOf block)) (probes-within client block c 0 (length config.clients.items) (is_probed s c t) t (omega arith) (omega (arith, lt)) ∙ rw e refl)
         ∙ is.settled client ∙ sym e
 
-pub home-probed : {w : ℕ} {D : Type 0} (perm_of : D → ℕ → ℕ → Perm) (config : Config) (old new : Home w D) (number : ℕ) (link : Link) (request : MessageA w) (c : Cap) (word : ℕ) (t : Trace w) (memory : Memory)
+pub home-probed : {w : ℕ} {D : Type 0} (perm_of : D → ℕ → ℕ → Perm) (config : Config) (old new : Home w D) (number : ℕ) (link : Link) (request : MessageA w)
+    (c : Cap) (word : ℕ) (t : Trace w) (memory : Memory)
     → new.profile ≡ old.profile → new.directory ≡ old.directory → new.blocks ≡ old.blocks → new.trackers.count ≡ old.trackers.count
     → ((n : ℕ) → tracker_at new.trackers n ≡ (if number == n then Probing link request word else tracker_at old.trackers n))
     → length config.clients.items ≤ 16 → IsWord config word (is_probed (service_with number link request) c t) → (word == 0) ≡ false
@@ -153,12 +156,14 @@ begun-some : {w : ℕ} (config : Config) (s : Service w) (o : Option Cap) (c : C
     → begun_with config o s t memory ≡ probing_or (performed config s t memory) (block_at s.request.address) c (probed config s c t) memory
 begun-some config s o c t memory e = rw (← e) refl
 
-pub done-unprobed : {w : ℕ} {D : Type 0} (perm_of : D → ℕ → ℕ → Perm) (config : Config) (home : Home w D) (handed : Handed w) (s : Service w) (o : Option Cap) (c : Cap) (word : ℕ) (t : Trace w) (memory : Memory)
+pub done-unprobed : {w : ℕ} {D : Type 0} (perm_of : D → ℕ → ℕ → Perm) (config : Config) (home : Home w D) (handed : Handed w) (s : Service w) (o : Option Cap)
+    (c : Cap) (word : ℕ) (t : Trace w) (memory : Memory)
     → Some c ≡ o → IsWord config word (is_probed s c t) → (word == 0) ≡ true → IsDone perm_of config home handed t (performed config s t memory)
     → IsDone perm_of config home handed t (begun_with config o s t memory)
 done-unprobed {w} perm_of config home handed s o c word t memory e is none done =
     subst (λ (d : Deed w). IsDone perm_of config home handed t d)
-    (sym (begun-some config s o c t memory e ∙ probing-none (performed config s t memory) (block_at s.request.address) c (probed config s c t) memory (sym (word-nobody config word (is_probed s c t) is) ∙ none))) done
+    (sym (begun-some config s o c t memory e ∙ probing-none (performed config s t memory) (block_at s.request.address) c (probed config s c t) memory
+    (sym (word-nobody config word (is_probed s c t) is) ∙ none))) done
 
 pub done-probed : {w : ℕ} {D : Type 0} (perm_of : D → ℕ → ℕ → Perm) (config : Config) (home : Home w D) (handed : Handed w) (s : Service w) (o : Option Cap) (c : Cap) (t : Trace w) (memory : Memory)
     → Some c ≡ o → IsDone perm_of config home handed t (probing_or (performed config s t memory) (block_at s.request.address) c (probed config s c t) memory)

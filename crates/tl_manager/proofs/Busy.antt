@@ -129,4 +129,5 @@ pub least-tracker : {w : ℕ} (n : ℕ) (at : ℕ → Tracker w) (t : Trace w) �
 unfolding least_untaken
 least-tracker {w} n at t tracked free taken =
     let le = as_many n (trackers_of (services t)) (λ i lt. taken-among i (at i) t (tracked i) (taken i lt)) in
-    least_is 0 n (length (trackers_of (services t))) (trackers_of (services t)) (omega arith) (omega (arith, le)) (free-among n (at n) t (tracked n) free) (λ i low lt. taken-among i (at i) t (tracked i) (taken i lt))
+    least_is 0 n (length (trackers_of (services t))) (trackers_of (services t)) (omega arith) (omega (arith, le)) (free-among n (at n) t (tracked n) free)
+    (λ i low lt. taken-among i (at i) t (tracked i) (taken i lt))

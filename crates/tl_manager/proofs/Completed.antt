@@ -9,7 +9,7 @@ use Rattle.tl_beat.specs.declared.beat.BeatA.{BeatA}
 use Rattle.tl_beat.specs.declared.beat.BeatC.{BeatC}
 use Rattle.tl_beat.specs.declared.beat.BeatE.{BeatE}
 use Rattle.tl_beat.specs.declared.beat.Link.{Link}
-use Rattle.tl_beat.specs.declared.opcode.Channel.TheVariants as channel
+use Rattle.tl_beat.specs.declared.channel.Channel.TheVariants as channel
 use Rattle.tl_burst.specs.declared.message.Message.TheVariants.{A, C, E}
 use Rattle.tl_burst.specs.declared.message.MessageA.{MessageA}
 use Rattle.tl_burst.specs.declared.message.MessageC.{MessageC}
@@ -140,14 +140,17 @@ done-requested perm_of config home handed number link x m e served done = rw (se
 pub done-served : {w : ℕ} {M : Type 0} (perm_of : M → ℕ → ℕ → Perm) (config : Config) (old new : Home w M) (handed : Handed w) (number : ℕ) (link : Link) (x : Beat w) (m : MessageA w) (e : End w)
     → length m.payload ≡ 64
     → is_free (tracker_at old.trackers number) ≡ true → ((i : ℕ) → i < number → is_free (tracker_at old.trackers i) ≡ false)
-    → ((t : Trace w) (memory : Memory) → IsReadyAt config number link m t → IsHomeWithout number perm_of config old t memory → IsDone perm_of config new handed t (begun_with config (cap_probed m.opcode m.param) (service_with number link m) t memory))
+    → ((t : Trace w) (memory : Memory) → IsReadyAt config number link m t → IsHomeWithout number perm_of config old t memory
+    → IsDone perm_of config new handed t (begun_with config (cap_probed m.opcode m.param) (service_with number link m) t memory))
     → IsComplete config link x (A m) e → IsHome perm_of config old e.trace e.memory → IsDone perm_of config new handed ((link, x) ∷ e.trace) (deed config link x e)
 done-served perm_of config old new handed number link (beat.A x) m e long free taken begins is home =
     let least = least-tracker number (tracker_at old.trackers) e.trace (λ n. home.tracked n tt) free taken in
     let served = is_served number link x m e.trace is.taken.width long is.last is.burst least in
     let newest = newest-a m x (unfinished channel.A (on_link link.0 e.trace)) (beats_of (A m)) is.burst.0 in
     let small : nat_le x.size 6 ≡ true = ap (λ (y : BeatA _). nat_le y.size 6) newest.1 ∙ le-leb m.size 6 m.small in
-    done-requested perm_of config new handed number link x m e served (begins ((link, beat.A x) ∷ e.trace) e.memory (ready-at config number link x m e small is.taken served) (home-requested perm_of config old number link x m e is.taken served home))
+    done-requested perm_of config new handed number link x m e served
+    (begins ((link, beat.A x) ∷ e.trace) e.memory (ready-at config number link x m e small is.taken served)
+    (home-requested perm_of config old number link x m e is.taken served home))
 done-served perm_of config old new handed number link (beat.B x) m e long free taken begins is home = absurd (let no = is.taken.passes.theirs in cc)
 done-served perm_of config old new handed number link (beat.C x) m e long free taken begins is home =
     absurd (let no = on-a m (beat.C x) (unfinished channel.C (on_link link.0 e.trace)) (beats_of (A m)) is.burst.0 in cc)

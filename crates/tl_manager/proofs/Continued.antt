@@ -6,8 +6,8 @@ use Rattle.tl_beat.specs.declared.beat.Beat.{Beat}
 use Rattle.tl_beat.specs.declared.beat.Beat.TheVariants as beat
 use Rattle.tl_beat.specs.declared.beat.BeatA.{BeatA}
 use Rattle.tl_beat.specs.declared.beat.Link.{Link}
-use Rattle.tl_beat.specs.declared.opcode.Channel.{Channel}
-use Rattle.tl_beat.specs.declared.opcode.Channel.TheVariants as channel
+use Rattle.tl_beat.specs.declared.channel.Channel.{Channel}
+use Rattle.tl_beat.specs.declared.channel.Channel.TheVariants as channel
 use Rattle.tl_beat.specs.First.{first_if}
 use Rattle.tl_burst.specs.declared.message.Message.{Message}
 use Rattle.tl_burst.specs.declared.message.Message.TheVariants.{A, B, C, D, E}
@@ -63,7 +63,8 @@ pub whole_request : {w : ℕ} (config : Config) (link : Link) (x : BeatA w) (t :
     → Each (IsWhole config link x) (beat.A x ∷ unfinished channel.A (on_link link.0 t))
 whole_request {w} config link x t ok sound bursts order = (
   record { sound = ok; like = (refl, refl, refl) },
-  both (unfinished channel.A (on_link link.0 t)) (each_unfinished (λ y. IsSound config (link, y)) channel.A (on_link link.0 t) (sound_on_link config link.0 t sound)) (continued config.profile x (on_link link.0 t) bursts order),
+  both (unfinished channel.A (on_link link.0 t)) (each_unfinished (λ y. IsSound config (link, y)) channel.A (on_link link.0 t)
+      (sound_on_link config link.0 t sound)) (continued config.profile x (on_link link.0 t) bursts order),
 )
   where
     both : (beats : List (Beat w)) → Each (λ y. IsSound config (link, y)) beats → Each (IsLike x) beats → Each (IsWhole config link x) beats

@@ -74,8 +74,12 @@ same_block {w} n (u ∷ ss) s apart e = go (block_at u.request.address == n) ref
     none : (vs : List (Service w)) → is_one_of n (blocks_of vs) ≡ false → Each (λ v. (block_at v.request.address == n) ≡ true → v ≡ s) vs
     none [] f = tt
     none (v ∷ vs) f =
-        let p = or_parts (n == block_at v.request.address) (is_one_of n (blocks_of vs)) f in
-        (λ here. absurd (let yes : (n == block_at v.request.address) ≡ true = eq-eqb n (block_at v.request.address) (sym (eqb-true (block_at v.request.address) n here)) in let no : (n == block_at v.request.address) ≡ false = p.0 in cc), none vs p.1)
+        let p = or_parts (n == block_at v.request.address) (is_one_of n (blocks_of vs)) f in (
+          λ here. absurd (let yes : (n == block_at v.request.address) ≡ true =
+              eq-eqb n (block_at v.request.address) (sym (eqb-true (block_at v.request.address) n here))
+              in let no : (n == block_at v.request.address) ≡ false = p.0 in cc),
+          none vs p.1,
+        )
 
     go : (b : Bool) → (block_at u.request.address == n) ≡ b → (if b then Some u else service_of_block n ss) ≡ Some s
         → (service_of_block n ss ≡ Some s → Each (λ v. (block_at v.request.address == n) ≡ true → v ≡ s) ss) → Each (λ v. (block_at v.request.address == n) ≡ true → v ≡ s) (u ∷ ss)
@@ -146,11 +150,14 @@ serving-without {w} n k (u ∷ ss) = go (block_at u.request.address == n) refl (
         rw (block, e) refl
 
     mine : (b : Bool) → (n == k) ≡ b → (block_at u.request.address == n) ≡ false
-        → (if block_at u.request.address == k then Some u else if b then None else service_of_block k ss) ≡ (if b then None else if block_at u.request.address == k then Some u else service_of_block k ss)
+        → (if block_at u.request.address == k then Some u else if b then None else service_of_block k ss)
+        ≡ (if b then None else if block_at u.request.address == k then Some u else service_of_block k ss)
     mine true e away = let same : n ≡ k = eqb-true n k e in rw (← same, away) refl
     mine false e away = refl
 
     go : (b : Bool) → (block_at u.request.address == n) ≡ b → service_of_block k (filter (λ v. not (block_at v.request.address == n)) ss) ≡ (if n == k then None else service_of_block k ss)
-        → service_of_block k (cond (not b) (u ∷ filter (λ v. not (block_at v.request.address == n)) ss) (filter (λ v. not (block_at v.request.address == n)) ss)) ≡ (if n == k then None else if block_at u.request.address == k then Some u else service_of_block k ss)
+        → service_of_block k (cond (not b) (u ∷ filter (λ v. not (block_at v.request.address == n)) ss)
+        (filter (λ v. not (block_at v.request.address == n)) ss))
+        ≡ (if n == k then None else if block_at u.request.address == k then Some u else service_of_block k ss)
     go true e rest = rest ∙ other (n == k) refl e
     go false e rest = rw rest (mine (n == k) refl e)

@@ -64,7 +64,8 @@ performed_found : {w : ℕ} (config : Config) (block : ℕ) (ss : List (Service 
 performed_found config block [] t memory width each = tt
 performed_found config block (s ∷ ss) t memory width each = go (block_at s.request.address == block) (performed_found config block ss t memory width each.1)
   where
-    go : (b : Bool) → AllHandable config (performed_if_any config (service_of_block block ss) t memory) → AllHandable config (performed_if_any config (cond b (Some s) (service_of_block block ss)) t memory)
+    go : (b : Bool) → AllHandable config (performed_if_any config (service_of_block block ss) t memory)
+        → AllHandable config (performed_if_any config (cond b (Some s) (service_of_block block ss)) t memory)
     go true rest = performed_handable config s t memory width each.0
     go false rest = rest
 
@@ -122,7 +123,9 @@ done_c_handable {w} config link x t memory width ok sound =
     let l = leveled (level_of config link.0) (beat.C x) ok.lawful in
     go (is_release x.opcode) (is_probe_ack x.opcode) (l.1 ∙ ap Some (transfers_level l.0 (past_l1 l.0 (beat.C x) l.2)))
   where
-    go : (r p : Bool) → level_of config link.0 ≡ Some level.C → AllHandable config (if r then record { handed = (link, release_ack x.source) ∷ []; memory = memory } else if p then finish config (block_at x.address) t memory else nothing memory)
+    go : (r p : Bool) → level_of config link.0 ≡ Some level.C
+        → AllHandable config (if r then record { handed = (link, release_ack x.source) ∷ []; memory = memory } else if p then finish config
+        (block_at x.address) t memory else nothing memory)
     go true p has_level = (release_handable config link x.source has_level, tt)
     go false true has_level = settled_handable config (block_at x.address) t memory width sound
     go false false has_level = tt

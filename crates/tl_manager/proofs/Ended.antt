@@ -5,8 +5,8 @@ use Rattle.std.proofs.lemmas.Bool.{eq-eqb}
 use Rattle.tl_beat.specs.Width.{IsWidth}
 use Rattle.tl_beat.specs.declared.beat.Beat.{Beat}
 use Rattle.tl_beat.specs.declared.beat.Link.{Link}
-use Rattle.tl_beat.specs.declared.opcode.Channel.{Channel}
-use Rattle.tl_beat.specs.declared.opcode.Channel.TheVariants as channel
+use Rattle.tl_beat.specs.declared.channel.Channel.{Channel}
+use Rattle.tl_beat.specs.declared.channel.Channel.TheVariants as channel
 use Rattle.tl_burst.specs.declared.message.Message.{Message}
 use Rattle.tl_burst.specs.declared.message.Message.TheVariants.{A, B, C, D, E}
 use Rattle.tl_burst.specs.declared.message.MessageD.{MessageD}
@@ -91,7 +91,8 @@ services_as (Breaks r) config link ch x e width typed is before = refl
 services_as Waits config link ch x e width typed is before = refl
 services_as Passes config link ch x e width typed is before =
     let ok = passed config link ch x e typed is in
-    services-handed config (deed config link x e).handed ((link, x) ∷ e.trace) width (deed_handable config link x e width ok.sound before.sound) (λ client. whole-taken client link x e.trace ok.theirs (before.whole client))
+    services-handed config (deed config link x e).handed ((link, x) ∷ e.trace) width (deed_handable config link x e width ok.sound before.sound)
+    (λ client. whole-taken client link x e.trace ok.theirs (before.whole client))
 
 pub services-offered : {w : ℕ} (config : Config) (link : Link) (ch : Channel) (x : Beat w) (e : End w) → IsWidth w → IsTyped x → IsKept config e
     → services (offered config link ch x e).1.trace ≡ services_after (offered config link ch x e).0 (link, x) e.trace

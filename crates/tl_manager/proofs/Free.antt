@@ -108,7 +108,12 @@ least_free-is_free ns = elim (found_or_all 0 (length ns) ns (λ i lt. absurd (om
     go : (b : Bool) → is_one_of (free_from 0 (length ns) ns) ns ≡ b → free_from 0 (length ns) ns ≡ 0 + length ns → ((i : ℕ) → i < 0 + length ns → is_one_of i ns ≡ true) → b ≡ false
     go false e last all = refl
     go true e last all =
-        let le : suc (length ns) ≤ length ns = as_many (suc (length ns)) ns (λ i lt. elim (cases_eq i (length ns)) [ inl same ↦ (let place : i ≡ free_from 0 (length ns) ns = omega (arith, last, same) in rw place e) | inr other ↦ all i (omega arith) ]) in
+        let le : suc (length ns) ≤ length ns = as_many (suc (length ns)) ns
+        (λ i lt. elim (cases_eq i (length ns)) [
+          | inl same ↦
+              (let place : i ≡ free_from 0 (length ns) ns = omega (arith, last, same) in rw place e)
+          | inr other ↦ all i (omega arith)
+        ]) in
         absurd (omega (arith, le))
 
 tried : (n more : ℕ) (ns : List ℕ) → free_from n more ns ≤ n + more

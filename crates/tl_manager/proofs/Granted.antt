@@ -4,7 +4,7 @@ use Rattle.std.specs.Prelude.{if◌then◌else◌}
 use Rattle.std.proofs.lemmas.Bool.{eqb-true, eq-eqb}
 use Rattle.tl_beat.specs.Width.{IsWidth}
 use Rattle.tl_beat.specs.declared.beat.Link.{Link}
-use Rattle.tl_beat.specs.declared.opcode.Channel.TheVariants as channel
+use Rattle.tl_beat.specs.declared.channel.Channel.TheVariants as channel
 use Rattle.tl_beat.specs.declared.opcode.OpD.{OpD}
 use Rattle.tl_beat.specs.declared.opcode.OpD.TheVariants as d
 use Rattle.tl_burst.specs.declared.message.Message.TheVariants.{D}
@@ -71,7 +71,8 @@ apart_from {w} n s v t serves same other = go (v.tracker == s.tracker) refl
   where
     go : (b : Bool) → (v.tracker == s.tracker) ≡ b → b ≡ false
     go true e =
-        absurd (let mine : (block_at v.request.address == n) ≡ true = eq-eqb (block_at v.request.address) n (ap (λ (r : Service w). block_at r.request.address) (same e) ∙ block_served n t s serves) in cc)
+        absurd (let mine : (block_at v.request.address == n) ≡ true =
+        eq-eqb (block_at v.request.address) n (ap (λ (r : Service w). block_at r.request.address) (same e) ∙ block_served n t s serves) in cc)
     go false e = refl
 
 -- what holds of each service holds of the service of a block

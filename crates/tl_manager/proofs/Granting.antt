@@ -44,7 +44,8 @@ pub recorded-grant : {w : ℕ} (config : Config) (number : ℕ) (link : Link) (r
     → recorded c b (after_sent link (grant config (service_with number link request) t memory) t)
     ≡ (if (link.0 == c) && (block_at request.address == b) then cap_right (cap_granted config.profile request.opcode request.param (is_unheld config (block_at request.address) t)) else recorded c b t)
 recorded-grant {w} config number link request t memory c b at =
-    recorded-sent c b link (grant config s t memory) t at.ready.width refl (at.ready.whole c) ∙ says (is_granted_data request.opcode request.param (recorded link.0 (block_at request.address) t)) ∙ go (link.0 == c) refl
+    recorded-sent c b link (grant config s t memory) t at.ready.width refl (at.ready.whole c)
+    ∙ says (is_granted_data request.opcode request.param (recorded link.0 (block_at request.address) t)) ∙ go (link.0 == c) refl
   where
     s : Service w
     s = service_with number link request
@@ -86,7 +87,8 @@ records-set perm_old perm_new recorded_then recorded_now block client given here
     go (inl e) (inr g) = rw (eq-eqb client c (sym e), ne_eqb block b (λ i. g (sym i))) (others b c (inl g) ∙ before b c)
     go (inr g) f = rw (ne_eqb client c (λ i. g (sym i))) (others b c (inr g) ∙ before b c)
 
-pub home-granted : {w : ℕ} {D : Type 0} (perm_of : D → ℕ → ℕ → Perm) (config : Config) (old new : Home w D) (number : ℕ) (link : Link) (request : MessageA w) (held : Perm) (unheld : Bool) (given : Cap) (bytes : Option (List ℕ)) (t : Trace w) (memory : Memory)
+pub home-granted : {w : ℕ} {D : Type 0} (perm_of : D → ℕ → ℕ → Perm) (config : Config) (old new : Home w D) (number : ℕ) (link : Link) (request : MessageA w)
+    (held : Perm) (unheld : Bool) (given : Cap) (bytes : Option (List ℕ)) (t : Trace w) (memory : Memory)
     → is_acquire request.opcode ≡ true → new.profile ≡ old.profile → new.blocks ≡ old.blocks → new.trackers.count ≡ old.trackers.count
     → ((n : ℕ) → tracker_at new.trackers n ≡ (if number == n then Granted link (block_at request.address) else tracker_at old.trackers n))
     → held ≡ perm_of old.directory (block_at request.address) link.0 → unheld ≡ is_unheld config (block_at request.address) t → given ≡ cap_granted old.profile request.opcode request.param unheld
@@ -140,6 +142,7 @@ home-granted {w} {D} perm_of config old new number link request held unheld give
         now : is_granted (with_handed (performed config s t memory).handed t) s ≡ true
         now =
             let m = grant_is config s t memory in
-            let grants : IsGrant (block_at request.address) s m.0 t = record { reply = reply_of config (block_at request.address) s m.0 t at.ready m.3 m.4; grants = m.2; sink = m.5; acquires = acquires } in
+            let grants : IsGrant (block_at request.address) s m.0 t =
+            record { reply = reply_of config (block_at request.address) s m.0 t at.ready m.3 m.4; grants = m.2; sink = m.5; acquires = acquires } in
             ap (λ (d : Deed w). is_granted (with_handed d.handed t) s) (performed-acquire config s t memory acquires)
             ∙ subst (λ (i : Message w). is_granted (after_sent link i t) s ≡ true) (sym m.1) (granted-now (block_at request.address) s m.0 t grants)

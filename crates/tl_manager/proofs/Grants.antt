@@ -79,7 +79,8 @@ begun_granted config None s t memory ss among = performed_granted config s t mem
 begun_granted config (Some c) s t memory ss among =
     probing_granted ss (performed config s t memory) (block_at s.request.address) c (probed config s c t) memory (performed_granted config s t memory ss among)
 
-begun_new : {w : ℕ} (config : Config) (link : Link) (x : BeatA w) (beats : List (Beat w)) (tracker : ℕ) (t : Trace w) (memory : Memory) (before ss : List (Service w)) (fits : Bool) (e : nat_le x.size 6 ≡ fits)
+begun_new : {w : ℕ} (config : Config) (link : Link) (x : BeatA w) (beats : List (Beat w)) (tracker : ℕ) (t : Trace w) (memory : Memory)
+    (before ss : List (Service w)) (fits : Bool) (e : nat_le x.size 6 ≡ fits)
     → ss ≡ with_service (option_map (λ m. record { tracker = tracker; link = link; request = m }) (request_if x beats fits e)) before
     → AllGranted ss (begun_if_any config (option_map (λ m. record { tracker = tracker; link = link; request = m }) (request_if x beats fits e)) t memory)
 begun_new config link x beats tracker t memory before ss false e is = tt
@@ -92,7 +93,8 @@ found_granted : {w : ℕ} (config : Config) (block : ℕ) (found ss : List (Serv
 found_granted config block [] ss t memory among = tt
 found_granted {w} config block (s ∷ found) ss t memory among = go (block_at s.request.address == block) (found_granted config block found ss t memory among.1)
   where
-    go : (b : Bool) → AllGranted ss (performed_if_any config (service_of_block block found) t memory) → AllGranted ss (performed_if_any config (cond b (Some s) (service_of_block block found)) t memory)
+    go : (b : Bool) → AllGranted ss (performed_if_any config (service_of_block block found) t memory)
+        → AllGranted ss (performed_if_any config (cond b (Some s) (service_of_block block found)) t memory)
     go true rest = performed_granted config s t memory ss among.0
     go false rest = rest
 
@@ -106,7 +108,8 @@ settled_granted {w} config block t memory = go (is_settled config block t)
 done_c_granted : {w : ℕ} (config : Config) (link : Link) (x : BeatC w) (t : Trace w) (memory : Memory) → AllGranted (services t) (completed_c config link x t memory)
 done_c_granted {w} config link x t memory = go (is_release x.opcode) (is_probe_ack x.opcode)
   where
-    go : (r p : Bool) → AllGranted (services t) (if r then record { handed = (link, release_ack x.source) ∷ []; memory = memory } else if p then finish config (block_at x.address) t memory else nothing memory)
+    go : (r p : Bool) → AllGranted (services t) (if r then record { handed = (link, release_ack x.source) ∷ []; memory = memory } else if p then finish config
+        (block_at x.address) t memory else nothing memory)
     go true p = (λ e. absurd cc, tt)
     go false true = settled_granted config (block_at x.address) t memory
     go false false = tt
@@ -117,7 +120,8 @@ unfolding request_carried services
 done_granted config link x e false last = tt
 done_granted {w} config link (beat.A x) e true last =
     let burst : List (Beat w) = unfinished (channel_of (beat.A x)) (on_link link.0 e.trace) in
-    begun_new config link x (beat.A x ∷ burst) (least_untaken (trackers_of (services e.trace))) ((link, beat.A x) ∷ e.trace) e.memory (services e.trace) (services ((link, beat.A x) ∷ e.trace)) (nat_le x.size 6) refl (rw last refl)
+    begun_new config link x (beat.A x ∷ burst) (least_untaken (trackers_of (services e.trace))) ((link, beat.A x) ∷ e.trace) e.memory (services e.trace)
+    (services ((link, beat.A x) ∷ e.trace)) (nat_le x.size 6) refl (rw last refl)
 done_granted config link (beat.B x) e true last = tt
 done_granted config link (beat.C x) e true last =
     done_c_granted config link x ((link, beat.C x) ∷ e.trace) (written x (beat.C x ∷ unfinished (channel_of (beat.C x)) (on_link link.0 e.trace)) e.memory)

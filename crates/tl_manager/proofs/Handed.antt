@@ -5,7 +5,7 @@ use Rattle.tl_beat.specs.Width.{IsWidth}
 use Rattle.tl_beat.specs.declared.beat.Beat.{Beat}
 use Rattle.tl_beat.specs.declared.beat.Beat.TheVariants as beat
 use Rattle.tl_beat.specs.declared.beat.Link.{Link}
-use Rattle.tl_beat.specs.declared.opcode.Channel.TheVariants as channel
+use Rattle.tl_beat.specs.declared.channel.Channel.TheVariants as channel
 use Rattle.tl_burst.specs.declared.message.Message.{Message}
 use Rattle.tl_burst.specs.declared.message.Message.TheVariants.{A, B, C, D, E}
 use Rattle.tl_burst.specs.Burst.{beats_of, beat_of, burst_of}
@@ -118,7 +118,8 @@ recorded-taken client link block (beat.B x) t theirs = absurd cc
 recorded-taken client link block (beat.C x) t theirs = go (link.0 == client)
   where
     go : (b : Bool) → held block (if b then beat.C x ∷ on_link client t else on_link client t)
-        ≡ unwrap_or (if b && (ends (beat.C x) (on_link client t) && ((is_probe_ack x.opcode || is_release x.opcode) && (block_at x.address == block))) then Some (reported x.param) else None) (held block (on_link client t))
+        ≡ unwrap_or (if b && (ends (beat.C x) (on_link client t) && ((is_probe_ack x.opcode || is_release x.opcode) && (block_at x.address == block))) then Some
+        (reported x.param) else None) (held block (on_link client t))
     go true = by_cases (ends (beat.C x) (on_link client t)) ((is_probe_ack x.opcode || is_release x.opcode) && (block_at x.address == block)) (reported x.param) (held block (on_link client t))
     go false = refl
 recorded-taken client link block (beat.D x) t theirs = absurd cc

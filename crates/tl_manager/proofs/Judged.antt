@@ -4,8 +4,8 @@ use Rattle.std.specs.Prelude.{if◌then◌else◌}
 use Rattle.tl_beat.specs.declared.beat.Beat.{Beat}
 use Rattle.tl_beat.specs.declared.beat.Beat.TheVariants.{A, B, C, D, E}
 use Rattle.tl_beat.specs.declared.beat.Link.{Link}
-use Rattle.tl_beat.specs.declared.opcode.Channel.{Channel}
-use Rattle.tl_beat.specs.declared.opcode.Channel.TheVariants as channel
+use Rattle.tl_beat.specs.declared.channel.Channel.{Channel}
+use Rattle.tl_beat.specs.declared.channel.Channel.TheVariants as channel
 use Rattle.tl_beat.specs.First.{first_if}
 use Rattle.tl_burst.specs.Messages.{channel_of}
 use Rattle.tl_params.specs.declared.config.Config.{Config}
@@ -19,7 +19,8 @@ use Rattle.tl_rules.proofs.Bursts.{next_rule}
 use Rattle.tl_manager.specs.Kept.{IsTyped}
 use Rattle.tl_manager.specs.Deed.{deed}
 use Rattle.tl_manager.specs.End.{End}
-use Rattle.tl_manager.specs.Offer.{Sent, Judgement, Passes, breaks_or, waits_or, unlawful, is_from_client, before_stall, must_wait, judged_at, judged_on, judged, level_of, open_level, taken, offered_as, offered}
+use Rattle.tl_manager.specs.Offer.{Sent, Judgement, Passes, breaks_or, waits_or, unlawful, is_from_client, before_stall, must_wait, judged_at, judged_on}
+use Rattle.tl_manager.specs.Offer.{judged, level_of, open_level, taken, offered_as, offered}
 use Rattle.tl_manager.specs.Ready.{IsPassed}
 
 past_rule : (o : Option Rule) (rest : Judgement) → breaks_or o rest ≡ Passes → (o ≡ None) × (rest ≡ Passes)

@@ -4,7 +4,7 @@ use Rattle.std.specs.Prelude.{Result, OnOk, nat_le, is_some, IfSome}
 use Rattle.tl_beat.specs.declared.beat.Beat.{Beat}
 use Rattle.tl_beat.specs.declared.beat.Beat.TheVariants.{A, B, C, D, E}
 use Rattle.tl_beat.specs.declared.beat.Link.{Link}
-use Rattle.tl_beat.specs.declared.opcode.Channel.{Channel}
+use Rattle.tl_beat.specs.declared.channel.Channel.{Channel}
 use Rattle.tl_burst.specs.declared.part.Broken.{Broken}
 use Rattle.tl_burst.specs.declared.part.Broken.TheVariants as broken
 use Rattle.tl_burst.specs.declared.part.Part.{Part}

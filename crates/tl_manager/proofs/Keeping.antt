@@ -8,8 +8,8 @@ use Rattle.tl_beat.specs.declared.beat.Beat.{Beat}
 use Rattle.tl_beat.specs.declared.beat.Beat.TheVariants as beat
 use Rattle.tl_beat.specs.declared.beat.BeatA.{BeatA}
 use Rattle.tl_beat.specs.declared.beat.Link.{Link}
-use Rattle.tl_beat.specs.declared.opcode.Channel.{Channel}
-use Rattle.tl_beat.specs.declared.opcode.Channel.TheVariants as channel
+use Rattle.tl_beat.specs.declared.channel.Channel.{Channel}
+use Rattle.tl_beat.specs.declared.channel.Channel.TheVariants as channel
 use Rattle.tl_burst.specs.declared.message.Message.{Message}
 use Rattle.tl_burst.specs.declared.message.Message.TheVariants.{A, B, C, D, E}
 use Rattle.tl_burst.specs.Burst.{beats_of, beat_of, begun, burst_of, IsBlankAfter}
@@ -184,7 +184,8 @@ kept-taken config link x e width ok before =
     record {
       sound = handed_sound config (deed config link x e).handed ((link, x) ∷ e.trace) handable (ok.sound, before.sound);
       whole = λ client. whole-handed config client (deed config link x e).handed ((link, x) ∷ e.trace) width handable (complete client);
-      bursts = λ client. rw (bursts-handed config channel.A client (deed config link x e).handed ((link, x) ∷ e.trace) refl handable) (of_one-taken config client link x e.trace ok.theirs ok.order before.bursts);
+      bursts = λ client. rw (bursts-handed config channel.A client (deed config link x e).handed ((link, x) ∷ e.trace) refl handable)
+          (of_one-taken config client link x e.trace ok.theirs ok.order before.bursts);
       requests = after.requests;
       tracked = after.tracked;
       trackers_apart = after.trackers_apart;
@@ -198,7 +199,21 @@ kept-taken config link x e width ok before =
 kept_as : {w : ℕ} (j : Judgement) (config : Config) (link : Link) (ch : Channel) (x : Beat w) (e : End w) → IsWidth w → IsTyped x → judged config link ch x e ≡ j → IsKept config e
     → IsKept config (offered_as j config link x e).1
 kept_as (Breaks r) config link ch x e width typed is before =
-    record { sound = before.sound; whole = before.whole; bursts = before.bursts; requests = before.requests; tracked = before.tracked; trackers_apart = before.trackers_apart; blocks_apart = before.blocks_apart; sinks = before.sinks; releases = before.releases; few = before.few; steady = before.steady }
+    record {
+      sound = before.sound;
+      whole = before.whole;
+      bursts = before.bursts;
+      requests = before.requests;
+      tracked = before.tracked;
+      trackers_apart =
+          before.trackers_apart;
+      blocks_apart = before.blocks_apart;
+      sinks = before.sinks;
+      releases = before.releases;
+      few = before.few;
+      steady =
+          before.steady;
+    }
 kept_as Waits config link ch x e width typed is before = before
 kept_as Passes config link ch x e width typed is before = kept-taken config link x e width (passed config link ch x e typed is) before
 
@@ -209,7 +224,30 @@ kept-offered config link ch x e width typed ok = kept_as (judged config link ch 
 pub fresh-kept : {w : ℕ} (config : Config) → IsKept {w = w} config fresh
 unfolding services unfinished on_link pending
 fresh-kept config =
-    record { sound = tt; whole = λ client. (refl, refl); bursts = λ client. tt; requests = tt; tracked = tt; trackers_apart = tt; blocks_apart = tt; sinks = λ client sink e. absurd cc; releases = λ client. record { sources = λ s. refl; blocks = λ k. refl; named = tt }; few = omega arith; steady = record { accounted = record { sources = λ client source. refl; begun = λ client. tt; reports = λ client. tt; blocks = λ block. record { acquires = λ client. refl; grants = λ client. refl; named = tt; probes = λ client e. absurd cc } }; awaited = λ block. refl } }
+    record {
+      sound = tt;
+      whole = λ client. (refl, refl);
+      bursts = λ client. tt;
+      requests = tt;
+      tracked = tt;
+      trackers_apart = tt;
+      blocks_apart = tt;
+      sinks =
+          λ client sink e. absurd cc;
+      releases = λ client. record { sources = λ s. refl; blocks = λ k. refl; named = tt };
+      few = omega arith;
+      steady =
+          record {
+            accounted = record {
+              sources = λ client source. refl;
+              begun = λ client. tt;
+              reports = λ client. tt;
+              blocks = λ block.
+                  record { acquires = λ client. refl; grants = λ client. refl; named = tt; probes = λ client e. absurd cc };
+            };
+            awaited = λ block. refl;
+          };
+    }
 
 -- ---- what is recorded
 
@@ -246,7 +284,9 @@ lawful_as (Breaks r) config link ch x e width typed is before = tt
 lawful_as Waits config link ch x e width typed is before = tt
 lawful_as Passes config link ch x e width typed is before =
     let ok = passed config link ch x e typed is in
-    each_weaker (IsHandable config) (λ y. (illegal_message_at (level_of config y.0.0) y.1 ≡ None) × IsClean y.1 × IsFilled y.1 × IsBlankAfter (beats_of y.1) y.1) (deed config link x e).handed (λ y h. lawful_message config y width h) (deed_handable config link x e width ok.sound before.sound)
+    each_weaker (IsHandable config) (λ y. (illegal_message_at (level_of config y.0.0) y.1 ≡ None) × IsClean y.1 × IsFilled y.1
+    × IsBlankAfter (beats_of y.1) y.1) (deed config link x e).handed (λ y h. lawful_message config y width h)
+    (deed_handable config link x e width ok.sound before.sound)
 
 pub lawful : {w : ℕ} (config : Config) (link : Link) (ch : Channel) (x : Beat w) (e : End w) → IsWidth w → IsTyped x → IsKept config e → IsAnswerLawful config (offered config link ch x e).0
 unfolding offered

@@ -198,7 +198,8 @@ probe_control cap.ToT address e = rw e refl
 probe_control cap.ToB address e = rw e refl
 probe_control cap.ToN address e = rw e refl
 
-pub probe_handable : {w : ℕ} (config : Config) (client block : ℕ) (c : Cap) → IsWidth w → level_of config client ≡ Some level.C → nat_le config.blocks block ≡ false → IsHandable {w = w} config (record { 0 = client }, probe_of_block block c)
+pub probe_handable : {w : ℕ} (config : Config) (client block : ℕ) (c : Cap) → IsWidth w → level_of config client ≡ Some level.C
+    → nat_le config.blocks block ≡ false → IsHandable {w = w} config (record { 0 = client }, probe_of_block block c)
 probe_handable {w} config client block c width has_level inside =
     let aligned : 64 * block % 64 ≡ 0 = omega arith in
     let same : 64 * block / 64 ≡ block = omega arith in

@@ -33,7 +33,8 @@ free-tracked : {w : ℕ} (n : ℕ) (tracker : Tracker w) → tracker ≡ Free �
 unfolding services
 free-tracked n tracker e = rw e refl
 
-wire-fresh : {w : ℕ} (config : Config) (client : ℕ) (wire : Wire w) → slice_get (map (λ (c : ClientConfig). fresh_wire {w = w} c.level) config.clients.items) client ≡ Some wire → IsWire config wire client fresh
+wire-fresh : {w : ℕ} (config : Config) (client : ℕ) (wire : Wire w)
+    → slice_get (map (λ (c : ClientConfig). fresh_wire {w = w} c.level) config.clients.items) client ≡ Some wire → IsWire config wire client fresh
 unfolding on_link unfinished
 wire-fresh {w} config client wire found =
     let p = mapped (λ (c : ClientConfig). fresh_wire {w = w} c.level) config.clients.items client wire found in

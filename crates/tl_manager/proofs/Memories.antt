@@ -10,8 +10,8 @@ use Rattle.tl_beat.specs.declared.beat.Beat.TheVariants as beat
 use Rattle.tl_beat.specs.declared.beat.BeatA.{BeatA}
 use Rattle.tl_beat.specs.declared.beat.BeatC.{BeatC}
 use Rattle.tl_beat.specs.declared.beat.Link.{Link}
-use Rattle.tl_beat.specs.declared.opcode.Channel.{Channel}
-use Rattle.tl_beat.specs.declared.opcode.Channel.TheVariants as channel
+use Rattle.tl_beat.specs.declared.channel.Channel.{Channel}
+use Rattle.tl_beat.specs.declared.channel.Channel.TheVariants as channel
 use Rattle.tl_beat.specs.declared.opcode.OpA.{OpA}
 use Rattle.tl_beat.specs.declared.opcode.OpA.TheVariants as a
 use Rattle.tl_burst.specs.declared.message.Message.TheVariants.{A}
@@ -121,7 +121,8 @@ done_c_same : {w : ℕ} (config : Config) (link : Link) (x : BeatC w) (t : Trace
     → block_at address ≢ block_at x.address → Same (completed_c config link x t memory) memory address
 done_c_same {w} config link x t memory address width each other = go (is_release x.opcode) (is_probe_ack x.opcode)
   where
-    go : (r p : Bool) → Same (if r then record { handed = (link, release_ack x.source) ∷ []; memory = memory } else if p then finish config (block_at x.address) t memory else nothing memory) memory address
+    go : (r p : Bool) → Same (if r then record { handed = (link, release_ack x.source) ∷ []; memory = memory } else if p then finish config
+        (block_at x.address) t memory else nothing memory) memory address
     go true p = refl
     go false true = settled_same config (block_at x.address) t memory address width each other
     go false false = refl
@@ -141,7 +142,8 @@ unfolding request_carried
 done_same config link x e address width before passes other false last = refl
 done_same {w} config link (beat.A x) e address width before passes other true last =
     let long = eqb-true (length (unfinished channel.A (on_link link.0 e.trace)) + 1) (burst_length (beat.A x)) last in
-    begun_new config link x (beat.A x ∷ unfinished channel.A (on_link link.0 e.trace)) (least_untaken (trackers_of (services e.trace))) ((link, beat.A x) ∷ e.trace) e.memory address (nat_le x.size 6) refl width passes.sound
+    begun_new config link x (beat.A x ∷ unfinished channel.A (on_link link.0 e.trace)) (least_untaken (trackers_of (services e.trace)))
+    ((link, beat.A x) ∷ e.trace) e.memory address (nat_le x.size 6) refl width passes.sound
     (whole_request config link x e.trace passes.sound before.sound (before.bursts link.0) passes.order) (omega (arith, long)) (unlike address (block_at x.address) other)
 done_same config link (beat.B x) e address width before passes other true last = refl
 done_same {w} config link (beat.C x) e address width before passes other true last =

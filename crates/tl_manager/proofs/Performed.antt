@@ -112,10 +112,12 @@ performed-steady {w} config n s t memory is = go (is_acquire s.request.opcode) r
     go : (b : Bool) → is_acquire s.request.opcode ≡ b → IsSteady config (with_handed (deed_by b).handed t)
     go true acquires =
         let m = grant_is config s t memory in
-        subst (λ (i : Message w). IsSteady config (after_sent s.link i t)) (sym m.1) (granted_steady config n s m.0 t is (record { reply = reply_of config n s m.0 t is m.3 m.4; grants = m.2; sink = m.5; acquires = acquires }))
+        subst (λ (i : Message w). IsSteady config (after_sent s.link i t)) (sym m.1)
+        (granted_steady config n s m.0 t is (record { reply = reply_of config n s m.0 t is m.3 m.4; grants = m.2; sink = m.5; acquires = acquires }))
     go false access =
         let m = answer_is s.request (answer_of (A s.request) (effect (A s.request) memory).1) in
-        subst (λ (i : Message w). IsSteady config (after_sent s.link i t)) (sym m.1) (answered_steady config n s m.0 t is access m.2 (reply_of config n s m.0 t is m.3 m.4) (answer_kind m.0.opcode m.2))
+        subst (λ (i : Message w). IsSteady config (after_sent s.link i t)) (sym m.1)
+        (answered_steady config n s m.0 t is access m.2 (reply_of config n s m.0 t is m.3 m.4) (answer_kind m.0.opcode m.2))
 
 -- ---- the services afterwards
 
@@ -143,6 +145,7 @@ pub performed-serving : {w : ℕ} (config : Config) (n k : ℕ) (s : Service w) 
     → service_of_block k (services (with_handed (performed config s t memory).handed t)) ≡ (if not (is_acquire s.request.opcode) && (n == k) then None else service_of_block k (services t))
 performed-serving {w} config n k s t memory is = ap (service_of_block k) (performed-services config n s t memory is) ∙ go (is_acquire s.request.opcode)
   where
-    go : (b : Bool) → service_of_block k (if b then services t else filter (λ v. not (block_at v.request.address == n)) (services t)) ≡ (if not b && (n == k) then None else service_of_block k (services t))
+    go : (b : Bool) → service_of_block k (if b then services t else filter (λ v. not (block_at v.request.address == n)) (services t))
+        ≡ (if not b && (n == k) then None else service_of_block k (services t))
     go true = refl
     go false = serving-without n k (services t)

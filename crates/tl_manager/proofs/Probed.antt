@@ -3,7 +3,7 @@ use Rattle.std.proofs.Common.{◌≡◌, ℕ, ◌<◌, ◌==◌, Bool, true, fal
 use Rattle.std.specs.Prelude.{if◌then◌else◌}
 use Rattle.std.proofs.lemmas.Bool.{eqb-true, eq-eqb, and_parts, ltb-true}
 use Rattle.tl_beat.specs.declared.beat.Beat.TheVariants as beat
-use Rattle.tl_beat.specs.declared.opcode.Channel.TheVariants as channel
+use Rattle.tl_beat.specs.declared.channel.Channel.TheVariants as channel
 use Rattle.tl_burst.specs.Messages.{History, unfinished}
 use Rattle.tl_params.specs.declared.config.Config.{Config}
 use Rattle.tl_params.specs.declared.key.Key.TheVariants.{GrantSink, ProbeOf}
@@ -59,7 +59,9 @@ pub probes-steady : {w : ℕ} (config : Config) (n : ℕ) (s : Service w) (k : C
     → IsSteady config (with_handed (probes n k (probed config s k t)) t)
 probes-steady {w} config n s k d ds t is caps someone = record {
   accounted = accounted-probes n k (probed config s k t) s t is.width is.whole (record { serves = is.serves; unanswered = is.unanswered; caps = caps })
-      (each_weaker (λ c. test c ≡ true) (λ c. is_spared s c ≡ false) (probed config s k t) (λ c e. unspared (is_spared s c) (and_parts (is_above k (recorded c (block_at s.request.address) t)) (not (is_spared s c)) e).1) (each_client (length config.clients.items) 0 test)) is.accounted;
+      (each_weaker (λ c. test c ≡ true) (λ c. is_spared s c ≡ false) (probed config s k t)
+      (λ c e. unspared (is_spared s c) (and_parts (is_above k (recorded c (block_at s.request.address) t)) (not (is_spared s c)) e).1)
+      (each_client (length config.clients.items) 0 test)) is.accounted;
   awaited = λ j. awaited j (n == j) refl;
 }
   where
@@ -80,7 +82,8 @@ probes-steady {w} config n s k d ds t is caps someone = record {
     unsettled true e =
         let among : is_one_of d (probed config s k t) ≡ true = ap (is_one_of d) someone ∙ rw (eq-eqb d d refl) refl in
         let missing = missing-probed config n s k t d (is.whole d).0 among in
-        absurd (let no : pending (ProbeOf n) (on_link d u) ≡ false = (nobody-where config (λ c. is_missing c n u)).0 e d missing.0 in let yes : pending (ProbeOf n) (on_link d u) ≡ true = missing.1 in cc)
+        absurd (let no : pending (ProbeOf n) (on_link d u) ≡ false = (nobody-where config (λ c. is_missing c n u)).0 e d missing.0 in let yes : pending
+        (ProbeOf n) (on_link d u) ≡ true = missing.1 in cc)
     unsettled false e = refl
 
     either : (b : Bool) → (b || true) ≡ true

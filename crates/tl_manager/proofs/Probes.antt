@@ -54,12 +54,14 @@ probes-within {w} d block k first (suc n) test t le lt =
     Rest = (u : Trace w) → on_link d (with_handed (probes block k (clients_from (first + 1) n test)) u) ≡ (if test d then sent (probe_of_block block k) (on_link d u) else on_link d u)
 
     at_first : (b : Bool)
-        → on_link d (with_handed (probes block k (if b then d ∷ clients_from (d + 1) n test else clients_from (d + 1) n test)) t) ≡ (if b then sent (probe_of_block block k) (on_link d t) else on_link d t)
+        → on_link d (with_handed (probes block k (if b then d ∷ clients_from (d + 1) n test else clients_from (d + 1) n test)) t)
+        ≡ (if b then sent (probe_of_block block k) (on_link d t) else on_link d t)
     at_first true = probes-before d block k (d + 1) n test (after_sent (record { 0 = d }) (probe_of_block block k) t) (omega arith) ∙ to_own d (probe_of_block block k) t
     at_first false = probes-before d block k (d + 1) n test t (omega arith)
 
     later : (first ≡ d → ⊥) → Rest → (b : Bool)
-        → on_link d (with_handed (probes block k (if b then first ∷ clients_from (first + 1) n test else clients_from (first + 1) n test)) t) ≡ (if test d then sent (probe_of_block block k) (on_link d t) else on_link d t)
+        → on_link d (with_handed (probes block k (if b then first ∷ clients_from (first + 1) n test else clients_from (first + 1) n test)) t)
+        ≡ (if test d then sent (probe_of_block block k) (on_link d t) else on_link d t)
     later ne rest true =
         rest (after_sent (record { 0 = first }) (probe_of_block block k) t)
         ∙ ap (λ (h : History w). if test d then sent (probe_of_block block k) h else h) (to_other d first (probe_of_block block k) t ne)

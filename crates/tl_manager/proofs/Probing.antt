@@ -7,7 +7,7 @@ use Rattle.tl_beat.specs.declared.beat.Beat.{Beat}
 use Rattle.tl_beat.specs.declared.beat.Beat.TheVariants as beat
 use Rattle.tl_beat.specs.declared.beat.BeatC.{BeatC}
 use Rattle.tl_beat.specs.declared.beat.Link.{Link}
-use Rattle.tl_beat.specs.declared.opcode.Channel.TheVariants as channel
+use Rattle.tl_beat.specs.declared.channel.Channel.TheVariants as channel
 use Rattle.tl_beat.specs.declared.opcode.OpC.{OpC}
 use Rattle.tl_beat.specs.declared.opcode.OpC.TheVariants as c
 use Rattle.tl_beat.specs.First.{first_if}
@@ -71,7 +71,8 @@ missing-before {w} link x t c k e = go (link.0 == c) refl
 
     go : (b : Bool) → (link.0 == c) ≡ b → pending (ProbeOf k) (on_link c t) ≡ true
     go true f =
-        still (ends (beat.C x) (on_link c t) && closes (ProbeOf k) (beat.C x) (on_link c t)) (pending (ProbeOf k) (on_link c t)) (sym (ap (pending (ProbeOf k)) (own_beat c link (beat.C x) t f) ∙ pending-closed (ProbeOf k) (beat.C x) (on_link c t) refl) ∙ e)
+        still (ends (beat.C x) (on_link c t) && closes (ProbeOf k) (beat.C x) (on_link c t)) (pending (ProbeOf k) (on_link c t))
+        (sym (ap (pending (ProbeOf k)) (own_beat c link (beat.C x) t f) ∙ pending-closed (ProbeOf k) (beat.C x) (on_link c t) refl) ∙ e)
     go false f = sym (ap (pending (ProbeOf k)) (other_beat c link (beat.C x) t f)) ∙ e
 
 -- of another block the same are missing

@@ -6,7 +6,7 @@ use Rattle.std.proofs.lemmas.Option.{slice_get_within}
 use Rattle.std.proofs.lemmas.List.{length-set}
 use Rattle.tl_beat.specs.declared.beat.Beat.{Beat}
 use Rattle.tl_beat.specs.declared.beat.Link.{Link}
-use Rattle.tl_beat.specs.declared.opcode.Channel.{Channel}
+use Rattle.tl_beat.specs.declared.channel.Channel.{Channel}
 use Rattle.tl_params.specs.declared.config.Config.{Config}
 use Rattle.tl_params.specs.declared.perm.Perm.{Perm}
 use Rattle.tl_manager.specs.Admission.{admission_of, is_stall}
@@ -35,7 +35,20 @@ stalls-judged config link ch x e = stall-is (judged config link ch x e)
 
 kept-refused : {w : ℕ} (config : Config) (link : Link) (e : End w) → IsKept config e → IsKept config (refused link e)
 kept-refused config link e k =
-    record { sound = k.sound; whole = k.whole; bursts = k.bursts; requests = k.requests; tracked = k.tracked; trackers_apart = k.trackers_apart; blocks_apart = k.blocks_apart; sinks = k.sinks; releases = k.releases; few = k.few; steady = k.steady }
+    record {
+      sound = k.sound;
+      whole = k.whole;
+      bursts = k.bursts;
+      requests = k.requests;
+      tracked = k.tracked;
+      trackers_apart = k.trackers_apart;
+      blocks_apart =
+          k.blocks_apart;
+      sinks = k.sinks;
+      releases = k.releases;
+      few = k.few;
+      steady = k.steady;
+    }
 
 still-wire : {w : ℕ} (config : Config) (link : Link) (client : ℕ) (wire : Wire w) (e : End w) → (client == link.0) ≡ false → IsWire config wire client e → IsWire config wire client (refused link e)
 still-wire config link client wire e other is = record { level = is.level; closed = is.closed ∙ rw other refl; carried = is.carried }

@@ -8,7 +8,7 @@ use Rattle.tl_beat.specs.declared.beat.Beat.TheVariants as beat
 use Rattle.tl_beat.specs.declared.beat.BeatA.{BeatA}
 use Rattle.tl_beat.specs.declared.beat.BeatC.{BeatC}
 use Rattle.tl_beat.specs.declared.beat.BeatE.{BeatE}
-use Rattle.tl_beat.specs.declared.opcode.Channel.TheVariants as channel
+use Rattle.tl_beat.specs.declared.channel.Channel.TheVariants as channel
 use Rattle.tl_beat.specs.First.{first_if}
 use Rattle.tl_burst.specs.declared.message.Message.{Message}
 use Rattle.tl_burst.specs.declared.message.Message.TheVariants.{B, D}
@@ -107,8 +107,10 @@ next_carried x y burst t ok is same =
     let fields = control_c x y (rw same refl) in
     let named = subst (IsNamed t) is ok.named in
     record {
-      sources = λ s. rw is (later (is_release x.opcode && (x.source == s)) (length (beat.C y ∷ burst) + 1 == burst_length (beat.C x)) (pending (ReleaseSource s) t)) ∙ ok.sources s ∙ ap (comes_with s) is ∙ rw (fields.0, fields.3) refl;
-      blocks = λ k. rw is (later (is_release x.opcode && (block_at x.address == k)) (length (beat.C y ∷ burst) + 1 == burst_length (beat.C x)) (pending (ReleaseOf k) t)) ∙ ok.blocks k ∙ ap (comes_of k) is ∙ rw (fields.0, fields.4) refl;
+      sources = λ s. rw is (later (is_release x.opcode && (x.source == s)) (length (beat.C y ∷ burst) + 1 == burst_length (beat.C x))
+          (pending (ReleaseSource s) t)) ∙ ok.sources s ∙ ap (comes_with s) is ∙ rw (fields.0, fields.3) refl;
+      blocks = λ k. rw is (later (is_release x.opcode && (block_at x.address == k)) (length (beat.C y ∷ burst) + 1 == burst_length (beat.C x))
+          (pending (ReleaseOf k) t)) ∙ ok.blocks k ∙ ap (comes_of k) is ∙ rw (fields.0, fields.4) refl;
       named = λ k e. rw is (ap (λ n. releases k (release_of n t)) fields.3 ∙ named k (rw fields.0 at e) ∙ ap (λ a. block_at a == k) (sym fields.4));
     }
 
@@ -182,7 +184,8 @@ released {w} x m t width c release last none ack source =
           ∙ chosen (x.source == s) (is_release_ack m.opcode && (m.source == s)) (pending (ReleaseSource s) (beat.C x ∷ t)) (c.sources s ∙ rw release refl) (rw (ack, source) refl)
           ∙ ap (comes_with s) (sym same);
       blocks = λ k. pending-sent_d (ReleaseOf k) m (beat.C x ∷ t) none (beats-positive (D m) width)
-          ∙ chosen (block_at x.address == k) (is_release_ack m.opcode && releases k (release_of m.source (beat.C x ∷ t))) (pending (ReleaseOf k) (beat.C x ∷ t)) (c.blocks k ∙ rw release refl) (rw (ack, source) (c.named k release))
+          ∙ chosen (block_at x.address == k) (is_release_ack m.opcode && releases k (release_of m.source (beat.C x ∷ t))) (pending (ReleaseOf k) (beat.C x ∷ t))
+          (c.blocks k ∙ rw release refl) (rw (ack, source) (c.named k release))
           ∙ ap (comes_of k) (sym same);
       named = subst (IsNamed (sent (D m) (beat.C x ∷ t))) (sym same) tt;
     }

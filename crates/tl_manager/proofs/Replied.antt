@@ -3,7 +3,7 @@ use Rattle.std.proofs.Common.{◌≡◌, ℕ, ◌+◌, ◌==◌, Bool, true, fal
 use Rattle.std.specs.Prelude.{if◌then◌else◌}
 use Rattle.std.proofs.lemmas.Bool.{eqb-true, and_parts}
 use Rattle.tl_beat.specs.Width.{IsWidth}
-use Rattle.tl_beat.specs.declared.opcode.Channel.TheVariants as channel
+use Rattle.tl_beat.specs.declared.channel.Channel.TheVariants as channel
 use Rattle.tl_burst.specs.declared.message.Message.TheVariants.{D}
 use Rattle.tl_burst.specs.declared.message.MessageD.{MessageD}
 use Rattle.tl_burst.specs.Messages.{unfinished}
@@ -72,7 +72,8 @@ block_served n t s e = eqb-true (block_at s.request.address) n (block-of n (serv
 none-left : {w : ℕ} (n : ℕ) (s : Service w) (m : MessageD w) (t : Trace w) → IsReply n s m t → IsAccounted t → count_where (asks_else n s.link.0 s.request.source t) (services t) ≡ 0
 none-left {w} n s m t is ok =
     count-same (asks_else n s.link.0 s.request.source t) (λ v. false) (services t)
-    (each_weaker (λ v. is_asking s.link.0 s.request.source t v ≡ true → v ≡ s) (λ v. asks_else n s.link.0 s.request.source t v ≡ false) (services t) (λ v alone. away v (is_asking s.link.0 s.request.source t v) refl alone) (asks-alone n s m t is ok))
+    (each_weaker (λ v. is_asking s.link.0 s.request.source t v ≡ true → v ≡ s) (λ v. asks_else n s.link.0 s.request.source t v ≡ false) (services t)
+    (λ v alone. away v (is_asking s.link.0 s.request.source t v) refl alone) (asks-alone n s m t is ok))
     ∙ count-none (services t)
   where
     never : (b : Bool) → (not b && false) ≡ false
@@ -88,7 +89,8 @@ others-left : {w : ℕ} (n c q : ℕ) (s : Service w) (m : MessageD w) (t : Trac
     → count_where (asks_else n c q t) (services t) ≡ count_where (is_asking c q t) (services t)
 others-left {w} n c q s m t is other =
     count-same (asks_else n c q t) (is_asking c q t) (services t)
-    (each_weaker (λ v. (block_at v.request.address == n) ≡ true → v ≡ s) (λ v. asks_else n c q t v ≡ is_asking c q t v) (services t) (λ v mine. still v (block_at v.request.address == n) refl mine) (same_block n (services t) s is.blocks_apart is.serves))
+    (each_weaker (λ v. (block_at v.request.address == n) ≡ true → v ≡ s) (λ v. asks_else n c q t v ≡ is_asking c q t v) (services t)
+    (λ v mine. still v (block_at v.request.address == n) refl mine) (same_block n (services t) s is.blocks_apart is.serves))
   where
     neither : (a b d : Bool) → (a && b) ≡ false → false ≡ (a && (b && d))
     neither true true d e = absurd cc
@@ -112,7 +114,8 @@ source-reply n c q s m t is =
 
 pub sources-reply : {w : ℕ} (n c q : ℕ) (s : Service w) (m : MessageD w) (t : Trace w) → IsReply n s m t → IsAccounted t
     → count_where (is_asking c q (after_sent s.link (D m) t)) (services (after_sent s.link (D m) t)) ≡ count_where (asks_else n c q t) (services t)
-    → one_if (comes_in_request q (unfinished channel.A (on_link c (after_sent s.link (D m) t)))) + count_where (is_asking c q (after_sent s.link (D m) t)) (services (after_sent s.link (D m) t)) ≡ one_if (pending (RequestSource q) (on_link c (after_sent s.link (D m) t)))
+    → one_if (comes_in_request q (unfinished channel.A (on_link c (after_sent s.link (D m) t)))) + count_where (is_asking c q (after_sent s.link (D m) t))
+    (services (after_sent s.link (D m) t)) ≡ one_if (pending (RequestSource q) (on_link c (after_sent s.link (D m) t)))
 sources-reply {w} n c q s m t is ok left = rw (burst-reply s.link m t c, left, source-reply n c q s m t is) (go ((s.link.0 == c) && (s.request.source == q)) refl)
   where
     go : (b : Bool) → ((s.link.0 == c) && (s.request.source == q)) ≡ b
@@ -122,6 +125,7 @@ sources-reply {w} n c q s m t is ok left = rw (burst-reply s.link m t c, left, s
         let p = and_parts (s.link.0 == c) (s.request.source == q) e in
         let link = eqb-true s.link.0 c p.0 in
         let source = eqb-true s.request.source q p.1 in
-        let none : one_if (comes_in_request q (unfinished channel.A (on_link c t))) ≡ 0 = ap₂ (λ i j. one_if (comes_in_request j (unfinished channel.A (on_link i t)))) (sym link) (sym source) ∙ no_burst n s m t is ok in
+        let none : one_if (comes_in_request q (unfinished channel.A (on_link c t))) ≡ 0 =
+        ap₂ (λ i j. one_if (comes_in_request j (unfinished channel.A (on_link i t)))) (sym link) (sym source) ∙ no_burst n s m t is ok in
         let gone : count_where (asks_else n c q t) (services t) ≡ 0 = ap₂ (λ i j. count_where (asks_else n i j t) (services t)) (sym link) (sym source) ∙ none-left n s m t is ok in
         omega (arith, none, gone)

@@ -5,7 +5,7 @@ use Rattle.std.proofs.lemmas.Bool.{eqb-true}
 use Rattle.tl_beat.specs.Width.{IsWidth}
 use Rattle.tl_beat.specs.declared.beat.BeatA.{BeatA}
 use Rattle.tl_beat.specs.declared.beat.Link.{Link}
-use Rattle.tl_beat.specs.declared.opcode.Channel.TheVariants as channel
+use Rattle.tl_beat.specs.declared.channel.Channel.TheVariants as channel
 use Rattle.tl_beat.specs.declared.opcode.OpA.{OpA}
 use Rattle.tl_burst.specs.declared.message.Message.TheVariants.{D}
 use Rattle.tl_burst.specs.declared.message.MessageD.{MessageD}
@@ -33,7 +33,8 @@ pub pending-reply : {w : ℕ} (j : Key) (link : Link) (m : MessageD w) (t : Trac
 pending-reply {w} j link m t c width none = go (link.0 == c) refl
   where
     go : (b : Bool) → (link.0 == c) ≡ b
-        → pending j (on_link c (after_sent link (D m) t)) ≡ (if b then after_whole (opens j (beat_of (D m) 0) (on_link c t)) (closes j (beat_of (D m) 0) (on_link c t)) (pending j (on_link c t)) else pending j (on_link c t))
+        → pending j (on_link c (after_sent link (D m) t)) ≡ (if b then after_whole (opens j (beat_of (D m) 0) (on_link c t))
+        (closes j (beat_of (D m) 0) (on_link c t)) (pending j (on_link c t)) else pending j (on_link c t))
     go true e =
         ap (pending j) (own_link c link (D m) t e)
         ∙ pending-sent_d j m (on_link c t) (subst (λ (i : ℕ). unfinished channel.D (on_link i t) ≡ []) (eqb-true link.0 c e) none) (beats-positive (D m) width)
@@ -97,7 +98,8 @@ sink-reply {w} link m t c k width none other = go (link.0 == c) refl
   where
     go : (b : Bool) → (link.0 == c) ≡ b → grant_sink k (on_link c (after_sent link (D m) t)) ≡ grant_sink k (on_link c t)
     go true e =
-        ap (grant_sink k) (own_link c link (D m) t e) ∙ grant_sink-sent k m (on_link c t) (subst (λ (i : ℕ). unfinished channel.D (on_link i t) ≡ []) (eqb-true link.0 c e) none) (beats-positive (D m) width)
+        ap (grant_sink k) (own_link c link (D m) t e) ∙ grant_sink-sent k m (on_link c t)
+        (subst (λ (i : ℕ). unfinished channel.D (on_link i t) ≡ []) (eqb-true link.0 c e) none) (beats-positive (D m) width)
         ∙ ap (λ b. if b then Some m.sink else grant_sink k (on_link c t)) (other e)
     go false e = ap (grant_sink k) (other_link c link (D m) t e)
 

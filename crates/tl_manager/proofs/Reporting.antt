@@ -83,7 +83,9 @@ missing-reported {w} config link block x e word left is before bits c = bits c �
     none false = refl
 
     go : (here : Bool) → (link.0 == c) ≡ here
-        → bit_if ((bit_at word c == 1) && not here) ≡ bit_if (if here && (ends (beat.C x) (on_link c e.trace) && (is_probe_ack x.opcode && (block_at x.address == block))) then false else is_missing c block e.trace)
+        → bit_if ((bit_at word c == 1) && not here) ≡ bit_if
+        (if here && (ends (beat.C x) (on_link c e.trace) && (is_probe_ack x.opcode && (block_at x.address == block))) then false
+        else is_missing c block e.trace)
     go true f =
         let last : ends (beat.C x) (on_link c e.trace) ≡ true = subst (λ i. ends (beat.C x) (on_link i e.trace) ≡ true) (eqb-true link.0 c f) is.last in
         rw (last, is.kind, eq-eqb (block_at x.address) block is.of_block) (none (bit_at word c == 1))
@@ -108,8 +110,12 @@ settled-as config block t memory b o e f = rw (e, f) refl
 reported-service : {w : ℕ} (config : Config) (link : Link) (block : ℕ) (x : BeatC w) (e : End w) → IsReport config link block x e
     → (s : Service w) × (service_of_block block (services e.trace) ≡ Some s) × (is_granted e.trace s ≡ false)
 reported-service config link block x e is =
-    let found = report-service config link x e is.taken is.kind in
-    (found.0, subst (λ k. service_of_block k (services e.trace) ≡ Some found.0) is.of_block (ap (service_of_block (block_at x.address)) (sym (services-c link x e.trace)) ∙ found.1), sym (granted_c link x e.trace found.0) ∙ found.2)
+    let found = report-service config link x e is.taken is.kind in (
+      found.0,
+      subst (λ k. service_of_block k (services e.trace) ≡ Some found.0) is.of_block
+          (ap (service_of_block (block_at x.address)) (sym (services-c link x e.trace)) ∙ found.1),
+      sym (granted_c link x e.trace found.0) ∙ found.2,
+    )
 
 pub report-served : {w : ℕ} (config : Config) (link : Link) (block : ℕ) (x : BeatC w) (e : End w) → IsReport config link block x e → service_of_block block (services e.trace) ≡ None → ⊥
 report-served config link block x e is none = let found = reported-service config link block x e is in absurd (let no : Some found.0 ≡ None = sym found.1 ∙ none in cc)
@@ -119,7 +125,8 @@ pub report-granted : {w : ℕ} (config : Config) (n : ℕ) (asking link : Link) 
 report-granted config n asking link block granted x e is ok here =
     let found = reported-service config link block x e is in
     let same = some_is found.0 _ (sym found.1 ∙ subst (λ k. service_of_block k (services e.trace) ≡ Some (service_with n asking ok.request)) (eqb-true granted block here) ok.serves) in
-    absurd (let no : is_granted e.trace (service_with n asking ok.request) ≡ false = ap (is_granted e.trace) (sym same) ∙ found.2 in let yes : is_granted e.trace (service_with n asking ok.request) ≡ true = ok.granted in cc)
+    absurd (let no : is_granted e.trace (service_with n asking ok.request) ≡ false = ap (is_granted e.trace) (sym same)
+    ∙ found.2 in let yes : is_granted e.trace (service_with n asking ok.request) ≡ true = ok.granted in cc)
 
 -- ---- the trackers
 
@@ -140,7 +147,8 @@ others-reported {w} config link block x e s n tracker is serves other ok =
     elsewhere : (k : ℕ) → (block_at x.address == k) ≡ false → (is_probe_ack x.opcode && (block_at x.address == k)) ≡ false
     elsewhere k f = rw f (never (is_probe_ack x.opcode))
 
-pub home-reported : {w : ℕ} {D : Type 0} (perm_of : D → ℕ → ℕ → Perm) (config : Config) (home : Home w D) (number : ℕ) (asking link : Link) (request : MessageA w) (block : ℕ) (x : BeatC w) (e : End w) (memory : Memory)
+pub home-reported : {w : ℕ} {D : Type 0} (perm_of : D → ℕ → ℕ → Perm) (config : Config) (home : Home w D) (number : ℕ) (asking link : Link)
+    (request : MessageA w) (block : ℕ) (x : BeatC w) (e : End w) (memory : Memory)
     → IsReport config link block x e → service_of_block block (services e.trace) ≡ Some (service_with number asking request)
     → IsReportedHome perm_of config home e.trace ((link, beat.C x) ∷ e.trace) memory → IsHomeWithout number perm_of config home ((link, beat.C x) ∷ e.trace) memory
 home-reported perm_of config home number asking link request block x e memory is serves ok = record {
@@ -152,7 +160,8 @@ home-reported perm_of config home number asking link request block x e memory is
 }
 
 -- the last ProbeAck that was missing
-pub done-settled : {w : ℕ} {D : Type 0} (perm_of : D → ℕ → ℕ → Perm) (config : Config) (home : Home w D) (handed : Handed w) (number : ℕ) (asking link : Link) (request : MessageA w) (block : ℕ) (x : BeatC w) (e : End w) (memory : Memory)
+pub done-settled : {w : ℕ} {D : Type 0} (perm_of : D → ℕ → ℕ → Perm) (config : Config) (home : Home w D) (handed : Handed w) (number : ℕ) (asking link : Link)
+    (request : MessageA w) (block : ℕ) (x : BeatC w) (e : End w) (memory : Memory)
     → IsReport config link block x e → service_of_block block (services e.trace) ≡ Some (service_with number asking request) → is_settled config block ((link, beat.C x) ∷ e.trace) ≡ true
     → IsDone perm_of config home handed ((link, beat.C x) ∷ e.trace) (performed config (service_with number asking request) ((link, beat.C x) ∷ e.trace) memory)
     → IsDone perm_of config home handed ((link, beat.C x) ∷ e.trace) (finish config block ((link, beat.C x) ∷ e.trace) memory)
@@ -167,13 +176,15 @@ pub ready-settled : {w : ℕ} (config : Config) (number : ℕ) (asking link : Li
 ready-settled config number asking link request block x e is same serves all = record {
   ready = subst (λ k. IsReady config k (service_with number asking request) ((link, beat.C x) ∷ e.trace)) (is.of_block ∙ sym same)
       (report-ready config link x (service_with number asking request) e is.taken is.kind
-      (subst (λ k. service_of_block k (services ((link, beat.C x) ∷ e.trace)) ≡ Some (service_with number asking request)) (sym is.of_block) (ap (service_of_block block) (services-c link x e.trace) ∙ serves))
+      (subst (λ k. service_of_block k (services ((link, beat.C x) ∷ e.trace)) ≡ Some (service_with number asking request)) (sym is.of_block)
+      (ap (service_of_block block) (services-c link x e.trace) ∙ serves))
       (subst (λ k. is_settled config k ((link, beat.C x) ∷ e.trace) ≡ true) (sym is.of_block) all));
   sound = (is.taken.passes.sound, is.taken.before.sound);
 }
 
 -- others are missing
-pub done-waiting : {w : ℕ} {D : Type 0} (perm_of : D → ℕ → ℕ → Perm) (config : Config) (old new : Home w D) (number : ℕ) (asking link : Link) (request : MessageA w) (left block : ℕ) (x : BeatC w) (e : End w) (memory : Memory)
+pub done-waiting : {w : ℕ} {D : Type 0} (perm_of : D → ℕ → ℕ → Perm) (config : Config) (old new : Home w D) (number : ℕ) (asking link : Link)
+    (request : MessageA w) (left block : ℕ) (x : BeatC w) (e : End w) (memory : Memory)
     → new.profile ≡ old.profile → new.directory ≡ old.directory → new.blocks ≡ old.blocks → new.trackers.count ≡ old.trackers.count
     → ((n : ℕ) → tracker_at new.trackers n ≡ (if number == n then Probing asking request left else tracker_at old.trackers n))
     → IsReport config link block x e → block_at request.address ≡ block → service_of_block block (services e.trace) ≡ Some (service_with number asking request)
@@ -199,7 +210,8 @@ done-waiting {w} {D} perm_of config old new number asking link request left bloc
 
     probing : IsTracked number (Probing asking request left) u
     probing = record {
-      serves = ap (service_of_block (block_at request.address)) (services-c link x e.trace) ∙ subst (λ k. service_of_block k (services e.trace) ≡ Some (service_with number asking request)) (sym same) serves;
+      serves = ap (service_of_block (block_at request.address)) (services-c link x e.trace)
+          ∙ subst (λ k. service_of_block k (services e.trace) ≡ Some (service_with number asking request)) (sym same) serves;
       unanswered = granted_c link x e.trace (service_with number asking request) ∙ unanswered;
       bits = subst (λ k. AreMissing left k u) (sym same) bits;
     }

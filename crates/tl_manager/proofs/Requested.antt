@@ -6,7 +6,7 @@ use Rattle.tl_beat.specs.declared.beat.Beat.{Beat}
 use Rattle.tl_beat.specs.declared.beat.Beat.TheVariants as beat
 use Rattle.tl_beat.specs.declared.beat.BeatA.{BeatA}
 use Rattle.tl_beat.specs.declared.beat.Link.{Link}
-use Rattle.tl_beat.specs.declared.opcode.Channel.TheVariants as channel
+use Rattle.tl_beat.specs.declared.channel.Channel.TheVariants as channel
 use Rattle.tl_burst.specs.declared.message.MessageA.{MessageA}
 use Rattle.tl_burst.specs.Messages.{History, unfinished}
 use Rattle.tl_params.specs.declared.key.Key.TheVariants.{RequestSource, AcquireOf, GrantSink, GrantAckOf, ProbeOf}
@@ -61,7 +61,8 @@ Counts link x t c q =
     ≡ one_if ((link.0 == c) && (ends (beat.A x) (on_link link.0 t) && (x.source == q))) + count_where (is_asking c q t) (services t)
 
 sources-all : {w : ℕ} (link : Link) (x : BeatA w) (t : Trace w) (c q : ℕ) → Place x (on_link link.0 t) → IsAccounted t → Counts link x t c q
-    → one_if (comes_in_request q (unfinished channel.A (on_link c ((link, beat.A x) ∷ t)))) + count_where (is_asking c q ((link, beat.A x) ∷ t)) (services ((link, beat.A x) ∷ t)) ≡ one_if (pending (RequestSource q) (on_link c ((link, beat.A x) ∷ t)))
+    → one_if (comes_in_request q (unfinished channel.A (on_link c ((link, beat.A x) ∷ t)))) + count_where (is_asking c q ((link, beat.A x) ∷ t))
+    (services ((link, beat.A x) ∷ t)) ≡ one_if (pending (RequestSource q) (on_link c ((link, beat.A x) ∷ t)))
 sources-all {w} link x t c q place ok counts = go (link.0 == c) refl counts
   where
     before : ℕ
@@ -172,13 +173,15 @@ unserved None e = refl
 unserved (Some s) e = absurd cc
 
 -- what is said of its block
-new_handled : {w : ℕ} (link : Link) (x : BeatA w) (t : Trace w) (s : Service w) → Place x (on_link link.0 t) → IsHandled (block_at x.address) t → service_of_block (block_at x.address) (services t) ≡ None
+new_handled : {w : ℕ} (link : Link) (x : BeatA w) (t : Trace w) (s : Service w) → Place x (on_link link.0 t) → IsHandled (block_at x.address) t
+    → service_of_block (block_at x.address) (services t) ≡ None
     → services ((link, beat.A x) ∷ t) ≡ s ∷ services t → s.link.0 ≡ link.0 → s.request.opcode ≡ x.opcode → block_at s.request.address ≡ block_at x.address
     → HasFields s.request.opcode s.request.param s.request.size s.request.source s.request.address (request_of s.request.source (beat.A x ∷ on_link link.0 t))
     → is_granted ((link, beat.A x) ∷ t) s ≡ false → IsHandled (block_at x.address) ((link, beat.A x) ∷ t)
 new_handled {w} link x t s place ok none more from opcode block fields free = record {
   acquires = λ c. acquires_at c (link.0 == c) refl ∙ ap (is_acquiring c u) (sym served);
-  grants = λ c. beat-keeps (pending (GrantAckOf k)) c link (beat.A x) t (λ h. pending-quiet (GrantAckOf k) (beat.A x) h refl refl) ∙ ok.grants c ∙ ap (is_granted_to c t) none ∙ sym (ap (λ b. (s.link.0 == c) && b) free ∙ never (s.link.0 == c)) ∙ ap (is_granted_to c u) (sym served);
+  grants = λ c. beat-keeps (pending (GrantAckOf k)) c link (beat.A x) t (λ h. pending-quiet (GrantAckOf k) (beat.A x) h refl refl) ∙ ok.grants c
+      ∙ ap (is_granted_to c t) none ∙ sym (ap (λ b. (s.link.0 == c) && b) free ∙ never (s.link.0 == c)) ∙ ap (is_granted_to c u) (sym served);
   named = subst (IsNamed k u) (sym served) (λ e. named_here, λ e. absurd (let no : is_granted u s ≡ false = free in cc));
   probes = λ c e.
       let before = ok.probes c (sym (beat-keeps (pending (ProbeOf k)) c link (beat.A x) t (λ h. pending-quiet (ProbeOf k) (beat.A x) h refl refl)) ∙ e) in
@@ -196,7 +199,8 @@ new_handled {w} link x t s place ok none more from opcode block fields free = re
 
     named_here : HasFields s.request.opcode s.request.param s.request.size s.request.source s.request.address (request_of s.request.source (on_link s.link.0 u))
     named_here =
-        subst (λ (h : History w). HasFields s.request.opcode s.request.param s.request.size s.request.source s.request.address (request_of s.request.source h)) (sym (own_beat s.link.0 link (beat.A x) t (eq-eqb link.0 s.link.0 (sym from)) ∙ ap (λ i. beat.A x ∷ on_link i t) from)) fields
+        subst (λ (h : History w). HasFields s.request.opcode s.request.param s.request.size s.request.source s.request.address (request_of s.request.source h))
+        (sym (own_beat s.link.0 link (beat.A x) t (eq-eqb link.0 s.link.0 (sym from)) ∙ ap (λ i. beat.A x ∷ on_link i t) from)) fields
 
     opened : (b : Bool) (h : History w) → Place x h → is_acquire x.opcode ≡ b → pending (AcquireOf k) h ≡ false → pending (AcquireOf k) (beat.A x ∷ h) ≡ b
     opened true h here e before = pending-opened (AcquireOf k) (beat.A x) h refl ∙ rw ((acquire_whole x h here e).0, e, eq-eqb k k refl) refl
@@ -253,6 +257,7 @@ accounted-last {w} link x t fits place tracked unused is ok = record {
     handled : (k : ℕ) (b : Bool) → (block_at x.address == k) ≡ b → IsHandled k u
     handled k true e =
         subst (λ (i : ℕ). IsHandled i u) (eqb-true (block_at x.address) k e)
-        (new_handled link x t s place (ok.blocks (block_at x.address)) (unserved (service_of_block (block_at x.address) (services t)) unused) more refl refl refl (fields-now x (on_link link.0 t) place) free)
+        (new_handled link x t s place (ok.blocks (block_at x.address))
+        (unserved (service_of_block (block_at x.address) (services t)) unused) more refl refl refl (fields-now x (on_link link.0 t) place) free)
     handled k false e =
         handled-same k t u (same-else link x t k place ok (ap (service_of_block k) more ∙ rw e refl) (opens_else x (on_link link.0 t) k e)) (ok.blocks k)

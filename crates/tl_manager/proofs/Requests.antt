@@ -10,7 +10,7 @@ use Rattle.tl_beat.specs.declared.beat.Beat.{Beat}
 use Rattle.tl_beat.specs.declared.beat.Beat.TheVariants as beat
 use Rattle.tl_beat.specs.declared.beat.BeatA.{BeatA}
 use Rattle.tl_beat.specs.declared.beat.Link.{Link}
-use Rattle.tl_beat.specs.declared.opcode.Channel.TheVariants as channel
+use Rattle.tl_beat.specs.declared.channel.Channel.TheVariants as channel
 use Rattle.tl_burst.specs.declared.message.Message.TheVariants.{A}
 use Rattle.tl_burst.specs.declared.message.MessageA.{MessageA}
 use Rattle.tl_burst.specs.Burst.{beats_of, a_beat_of, IsZeroFrom}
@@ -65,7 +65,8 @@ payload_blank : {w : ℕ} (config : Config) (link : Link) (x : BeatA w) (beats :
     → Each (IsWhole config link x) beats → IsZeroFrom (if carries then w * n else 0) (payload_of beats)
 payload_blank {w} config link x beats n carries e long each =
     zero_after (bytes_carried beats) (if carries then w * n else 0)
-    (bytes_length beats (if carries then w else 0) (each_weaker (IsWhole config link x) (λ y. length (lanes_of y) ≡ (if carries then w else 0)) beats (λ y ok. lanes_length x y carries e ok.like ok.sound.typed) each) ∙ go carries)
+    (bytes_length beats (if carries then w else 0) (each_weaker (IsWhole config link x) (λ y. length (lanes_of y) ≡ (if carries then w else 0)) beats
+    (λ y ok. lanes_length x y carries e ok.like ok.sound.typed) each) ∙ go carries)
   where
     go : (b : Bool) → (if b then w else 0) * length beats ≡ (if b then w * n else 0)
     go true = ap (λ k. w * k) long
@@ -74,7 +75,9 @@ payload_blank {w} config link x beats n carries e long each =
 payload_filled : {w : ℕ} (config : Config) (link : Link) (x : BeatA w) (beats : List (Beat w)) (carries : Bool) → a_carries_data x.opcode ≡ carries → w * length beats ≤ 64
     → Each (IsWhole config link x) beats → length (payload_of beats) ≡ 64
 payload_filled {w} config link x beats carries e room each =
-    let bytes = bytes_length beats (if carries then w else 0) (each_weaker (IsWhole config link x) (λ y. length (lanes_of y) ≡ (if carries then w else 0)) beats (λ y ok. lanes_length x y carries e ok.like ok.sound.typed) each) in
+    let bytes = bytes_length beats (if carries then w else 0)
+    (each_weaker (IsWhole config link x) (λ y. length (lanes_of y) ≡ (if carries then w else 0)) beats
+    (λ y ok. lanes_length x y carries e ok.like ok.sound.typed) each) in
     let few = below carries in
     let none : ℕ = 0 in
     let rest = length-replicate (64 - length (bytes_carried beats)) none in
@@ -140,7 +143,8 @@ legal_beat : {w : ℕ} (config : Config) (link : Link) (l : Level) (x : BeatA w)
 legal_beat {w} config link l x beats fits i width has_level legal each long lt =
     let control = (both_none (a_control w l x.opcode x.param x.size x.address) (a_own w x.opcode x.size x.address x.mask x.corrupt) (sym (illegal_a l x) ∙ legal)).0 in
     let room : w * length beats ≤ 64 = rw long (beats_room (A (made_of x beats fits)) width) in
-    let own = each_mask (λ mask. a_own w x.opcode x.size x.address mask false ≡ None) beats i (each_weaker (IsWhole config link x) (λ y. mask_of y < 2 ^ w) beats (λ y ok. beat_narrow config link x y width ok) each) room
+    let own = each_mask (λ mask. a_own w x.opcode x.size x.address mask false ≡ None) beats i
+    (each_weaker (IsWhole config link x) (λ y. mask_of y < 2 ^ w) beats (λ y ok. beat_narrow config link x y width ok) each) room
     (each_weaker (IsWhole config link x) (λ y. a_own w x.opcode x.size x.address (mask_of y) false ≡ None) beats (λ y ok. beat_own config link l x y has_level ok) each) lt in
     let clean : corrupt_carried beats ≡ 0 = none_corrupt beats (each_weaker (IsWhole config link x) (λ y. is_spoiled y ≡ false) beats (λ y ok. ok.sound.clean) each) in
     illegal_a l (a_beat_of (made_of x beats fits) i) ∙ rw (control, clean, no_bit i) own
@@ -155,8 +159,11 @@ performable {w} config link x beats tracker fits width ok each long =
     let below = masks-below beats (each_weaker (IsWhole config link x) (λ y. mask_of y < 2 ^ w) beats (λ y whole. beat_narrow config link x y width whole) each) in
     record {
       lawful = rw l.1 (legal_from_beats l.0 channel.A (A (made_of x beats fits)) (λ i lt. legal_beat config link l.0 x beats fits i width l.1 l.2 each long (rw long lt)));
-      blank =
-          (payload_blank config link x beats (beats_of (A (made_of x beats fits))) (a_carries_data x.opcode) refl long each, rw long at below, rw clean (pow_pos (beats_of (A (made_of x beats fits)))));
+      blank = (
+        payload_blank config link x beats (beats_of (A (made_of x beats fits))) (a_carries_data x.opcode) refl long each,
+        rw long at below,
+        rw clean (pow_pos (beats_of (A (made_of x beats fits)))),
+      );
       filled = payload_filled config link x beats (a_carries_data x.opcode) refl (rw long (beats_room (A (made_of x beats fits)) width)) each;
       clean = clean;
       inside = ok.inside;

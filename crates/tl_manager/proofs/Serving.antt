@@ -22,7 +22,8 @@ pub none_of_block : {w : ℕ} (n : ℕ) (ss : List (Service w)) → is_one_of n 
 none_of_block n [] e = refl
 none_of_block {w} n (s ∷ ss) e = go (n == block_at s.request.address) refl (λ g. none_of_block n ss g) e
   where
-    go : (b : Bool) → (n == block_at s.request.address) ≡ b → (is_one_of n (blocks_of ss) ≡ false → service_of_block n ss ≡ None) → (b || is_one_of n (blocks_of ss)) ≡ false → service_of_block n (s ∷ ss) ≡ None
+    go : (b : Bool) → (n == block_at s.request.address) ≡ b → (is_one_of n (blocks_of ss) ≡ false → service_of_block n ss ≡ None)
+        → (b || is_one_of n (blocks_of ss)) ≡ false → service_of_block n (s ∷ ss) ≡ None
     go true f more g = absurd cc
     go false f more g = rw (not_swapped n (block_at s.request.address) f) (more g)
 
@@ -63,7 +64,8 @@ tracker_among {w} n (s ∷ ss) a e = go (block_at s.request.address == n) (λ f.
     go false rest f = rw (rest f) (either (a.tracker == s.tracker))
 
 -- services of one tracker are of one block
-pub one_tracker : {w : ℕ} (n m : ℕ) (ss : List (Service w)) (a b : Service w) → AreApart (trackers_of ss) → service_of_block n ss ≡ Some a → service_of_block m ss ≡ Some b → a.tracker ≡ b.tracker → a ≡ b
+pub one_tracker : {w : ℕ} (n m : ℕ) (ss : List (Service w)) (a b : Service w) → AreApart (trackers_of ss) → service_of_block n ss ≡ Some a
+    → service_of_block m ss ≡ Some b → a.tracker ≡ b.tracker → a ≡ b
 one_tracker n m [] a b apart e f same = absurd cc
 one_tracker {w} n m (s ∷ ss) a b apart e f same = go (block_at s.request.address == n) (block_at s.request.address == m) (λ g h. one_tracker n m ss a b apart.1 g h same) e f
   where
@@ -73,7 +75,8 @@ one_tracker {w} n m (s ∷ ss) a b apart e f same = go (block_at s.request.addre
         let missing : is_one_of x.tracker (trackers_of ss) ≡ false = rw t at apart.0 in
         absurd cc
 
-    go : (p q : Bool) → (service_of_block n ss ≡ Some a → service_of_block m ss ≡ Some b → a ≡ b) → (if p then Some s else service_of_block n ss) ≡ Some a → (if q then Some s else service_of_block m ss) ≡ Some b → a ≡ b
+    go : (p q : Bool) → (service_of_block n ss ≡ Some a → service_of_block m ss ≡ Some b → a ≡ b) → (if p then Some s else service_of_block n ss) ≡ Some a
+        → (if q then Some s else service_of_block m ss) ≡ Some b → a ≡ b
     go true true rest g h = sym (some_is s a g) ∙ some_is s b h
     go true false rest g h = absurd (taken b m h (ap (λ (x : Service w). x.tracker) (some_is s a g) ∙ same))
     go false true rest g h = absurd (taken a n g (ap (λ (x : Service w). x.tracker) (some_is s b h) ∙ sym same))

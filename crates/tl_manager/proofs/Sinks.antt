@@ -144,7 +144,8 @@ moves_none_c : {w : ℕ} (sink : ℕ) (x : BeatC w) (h : History w) → pending 
 unfolding pending
 moves_none_c sink x h = neither (begins (beat.C x) h) (ends (beat.C x) h) (pending (GrantSink sink) h)
 
-after_ack : {w : ℕ} (sink : ℕ) (x : BeatE) (h : History w) → pending (GrantSink sink) (beat.E x ∷ h) ≡ true → (pending (GrantSink sink) h ≡ true) × ((ends {w = w} (beat.E x) h && (x.sink == sink)) ≡ false)
+after_ack : {w : ℕ} (sink : ℕ) (x : BeatE) (h : History w) → pending (GrantSink sink) (beat.E x ∷ h) ≡ true → (pending (GrantSink sink) h ≡ true)
+    × ((ends {w = w} (beat.E x) h && (x.sink == sink)) ≡ false)
 unfolding pending
 after_ack {w} sink x h e = still (begins {w = w} (beat.E x) h) (ends {w = w} (beat.E x) h) (x.sink == sink) (pending (GrantSink sink) h) e
 

@@ -1,7 +1,7 @@
 -- Which sources and sinks are pending, and which services there are.
 use Rattle.std.proofs.Common.{◌≡◌, ℕ, ◌+◌, ◌<◌, ◌==◌, Bool, true, false, ◌&&◌, ◌||◌, List, [], ◌∷◌, Some, None, refl, sym, ap, ◌∙◌, arith, inl, inr}
 use Rattle.std.proofs.lemmas.Bool.{eqb-true, eq-eqb, and_parts, or_parts, or_cases}
-use Rattle.tl_beat.specs.declared.opcode.Channel.TheVariants as channel
+use Rattle.tl_beat.specs.declared.channel.Channel.TheVariants as channel
 use Rattle.tl_burst.specs.Messages.{unfinished}
 use Rattle.tl_params.specs.declared.key.Key.TheVariants.{RequestSource, GrantSink}
 use Rattle.tl_rules.specs.Conformance.{Trace, on_link, comes_in_request}
@@ -48,8 +48,10 @@ source-pending {w} c q t ok =
 -- what holds of the service of any block holds of each service
 pub served-each : {w : ℕ} (P : Service w → Type 0) (ss : List (Service w)) → AreApart (blocks_of ss) → ((n : ℕ) (s : Service w) → service_of_block n ss ≡ Some s → P s) → Each P ss
 served-each P [] apart all = tt
-served-each {w} P (s ∷ ss) apart all =
-    (all (block_at s.request.address) s (rw (eq-eqb (block_at s.request.address) (block_at s.request.address) refl) refl), served-each P ss apart.1 (λ n u e. later n u e (block_at s.request.address == n) refl))
+served-each {w} P (s ∷ ss) apart all = (
+  all (block_at s.request.address) s (rw (eq-eqb (block_at s.request.address) (block_at s.request.address) refl) refl),
+  served-each P ss apart.1 (λ n u e. later n u e (block_at s.request.address == n) refl),
+)
   where
     later : (n : ℕ) (u : Service w) → service_of_block n ss ≡ Some u → (b : Bool) → (block_at s.request.address == n) ≡ b → P u
     later n u e true f =

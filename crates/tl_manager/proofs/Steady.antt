@@ -51,7 +51,8 @@ request-part : {w : ℕ} (config : Config) (link : Link) (x : BeatA w) (e : End 
     → IsSteady config ((link, beat.A x) ∷ e.trace)
 request-part config link x e is part = record {
   accounted = accounted-part link x e.trace (place_of config link x e is) part is.before.steady.accounted;
-  awaited = λ k. awaited-same config k e.trace ((link, beat.A x) ∷ e.trace) (ap (service_of_block k) (services-part (link, beat.A x) e.trace part)) (λ s f. granted_a link x e.trace s) (missing_a link x e.trace k) (is.before.steady.awaited k);
+  awaited = λ k. awaited-same config k e.trace ((link, beat.A x) ∷ e.trace) (ap (service_of_block k) (services-part (link, beat.A x) e.trace part))
+      (λ s f. granted_a link x e.trace s) (missing_a link x e.trace k) (is.before.steady.awaited k);
 }
 
 small : {w : ℕ} (config : Config) (link : Link) (x : BeatA w) → IsWidth w → IsSound config (link, beat.A x) → nat_le x.size 6 ≡ true
@@ -92,7 +93,8 @@ request-ready {w} config link x e fits is served = record {
     more = services-request link x (service_made link x t fits) t served
 
     calm : (d : ℕ) (b : Bool) → pending (ProbeOf n) (on_link d t) ≡ b → b ≡ false
-    calm d true f = let probed_by = (is.before.steady.accounted.blocks n).probes d f in absurd (let no : Some probed_by.service ≡ None = sym probed_by.serves ∙ unserved (service_of_block n (services t)) free in cc)
+    calm d true f = let probed_by = (is.before.steady.accounted.blocks n).probes d f in absurd
+        (let no : Some probed_by.service ≡ None = sym probed_by.serves ∙ unserved (service_of_block n (services t)) free in cc)
     calm d false f = refl
 
 request-last : {w : ℕ} (config : Config) (link : Link) (x : BeatA w) (e : End w) → IsTaken config link (beat.A x) e → ends (beat.A x) (on_link link.0 e.trace) ≡ true

@@ -6,7 +6,7 @@ use Rattle.tl_beat.specs.declared.beat.Beat.{Beat}
 use Rattle.tl_beat.specs.declared.beat.Beat.TheVariants as beat
 use Rattle.tl_beat.specs.declared.beat.BeatC.{BeatC}
 use Rattle.tl_beat.specs.declared.beat.Link.{Link}
-use Rattle.tl_beat.specs.declared.opcode.Channel.TheVariants as channel
+use Rattle.tl_beat.specs.declared.channel.Channel.TheVariants as channel
 use Rattle.tl_beat.specs.declared.opcode.OpC.{OpC}
 use Rattle.tl_beat.specs.declared.opcode.OpC.TheVariants as c
 use Rattle.tl_burst.specs.declared.message.Message.{Message}
@@ -76,7 +76,8 @@ still-steady : {w : ℕ} (config : Config) (link : Link) (x : BeatC w) (e : End 
     → ((k d : ℕ) → pending (ProbeOf k) (on_link d ((link, beat.C x) ∷ e.trace)) ≡ pending (ProbeOf k) (on_link d e.trace)) → IsSteady config ((link, beat.C x) ∷ e.trace)
 still-steady config link x e is same = record {
   accounted = accounted-c config.profile link x e.trace is.passes.order is.before.steady.accounted;
-  awaited = λ k. awaited-same config k e.trace ((link, beat.C x) ∷ e.trace) (ap (service_of_block k) (services-c link x e.trace)) (λ s f. granted_c link x e.trace s) (same k) (is.before.steady.awaited k);
+  awaited = λ k. awaited-same config k e.trace ((link, beat.C x) ∷ e.trace) (ap (service_of_block k) (services-c link x e.trace))
+      (λ s f. granted_c link x e.trace s) (same k) (is.before.steady.awaited k);
 }
 
 no_report : {w : ℕ} (config : Config) (link : Link) (x : BeatC w) (e : End w) → IsTaken config link (beat.C x) e → is_probe_ack x.opcode ≡ false → IsSteady config ((link, beat.C x) ∷ e.trace)
@@ -102,7 +103,8 @@ unfolding with_handed
 release {w} config link x e is kind =
     let m = release_is {w = w} x.source in
     subst (λ (i : Message w). IsSteady config (after_sent link i ((link, beat.C x) ∷ e.trace))) (sym m.1)
-    (acked-steady config link m.0 ((link, beat.C x) ∷ e.trace) is.width (whole-taken link.0 link (beat.C x) e.trace refl (is.before.whole link.0)).1 m.2 m.3 (no_report config link x e is (release_kind x.opcode kind)))
+    (acked-steady config link m.0 ((link, beat.C x) ∷ e.trace) is.width (whole-taken link.0 link (beat.C x) e.trace refl (is.before.whole link.0)).1 m.2 m.3
+    (no_report config link x e is (release_kind x.opcode kind)))
 
 -- ---- a ProbeAck
 
@@ -112,11 +114,13 @@ apart_block x k e = rw e (never (is_probe_ack x.opcode))
 awaited-else : {w : ℕ} (config : Config) (link : Link) (x : BeatC w) (e : End w) (k : ℕ) → IsTaken config link (beat.C x) e → (block_at x.address == k) ≡ false
     → is_awaited config k ((link, beat.C x) ∷ e.trace) (service_of_block k (services ((link, beat.C x) ∷ e.trace))) ≡ true
 awaited-else config link x e k is other =
-    awaited-same config k e.trace ((link, beat.C x) ∷ e.trace) (ap (service_of_block k) (services-c link x e.trace)) (λ s f. granted_c link x e.trace s) (λ d. missing-else_c link x e.trace d k (apart_block x k other)) (is.before.steady.awaited k)
+    awaited-same config k e.trace ((link, beat.C x) ∷ e.trace) (ap (service_of_block k) (services-c link x e.trace)) (λ s f. granted_c link x e.trace s)
+    (λ d. missing-else_c link x e.trace d k (apart_block x k other)) (is.before.steady.awaited k)
 
 -- where its block's service is awaited still
 reported : {w : ℕ} (config : Config) (link : Link) (x : BeatC w) (e : End w) → IsTaken config link (beat.C x) e
-    → is_awaited config (block_at x.address) ((link, beat.C x) ∷ e.trace) (service_of_block (block_at x.address) (services ((link, beat.C x) ∷ e.trace))) ≡ true → IsSteady config ((link, beat.C x) ∷ e.trace)
+    → is_awaited config (block_at x.address) ((link, beat.C x) ∷ e.trace) (service_of_block (block_at x.address) (services ((link, beat.C x) ∷ e.trace))) ≡ true
+    → IsSteady config ((link, beat.C x) ∷ e.trace)
 reported {w} config link x e is here = record {
   accounted = accounted-c config.profile link x e.trace is.passes.order is.before.steady.accounted;
   awaited = λ k. go k (block_at x.address == k) refl;
@@ -175,8 +179,10 @@ report {w} config link x e is last other kind = go (is_settled config n u) refl
     go : (b : Bool) → is_settled config n u ≡ b → IsSteady config (with_handed (deed config link (beat.C x) e).handed u)
     go true f =
         let s = report-service config link x e is kind in
-        doing config link (beat.C x) e _ (deed-settled config link x s.0 e last other kind f s.1) (performed-steady config n s.0 u (memory_with link x e) (report-ready config link x s.0 e is kind s.1 f))
-    go false f = quietly config link (beat.C x) e (ap (λ (d : Deed w). d.handed) (deed-report config link x e last other kind f)) (reported config link x e is (more (service_of_block n (services u)) f))
+        doing config link (beat.C x) e _ (deed-settled config link x s.0 e last other kind f s.1)
+        (performed-steady config n s.0 u (memory_with link x e) (report-ready config link x s.0 e is kind s.1 f))
+    go false f = quietly config link (beat.C x) e (ap (λ (d : Deed w). d.handed) (deed-report config link x e last other kind f))
+        (reported config link x e is (more (service_of_block n (services u)) f))
 
 -- ---- any beat of channel C
 

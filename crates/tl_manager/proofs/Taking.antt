@@ -6,7 +6,7 @@ use Rattle.tl_beat.specs.declared.beat.Beat.TheVariants as beat
 use Rattle.tl_beat.specs.declared.beat.BeatC.{BeatC}
 use Rattle.tl_beat.specs.declared.beat.BeatE.{BeatE}
 use Rattle.tl_beat.specs.declared.beat.Link.{Link}
-use Rattle.tl_beat.specs.declared.opcode.Channel.TheVariants as channel
+use Rattle.tl_beat.specs.declared.channel.Channel.TheVariants as channel
 use Rattle.tl_beat.specs.declared.opcode.OpC.{OpC}
 use Rattle.tl_beat.specs.declared.opcode.OpC.TheVariants as c
 use Rattle.tl_beat.specs.Opcode.{c_carries_data}
@@ -95,7 +95,8 @@ recorded-reported {w} config link x e c b is last = recorded-taken c link b (bea
     chosen false p q = refl
 
     go : (here : Bool) → (link.0 == c) ≡ here
-        → unwrap_or (if here && (ends (beat.C x) (on_link c e.trace) && ((is_probe_ack x.opcode || is_release x.opcode) && (block_at x.address == b))) then Some (reported x.param) else None) (recorded c b e.trace)
+        → unwrap_or (if here && (ends (beat.C x) (on_link c e.trace) && ((is_probe_ack x.opcode || is_release x.opcode) && (block_at x.address == b))) then Some
+        (reported x.param) else None) (recorded c b e.trace)
         ≡ (if here && (block_at x.address == b) then reported x.param else recorded c b e.trace)
     go true f =
         let there : ends (beat.C x) (on_link c e.trace) ≡ true = subst (λ i. ends (beat.C x) (on_link i e.trace) ≡ true) (eqb-true link.0 c f) last in
@@ -114,7 +115,8 @@ home-written {w} perm_of config old new link x message e profile trackers here o
   count = ap (λ t. t.count) trackers ∙ home.count;
   tracked = λ n. rw trackers (home.tracked n tt);
   records =
-      records-set (perm_of old.directory) (perm_of new.directory) (λ b c. recorded c b e.trace) (λ b c. recorded c b ((link, beat.C x) ∷ e.trace)) (block_at message.address) link.0 (reported message.param) here others home.records
+      records-set (perm_of old.directory) (perm_of new.directory) (λ b c. recorded c b e.trace) (λ b c. recorded c b ((link, beat.C x) ∷ e.trace))
+      (block_at message.address) link.0 (reported message.param) here others home.records
       (λ b c. rw (is.address, is.param) (recorded-reported config link x e c b is.taken.passes is.last));
   bytes = rw (is.opcode, is.address, is.payload) at bytes;
 }
@@ -133,7 +135,8 @@ home-released {w} {M} perm_of config home link x message e is release ok =
         profile = ok.profile;
         count = ok.count;
         tracked = λ n all. after n (release_is {w = w} x.source);
-        records = λ b c. ok.records b c ∙ sym (recorded-sent c b link (release_ack x.source) u is.taken.width refl (whole-taken c link (beat.C x) e.trace refl (is.taken.before.whole c)) ∙ silent c b (link.0 == c));
+        records = λ b c. ok.records b c ∙ sym (recorded-sent c b link (release_ack x.source) u is.taken.width refl
+            (whole-taken c link (beat.C x) e.trace refl (is.taken.before.whole c)) ∙ silent c b (link.0 == c));
         bytes = ok.bytes;
       },
     )
@@ -145,7 +148,8 @@ home-released {w} {M} perm_of config home link x message e is release ok =
     silent c b true = refl
     silent c b false = refl
 
-    after : (n : ℕ) → ((m : MessageD w) × (release_ack {w = w} x.source ≡ D m) × (is_release_ack m.opcode ≡ true) × (is_grant m.opcode ≡ false)) → IsTracked n (tracker_at home.trackers n) (after_sent link (release_ack x.source) u)
+    after : (n : ℕ) → ((m : MessageD w) × (release_ack {w = w} x.source ≡ D m) × (is_release_ack m.opcode ≡ true) × (is_grant m.opcode ≡ false))
+        → IsTracked n (tracker_at home.trackers n) (after_sent link (release_ack x.source) u)
     after n m =
         subst (λ (i : Message w). IsTracked n (tracker_at home.trackers n) (after_sent link i u)) (sym m.1)
         (tracked-still n (tracker_at home.trackers n) e.trace (after_sent link (D m.0) u) (λ free. ap (λ (ss : List (Service w)). is_one_of n (trackers_of ss)) same ∙ free)
@@ -186,7 +190,8 @@ pub done-ack : {w : ℕ} {M : Type 0} (perm_of : M → ℕ → ℕ → Perm) (co
     → IsDone perm_of config home handed ((link, beat.C x) ∷ e.trace) (deed config link (beat.C x) e)
 done-ack {w} perm_of config home handed link block x message e other is report done =
     subst (λ (d : Deed w). IsDone perm_of config home handed ((link, beat.C x) ∷ e.trace) d)
-    (ap (λ k. finish config k ((link, beat.C x) ∷ e.trace) (memory_with link x e)) (sym report.of_block) ∙ sym (deed-ack_report config link x e is.last (ap is_release (sym is.opcode) ∙ other) report.kind)) done
+    (ap (λ k. finish config k ((link, beat.C x) ∷ e.trace) (memory_with link x e)) (sym report.of_block)
+    ∙ sym (deed-ack_report config link x e is.last (ap is_release (sym is.opcode) ∙ other) report.kind)) done
 
 -- ---- a GrantAck
 
@@ -250,7 +255,8 @@ home-acked {w} perm_of config old new sink link x e profile directory blocks cou
     others : (n : ℕ) → n ≢ sink → IsTracked n (tracker_at old.trackers n) e.trace → IsTracked n (tracker_at old.trackers n) u
     others n other ok =
         tracked-still n (tracker_at old.trackers n) e.trace u
-        (λ free. ap (λ (ss : List (Service w)). is_one_of n (trackers_of ss)) (services-e link x e.trace) ∙ missing_filter (λ (v : Service w). v.tracker) (λ s. not (is_ended_by (link, beat.E x) s)) n (services e.trace) free)
+        (λ free. ap (λ (ss : List (Service w)). is_one_of n (trackers_of ss)) (services-e link x e.trace)
+        ∙ missing_filter (λ (v : Service w). v.tracker) (λ s. not (is_ended_by (link, beat.E x) s)) n (services e.trace) free)
         (λ k v f at.
         let left = stays v at in
         record {

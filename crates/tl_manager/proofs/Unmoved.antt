@@ -2,7 +2,7 @@
 use Rattle.std.proofs.Common.{◌≡◌, ℕ, ◌==◌, true, false, not, ◌&&◌, ◌||◌, List, [], ◌∷◌, Option, Some, None, refl, sym, ap, subst, ◌∙◌}
 use Rattle.tl_beat.specs.declared.beat.Beat.{Beat}
 use Rattle.tl_beat.specs.declared.beat.Beat.TheVariants as beat
-use Rattle.tl_beat.specs.declared.opcode.Channel.TheVariants as channel
+use Rattle.tl_beat.specs.declared.channel.Channel.TheVariants as channel
 use Rattle.tl_burst.specs.Messages.{History, unfinished}
 use Rattle.tl_params.specs.declared.config.Config.{Config}
 use Rattle.tl_params.specs.declared.key.Key.TheVariants.{RequestSource, AcquireOf, GrantAckOf, ProbeOf}
@@ -20,7 +20,8 @@ pub record IsSame {w : ℕ} (k : ℕ) (t u : Trace w) : Type 0 where
   pub granted : (s : Service w) → service_of_block k (services t) ≡ Some s → is_granted u s ≡ is_granted t s
   pub acquires : (c : ℕ) → pending (AcquireOf k) (on_link c u) ≡ pending (AcquireOf k) (on_link c t)
   pub grants : (c : ℕ) → pending (GrantAckOf k) (on_link c u) ≡ pending (GrantAckOf k) (on_link c t)
-  pub requests : (s : Service w) → service_of_block k (services t) ≡ Some s → is_granted t s ≡ false → request_of s.request.source (on_link s.link.0 u) ≡ request_of s.request.source (on_link s.link.0 t)
+  pub requests : (s : Service w) → service_of_block k (services t) ≡ Some s → is_granted t s ≡ false
+      → request_of s.request.source (on_link s.link.0 u) ≡ request_of s.request.source (on_link s.link.0 t)
   pub sinks : (c : ℕ) → grant_sink k (on_link c u) ≡ grant_sink k (on_link c t)
   pub probes : (c : ℕ) → pending (ProbeOf k) (on_link c u) ≡ true → pending (ProbeOf k) (on_link c t) ≡ true
   pub probe : (c : ℕ) → probe_of k (on_link c u) ≡ probe_of k (on_link c t)
@@ -69,7 +70,8 @@ pub record IsQuiet {w : ℕ} (k : ℕ) (t u : Trace w) : Type 0 where
   pub granted : (s : Service w) → service_of_block k (services t) ≡ Some s → is_granted u s ≡ is_granted t s
   pub acquires : (c : ℕ) → pending (AcquireOf k) (on_link c u) ≡ pending (AcquireOf k) (on_link c t)
   pub grants : (c : ℕ) → pending (GrantAckOf k) (on_link c u) ≡ pending (GrantAckOf k) (on_link c t)
-  pub requests : (s : Service w) → service_of_block k (services t) ≡ Some s → is_granted t s ≡ false → request_of s.request.source (on_link s.link.0 u) ≡ request_of s.request.source (on_link s.link.0 t)
+  pub requests : (s : Service w) → service_of_block k (services t) ≡ Some s → is_granted t s ≡ false
+      → request_of s.request.source (on_link s.link.0 u) ≡ request_of s.request.source (on_link s.link.0 t)
   pub sinks : (c : ℕ) → grant_sink k (on_link c u) ≡ grant_sink k (on_link c t)
 
 pub handled-quiet : {w : ℕ} (k : ℕ) (t u : Trace w) → IsQuiet k t u → ((c : ℕ) → pending (ProbeOf k) (on_link c u) ≡ true → IsProbed c k u) → IsHandled k t → IsHandled k u
@@ -133,7 +135,8 @@ settled-same config k t u same = ap is_nobody (where-same 0 _ (λ c. is_missing 
 
 pub awaited-same : {w : ℕ} (config : Config) (k : ℕ) (t u : Trace w) → service_of_block k (services u) ≡ service_of_block k (services t)
     → ((s : Service w) → service_of_block k (services t) ≡ Some s → is_granted u s ≡ is_granted t s)
-    → ((c : ℕ) → pending (ProbeOf k) (on_link c u) ≡ pending (ProbeOf k) (on_link c t)) → is_awaited config k t (service_of_block k (services t)) ≡ true → is_awaited config k u (service_of_block k (services u)) ≡ true
+    → ((c : ℕ) → pending (ProbeOf k) (on_link c u) ≡ pending (ProbeOf k) (on_link c t)) → is_awaited config k t (service_of_block k (services t)) ≡ true
+    → is_awaited config k u (service_of_block k (services u)) ≡ true
 awaited-same {w} config k t u serves same missing ok = ap (is_awaited config k u) serves ∙ go (service_of_block k (services t)) same ok
   where
     go : (o : Option (Service w)) → ((s : Service w) → o ≡ Some s → is_granted u s ≡ is_granted t s) → is_awaited config k t o ≡ true → is_awaited config k u o ≡ true

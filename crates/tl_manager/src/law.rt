@@ -5,7 +5,7 @@ ghost use Rattle.tl_beat.specs.declared.beat.Beat.{Beat};
 ghost use Rattle.tl_beat.specs.declared.beat.BeatC.{BeatC};
 ghost use Rattle.tl_beat.specs.declared.beat.BeatE.{BeatE};
 ghost use Rattle.tl_beat.specs.declared.beat.Link.{Link};
-ghost use Rattle.tl_beat.specs.declared.opcode.Channel.{Channel};
+ghost use Rattle.tl_beat.specs.declared.channel.Channel.{Channel};
 ghost use Rattle.tl_beat.specs.Width.{IsWidth};
 ghost use Rattle.tl_params.specs.declared.config.Config.{Config};
 ghost use Rattle.tl_burst.specs.declared.message.Message.{Message};

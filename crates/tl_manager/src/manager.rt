@@ -24,7 +24,7 @@ use crate::manager::reply::{Handed, Sending};
 use std::alloc::Global;
 use std::marker::Model;
 use tl_beat::beat::{Beat, Link};
-use tl_beat::opcode::Channel;
+use tl_beat::channel::Channel;
 use tl_rules::config::{Config, NewFault};
 use tl_rules::rule::Rule;
 

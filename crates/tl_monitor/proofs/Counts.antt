@@ -79,7 +79,8 @@ pub counted-set : {X : Type 0} (values : List (Option X)) (k len before after : 
 counted-set values k len before after x lt long e b a =
     let one = one_value values k lt in
     let own : at (slice_set values k x) k ≡ x = get_or-set_same values k x None (omega arith) in
-    let changed = sum-changed 256 k (λ i. one_if (is_some (at values i))) (λ i. one_if (is_some (at (slice_set values k x) i))) lt (λ i other. ap (λ o. one_if (is_some o)) (sym (get_or-set_other values k i x None other))) in
+    let changed = sum-changed 256 k (λ i. one_if (is_some (at values i))) (λ i. one_if (is_some (at (slice_set values k x) i))) lt
+    (λ i other. ap (λ o. one_if (is_some o)) (sym (get_or-set_other values k i x None other))) in
     let a' : one_if (is_some (at (slice_set values k x) k)) ≡ after = rw own (sym a) in
     omega (arith, changed, one, a')
 

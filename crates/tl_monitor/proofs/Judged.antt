@@ -5,7 +5,7 @@ use Rattle.std.proofs.lemmas.Bool.{not-false}
 use Rattle.tl_beat.specs.declared.beat.Beat.{Beat}
 use Rattle.tl_beat.specs.declared.beat.Beat.TheVariants.{D}
 use Rattle.tl_beat.specs.declared.beat.BeatD.{BeatD}
-use Rattle.tl_beat.specs.declared.opcode.Channel.TheVariants as channel
+use Rattle.tl_beat.specs.declared.channel.Channel.TheVariants as channel
 use Rattle.tl_beat.specs.First.{first_if}
 use Rattle.tl_burst.specs.Messages.{History, channel_of, unfinished, breaks_burst}
 use Rattle.tl_burst.specs.Part.{is_empty}

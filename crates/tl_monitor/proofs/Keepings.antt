@@ -7,7 +7,7 @@ use Rattle.tl_beat.specs.declared.beat.Beat.{Beat}
 use Rattle.tl_beat.specs.declared.beat.Beat.TheVariants.{A, B, C, D, E}
 use Rattle.tl_beat.specs.declared.beat.BeatD.{BeatD}
 use Rattle.tl_beat.specs.declared.beat.BeatE.{BeatE}
-use Rattle.tl_beat.specs.declared.opcode.Channel.TheVariants as channel
+use Rattle.tl_beat.specs.declared.channel.Channel.TheVariants as channel
 use Rattle.tl_beat.specs.declared.opcode.OpD.{OpD}
 use Rattle.tl_beat.specs.declared.opcode.OpD.TheVariants as d
 use Rattle.tl_beat.specs.Opcode.{d_carries_data}
@@ -200,7 +200,8 @@ answering-next {w} l p k (D x) t keeps legal y earlier e = elim (cases_Bool (end
         | inr other ↦ other
       ] in
       let asks : is_some (kept_request x.source (D x ∷ t)) ≡ true =
-      ap is_some (request-next x.source (D x) t) ∙ ap (λ b. is_some (if b && (not (is_release_ack x.opcode) && (x.source == x.source)) then None else kept_request x.source t)) unended ∙ known.request apart in
+      ap is_some (request-next x.source (D x) t) ∙ ap (λ b.
+      is_some (if b && (not (is_release_ack x.opcode) && (x.source == x.source)) then None else kept_request x.source t)) unended ∙ known.request apart in
       (ap (λ (z : BeatD w). is_release_ack z.opcode) (sym same) ∙ apart, ap (λ (z : BeatD w). is_some (kept_request z.source (D x ∷ t))) (sym same) ∙ asks)
 ]
   where

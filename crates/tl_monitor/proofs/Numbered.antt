@@ -49,7 +49,8 @@ opened k t keeps =
     (λ b. one_if (is_held (held b t)) + one_if (pending (AcquireOf b) t) + one_if (pending (ReleaseOf b) t) + one_if (pending (ProbeOf b) t) + one_if (pending (GrantAckOf b) t))
     (λ b lt. ap open_of (keeps.blocks_are b)
     ∙ ap₂ (λ p g. one_if (is_held (held b t)) + one_if (pending (AcquireOf b) t) + one_if (pending (ReleaseOf b) t) + one_if p + one_if g) (sym (pending-probe b t)) (sym (pending-grant b t)))
-    ∙ five (2 ^ 32) (λ b. one_if (is_held (held b t))) (λ b. one_if (pending (AcquireOf b) t)) (λ b. one_if (pending (ReleaseOf b) t)) (λ b. one_if (pending (ProbeOf b) t)) (λ b. one_if (pending (GrantAckOf b) t))
+    ∙ five (2 ^ 32) (λ b. one_if (is_held (held b t))) (λ b. one_if (pending (AcquireOf b) t)) (λ b. one_if (pending (ReleaseOf b) t))
+    (λ b. one_if (pending (ProbeOf b) t)) (λ b. one_if (pending (GrantAckOf b) t))
 
 pub entries-are : {w : ℕ} (k : Kept) (t : History w) → Keeps k t → entries_in k ≡ sum (numbers t)
 entries-are k t keeps =
@@ -100,7 +101,8 @@ some_open c pos = elim (cases_Bool (is_held c.held)) [
 pub some-more : {w : ℕ} (l : Level) (p : Profile) (k : Kept) (x : Beat w) (t : History w) (b : ℕ) → IsWidth w → Keeps k t → broken_after l p x t ≡ None → IsNew k x b
     → AnyMore (numbers t) (numbers (x ∷ t))
 some-more {w} l p k x t b width keeps legal new =
-    let step : (n : ℕ) → kept_block n (x ∷ t) ≡ (if is_block n (Some b) then block_next (is_first x k) (kept.completes x k) x (kept_block n t) else kept_block n t) = λ n. others_stay l p k x t b n width keeps legal new.is_touched in
+    let step : (n : ℕ) → kept_block n (x ∷ t) ≡ (if is_block n (Some b) then block_next (is_first x k) (kept.completes x k) x
+    (kept_block n t) else kept_block n t) = λ n. others_stay l p k x t b n width keeps legal new.is_touched in
     let before : kept_block b t ≡ empty_block = sym (keeps.blocks_are b) ∙ new.was_empty in
     let after : kept_block b (x ∷ t) ≡ block_next (is_first x k) (kept.completes x k) x (block_in k.blocks b) =
     step b ∙ rw (eq-eqb b b refl) refl ∙ ap (block_next (is_first x k) (kept.completes x k) x) (sym (keeps.blocks_are b)) in

@@ -14,7 +14,8 @@ use Rattle.tl_rules.specs.declared.past.Probe.{Probe}
 use Rattle.tl_rules.specs.declared.table.Block.{Block}
 use Rattle.tl_rules.specs.Tables.{empty_block}
 use Rattle.tl_monitor.specs.Count.{sum_below, one_if}
-use Rattle.tl_monitor.specs.Blocks.{value_found, value_in, with_value, IsValue, AllOpen, entries_of, tree_of, tree_in, block_found, block_or_empty, block_in, is_held, open_of, with_seen, AreOpen, IsSeen}
+use Rattle.tl_monitor.specs.Blocks.{value_found, value_in, with_value, IsValue, AllOpen, entries_of, tree_of, tree_in, block_found, block_or_empty, block_in}
+use Rattle.tl_monitor.specs.Blocks.{is_held, open_of, with_seen, AreOpen, IsSeen}
 use Rattle.tl_monitor.proofs.Counts.{sum-changed, sum-none, sum-le, byte-one, one-le}
 
 pub open-empty : open_of empty_block ≡ 0
@@ -36,7 +37,8 @@ pub open-bytes : (b : Block) (h a r p g : ℕ) → h ≡ bool_byte (is_held b.he
 unfolding open_of
 open-bytes b h a r p g eh ea er ep eg = rw (eh, ea, er, ep, eg, byte-one (is_held b.held), byte-one b.acquire, byte-one b.release, byte-one (is_some b.probe), byte-one (is_some b.grant)) refl
 
-none : (h : Perm) (a r : Bool) (p : Option Probe) (g : Option ℕ) → one_if (is_held h) + one_if a + one_if r + one_if (is_some p) + one_if (is_some g) ≡ 0 → record { held = h; acquire = a; release = r; probe = p; grant = g } ≡ empty_block
+none : (h : Perm) (a r : Bool) (p : Option Probe) (g : Option ℕ) → one_if (is_held h) + one_if a + one_if r + one_if (is_some p) + one_if (is_some g) ≡ 0
+    → record { held = h; acquire = a; release = r; probe = p; grant = g } ≡ empty_block
 none perm.None false false None None e = refl
 none perm.Branch a r p g e = absurd (omega arith)
 none perm.Trunk a r p g e = absurd (omega arith)
@@ -122,7 +124,8 @@ value-absent es k (Some v) no' = absent_same k v es no'
 -- ---- in all trees
 
 -- what is seen of a block, and of the others what stands there
-pub seen-in : (ts : List (List (ℕ × Block))) (k : ℕ) (o : Option Block) (q : ℕ) → tree_of k < length ts → IsSeen ts k o → block_in (with_seen ts k o) q ≡ (if q == k then block_or_empty o else block_in ts q)
+pub seen-in : (ts : List (List (ℕ × Block))) (k : ℕ) (o : Option Block) (q : ℕ) → tree_of k < length ts → IsSeen ts k o
+    → block_in (with_seen ts k o) q ≡ (if q == k then block_or_empty o else block_in ts q)
 seen-in ts k o q lt stands = elim (cases_eq (tree_of q) (tree_of k)) [
   | inl its ↦ rw (its, get_or-set_same ts (tree_of k) (with_value (tree_in ts k) k o) [] lt) (value-in (tree_in ts k) k o q stands)
   | inr apart ↦ rw (get_or-set_other ts (tree_of k) (tree_of q) (with_value (tree_in ts k) k o) [] apart, ne_eqb q k (λ e. apart (ap tree_of e))) refl
@@ -142,10 +145,12 @@ pub found-same : (ts : List (List (ℕ × Block))) (k : ℕ) (o : Option Block) 
 found-same ts k o is = ap (slice_set ts (tree_of k)) (value-same (tree_in ts k) k o is) ∙ set-get_or ts (tree_of k) []
 
 -- the table says of a block what is seen of it, and of another what stands there
-pub own-said : (ts table : List (List (ℕ × Block))) (last k : ℕ) (o : Option Block) → tree_of last < length ts → IsSeen ts last o → with_seen ts last o ≡ table → k ≡ last → block_or_empty o ≡ block_in table k
+pub own-said : (ts table : List (List (ℕ × Block))) (last k : ℕ) (o : Option Block) → tree_of last < length ts → IsSeen ts last o → with_seen ts last o ≡ table
+    → k ≡ last → block_or_empty o ≡ block_in table k
 own-said ts table last k o lt stands same its = sym (ap₂ (λ t n. block_in t n) (sym same) its ∙ seen-in ts last o last lt stands ∙ rw (eq-eqb last last refl) refl)
 
-pub other-said : (ts table : List (List (ℕ × Block))) (last k : ℕ) (o : Option Block) → tree_of last < length ts → IsSeen ts last o → with_seen ts last o ≡ table → k ≢ last → block_in ts k ≡ block_in table k
+pub other-said : (ts table : List (List (ℕ × Block))) (last k : ℕ) (o : Option Block) → tree_of last < length ts → IsSeen ts last o
+    → with_seen ts last o ≡ table → k ≢ last → block_in ts k ≡ block_in table k
 other-said ts table last k o lt stands same other = sym (ap (λ t. block_in t k) (sym same) ∙ seen-in ts last o k lt stands ∙ rw (ne_eqb k last other) refl)
 
 pub set-said : (ts new table : List (List (ℕ × Block))) (block : ℕ) (value : Block) (o : Option Block) → tree_of block < length ts → IsSeen ts block o → with_seen ts block o ≡ table
@@ -163,7 +168,12 @@ tree_said ts tree block value new lt changed k = elim (cases_eq (tree_of k) (tre
   | inl its ↦
       let within : tree_of block < length (slice_set ts (tree_of block) tree) = rw (length-set ts (tree_of block) tree) lt in
       let own : block_in (with_seen (slice_set ts (tree_of block) tree) block new) k ≡ value_in (with_value tree block new) k =
-      rw (its, get_or-set_same (slice_set ts (tree_of block) tree) (tree_of block) (with_value (tree_in (slice_set ts (tree_of block) tree) block) block new) [] within, get_or-set_same ts (tree_of block) tree [] lt) refl in
+      rw (
+        its,
+        get_or-set_same (slice_set ts (tree_of block) tree) (tree_of block)
+            (with_value (tree_in (slice_set ts (tree_of block) tree) block) block new) [] within,
+        get_or-set_same ts (tree_of block) tree [] lt,
+      ) refl in
       own ∙ changed k ∙ ap (λ i. if k == block then value else value_in (slice_index_or ts i []) k) (sym its)
   | inr apart ↦
       rw (

@@ -1,8 +1,8 @@
 -- What a table of unfinished bursts says of each channel.
 use Rattle.std.specs.Prelude.{ℕ, Bool, List, [], ◌∷◌, ◌+◌, ◌-◌, ◌==◌, ◌≡◌, ◌<◌, if◌then◌else◌, length, nat_le, Option, Some, None}
 use Rattle.tl_beat.specs.declared.beat.Beat.{Beat}
-use Rattle.tl_beat.specs.declared.opcode.Channel.{Channel}
-use Rattle.tl_beat.specs.declared.opcode.Channel.TheVariants as channel
+use Rattle.tl_beat.specs.declared.channel.Channel.{Channel}
+use Rattle.tl_beat.specs.declared.channel.Channel.TheVariants as channel
 use Rattle.tl_burst.specs.Messages.{burst_length, on}
 use Rattle.tl_monitor.specs.Control.{control_of}
 use Rattle.tl_monitor.specs.declared.bursts.Unfinished.{Unfinished}

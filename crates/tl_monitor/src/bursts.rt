@@ -2,14 +2,14 @@
 
 ghost use Rattle.std.specs.Prelude.{IsTrue, None, is_none, ◌≡◌};
 ghost use Rattle.tl_beat.specs.Width.{IsWidth};
-ghost use Rattle.tl_beat.specs.declared.opcode.Channel.TheVariants as channel;
+ghost use Rattle.tl_beat.specs.declared.channel.Channel.TheVariants as channel;
 ghost use Rattle.tl_burst.specs.Messages;
 ghost use Rattle.tl_burst.specs.Part.{is_small};
 ghost use Rattle.tl_monitor.specs.Bursts.{burst_on, is_last, burst_next, burst_with};
 
 use crate::control::{Control, control_of};
 use tl_beat::beat::Beat;
-use tl_beat::opcode::Channel;
+use tl_beat::channel::Channel;
 use tl_burst::burst::burst_length;
 
 /// A burst that has begun and isn't complete: the control fields of its beats, and how many of them

@@ -11,7 +11,7 @@ use crate::bursts::channel_of;
 use crate::control::has_control;
 use crate::kept::Kept;
 use tl_beat::beat::Beat;
-use tl_rules::legality::check_beat;
+use tl_rules::legality::beat::check_beat;
 use tl_rules::level::Level;
 use tl_rules::order::broken_order;
 use tl_rules::profile::Profile;

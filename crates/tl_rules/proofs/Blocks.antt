@@ -1,11 +1,12 @@
 -- What was written to a block, as a memory that has the block sees it.
-use Rattle.std.proofs.Common.{◌≡◌, ℕ, zero, suc, ◌+◌, ◌-◌, ◌*◌, ◌/◌, ◌%◌, ◌^◌, ◌<◌, ◌≤◌, ◌⊎◌, ◌≢◌, eqb, leb, ltb, cond, true, false, Bool, List, [], ◌∷◌, ◌++◌, length, take, drop, get_or, replicate, Some, None, unwrap_or, refl, sym, ap, ◌∙◌, arith, inl, inr, zero-add, add-zero}
+use Rattle.std.proofs.Common.{◌≡◌, ℕ, zero, suc, ◌+◌, ◌-◌, ◌*◌, ◌/◌, ◌%◌, ◌^◌, ◌<◌, ◌≤◌, ◌⊎◌, ◌≢◌, eqb, leb, ltb, cond, true, false, Bool, List, [], ◌∷◌, ◌++◌}
+use Rattle.std.proofs.Common.{length, take, drop, get_or, replicate, Some, None, unwrap_or, refl, sym, ap, ◌∙◌, arith, inl, inr, zero-add, add-zero}
 use Rattle.std.specs.Int.{to_le_bytes, w64}
 use Rattle.std.proofs.lemmas.Bool.{cases_lt, lt-ltb, le-ltb, le-leb, lt-leb, and_right, cases_Bool, eqb-true}
 use Rattle.std.proofs.lemmas.List.{length-append, length-take-le, length-replicate, get_or_append_left, get_or-append_right, get_or-take, get_or-drop, drop_more}
 use Rattle.std.proofs.lemmas.Option.{slice_get-get_or}
 use Rattle.std.specs.Prelude.{slice_get}
-use Rattle.tl_beat.specs.declared.opcode.Channel.TheVariants as channel
+use Rattle.tl_beat.specs.declared.channel.Channel.TheVariants as channel
 use Rattle.tl_beat.specs.declared.opcode.OpA.{OpA}
 use Rattle.tl_beat.specs.declared.opcode.OpA.TheVariants as a
 use Rattle.tl_beat.specs.Opcode.{a_carries_data}
@@ -22,7 +23,8 @@ use Rattle.tl_params.specs.declared.level.Level.TheVariants as level
 use Rattle.tl_rules.specs.Legality.{illegal_message}
 use Rattle.tl_rules.specs.Merge.{merged}
 use Rattle.tl_rules.specs.Place.{base_of, moved_up}
-use Rattle.tl_rules.specs.Effect.{Memory, number_from, byte_of, arithmetic_result, logical_result, by_param, byte_count, operand_of, number_stored, with_number, after, as_payload, bytes_from, IsBlock, request_block, effect, access_result, answer_at, answer_of}
+use Rattle.tl_rules.specs.Effect.{Memory, number_from, byte_of, arithmetic_result, logical_result, by_param, byte_count, operand_of, number_stored, with_number}
+use Rattle.tl_rules.specs.Effect.{after, as_payload, bytes_from, IsBlock, request_block, effect, access_result, answer_at, answer_of}
 use Rattle.std.proofs.Math.Nat.{mod-mod}
 use Rattle.std.proofs.lemmas.Nat.{div-add-mod'}
 use Rattle.std.proofs.lemmas.Nat.Bits.{bit_at_above}
@@ -200,7 +202,8 @@ pub read_done : {w : ℕ} (m : MessageA w) (memory : Memory) (old out : List ℕ
     → out ≡ as_payload first (take count (drop at old)) → IsBlock memory (m.address / 64) old → out ≡ as_payload (m.address % w) (bytes_from memory m.address (byte_count m))
 read_done m memory old out at first count at_is first_is count_is room long out_is is =
     let bytes : bytes_from memory m.address count ≡ take count (drop at old) =
-    bytes_in_block memory old m.address at count (omega arith) (λ i lt. let place : 64 * (m.address / 64) + (at + i) ≡ m.address + i = omega arith in ap memory (sym place) ∙ is (at + i) (omega arith)) in
+    bytes_in_block memory old m.address at count (omega arith)
+    (λ i lt. let place : 64 * (m.address / 64) + (at + i) ≡ m.address + i = omega arith in ap memory (sym place) ∙ is (at + i) (omega arith)) in
     out_is ∙ rw (← bytes, first_is, count_is) refl
 
 -- ---- what lies elsewhere

@@ -4,8 +4,8 @@ use Rattle.std.specs.Prelude.{if◌then◌else◌, [], ◌∷◌, Some, ◌==◌
 use Rattle.std.proofs.lemmas.Bool.{cases_Bool}
 use Rattle.tl_beat.specs.declared.beat.Beat.{Beat}
 use Rattle.tl_beat.specs.declared.beat.Beat.TheVariants as beat
-use Rattle.tl_beat.specs.declared.opcode.Channel.{Channel}
-use Rattle.tl_beat.specs.declared.opcode.Channel.TheVariants as channel
+use Rattle.tl_beat.specs.declared.channel.Channel.{Channel}
+use Rattle.tl_beat.specs.declared.channel.Channel.TheVariants as channel
 use Rattle.tl_burst.specs.declared.message.Message.{Message}
 use Rattle.tl_burst.specs.declared.message.Message.TheVariants.{A, B, C, D, E}
 use Rattle.tl_burst.specs.declared.message.MessageB.{MessageB}
@@ -19,7 +19,8 @@ use Rattle.tl_params.specs.declared.key.Key.TheVariants as key
 use Rattle.tl_rules.specs.History.{begins, ends, opens, closes, pending, request_of, release_of, probe_of, grant_sink, is_release, is_probe, block_at, held}
 use Rattle.tl_rules.specs.Agent.{sent}
 use Rattle.tl_rules.specs.Handed.{pending_with, held_with, request_with, release_with, probe_with, sink_with}
-use Rattle.tl_rules.proofs.Sent.{begins-first, begins-later, ends-at, not_last, is_last, off_other, unfinished-sent, unfinished-sent_other, request_of-sent, request_of-other, release_of-other, held-sent_c, held-sent_d, held-sent_unsaid}
+use Rattle.tl_rules.proofs.Sent.{begins-first, begins-later, ends-at, not_last, is_last, off_other, unfinished-sent, unfinished-sent_other, request_of-sent}
+use Rattle.tl_rules.proofs.Sent.{request_of-other, release_of-other, held-sent_c, held-sent_d, held-sent_unsaid}
 use Rattle.tl_rules.proofs.Open.{never}
 
 -- ---- what is pending

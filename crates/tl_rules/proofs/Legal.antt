@@ -2,8 +2,8 @@
 use Rattle.std.proofs.Common.{◌≡◌, ℕ, zero, suc, ◌+◌, ◌<◌, Bool, true, false, not, Option, None, refl, sym, ◌∙◌, arith, add-zero, inl, inr}
 use Rattle.std.proofs.lemmas.Bool.{le-leb, not-false, cases_lt}
 use Rattle.std.specs.Option.{option_or}
-use Rattle.tl_beat.specs.declared.opcode.Channel.{Channel}
-use Rattle.tl_beat.specs.declared.opcode.Channel.TheVariants as channel
+use Rattle.tl_beat.specs.declared.channel.Channel.{Channel}
+use Rattle.tl_beat.specs.declared.channel.Channel.TheVariants as channel
 use Rattle.tl_beat.specs.declared.opcode.OpA.{OpA}
 use Rattle.tl_beat.specs.declared.opcode.OpA.TheVariants as a
 use Rattle.tl_beat.specs.declared.beat.BeatA.{BeatA}
@@ -97,7 +97,8 @@ join_none o rest e f = rw e f
 beat_at_uh : {w : ℕ} (l : Level) (x : BeatA w) → IsWidth w → a_code x.opcode < 6 → illegal l channel.A (beat.A x) ≡ None → illegal level.UH channel.A (beat.A x) ≡ None
 beat_at_uh {w} l x is access e =
     let p = both_none (a_control w l x.opcode x.param x.size x.address) (a_own w x.opcode x.size x.address x.mask x.corrupt) (sym (illegal_a l x) ∙ e) in
-    illegal_a level.UH x ∙ join_none (a_control w level.UH x.opcode x.param x.size x.address) (a_own w x.opcode x.size x.address x.mask x.corrupt) (control_at_uh w l x.opcode x.param x.size x.address is access p.0) p.1
+    illegal_a level.UH x ∙ join_none (a_control w level.UH x.opcode x.param x.size x.address) (a_own w x.opcode x.size x.address x.mask x.corrupt)
+    (control_at_uh w l x.opcode x.param x.size x.address is access p.0) p.1
 
 -- an access that breaks no rule at the level of its link breaks none at TL-UH, as `perform` asks
 pub access_at_uh : {w : ℕ} (l : Level) (m : MessageA w) → IsWidth w → a_code m.opcode < 6 → illegal_message l channel.A (A m) ≡ None → illegal_message level.UH channel.A (A m) ≡ None

@@ -10,7 +10,8 @@ use Rattle.tl_params.specs.declared.key.Key.TheVariants.{RequestSource, ReleaseS
 use Rattle.tl_params.specs.declared.profile.Profile.{Profile}
 use Rattle.tl_params.specs.declared.rule.Rule.TheVariants.{H2, H3, H6, H7, H10, H11, H12}
 use Rattle.tl_rules.specs.History.{begins, ends, closes, pending, request_of, release_of, probe_of, is_release, is_grant, is_release_ack, is_probe, block_at, held}
-use Rattle.tl_rules.specs.Conformance.{answers_wrong_probe, misreports, is_probe_block, is_report_at, answers, admits, size_of_request, broken_d, broken_probe_ack, comes_in_release, comes_in_request, misgrants}
+use Rattle.tl_rules.specs.Conformance.{answers_wrong_probe, misreports, is_probe_block, is_report_at, answers, admits, size_of_request, broken_d}
+use Rattle.tl_rules.specs.Conformance.{broken_probe_ack, comes_in_release, comes_in_request, misgrants}
 use Rattle.tl_rules.specs.Open.{open_request, open_release, open_probe, request_fields, release_size, probe_fields}
 use Rattle.tl_rules.specs.declared.past.Probe.{Probe}
 use Rattle.tl_params.specs.declared.perm.Perm.{Perm}
@@ -18,7 +19,7 @@ use Rattle.tl_params.specs.Param.{cap_of}
 use Rattle.tl_beat.specs.Opcode.{c_carries_data}
 use Rattle.tl_beat.specs.declared.beat.BeatB.{BeatB}
 use Rattle.tl_rules.specs.declared.past.Request.{Request}
-use Rattle.tl_beat.specs.declared.opcode.Channel.TheVariants as channel
+use Rattle.tl_beat.specs.declared.channel.Channel.TheVariants as channel
 use Rattle.tl_params.specs.declared.rule.Rule.{Rule}
 use Rattle.tl_beat.specs.declared.beat.BeatA.{BeatA}
 use Rattle.tl_beat.specs.First.{first_if}
@@ -90,7 +91,8 @@ pub request-fields : {w : ℕ} (s : ℕ) (t : History w) (r : Request) → Some 
 request-fields s t r e = (fields_of (pending (RequestSource s) t && not (comes_in_request s (unfinished channel.A t))) (request_of s t) r e).1
 
 judged : {w : ℕ} (x : BeatD w) (before comes : Bool) (o : Option (BeatA w)) (r : Request) (rest : Option Rule) → (before && not comes) ≡ true → request_fields o ≡ Some r
-    → first_if (not (before && (not comes && admits x.opcode o))) H2 (first_if (not (x.size == size_of_request o)) H3 rest) ≡ first_if (not (answers x.opcode r.opcode)) H2 (first_if (not (x.size == r.size)) H3 rest)
+    → first_if (not (before && (not comes && admits x.opcode o))) H2 (first_if (not (x.size == size_of_request o)) H3 rest) ≡ first_if
+    (not (answers x.opcode r.opcode)) H2 (first_if (not (x.size == r.size)) H3 rest)
 judged x true false (Some y) r rest both fields = let same : r ≡ record { opcode = y.opcode; param = y.param; size = y.size; block = block_at y.address } = cc in rw same refl
 judged x true false None r rest both fields = absurd cc
 judged x true true o r rest both fields = absurd cc

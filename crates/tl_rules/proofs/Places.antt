@@ -2,7 +2,8 @@
 use Rattle.std.proofs.Common.{◌≡◌, ℕ, zero, suc, ◌+◌, ◌-◌, ◌*◌, ◌<◌, ◌≤◌, List, ◌++◌, length, take, drop, get_or, replicate, refl, ap, ◌∙◌, arith, add-zero, zero-add, inl, inr, lit<}
 use Rattle.std.specs.Int.{from_le_bytes, w64}
 use Rattle.std.proofs.lemmas.Bool.{cases_lt}
-use Rattle.std.proofs.lemmas.List.{append-nil, length-drop, length-take, length-replicate, get_or-replicate, length-take-le, take-replicate, drop-replicate, get_or-drop, get_or-take, get_or_past, get_or_append_left, get_or-append_right}
+use Rattle.std.proofs.lemmas.List.{append-nil, length-drop, length-take, length-replicate, get_or-replicate, length-take-le, take-replicate, drop-replicate}
+use Rattle.std.proofs.lemmas.List.{get_or-drop, get_or-take, get_or_past, get_or_append_left, get_or-append_right}
 use Rattle.tl_rules.specs.Effect.{number_from}
 use Rattle.tl_rules.specs.Place.{moved_up}
 
@@ -91,5 +92,12 @@ low_bytes bytes low eight at count n few inside low_is is n_is =
     let eight_is : eight ≡ low ++ drop count (replicate 8 0) = is ∙ ap (λ k. low ++ drop k (replicate 8 0)) long in
     let high : (i : ℕ) → count ≤ i → get_or eight (0 + i) 0 ≡ 0 = λ i le. ap (λ xs. get_or xs (0 + i) 0) eight_is ∙ low_byte low (replicate 8 0) count i long refl le in
     let same : (i : ℕ) → i < count → get_or eight (0 + i) 0 ≡ get_or bytes (at + i) 0 =
-    λ i lt. let below : i < length low = omega arith in ap (λ xs. get_or xs (0 + i) 0) eight_is ∙ rw (zero-add, get_or_append_left low (drop count (replicate 8 0)) 0 i below, low_is, get_or-take count (drop at bytes) i 0 lt, get_or-drop at bytes i 0) refl in
+    λ i lt. let below : i < length low = omega arith in ap (λ xs. get_or xs (0 + i) 0) eight_is
+    ∙ rw (
+      zero-add,
+      get_or_append_left low (drop count (replicate 8 0)) 0 i below,
+      low_is,
+      get_or-take count (drop at bytes) i 0 lt,
+      get_or-drop at bytes i 0,
+    ) refl in
     n_is ∙ eight_bytes (λ i. get_or eight i 0) ∙ number_below (λ i. get_or eight i 0) 0 count 8 few high ∙ number_same (λ i. get_or eight i 0) (λ i. get_or bytes i 0) 0 at count same

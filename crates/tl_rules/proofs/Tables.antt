@@ -13,7 +13,8 @@ use Rattle.tl_params.specs.declared.perm.Perm.{Perm}
 use Rattle.tl_rules.specs.declared.past.Probe.{Probe}
 use Rattle.tl_rules.specs.declared.table.Release.{Release}
 use Rattle.tl_rules.specs.declared.table.Block.{Block}
-use Rattle.tl_rules.specs.History.{begins, ends, block_at, is_acquire, is_probe, is_probe_ack, is_release, is_grant, is_release_ack, asks_for, releases, is_sink, request_of, release_of, probe_of, grant_sink, grants, opens, closes, pending, held, reported, capped}
+use Rattle.tl_rules.specs.History.{begins, ends, block_at, is_acquire, is_probe, is_probe_ack, is_release, is_grant, is_release_ack, asks_for, releases}
+use Rattle.tl_rules.specs.History.{is_sink, request_of, release_of, probe_of, grant_sink, grants, opens, closes, pending, held, reported, capped}
 use Rattle.tl_rules.proofs.Open.{never, still, release-begun, probe-begun}
 use Rattle.tl_rules.specs.Open.{request_fields, release_size, probe_fields, open_probe}
 use Rattle.tl_rules.specs.Tables.{release_fields, kept_request, kept_release, kept_grant, kept_block, request_next, release_next, sink_next, block_next, bears_on}
@@ -79,7 +80,8 @@ fields_if f false o p = refl
 pub request-next : {w : ℕ} (s : ℕ) (x : Beat w) (t : History w) → kept_request s (x ∷ t) ≡ request_next (begins x t) (ends x t) x s (kept_request s t)
 unfolding pending request_of
 request-next s (A x) t =
-    rw (fields_if request_fields (begins (A x) t && (x.source == s)) (Some x) (request_of s t)) (opened (begins (A x) t) (x.source == s) (ends (A x) t) (pending (RequestSource s) t) (request_fields (Some x)) (request_fields (request_of s t)))
+    rw (fields_if request_fields (begins (A x) t && (x.source == s)) (Some x) (request_of s t))
+    (opened (begins (A x) t) (x.source == s) (ends (A x) t) (pending (RequestSource s) t) (request_fields (Some x)) (request_fields (request_of s t)))
 request-next s (B x) t = unmoved (begins (B x) t) (ends (B x) t) (pending (RequestSource s) t) (request_fields (request_of s t))
 request-next s (C x) t = unmoved (begins (C x) t) (ends (C x) t) (pending (RequestSource s) t) (request_fields (request_of s t))
 request-next s (D x) t = closed (begins (D x) t) (ends (D x) t) (not (is_release_ack x.opcode) && (x.source == s)) (pending (RequestSource s) t) (request_fields (request_of s t))
@@ -90,7 +92,9 @@ unfolding pending release_of
 release-next s (A x) t = unmoved (begins (A x) t) (ends (A x) t) (pending (ReleaseSource s) t) (release_fields (release_of s t))
 release-next s (B x) t = unmoved (begins (B x) t) (ends (B x) t) (pending (ReleaseSource s) t) (release_fields (release_of s t))
 release-next s (C x) t =
-    rw (fields_if release_fields (begins (C x) t && (is_release x.opcode && (x.source == s))) (Some x) (release_of s t)) (opened (begins (C x) t) (is_release x.opcode && (x.source == s)) (ends (C x) t) (pending (ReleaseSource s) t) (release_fields (Some x)) (release_fields (release_of s t)))
+    rw (fields_if release_fields (begins (C x) t && (is_release x.opcode && (x.source == s))) (Some x) (release_of s t))
+    (opened (begins (C x) t) (is_release x.opcode && (x.source == s)) (ends (C x) t) (pending (ReleaseSource s) t) (release_fields (Some x))
+    (release_fields (release_of s t)))
 release-next s (D x) t = closed (begins (D x) t) (ends (D x) t) (is_release_ack x.opcode && (x.source == s)) (pending (ReleaseSource s) t) (release_fields (release_of s t))
 release-next s (E x) t = unmoved (begins (E x) t) (ends (E x) t) (pending (ReleaseSource s) t) (release_fields (release_of s t))
 
@@ -198,18 +202,26 @@ block-next k (C x) t =
     (said (ends (C x) t) (is_probe_ack x.opcode || is_release x.opcode) here (reported x.param) (held k t))
     (neither (begins (C x) t) (ends (C x) t) (pending (AcquireOf k) t) ∙ either here (pending (AcquireOf k) t))
     (only_opened (begins (C x) t) (is_release x.opcode && here) (ends (C x) t) (pending (ReleaseOf k) t) ∙ chosen (begins (C x) t) (is_release x.opcode) here true (pending (ReleaseOf k) t))
-    (closed (begins (C x) t) (ends (C x) t) (is_probe_ack x.opcode && here) (pending (ProbeOf k) t) (probe_fields (probe_of k t)) ∙ chosen (ends (C x) t) (is_probe_ack x.opcode) here None (open_probe k t))
+    (closed (begins (C x) t) (ends (C x) t) (is_probe_ack x.opcode && here) (pending (ProbeOf k) t) (probe_fields (probe_of k t))
+    ∙ chosen (ends (C x) t) (is_probe_ack x.opcode) here None (open_probe k t))
     (unmoved (begins (C x) t) (ends (C x) t) (pending (GrantAckOf k) t) (grant_sink k t) ∙ either here (kept_grant k t))
 block-next k (D x) t =
     let here = bears_on k (D x) t in
     let granted : grants k x t ≡ (is_grant x.opcode && here) = grant_here x.opcode (releases k (release_of x.source t)) (asks_for k (request_of x.source t)) in
-    let released : (is_release_ack x.opcode && releases k (release_of x.source t)) ≡ (is_release_ack x.opcode && here) = ack_here x.opcode (releases k (release_of x.source t)) (asks_for k (request_of x.source t)) in
+    let released : (is_release_ack x.opcode && releases k (release_of x.source t)) ≡ (is_release_ack x.opcode && here) =
+    ack_here x.opcode (releases k (release_of x.source t)) (asks_for k (request_of x.source t)) in
     parts here (block_next (begins (D x) t) (ends (D x) t) (D x) (kept_block k t)) (kept_block k t) (kept_block k (D x ∷ t))
     (ap (λ g. if ends (D x) t then unwrap_or (if g then Some (capped x.param) else None) (held k t) else held k t) granted ∙ said (ends (D x) t) (is_grant x.opcode) here (capped x.param) (held k t))
-    (only_closed (begins (D x) t) (ends (D x) t) (grants k x t) (pending (AcquireOf k) t) ∙ ap (λ g. if ends (D x) t && g then false else pending (AcquireOf k) t) granted ∙ chosen (ends (D x) t) (is_grant x.opcode) here false (pending (AcquireOf k) t))
-    (only_closed (begins (D x) t) (ends (D x) t) (is_release_ack x.opcode && releases k (release_of x.source t)) (pending (ReleaseOf k) t) ∙ ap (λ g. if ends (D x) t && g then false else pending (ReleaseOf k) t) released ∙ chosen (ends (D x) t) (is_release_ack x.opcode) here false (pending (ReleaseOf k) t))
+    (only_closed (begins (D x) t) (ends (D x) t) (grants k x t) (pending (AcquireOf k) t)
+    ∙ ap (λ g. if ends (D x) t && g then false else pending (AcquireOf k) t) granted
+    ∙ chosen (ends (D x) t) (is_grant x.opcode) here false (pending (AcquireOf k) t))
+    (only_closed (begins (D x) t) (ends (D x) t) (is_release_ack x.opcode && releases k (release_of x.source t)) (pending (ReleaseOf k) t)
+    ∙ ap (λ g. if ends (D x) t && g then false else pending (ReleaseOf k) t) released
+    ∙ chosen (ends (D x) t) (is_release_ack x.opcode) here false (pending (ReleaseOf k) t))
     (unmoved (begins (D x) t) (ends (D x) t) (pending (ProbeOf k) t) (probe_fields (probe_of k t)) ∙ either here (open_probe k t))
-    (opened (begins (D x) t) (grants k x t) (ends (D x) t) (pending (GrantAckOf k) t) (Some x.sink) (grant_sink k t) ∙ ap (λ g. if begins (D x) t && g then Some x.sink else kept_grant k t) granted ∙ chosen (begins (D x) t) (is_grant x.opcode) here (Some x.sink) (kept_grant k t))
+    (opened (begins (D x) t) (grants k x t) (ends (D x) t) (pending (GrantAckOf k) t) (Some x.sink) (grant_sink k t)
+    ∙ ap (λ g. if begins (D x) t && g then Some x.sink else kept_grant k t) granted
+    ∙ chosen (begins (D x) t) (is_grant x.opcode) here (Some x.sink) (kept_grant k t))
 block-next {w} k (E x) t =
     let here = is_sink x.sink (grant_sink k t) in
     parts here (block_next {w = w} (begins (E x) t) (ends (E x) t) (E x) (kept_block k t)) (kept_block k t) (kept_block k (E x ∷ t))
@@ -217,7 +229,9 @@ block-next {w} k (E x) t =
     (neither (begins (E x) t) (ends (E x) t) (pending (AcquireOf k) t) ∙ either here (pending (AcquireOf k) t))
     (neither (begins (E x) t) (ends (E x) t) (pending (ReleaseOf k) t) ∙ either here (pending (ReleaseOf k) t))
     (unmoved (begins (E x) t) (ends (E x) t) (pending (ProbeOf k) t) (probe_fields (probe_of k t)) ∙ either here (open_probe k t))
-    (closed (begins (E x) t) (ends (E x) t) here (pending (GrantAckOf k) t) (grant_sink k t) ∙ acked (ends (E x) t) (pending (GrantAckOf k) t) here (grant_sink k t) (is_sink x.sink (kept_grant k t)) (kept_sink (pending (GrantAckOf k) t) x.sink (grant_sink k t)))
+    (closed (begins (E x) t) (ends (E x) t) here (pending (GrantAckOf k) t) (grant_sink k t)
+    ∙ acked (ends (E x) t) (pending (GrantAckOf k) t) here (grant_sink k t) (is_sink x.sink (kept_grant k t))
+    (kept_sink (pending (GrantAckOf k) t) x.sink (grant_sink k t)))
 
 -- ---- what is pending was begun
 

@@ -7,7 +7,6 @@ pub mod answer;
 mod atomic;
 pub mod blank;
 mod channel;
-pub mod check;
 mod field;
 pub mod kind;
 pub mod law;

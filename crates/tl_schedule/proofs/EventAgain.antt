@@ -7,8 +7,8 @@ use Rattle.tl_beat.specs.Line.{letter, spaced}
 use Rattle.tl_beat.specs.Width.{IsWidth}
 use Rattle.tl_beat.proofs.SpelledDigits.{digit_char-no_space, length-digits, length-lane_digits}
 use Rattle.tl_beat.proofs.Pieces.{NoSpace, NoSpaces}
-use Rattle.tl_beat.specs.declared.opcode.Channel.{Channel}
-use Rattle.tl_beat.specs.declared.opcode.Channel.TheVariants as channel
+use Rattle.tl_beat.specs.declared.channel.Channel.{Channel}
+use Rattle.tl_beat.specs.declared.channel.Channel.TheVariants as channel
 use Rattle.tl_params.specs.declared.param.Arithmetic.{Arithmetic}
 use Rattle.tl_params.specs.declared.param.Arithmetic.TheVariants as arithmetic
 use Rattle.tl_params.specs.declared.param.Grow.{Grow}
@@ -20,7 +20,8 @@ use Rattle.tl_params.specs.declared.param.Logical.TheVariants as logical
 use Rattle.tl_params.specs.declared.param.Prune.{Prune}
 use Rattle.tl_params.specs.declared.param.Prune.TheVariants as prune
 use Rattle.tl_params.specs.Names.{arithmetic_name, grow_name, intent_name, logical_name, prune_name}
-use Rattle.tl_schedule.specs.EventLine.{Asked, Said, Get, Put, Part, Arith, Logic, Hint, Load, Store, Acquire, Whole, Release, Access, Deliver, AskedFits, Fits, asked_fields, asked_name, mask_digits, said_fields}
+use Rattle.tl_schedule.specs.EventLine.{Asked, Said, Get, Put, Part, Arith, Logic, Hint, Load, Store, Acquire, Whole, Release, Access, Deliver, AskedFits, Fits}
+use Rattle.tl_schedule.specs.EventLine.{asked_fields, asked_name, mask_digits, said_fields}
 use Rattle.tl_schedule.specs.EventReading.{ask_at}
 use Rattle.tl_schedule.specs.NameReading.{arithmetic_in, grow_in, intent_in, logical_in, prune_in}
 use Rattle.tl_schedule.proofs.AccessBytes.{smaller_power}
@@ -68,7 +69,13 @@ ask_again w (Access client size address Get) fits = rw (number_again 2 client fi
 ask_again w (Access client size address (Put bytes)) fits =
     rw (number_again 2 client fits.0, size_again 6 size (omega arith) fits.1, number_again 8 address fits.2, bytes_again (2 ^ size) bytes fits.3) refl
 ask_again w (Access client size address (Part mask bytes)) fits =
-    rw (number_again 2 client fits.0, size_again 6 size (omega arith) fits.1, number_again 8 address fits.2, number_again (mask_digits w size) mask fits.3.0, bytes_again (2 ^ size) bytes fits.3.1) refl
+    rw (
+      number_again 2 client fits.0,
+      size_again 6 size (omega arith) fits.1,
+      number_again 8 address fits.2,
+      number_again (mask_digits w size) mask fits.3.0,
+      bytes_again (2 ^ size) bytes fits.3.1,
+    ) refl
 ask_again w (Access client size address (Arith o bytes)) fits =
     rw (number_again 2 client fits.0, size_again 6 size (omega arith) fits.1, number_again 8 address fits.2, arithmetic_again o, bytes_again (2 ^ size) bytes fits.3) refl
 ask_again w (Access client size address (Logic o bytes)) fits =

@@ -43,7 +43,8 @@ pub access_meant : {w : ℕ} (k : Word) (client size address : ℕ) (fields othe
     → Some (event.Ask client (op.Access (message.A (made {w = w} size address r small)))) ≡ meant_by (access_at w k client fields)
 access_meant {w} k client size address fields others rest r small e f h = go (asked_at w k size rest) refl h
   where
-    go : (o : Option Asked) → asked_at w k size rest ≡ o → Some r ≡ option_map (request_of w size address) o → Some (event.Ask client (op.Access (message.A (made {w = w} size address r small)))) ≡ meant_by (access_at w k client fields)
+    go : (o : Option Asked) → asked_at w k size rest ≡ o → Some r ≡ option_map (request_of w size address) o
+        → Some (event.Ask client (op.Access (message.A (made {w = w} size address r small)))) ≡ meant_by (access_at w k client fields)
     go None is g = absurd cc
     go (Some x) is g =
         let same : r ≡ request_of w size address x = cc in

@@ -6,7 +6,8 @@ use Rattle.tl_beat.specs.Digits.{digits, lane_digits}
 use Rattle.tl_beat.specs.Line.{channel_named}
 use Rattle.tl_schedule.specs.declared.name.Word.{Word}
 use Rattle.tl_schedule.specs.declared.name.Word.TheVariants as word
-use Rattle.tl_schedule.specs.EventLine.{Asked, Said, Get, Put, Part, Arith, Logic, Hint, Load, Store, Acquire, Whole, Release, Access, Deliver, AskedFits, Fits, HasRoom, asked_fields, asked_name, mask_digits, said_fields}
+use Rattle.tl_schedule.specs.EventLine.{Asked, Said, Get, Put, Part, Arith, Logic, Hint, Load, Store, Acquire, Whole, Release, Access, Deliver, AskedFits, Fits}
+use Rattle.tl_schedule.specs.EventLine.{HasRoom, asked_fields, asked_name, mask_digits, said_fields}
 use Rattle.tl_schedule.specs.EventReading.{get_at, put_at, part_at, arith_at, logic_at, hint_at, asked_at, load_at, store_at, acquire_at, whole_at, release_at, access_at, deliver_at, said_at, ask_at}
 use Rattle.tl_schedule.specs.FieldReading.{bytes_in, front, last, number_in, size_in}
 use Rattle.tl_schedule.specs.NameReading.{arithmetic_in, arithmetics, grow_in, grows, intent_in, intents, logical_in, logicals, prune_in, prunes, word_in, word_name, words}

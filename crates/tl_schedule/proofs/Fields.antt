@@ -1,5 +1,6 @@
 -- Fields cut from a line, and the numbers and bytes that they spell.
-use Rattle.std.proofs.Common.{◌≡◌, ℕ, zero, suc, ◌+◌, ◌*◌, ◌-◌, ◌^◌, ◌<◌, ◌≤◌, Bool, true, false, cond, List, [], ◌∷◌, ◌++◌, length, take, drop, replicate, set, refl, sym, ap, ◌∙◌, arith, add-one, lit<, inl, inr}
+use Rattle.std.proofs.Common.{◌≡◌, ℕ, zero, suc, ◌+◌, ◌*◌, ◌-◌, ◌^◌, ◌<◌, ◌≤◌, Bool, true, false, cond, List, [], ◌∷◌, ◌++◌, length, take, drop, replicate, set}
+use Rattle.std.proofs.Common.{refl, sym, ap, ◌∙◌, arith, add-one, lit<, inl, inr}
 use Rattle.std.proofs.Math.Nat.{pow-suc, pow-le-pow_right}
 use Rattle.std.specs.Prelude.{not, Some, None, option_map, position, ◌==◌}
 use Rattle.std.specs.List.{position_or_len}
@@ -91,7 +92,8 @@ data-step count i byte bytes field rest after lt (done, len, is, same) read =
     let one : count - i ≡ suc (count - (i + 1)) = omega arith in
     let at : count - 1 - i ≡ count - (i + 1) = omega arith in
     let more : length (byte ∷ done) ≡ i + 1 = omega (arith, len) in
-    let written : set bytes (count - 1 - i) byte ≡ replicate (count - (i + 1)) 0 ++ (byte ∷ (done ++ replicate (64 - count) 0)) = rw (is, one, at) (set_last (count - (i + 1)) byte (done ++ replicate (64 - count) 0)) in
+    let written : set bytes (count - 1 - i) byte ≡ replicate (count - (i + 1)) 0
+    ++ (byte ∷ (done ++ replicate (64 - count) 0)) = rw (is, one, at) (set_last (count - (i + 1)) byte (done ++ replicate (64 - count) 0)) in
     (byte ∷ done, more, written, same ∙ rw (one, read) refl)
 
 pub data-fails : (count i : ℕ) (bytes field rest : List ℕ) → i < count → Reads count i bytes field rest → pair_at rest ≡ None → option_map filled (bytes_in count field) ≡ None

@@ -114,7 +114,8 @@ named_taken line bytes named word e =
     let clients = clients_taken 16 n.1 cs is_cs in
     same_named line (name_all v.0 b.0 n.0 cs) named found.same (record {
       is_line =
-          whole_line line bytes v.1 s b.1 t n.1 v.0 b.0 n.0 cs word (version_taken bytes v.1 v.0 is_v) (byte_taken 32 v.1 s is_s) blocks.is_text (byte_taken 32 b.1 t is_t) trackers.is_text clients.0.is_text;
+          whole_line line bytes v.1 s b.1 t n.1 v.0 b.0 n.0 cs word (version_taken bytes v.1 v.0 is_v) (byte_taken 32 v.1 s is_s) blocks.is_text
+          (byte_taken 32 b.1 t is_t) trackers.is_text clients.0.is_text;
       blocks_fit = blocks.fits;
       trackers_fit = trackers.fits;
       clients_fit = count_fits cs found.some clients.1;
@@ -155,12 +156,18 @@ named_again : (version : Version) (blocks trackers : ℕ) (clients : List Client
 named_again version blocks trackers [] b t c s = absurd cc
 named_again version blocks trackers (client ∷ clients) b t c s =
     let few = count_parts (client ∷ clients) c in
-    rw (version_again version _, number_again 1024 blocks _ (omega arith) b refl, number_again 8 trackers _ (omega arith) t (no_digit (client ∷ clients)), clients_again 16 (client ∷ clients) few.1 s) refl
+    rw (
+      version_again version _,
+      number_again 1024 blocks _ (omega arith) b refl,
+      number_again 8 trackers _ (omega arith) t (no_digit (client ∷ clients)),
+      clients_again 16 (client ∷ clients) few.1 s,
+    ) refl
 
 header_again : (line : List ℕ) (version : Version) (blocks trackers : ℕ) (clients : List ClientConfig) → SpellsSchedule line version blocks trackers clients
     → header_at line ≡ Some (name_all version blocks trackers clients)
 header_again line version blocks trackers clients h =
-    let text : schedule_line version blocks trackers clients ≡ schedule_word ++ (version_text version ++ 32 ∷ (decimal blocks ++ 32 ∷ (decimal trackers ++ (clients_text clients ++ 10 ∷ [])))) = simp append_assoc in
+    let text : schedule_line version blocks trackers clients ≡ schedule_word
+    ++ (version_text version ++ 32 ∷ (decimal blocks ++ 32 ∷ (decimal trackers ++ (clients_text clients ++ 10 ∷ [])))) = simp append_assoc in
     ap header_at (h.is_line ∙ text) ∙ named_again version blocks trackers clients h.blocks_fit h.trackers_fit h.clients_fit h.sources_fit
 
 -- ---- what the reader says

@@ -8,8 +8,8 @@ use Rattle.std.specs.Prelude.{◌==◌, ◌&&◌, ◌||◌, nat_le, bytes_eq, Op
 use Rattle.std.specs.List.{find}
 use Rattle.tl_beat.specs.declared.fault.LineFault.{LineFault}
 use Rattle.tl_beat.specs.declared.fault.LineFault.TheVariants.{F3}
-use Rattle.tl_beat.specs.declared.opcode.Channel.{Channel}
-use Rattle.tl_beat.specs.declared.opcode.Channel.TheVariants as channel
+use Rattle.tl_beat.specs.declared.channel.Channel.{Channel}
+use Rattle.tl_beat.specs.declared.channel.Channel.TheVariants as channel
 use Rattle.tl_beat.specs.Digits.{digits, lane_digits, is_digit, digit_value, is_digits, value_from, value_of, is_pairs, lanes_before, is_dash}
 use Rattle.tl_beat.specs.Line.{channel_named, channels, letter}
 use Rattle.tl_beat.specs.Names.{letter_of}

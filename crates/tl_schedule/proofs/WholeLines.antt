@@ -29,7 +29,8 @@ line-whole line e =
     let both = and_parts (nat_lt 0 (length line)) (get_or line (length line - 1) 0 == 10) e in
     let some : 0 < length line = ltb-true 0 (length line) both.0 in
     let last : get_or line (length line - 1) 0 ≡ 10 = eqb-true (get_or line (length line - 1) 0) 10 both.1 in
-    let rest : drop (length line - 1) line ≡ 10 ∷ [] = drop-cons line (length line - 1) 0 (omega arith) ∙ ap₂ (λ (x : ℕ) (xs : List ℕ). x ∷ xs) last (drop_all (suc (length line - 1)) line (omega arith)) in
+    let rest : drop (length line - 1) line ≡ 10 ∷ [] = drop-cons line (length line - 1) 0 (omega arith)
+    ∙ ap₂ (λ (x : ℕ) (xs : List ℕ). x ∷ xs) last (drop_all (suc (length line - 1)) line (omega arith)) in
     sym (take-append-drop (length line - 1) line) ∙ ap (λ (xs : List ℕ). take (length line - 1) line ++ xs) rest
 
 event_at-line : (w : ℕ) (body : List ℕ) → length body ≤ 255 → event_at {w = w} (body ++ 10 ∷ []) ≡ ok_or (line_at body) F8
@@ -105,7 +106,8 @@ not_drain w said body true fields is =
     absurd (omega (arith, same, said-some w said))
 not_drain w said body false fields is = refl
 
-line_again : {w : ℕ} (said : Said) (body : List ℕ) (e : Event w) → pieces body ≡ said_fields w said → ask_at w (said_fields w said) ≡ Some said → meant {w = w} said ≡ Some e → line_at body ≡ Some (line_of.Event e)
+line_again : {w : ℕ} (said : Said) (body : List ℕ) (e : Event w) → pieces body ≡ said_fields w said → ask_at w (said_fields w said) ≡ Some said
+    → meant {w = w} said ≡ Some e → line_at body ≡ Some (line_of.Event e)
 line_again {w} said body e fields asked means = rw (not_drain w said body (bytes_eq body (codes "drain")) fields refl, fields, asked, means) refl
 
 event_again : {w : ℕ} (line : List ℕ) (e : Event w) → IsWidth w → SpellsEvent line e → event_at line ≡ Ok (line_of.Event e)

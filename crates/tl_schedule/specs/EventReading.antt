@@ -1,5 +1,6 @@
 -- The line of an event read from left to right, as the code goes; only private clauses cite this.
-use Rattle.std.specs.Prelude.{◌≡◌, ◌≤◌, ℕ, ◌*◌, ◌-◌, ◌^◌, Bool, true, false, not, ◌||◌, List, length, take, codes, bytes_eq, nat_le, nat_lt, refl, if◌then◌else◌, Option, Some, None, option_map, Result, Err, ok_or}
+use Rattle.std.specs.Prelude.{◌≡◌, ◌≤◌, ℕ, ◌*◌, ◌-◌, ◌^◌, Bool, true, false, not, ◌||◌, List, length, take, codes, bytes_eq, nat_le, nat_lt, refl}
+use Rattle.std.specs.Prelude.{if◌then◌else◌, Option, Some, None, option_map, Result, Err, ok_or}
 use Rattle.std.specs.Io.BufRead.{ends_with_byte}
 use Rattle.std.proofs.lemmas.Bool.{leb-true}
 use Rattle.tl_beat.specs.declared.opcode.OpA.{OpA}
@@ -15,7 +16,8 @@ use Rattle.tl_schedule.specs.declared.line.Line.{Line}
 use Rattle.tl_schedule.specs.declared.line.Line.TheVariants as line
 use Rattle.tl_schedule.specs.declared.name.Word.{Word}
 use Rattle.tl_schedule.specs.declared.name.Word.TheVariants as word
-use Rattle.tl_schedule.specs.EventLine.{Asked, Said, Get, Put, Part, Arith, Logic, Hint, Load, Store, Acquire, Whole, Release, Access, Deliver, asked_mask, asked_opcode, asked_param, asked_payload, mask_digits, message_of, payload_of}
+use Rattle.tl_schedule.specs.EventLine.{Asked, Said, Get, Put, Part, Arith, Logic, Hint, Load, Store, Acquire, Whole, Release, Access, Deliver, asked_mask}
+use Rattle.tl_schedule.specs.EventLine.{asked_opcode, asked_param, asked_payload, mask_digits, message_of, payload_of}
 use Rattle.tl_schedule.specs.FieldReading.{at_end, bytes_in, front, last, number_in, size_in}
 use Rattle.tl_schedule.specs.NameReading.{arithmetic_in, grow_in, intent_in, logical_in, prune_in, word_in}
 use Rattle.tl_schedule.specs.Then.{◌>>=◌}

@@ -6,7 +6,7 @@ ghost use Rattle.tl_schedule.specs.FieldReading.{Gives, fields_behind, front};
 ghost use Rattle.tl_schedule.specs.NameReading.{arithmetic_in, grow_in, intent_in, logical_in, prune_in, word_in};
 
 use crate::field::next;
-use tl_beat::opcode::Channel;
+use tl_beat::channel::Channel;
 use tl_params::param::{Arithmetic, Grow, Intent, Logical, Prune};
 
 /// What a line asks for.

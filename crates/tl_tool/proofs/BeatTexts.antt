@@ -70,10 +70,12 @@ request_long w (inr (inl eight)) letter link opcode param size source address ma
 request_long w (inr (inr sixteen)) letter link opcode param size source address mask d corrupt few = rw sixteen (omega (arith, end_length d corrupt, few), omega (arith, end_length d corrupt, few))
 
 pub long_a : {w : ℕ} (line : List ℕ) (link : Link) (x : BeatA w) → IsWidth w → Spells line link (A x) → (27 + w / 4 ≤ length line) × (length line ≤ 63)
-long_a {w} line link x width s = rw s.is_line (request_long w width 65 link.0 (a_code x.opcode) x.param x.size x.source x.address x.mask (lanes_text x.lanes) x.corrupt (data_short w width x.lanes s.in_range.2))
+long_a {w} line link x width s = rw s.is_line (request_long w width 65 link.0 (a_code x.opcode) x.param x.size x.source x.address x.mask
+    (lanes_text x.lanes) x.corrupt (data_short w width x.lanes s.in_range.2))
 
 pub long_b : {w : ℕ} (line : List ℕ) (link : Link) (x : BeatB w) → IsWidth w → Spells line link (B x) → (27 + w / 4 ≤ length line) × (length line ≤ 63)
-long_b {w} line link x width s = rw s.is_line (request_long w width 66 link.0 (b_code x.opcode) x.param x.size x.source x.address x.mask (lanes_text x.lanes) x.corrupt (data_short w width x.lanes s.in_range.2))
+long_b {w} line link x width s = rw s.is_line (request_long w width 66 link.0 (b_code x.opcode) x.param x.size x.source x.address x.mask
+    (lanes_text x.lanes) x.corrupt (data_short w width x.lanes s.in_range.2))
 
 pub long_c : {w : ℕ} (line : List ℕ) (link : Link) (x : BeatC w) → IsWidth w → Spells line link (C x) → (26 ≤ length line) × (length line ≤ 63)
 unfolding digits spaced
@@ -83,7 +85,8 @@ long_c {w} line link x width s =
 
 abbrev response_line : {w : ℕ} → Link → BeatD w → Bool → List ℕ
 response_line link x denied =
-    spaced (digits 2 link.0 ∷ (68 ∷ []) ∷ digits 1 (d_code x.opcode) ∷ digits 1 x.param ∷ digits 1 x.size ∷ digits 2 x.source ∷ digits 2 x.sink ∷ bit_text denied ∷ lanes_text x.lanes ∷ bit_text x.corrupt ∷ []) ++ 10 ∷ []
+    spaced (digits 2 link.0 ∷ (68 ∷ []) ∷ digits 1 (d_code x.opcode) ∷ digits 1 x.param ∷ digits 1 x.size ∷ digits 2 x.source ∷ digits 2 x.sink
+    ∷ bit_text denied ∷ lanes_text x.lanes ∷ bit_text x.corrupt ∷ []) ++ 10 ∷ []
 
 response_long : {w : ℕ} (link : Link) (x : BeatD w) (denied : Bool) → length (lanes_text x.lanes) ≤ 32 → (22 ≤ length (response_line link x denied)) × (length (response_line link x denied) ≤ 63)
 unfolding digits spaced

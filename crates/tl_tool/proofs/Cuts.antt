@@ -58,17 +58,20 @@ RequestIs m = (letter link opcode : ℕ) (name : List ℕ) (known : Option (List
 request_one : RequestIs 1
 unfolding digits spaced size_and_source address_text
 request_one letter link opcode name known param size source address mask d corrupt =
-    request_then 1 (request_line 1 letter link opcode param size source address mask d corrupt) name known ∙ rw (tail_is d corrupt, append_assoc name, append_assoc (param_text known param), append_assoc d) refl
+    request_then 1 (request_line 1 letter link opcode param size source address mask d corrupt) name known
+    ∙ rw (tail_is d corrupt, append_assoc name, append_assoc (param_text known param), append_assoc d) refl
 
 request_two : RequestIs 2
 unfolding digits spaced size_and_source address_text
 request_two letter link opcode name known param size source address mask d corrupt =
-    request_then 2 (request_line 2 letter link opcode param size source address mask d corrupt) name known ∙ rw (tail_is d corrupt, append_assoc name, append_assoc (param_text known param), append_assoc d) refl
+    request_then 2 (request_line 2 letter link opcode param size source address mask d corrupt) name known
+    ∙ rw (tail_is d corrupt, append_assoc name, append_assoc (param_text known param), append_assoc d) refl
 
 request_four : RequestIs 4
 unfolding digits spaced size_and_source address_text
 request_four letter link opcode name known param size source address mask d corrupt =
-    request_then 4 (request_line 4 letter link opcode param size source address mask d corrupt) name known ∙ rw (tail_is d corrupt, append_assoc name, append_assoc (param_text known param), append_assoc d) refl
+    request_then 4 (request_line 4 letter link opcode param size source address mask d corrupt) name known
+    ∙ rw (tail_is d corrupt, append_assoc name, append_assoc (param_text known param), append_assoc d) refl
 
 pub request_is : (w : ℕ) → IsWidth w → RequestIs (w / 4)
 request_is w (inl four) = rw four request_one
@@ -98,15 +101,18 @@ unfolding response_text
 response_then line name param = append_assoc (head_text line name param) _ _ ∙ head_then line name param _ ∙ rw (to_end 19 line) refl
 
 pub response_is : (link opcode : ℕ) (name : List ℕ) (known : Option (List ℕ)) (param size source sink : ℕ) (denied : Bool) (d : List ℕ) (corrupt : Bool)
-    → response_text (spaced (digits 2 link ∷ (68 ∷ []) ∷ digits 1 opcode ∷ digits 1 param ∷ digits 1 size ∷ digits 2 source ∷ digits 2 sink ∷ bit_text denied ∷ d ∷ bit_text corrupt ∷ []) ++ 10 ∷ []) name known
+    → response_text (spaced (digits 2 link ∷ (68 ∷ []) ∷ digits 1 opcode ∷ digits 1 param ∷ digits 1 size ∷ digits 2 source ∷ digits 2 sink ∷ bit_text denied
+    ∷ d ∷ bit_text corrupt ∷ []) ++ 10 ∷ []) name known
     ≡ spaced (digits 2 link ∷ (68 ∷ []) ∷ name ∷ param_text known param ∷ (codes "size=" ++ digits 1 size) ∷ (codes "source=" ++ digits 2 source) ∷ (codes "sink=" ++ digits 2 sink)
     ∷ (codes "denied=" ++ bit_text denied) ∷ (codes "data=" ++ d) ∷ (codes "corrupt=" ++ bit_text corrupt) ∷ []) ++ 10 ∷ []
 unfolding digits spaced size_and_source
 response_is link opcode name known param size source sink false d corrupt =
-    response_then (spaced (digits 2 link ∷ (68 ∷ []) ∷ digits 1 opcode ∷ digits 1 param ∷ digits 1 size ∷ digits 2 source ∷ digits 2 sink ∷ (48 ∷ []) ∷ d ∷ bit_text corrupt ∷ []) ++ 10 ∷ []) name known
+    response_then (spaced (digits 2 link ∷ (68 ∷ []) ∷ digits 1 opcode ∷ digits 1 param ∷ digits 1 size ∷ digits 2 source ∷ digits 2 sink ∷ (48 ∷ []) ∷ d
+    ∷ bit_text corrupt ∷ []) ++ 10 ∷ []) name known
     ∙ rw (tail_is d corrupt, append_assoc name, append_assoc (param_text known param), append_assoc d) refl
 response_is link opcode name known param size source sink true d corrupt =
-    response_then (spaced (digits 2 link ∷ (68 ∷ []) ∷ digits 1 opcode ∷ digits 1 param ∷ digits 1 size ∷ digits 2 source ∷ digits 2 sink ∷ (49 ∷ []) ∷ d ∷ bit_text corrupt ∷ []) ++ 10 ∷ []) name known
+    response_then (spaced (digits 2 link ∷ (68 ∷ []) ∷ digits 1 opcode ∷ digits 1 param ∷ digits 1 size ∷ digits 2 source ∷ digits 2 sink ∷ (49 ∷ []) ∷ d
+    ∷ bit_text corrupt ∷ []) ++ 10 ∷ []) name known
     ∙ rw (tail_is d corrupt, append_assoc name, append_assoc (param_text known param), append_assoc d) refl
 
 -- and of channel E

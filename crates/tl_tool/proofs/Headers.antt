@@ -37,7 +37,8 @@ header_taken line width p levels e = at_word (after_word trace_word line) refl e
     at_word None is f = absurd cc
     at_word (Some bytes) is f = at_version (version_at bytes) refl f
       where
-        at_version : (o : Option (Version × List ℕ)) → version_at bytes ≡ o → option_and_then (λ v. option_and_then (some_levels v.0) (levels_at 16 v.1)) o ≡ Some ((width, p), levels) → SpellsHeader line width p levels
+        at_version : (o : Option (Version × List ℕ)) → version_at bytes ≡ o
+            → option_and_then (λ v. option_and_then (some_levels v.0) (levels_at 16 v.1)) o ≡ Some ((width, p), levels) → SpellsHeader line width p levels
         at_version None found g = absurd cc
         at_version (Some (version, rest)) found g = at_levels (levels_at 16 rest) refl g
           where
@@ -66,7 +67,8 @@ levels_again (suc n) (l ∷ levels) few =
     ap (levels_at (suc n)) text ∙ up_to-step level_at (suc n) n (32 ∷ (level_text l ++ rest)) rest l refl (more_levels l rest) (level_again l rest)
     ∙ ap (onto l) (levels_again n levels (omega arith))
 
-named_again : (version : Version) (l : Level) (levels : List Level) → length (l ∷ levels) ≤ 16 → named_at (version_text version ++ (levels_text (l ∷ levels) ++ 10 ∷ [])) ≡ Some ((width_of version, profile_of version), l ∷ levels)
+named_again : (version : Version) (l : Level) (levels : List Level) → length (l ∷ levels) ≤ 16
+    → named_at (version_text version ++ (levels_text (l ∷ levels) ++ 10 ∷ [])) ≡ Some ((width_of version, profile_of version), l ∷ levels)
 named_again version l levels few = rw (version_again version _, levels_again 16 (l ∷ levels) few) refl
 
 -- what a header means
@@ -76,7 +78,8 @@ meaning width p levels = ((width, p), levels)
 pub header_again : (line : List ℕ) (width : Width) (p : Profile) (levels : List Level) → SpellsHeader line width p levels → header_at line ≡ Some (meaning width p levels)
 header_again line width p [] h = absurd (omega (arith, h.so_many.0))
 header_again line width p (l ∷ levels) h =
-    let text : line ≡ trace_word ++ (version_text h.version ++ (levels_text (l ∷ levels) ++ 10 ∷ [])) = h.is_line ∙ ap (λ (xs : List ℕ). trace_word ++ xs) (append_assoc (version_text h.version) (levels_text (l ∷ levels)) (10 ∷ [])) in
+    let text : line ≡ trace_word ++ (version_text h.version ++ (levels_text (l ∷ levels) ++ 10 ∷ [])) = h.is_line
+    ∙ ap (λ (xs : List ℕ). trace_word ++ xs) (append_assoc (version_text h.version) (levels_text (l ∷ levels)) (10 ∷ [])) in
     rw text (named_again h.version l levels h.so_many.1 ∙ rw (h.of_width, h.of_profile) refl)
 
 -- ---- what the reader says
@@ -85,7 +88,8 @@ pub read_spelled : (r : Option Header) (line : List ℕ) → GivesHeader r (head
 read_spelled None line gives = tt
 read_spelled (Some header) line gives = header_taken line header.width header.profile header.levels.items gives
 
-pub spelled_read : (r : Option Header) (line : List ℕ) → GivesHeader r (header_at line) → (width : Width) (p : Profile) (levels : List Level) → SpellsHeader line width p levels → IsHeader r width p levels
+pub spelled_read : (r : Option Header) (line : List ℕ) → GivesHeader r (header_at line) → (width : Width) (p : Profile) (levels : List Level)
+    → SpellsHeader line width p levels → IsHeader r width p levels
 spelled_read None line gives = λ width p levels h. let e = header_again line width p levels h in absurd cc
 spelled_read (Some header) line gives = λ width p levels h.
     let e : Some (meaning header.width header.profile header.levels.items) ≡ Some (meaning width p levels) = sym gives ∙ header_again line width p levels h in
@@ -93,7 +97,8 @@ spelled_read (Some header) line gives = λ width p levels h.
     (ap (λ (x : Width × Profile). x.0) named, ap (λ (x : Width × Profile). x.1) named, same)
 
 -- a line spells a header, or it spells none
-pub header_or_none : (line : List ℕ) → ((width : Width) × (p : Profile) × (levels : List Level) × SpellsHeader line width p levels) ⊎ ((width : Width) (p : Profile) (levels : List Level) → ¬ SpellsHeader line width p levels)
+pub header_or_none : (line : List ℕ) → ((width : Width) × (p : Profile) × (levels : List Level) × SpellsHeader line width p levels)
+    ⊎ ((width : Width) (p : Profile) (levels : List Level) → ¬ SpellsHeader line width p levels)
 header_or_none line = go (header_at line) refl
   where
     go : (o : Option ((Width × Profile) × List Level)) → header_at line ≡ o
@@ -102,7 +107,8 @@ header_or_none line = go (header_at line) refl
     go (Some ((width, p), levels)) is = inl (width, p, levels, header_taken line width p levels is)
 
 -- a line spells one header at most
-pub one_header : (line : List ℕ) (width other : Width) (p q : Profile) (levels others : List Level) → SpellsHeader line width p levels → SpellsHeader line other q others → meaning width p levels ≡ meaning other q others
+pub one_header : (line : List ℕ) (width other : Width) (p q : Profile) (levels others : List Level) → SpellsHeader line width p levels
+    → SpellsHeader line other q others → meaning width p levels ≡ meaning other q others
 one_header line width other p q levels others s t =
     let same : Some (meaning width p levels) ≡ Some (meaning other q others) = sym (header_again line width p levels s) ∙ header_again line other q others t in
     cc

@@ -41,7 +41,8 @@ use Rattle.tl_tool.proofs.Headers.{header_or_none}
 -- ---- the header
 
 -- the first line spells a header
-pub header_good : (line : List ℕ) (wide : Width) (p : Profile) (levels : List Level) (m : Monitor (bytes_of wide)) → SpellsHeader line wide p levels → Knows m levels p [] false → KnowsTrace m (line ∷ []) []
+pub header_good : (line : List ℕ) (wide : Width) (p : Profile) (levels : List Level) (m : Monitor (bytes_of wide)) → SpellsHeader line wide p levels
+    → Knows m levels p [] false → KnowsTrace m (line ∷ []) []
 unfolding Judged
 header_good line wide p levels m spells known = record {
   levels = levels;
@@ -106,7 +107,8 @@ module _ {w : ℕ} (wrap : Monitor w → Watcher) (into : (m : Monitor w) (lines
       let k = into old lines (before ++ was) known in
       beat_bad old lines before was line fault k (watches k.levels k.profile k.trace k.known)
 
-  pub watched : {E : Type 0} (old new : Monitor w) (line was : List ℕ) (r : Result (Option Fault) E) → IfOk r (Watches old new line) → IfOk r (Judges KnowsLines Judged (wrap old) (wrap new) line was was)
+  pub watched : {E : Type 0} (old new : Monitor w) (line was : List ℕ) (r : Result (Option Fault) E) → IfOk r (Watches old new line)
+      → IfOk r (Judges KnowsLines Judged (wrap old) (wrap new) line was was)
   watched old new line was (Ok answer) watches = judges old new line was answer watches
   watched old new line was (Err e) watches = tt
 
@@ -120,7 +122,8 @@ beat_open (Eight m) read line said is = λ lines before k. beat_bad m lines befo
 beat_open (Sixteen m) read line said is = λ lines before k. beat_bad m lines before said line (Line F1) k (open_fault 16 line is)
 
 -- all lines behind the header have a good beat
-pub all_clean : (watcher : Watcher) → ((alloc : Global) → watcher ≡ Waiting alloc → ⊥) → (count : ℕ) (was is : List ℕ) → is ≡ was ++ clean_text (count - 1) → Finishes KnowsLines Judged watcher count was is None
+pub all_clean : (watcher : Watcher) → ((alloc : Global) → watcher ≡ Waiting alloc → ⊥) → (count : ℕ) (was is : List ℕ) → is ≡ was ++ clean_text (count - 1)
+    → Finishes KnowsLines Judged watcher count was is None
 all_clean (Waiting alloc) read count was is says = absurd (read alloc refl)
 all_clean (Four m) read count was is says = λ lines before k counted. beats_end m count lines before was is says k counted
 all_clean (Eight m) read count was is says = λ lines before k counted. beats_end m count lines before was is says k counted
@@ -171,7 +174,8 @@ fault_or_good w width levels p t line = go (judged_line w width line)
         at_rule (Some rule) is = inr (Breaks rule, (link, beat, spells, is))
     go (inr (fault, is)) = inr (Line fault, is)
 
-judged_after : (w : ℕ) → IsTrue (is_width w) → (levels : List Level) (p : Profile) (t : Trace w) (lines : List (List ℕ)) → (text : List ℕ) × (status : Status) × JudgedAfter levels p t lines text status
+judged_after : (w : ℕ) → IsTrue (is_width w) → (levels : List Level) (p : Profile) (t : Trace w) (lines : List (List ℕ)) → (text : List ℕ) × (status : Status)
+    × JudgedAfter levels p t lines text status
 unfolding JudgedAfter
 judged_after w width levels p t [] = (clean_text (length t), Clean, (refl, refl))
 judged_after w width levels p t (line ∷ lines) = go (fault_or_good w width levels p t line) (λ link beat. judged_after w width levels p ((link, beat) ∷ t) lines)

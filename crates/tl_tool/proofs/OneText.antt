@@ -44,7 +44,8 @@ same_beat line k l b d width s t =
     let (links, beats) = one-beat line k l b d width s t in
     rw (links, beats) refl
 
-pub decodes_once : (w n : ℕ) → IsWidth w → (lines : List (List ℕ)) (text other : List ℕ) (status another : Status) → Decodes w n lines text status → Decodes w n lines other another → AreOne text other status another
+pub decodes_once : (w n : ℕ) → IsWidth w → (lines : List (List ℕ)) (text other : List ℕ) (status another : Status) → Decodes w n lines text status
+    → Decodes w n lines other another → AreOne text other status another
 unfolding Decodes
 decodes_once w n width [] text other status another d e = (d.0 ∙ sym e.0, d.1 ∙ sym e.1)
 decodes_once w n width (line ∷ lines) text other status another (inl (k, b, rest, s, is, d)) (inl (l, c, more, t, so, e)) =
@@ -84,7 +85,8 @@ module _ {w : ℕ} (width : IsWidth w) (levels : List Level) (p : Profile) where
       let rules : broken_on_link levels p (k, b) t ≡ broken_on_link levels p (l, c) t = ap (λ (x : Link × Beat w). broken_on_link levels p x t) same in
       absurd cc
 
-  judged_after_once : (t : Trace w) (lines : List (List ℕ)) (text other : List ℕ) (status another : Status) → JudgedAfter levels p t lines text status → JudgedAfter levels p t lines other another → AreOne text other status another
+  judged_after_once : (t : Trace w) (lines : List (List ℕ)) (text other : List ℕ) (status another : Status) → JudgedAfter levels p t lines text status
+      → JudgedAfter levels p t lines other another → AreOne text other status another
   unfolding JudgedAfter
   judged_after_once t [] text other status another d e = (d.0 ∙ sym e.0, d.1 ∙ sym e.1)
   judged_after_once t (line ∷ lines) text other status another (inl (k, b, s, good, d)) (inl (l, c, r, good_so, e)) =

@@ -4,7 +4,7 @@ use Rattle.std.specs.Prelude.{◌⊎◌, Option, Some, None, Result, Ok, Err, On
 use Rattle.std.proofs.lemmas.List.{append-nil}
 use Rattle.std.proofs.lemmas.Bool.{cases_lt}
 use Rattle.tl_beat.specs.declared.beat.Link.{Link}
-use Rattle.tl_beat.specs.declared.opcode.Channel.{Channel}
+use Rattle.tl_beat.specs.declared.channel.Channel.{Channel}
 use Rattle.tl_params.specs.declared.config.Config.{Config}
 use Rattle.tl_world.specs.declared.event.Event.{Event}
 use Rattle.tl_world.specs.declared.event.Event.TheVariants.{Deliver}
@@ -41,7 +41,8 @@ module _ {w : ℕ} (config : Config) where
   stays zero log none = refl
   stays (suc n) log none = rw none (stays n log none)
 
-  deliveries-suc : (trace : Bool) (n : ℕ) (log : Log w) → deliveries_text trace config (suc n) log ≡ deliveries_text trace config n log ++ delivery_text trace config (drained config n log) (next (drained config n log))
+  deliveries-suc : (trace : Bool) (n : ℕ) (log : Log w) → deliveries_text trace config (suc n) log ≡ deliveries_text trace config n log
+      ++ delivery_text trace config (drained config n log) (next (drained config n log))
   unfolding drained deliveries_text
   deliveries-suc trace zero log = append-nil (delivery_text trace config log (next log))
   deliveries-suc trace (suc n) log =
@@ -89,13 +90,15 @@ pub delivered-none : {w : ℕ} (trace : Bool) (config : Config) (log : Log w) (w
 unfolding drained deliveries_text
 delivered-none trace config log world was r = record { reached = r; count = omega arith; says = sym (append-nil was) }
 
-pub delivered-more : {w : ℕ} (trace : Bool) (config : Config) (log : Log w) (old new : Contained w) (was mid is : List ℕ) (n : ℕ) (link : Link) (ch : Channel) → Delivered trace config log old was mid n
+pub delivered-more : {w : ℕ} (trace : Bool) (config : Config) (log : Log w) (old new : Contained w) (was mid is : List ℕ) (n : ℕ) (link : Link) (ch : Channel)
+    → Delivered trace config log old was mid n
     → Some (link, ch) ≡ next_delivery config (after config (drained config n log)) → Happens trace old new (Deliver link ch) mid is → Delivered trace config log new was is (n + 1)
 delivered-more {w} trace config log old new was mid is n link ch d found happens =
     let log_so_far = drained config n log in
     let h = happens config log_so_far d.reached in
     let one : n + 1 ≡ suc n = omega arith in
-    let grown : drained config (n + 1) log ≡ (Deliver link ch, outcome_after config log_so_far (Deliver link ch)) ∷ log_so_far = drained-more config n log link ch (outcome_after config log_so_far (Deliver link ch)) found refl in
+    let grown : drained config (n + 1) log ≡ (Deliver link ch, outcome_after config log_so_far (Deliver link ch)) ∷ log_so_far =
+    drained-more config n log link ch (outcome_after config log_so_far (Deliver link ch)) found refl in
     let text : deliveries_text trace config (n + 1) log ≡ deliveries_text trace config n log ++ event_text trace (Deliver link ch) (outcome_after config log_so_far (Deliver link ch)) =
     ap (λ (i : ℕ). deliveries_text trace config i log) one ∙ deliveries-suc config trace n log
     ∙ ap (λ (o : Option (Link × Channel)). deliveries_text trace config n log ++ delivery_text trace config log_so_far o) (sym found) in
@@ -108,7 +111,8 @@ delivered-more {w} trace config log old new was mid is n link ch d found happens
           ∙ append_assoc was (deliveries_text trace config n log) _ ∙ ap (λ (t : List ℕ). was ++ t) (sym text);
     }
 
-pub drains-all : {w : ℕ} (trace : Bool) (config : Config) (log : Log w) (world : Contained w) (was is : List ℕ) (n : ℕ) → IsGiven config log → Delivered trace config log world was is n → (next_delivery config (after config (drained config n log)) ≡ None) ⊎ (load log ≤ n)
+pub drains-all : {w : ℕ} (trace : Bool) (config : Config) (log : Log w) (world : Contained w) (was is : List ℕ) (n : ℕ) → IsGiven config log
+    → Delivered trace config log world was is n → (next_delivery config (after config (drained config n log)) ≡ None) ⊎ (load log ≤ n)
     → IsDrained config log n × (is ≡ was ++ deliveries_text trace config n log) × Reaches config world (drained config n log)
 drains-all trace config log world was is n given d (inl none) = (ended config n log given d.count none, d.says, d.reached)
 drains-all trace config log world was is n given d (inr enough) = (ended-at-load config n log given d.count enough, d.says, d.reached)
@@ -124,20 +128,23 @@ happened {w} trace old new event o was is (Ok x) says comes reached = λ config 
 
 -- ---- what a line says
 
-pub event-said : {w : ℕ} {E : Type 0} (trace : Bool) (old new : Contained w) (said : Line w) (event : Event w) (was is : List ℕ) (r : Result (Unit {0}) E) → said ≡ line_of.Event event → OnOk r (Happens trace old new event was is)
+pub event-said : {w : ℕ} {E : Type 0} (trace : Bool) (old new : Contained w) (said : Line w) (event : Event w) (was is : List ℕ) (r : Result (Unit {0}) E)
+    → said ≡ line_of.Event event → OnOk r (Happens trace old new event was is)
     → OnOk r (PlaysOn trace old new said was is)
 event-said trace old new said event was is (Err e) same happens = tt
 event-said trace old new said event was is (Ok x) same happens = rw same (λ config log r.
     let h = happens config log r in
     (event_text trace event (outcome_after config log event), (event, outcome_after config log event) ∷ log, (refl, refl), h.0, h.1))
 
-pub drain-said : {w : ℕ} (trace : Bool) (old new : Contained w) (said : Line w) (was mid is : List ℕ) (n : ℕ) → said ≡ line_of.Drain → Drains trace old new was mid n → is ≡ mid ++ number_text trace n → PlaysOn trace old new said was is
+pub drain-said : {w : ℕ} (trace : Bool) (old new : Contained w) (said : Line w) (was mid is : List ℕ) (n : ℕ) → said ≡ line_of.Drain
+    → Drains trace old new was mid n → is ≡ mid ++ number_text trace n → PlaysOn trace old new said was is
 drain-said trace old new said was mid is n same drains says = rw same (λ config log r.
     let d = drains config log r in
     let text = deliveries_text trace config n log in
     (text ++ number_text trace n, drained config n log, (n, d.0, refl, refl), says ∙ ap (λ (t : List ℕ). t ++ number_text trace n) d.1 ∙ append_assoc was text (number_text trace n), d.2))
 
-pub drain-told : {w : ℕ} {E : Type 0} (trace : Bool) (old new : Contained w) (said : Line w) (was mid is : List ℕ) (n : ℕ) (r : Result (Unit {0}) E) → trace ≡ false → said ≡ line_of.Drain → Drains trace old new was mid n → OnOk r (is ≡ mid ++ drained_line n)
+pub drain-told : {w : ℕ} {E : Type 0} (trace : Bool) (old new : Contained w) (said : Line w) (was mid is : List ℕ) (n : ℕ) (r : Result (Unit {0}) E)
+    → trace ≡ false → said ≡ line_of.Drain → Drains trace old new was mid n → OnOk r (is ≡ mid ++ drained_line n)
     → OnOk r (PlaysOn trace old new said was is)
 drain-told trace old new said was mid is n (Err e) plain same drains says = tt
 drain-told trace old new said was mid is n (Ok x) plain same drains says = drain-said trace old new said was mid is n same drains (rw plain says)

@@ -31,7 +31,8 @@ said-once line said other width s t =
 abbrev pair : {w : ℕ} → List ℕ → Log w → List ℕ × Log w
 pair text log = (text, log)
 
-plays-once : {w : ℕ} (trace : Bool) (config : Config) (log : Log w) (said : Line w) (text other : List ℕ) (grown another : Log w) → Plays trace config log said text grown → Plays trace config log said other another → pair text grown ≡ pair other another
+plays-once : {w : ℕ} (trace : Bool) (config : Config) (log : Log w) (said : Line w) (text other : List ℕ) (grown another : Log w)
+    → Plays trace config log said text grown → Plays trace config log said other another → pair text grown ≡ pair other another
 plays-once trace config log (line_of.Event event) text other grown another (says, is) (so, are) = rw (says, is, so, are) refl
 plays-once trace config log line_of.Drain text other grown another (n, d, says, is) (m, e, so, are) = rw (says, is, so, are, drained-once config n m log d e) refl
 
@@ -55,7 +56,8 @@ Headed = Version × Config
 headed : Version → Config → Headed
 headed version config = (version, config)
 
-heads-as : (line : List ℕ) (x : Named) (version : Version) (config : Config) → header_at line ≡ Some x → HeadsSchedule line version config → headed version config ≡ headed x.version (schedule_of x).config
+heads-as : (line : List ℕ) (x : Named) (version : Version) (config : Config) → header_at line ≡ Some x → HeadsSchedule line version config
+    → headed version config ≡ headed x.version (schedule_of x).config
 unfolding headed
 heads-as line x version config e heads =
     let (same, blocks, trackers, clients) = spelled_read (Some (schedule_of x)) line (e, refl) version config.blocks config.trackers config.clients.items heads.spelled in
@@ -68,7 +70,8 @@ heads-once line version other config another h k = go (header_at line) refl
     go None e = absurd (spelled_read None line e version config.blocks config.trackers config.clients.items h.spelled)
     go (Some x) e = heads-as line x version config e h ∙ sym (heads-as line x other another e k)
 
-pub played-once : (trace : Bool) (lines : List (List ℕ)) (text other : List ℕ) (status another : Status) → Played trace lines text status → Played trace lines other another → AreOne text other status another
+pub played-once : (trace : Bool) (lines : List (List ℕ)) (text other : List ℕ) (status another : Status) → Played trace lines text status
+    → Played trace lines other another → AreOne text other status another
 unfolding Played headed
 played-once trace [] text other status another d e = (d.0 ∙ sym e.0, d.1 ∙ sym e.1)
 played-once trace (line ∷ lines) text other status another (inl (version, config, rest, heads, is, d)) (inl (v, c, more, heads_so, so, e)) =

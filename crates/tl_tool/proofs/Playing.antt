@@ -4,7 +4,7 @@ use Rattle.std.specs.declared.alloc.Global.{Global}
 use Rattle.std.specs.Prelude.{◌⊎◌, IfOk, Option, Some, None, Result, Ok, Err}
 use Rattle.std.proofs.lemmas.List.{append-nil}
 use Rattle.tl_beat.specs.declared.beat.Link.{Link}
-use Rattle.tl_beat.specs.declared.opcode.Channel.{Channel}
+use Rattle.tl_beat.specs.declared.channel.Channel.{Channel}
 use Rattle.tl_beat.specs.Width.{IsWidth}
 use Rattle.tl_params.specs.declared.config.Config.{Config}
 use Rattle.tl_params.specs.Config.{config_fault}
@@ -55,12 +55,14 @@ header-plays trace line version wide config world heads is reached = record {
 }
 
 -- the first line is none
-pub header-none : (n : ℕ) (alloc : Global) (line was : List ℕ) → ((version : Version) (config : Config) → ¬ HeadsSchedule line version config) → Stops (KnowsSchedule {n = n}) (Played (is_trace n)) (Waiting alloc) line was was Header
+pub header-none : (n : ℕ) (alloc : Global) (line was : List ℕ) → ((version : Version) (config : Config) → ¬ HeadsSchedule line version config)
+    → Stops (KnowsSchedule {n = n}) (Played (is_trace n)) (Waiting alloc) line was was Header
 unfolding Played
 header-none n alloc line was none = λ lines before known more.
     rw (← append_assoc before was (fault_text (length lines + 1) Header), known.0, known.1) (inr (none, refl, refl))
 
-pub header-refused : (n : ℕ) (alloc : Global) (line was is : List ℕ) (answer : Option (Player n)) → answer ≡ None → Opens line was is answer → Stops (KnowsSchedule {n = n}) (Played (is_trace n)) (Waiting alloc) line was is Header
+pub header-refused : (n : ℕ) (alloc : Global) (line was is : List ℕ) (answer : Option (Player n)) → answer ≡ None → Opens line was is answer
+    → Stops (KnowsSchedule {n = n}) (Played (is_trace n)) (Waiting alloc) line was is Header
 header-refused n alloc line was is None same (none, says) = rw says (header-none n alloc line was none)
 header-refused n alloc line was is (Some player) same opens = absurd cc
 
@@ -101,7 +103,8 @@ line-plays trace old new lines before was is line k (said, spells, plays) =
       log = grown;
       reached = reached;
       before = λ more rest status played.
-          rw (append_assoc lines (line ∷ []) more, behind before was is text rest says) (k.before (line ∷ more) (text ++ rest) status (inl (said, text, rest, grown, spells, how, refl, rw number at played)));
+          rw (append_assoc lines (line ∷ []) more, behind before was is text rest says)
+          (k.before (line ∷ more) (text ++ rest) status (inl (said, text, rest, grown, spells, how, refl, rw number at played)));
     }
 
 line-fails : {w : ℕ} (trace : Bool) (world : Contained w) (lines : List (List ℕ)) (before was line : List ℕ) → KnowsPlay trace world lines (before ++ was) → ((said : Line w) → ¬ SpellsLine line said)
@@ -116,13 +119,15 @@ lines-end trace world lines text k = rw (append-nil, append-nil) at (k.before []
 
 module _ {w n : ℕ} (wrap : Contained w → Player n) (into : (m : Contained w) (lines : List (List ℕ)) (text : List ℕ) → KnowsSchedule (wrap m) lines text → KnowsPlay (is_trace n) m lines text)
     (out : (m : Contained w) (lines : List (List ℕ)) (text : List ℕ) → KnowsPlay (is_trace n) m lines text → KnowsSchedule (wrap m) lines text) where
-  judges : (old new : Contained w) (line was is : List ℕ) (answer : Option Fault) → PlaysLine (is_trace n) old new line was is answer → Judges KnowsSchedule (Played (is_trace n)) (wrap old) (wrap new) line was is answer
+  judges : (old new : Contained w) (line was is : List ℕ) (answer : Option Fault) → PlaysLine (is_trace n) old new line was is answer
+      → Judges KnowsSchedule (Played (is_trace n)) (wrap old) (wrap new) line was is answer
   judges old new line was is None plays = λ lines before known.
       out new (lines ++ line ∷ []) (before ++ is) (line-plays (is_trace n) old new lines before was is line (into old lines (before ++ was) known) plays)
   judges old new line was is (Some fault) (none, which, same) = λ lines before known.
       rw (which, same) (line-fails (is_trace n) old lines before was line (into old lines (before ++ was) known) none)
 
-  pub judged : {E : Type 0} (old new : Contained w) (line was is : List ℕ) (r : Result (Option Fault) E) → IfOk r (PlaysLine (is_trace n) old new line was is) → IfOk r (Judges KnowsSchedule (Played (is_trace n)) (wrap old) (wrap new) line was is)
+  pub judged : {E : Type 0} (old new : Contained w) (line was is : List ℕ) (r : Result (Option Fault) E) → IfOk r (PlaysLine (is_trace n) old new line was is)
+      → IfOk r (Judges KnowsSchedule (Played (is_trace n)) (wrap old) (wrap new) line was is)
   judged old new line was is (Ok answer) plays = judges old new line was is answer plays
   judged old new line was is (Err e) plays = tt
 
@@ -132,7 +137,8 @@ open-line : {w : ℕ} (trace : Bool) (world : Contained w) (line said : List ℕ
     → (more : List (List ℕ)) → Played trace (lines ++ line ∷ more) (before ++ (said ++ fault_text (length lines + 1) (NoEvent F1))) Broken
 open-line trace world line said wide is lines before k more = rw (← open-fault line is) (line-fails trace world lines before said line k (open-none line wide is) more)
 
-pub line-open : {n : ℕ} (player : Player n) → ((alloc : Global) → player ≡ Waiting alloc → ⊥) → (line said : List ℕ) → IsOpen line → Stops KnowsSchedule (Played (is_trace n)) player line said said (NoEvent F1)
+pub line-open : {n : ℕ} (player : Player n) → ((alloc : Global) → player ≡ Waiting alloc → ⊥) → (line said : List ℕ) → IsOpen line
+    → Stops KnowsSchedule (Played (is_trace n)) player line said said (NoEvent F1)
 line-open (Waiting alloc) read line said is = absurd (read alloc refl)
 line-open {n} (Four m) read line said is = λ lines before k. open-line (is_trace n) m line said (inl refl) is lines before k
 line-open {n} (Eight m) read line said is = λ lines before k. open-line (is_trace n) m line said (inr (inl refl)) is lines before k
@@ -156,7 +162,8 @@ given-drained {w} config (suc n) log given = given-drained config n (with_delive
     go (Some d) = given-delivering config d.0 d.1 log given
 
 -- a line that says something has a text
-line-text : {w : ℕ} (trace : Bool) (config : Config) (log : Log w) (line : List ℕ) (said : Line w) → IsGiven config log → SpellsLine line said → (text : List ℕ) × (grown : Log w) × Plays trace config log said text grown × IsGiven config grown
+line-text : {w : ℕ} (trace : Bool) (config : Config) (log : Log w) (line : List ℕ) (said : Line w) → IsGiven config log → SpellsLine line said → (text : List ℕ)
+    × (grown : Log w) × Plays trace config log said text grown × IsGiven config grown
 line-text trace config log line (line_of.Event event) given spells =
     let o = outcome_after config log event in
     (event_text trace event o, (event, o) ∷ log, (refl, refl), given-more config log event o given (typed-spelled line event given.width spells) refl)
@@ -164,12 +171,14 @@ line-text trace config log line line_of.Drain given spells =
     let d = drain config log given in
     (deliveries_text trace config d.0 log ++ number_text trace d.0, drained config d.0 log, (d.0, d.1, refl, refl), given-drained config d.0 log given)
 
-played-after : {w : ℕ} (trace : Bool) (config : Config) (n : ℕ) (log : Log w) (lines : List (List ℕ)) → IsGiven config log → (text : List ℕ) × (status : Status) × PlayedAfter trace config n log lines text status
+played-after : {w : ℕ} (trace : Bool) (config : Config) (n : ℕ) (log : Log w) (lines : List (List ℕ)) → IsGiven config log → (text : List ℕ) × (status : Status)
+    × PlayedAfter trace config n log lines text status
 unfolding PlayedAfter
 played-after trace config n log [] given = ([], Clean, (refl, refl))
 played-after {w} trace config n log (line ∷ lines) given = go (says-or-not line given.width) (λ grown known. played-after trace config (n + 1) grown lines known)
   where
-    go : ((said : Line w) × SpellsLine line said) ⊎ ((said : Line w) → ¬ SpellsLine line said) → ((grown : Log w) → IsGiven config grown → (text : List ℕ) × (status : Status) × PlayedAfter trace config (n + 1) grown lines text status)
+    go : ((said : Line w) × SpellsLine line said) ⊎ ((said : Line w) → ¬ SpellsLine line said)
+        → ((grown : Log w) → IsGiven config grown → (text : List ℕ) × (status : Status) × PlayedAfter trace config (n + 1) grown lines text status)
         → (text : List ℕ) × (status : Status) × PlayedAfter trace config n log (line ∷ lines) text status
     go (inl (said, spells)) more =
         let (first, grown, plays, known) = line-text trace config log line said given spells in
@@ -210,7 +219,8 @@ played-whole trace (line ∷ lines) = go (headed-or-not line)
         (header_text trace version config.clients.items ++ rest, status, inl (version, config, rest, heads, refl, played))
     go (inr none) = (fault_text 1 Header, Broken, inr (none, refl, refl))
 
-played-more : {w : ℕ} (trace : Bool) (world : Contained w) (lines : List (List ℕ)) (text : List ℕ) → KnowsPlay trace world lines text → (more : List (List ℕ)) → (rest : List ℕ) × (status : Status) × Played trace (lines ++ more) (text ++ rest) status
+played-more : {w : ℕ} (trace : Bool) (world : Contained w) (lines : List (List ℕ)) (text : List ℕ) → KnowsPlay trace world lines text → (more : List (List ℕ))
+    → (rest : List ℕ) × (status : Status) × Played trace (lines ++ more) (text ++ rest) status
 played-more trace world lines text k more =
     let (rest, status, played) = played-after trace k.config (length lines + 1) k.log more k.reached.given in
     (rest, status, k.before more rest status played)

@@ -98,7 +98,8 @@ module _ {J : Type 0} (knows : J → List (List ℕ) → List ℕ → Type 0) (t
         (read ++ piece, text ++ said, Consumes-trans had left now read piece consumed more, Appends-trans held holds holds_now text said appended written, clean read text p)
 
     -- the end of the input is judged
-    ends_closed : (status : Status) (now holds_now : Option (List ℕ)) (said : List ℕ) → Consumes left now [] → IsAtEnd now → Appends holds holds_now said → FinishesInput knows tells state [] said status
+    ends_closed : (status : Status) (now holds_now : Option (List ℕ)) (said : List ℕ) → Consumes left now [] → IsAtEnd now → Appends holds holds_now said
+        → FinishesInput knows tells state [] said status
         → (read text : List ℕ) × Consumes had now read × Appends held holds_now text × tells (lines_of read) text status × EndsAs tells now read text status
     ends_closed Clean now holds_now said more end written ends =
         let (read, text, consumed, appended, p) = so_far in (

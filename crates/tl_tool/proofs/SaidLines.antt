@@ -13,7 +13,8 @@ use Rattle.tl_world.proofs.Ranges.{zeros-bytes}
 use Rattle.tl_schedule.specs.declared.line.EventFault.{EventFault}
 use Rattle.tl_schedule.specs.declared.line.EventFault.TheVariants.{F1, F8}
 use Rattle.tl_schedule.specs.declared.line.Line.{Line}
-use Rattle.tl_schedule.specs.EventLine.{Asked, Get, Put, Part, Arith, Logic, Hint, AskedFits, Fits, Said, Load, Store, Acquire, Whole, Release, Access, Deliver, SpellsEvent, SpellsLine, asked_payload, event_fault, event_of, payload_of}
+use Rattle.tl_schedule.specs.EventLine.{Asked, Get, Put, Part, Arith, Logic, Hint, AskedFits, Fits, Said, Load, Store, Acquire, Whole, Release, Access, Deliver}
+use Rattle.tl_schedule.specs.EventLine.{SpellsEvent, SpellsLine, asked_payload, event_fault, event_of, payload_of}
 use Rattle.tl_schedule.specs.EventReading.{event_at, line_at}
 use Rattle.tl_schedule.proofs.WholeLines.{read_said, said_read}
 use Rattle.tl_tool.specs.Lines.{IsOpen}

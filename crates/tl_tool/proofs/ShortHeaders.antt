@@ -34,7 +34,8 @@ clients-short (client ∷ clients) fits =
     let name = level-short client.level in
     let tail = length-append (decimal client.sources) (clients_text clients) in
     let text : clients_text (client ∷ clients) ≡ 32 ∷ (level_text client.level ++ 58 ∷ (decimal client.sources ++ clients_text clients)) = simp append_assoc in
-    let all : length (clients_text (client ∷ clients)) ≡ length (level_text client.level) + length (decimal client.sources ++ clients_text clients) + 2 = ap (λ (t : List ℕ). length t) text ∙ client-parts (level_text client.level) (decimal client.sources ++ clients_text clients) in
+    let all : length (clients_text (client ∷ clients)) ≡ length (level_text client.level) + length (decimal client.sources ++ clients_text clients) + 2 =
+    ap (λ (t : List ℕ). length t) text ∙ client-parts (level_text client.level) (decimal client.sources ++ clients_text clients) in
     omega (arith, digits, rest, name, tail, all)
 
 -- what stands before the LF
@@ -53,7 +54,8 @@ header-unopened line (inl ends) version config h =
 header-unopened line (inr long) version config h =
     let blocks : length (decimal config.blocks) ≤ 4 = decimal-short 1024 4 config.blocks (omega arith) (omega arith) (omega arith) h.spelled.blocks_fit in
     let trackers : length (decimal config.trackers) ≤ 1 = decimal-short 8 1 config.trackers (omega arith) (omega arith) (omega arith) h.spelled.trackers_fit in
-    let few : length config.clients.items ≤ 16 = leb-true (length config.clients.items) 16 (and_parts (nat_le 1 (length config.clients.items)) (nat_le (length config.clients.items) 16) h.spelled.clients_fit).1 in
+    let few : length config.clients.items ≤ 16 = leb-true (length config.clients.items) 16
+    (and_parts (nat_le 1 (length config.clients.items)) (nat_le (length config.clients.items) 16) h.spelled.clients_fit).1 in
     let clients = clients-short config.clients.items h.spelled.sources_fit in
     let name = version-short version in
     let text = ap (λ (t : List ℕ). length t) (h.spelled.is_line ∙ whole version config.blocks config.trackers config.clients.items) in

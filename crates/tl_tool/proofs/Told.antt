@@ -12,7 +12,8 @@ use Rattle.tl_tool.proofs.OneText.{AreOne, decodes_once, is_width_of, judged_onc
 use Rattle.tl_tool.proofs.PlayedOnce.{played-once}
 use Rattle.tl_tool.proofs.Playing.{played-whole}
 
-pub told-once : (command : Command) (lines : List (List ℕ)) (text other : List ℕ) (status another : Status) → text_told command lines text status → text_told command lines other another → AreOne text other status another
+pub told-once : (command : Command) (lines : List (List ℕ)) (text other : List ℕ) (status another : Status) → text_told command lines text status
+    → text_told command lines other another → AreOne text other status another
 told-once (Decode width) = decodes_once (bytes_of width) 1 (is_width_of width)
 told-once Monitor = judged_once
 told-once (Run trace) = played-once trace

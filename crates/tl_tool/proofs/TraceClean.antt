@@ -7,7 +7,7 @@ use Rattle.std.proofs.lemmas.List.Elements.{All-head}
 use Rattle.std.proofs.lemmas.Option.{slice_get-map, slice_get_within}
 use Rattle.tl_beat.specs.declared.beat.Link.{Link}
 use Rattle.tl_beat.specs.declared.beat.Beat.{Beat}
-use Rattle.tl_beat.specs.declared.opcode.Channel.{Channel}
+use Rattle.tl_beat.specs.declared.channel.Channel.{Channel}
 use Rattle.tl_beat.specs.Line.{IsInRange, Spells, fields_of, line_of as beat_line, spaced}
 use Rattle.tl_burst.specs.Messages.{History}
 use Rattle.tl_params.specs.declared.config.ClientConfig.{ClientConfig}
@@ -107,7 +107,8 @@ record IsGood {w : ℕ} (config : Config) (log : Log w) (link : Link) (x : Beat 
   spells : Spells (beat_line link x) link x
   good : broken_on_link (levels_in config) config.profile (link, x) (trace_of log) ≡ None
 
-good-beat : {w : ℕ} (config : Config) (log : Log w) (link : Link) (ch : Channel) (o : Outcome w) (x : Beat w) → IsGiven config ((Deliver link ch, o) ∷ log) → AreRanged ((Deliver link ch, o) ∷ log) → is_moving o ≡ true
+good-beat : {w : ℕ} (config : Config) (log : Log w) (link : Link) (ch : Channel) (o : Outcome w) (x : Beat w) → IsGiven config ((Deliver link ch, o) ∷ log)
+    → AreRanged ((Deliver link ch, o) ∷ log) → is_moving o ≡ true
     → flow link.0 ((Deliver link ch, o) ∷ log) ≡ x ∷ flow link.0 log → IsGood config log link x
 unfolding IsLog is_legal
 good-beat {w} config log link ch o x given ranged moving flowing = record {
@@ -117,7 +118,8 @@ good-beat {w} config log link ch o x given ranged moving flowing = record {
     writable = delivered-writable config log link ch o x given flowing;
     in_range = All-head IsInRange x (flow link.0 log) (subst (All IsInRange) flowing (are-in_range config whole given ranged link.0));
   };
-  good = ap (λ (l : Option Level). broken_at_level l config.profile x (on_link link.0 (trace_of log))) level ∙ ap (λ (t : History w). broken_after first.2.level config.profile x t) (trace-flows link.0 log)
+  good = ap (λ (l : Option Level). broken_at_level l config.profile x (on_link link.0 (trace_of log))) level
+      ∙ ap (λ (t : History w). broken_after first.2.level config.profile x t) (trace-flows link.0 log)
       ∙ unbroken (broken_after first.2.level config.profile x (flow link.0 log)) (is_legal first.2.level config.profile (flow link.0 log)) legal;
 }
   where
@@ -158,7 +160,8 @@ and-then config log mid grown first second e f = record {
 }
 
 -- a beat that is shown
-one-more : {w : ℕ} (config : Config) (log : Log w) (link : Link) (x : Beat w) (rest verdict : List ℕ) → IsGood config log link x → JudgedAfter (levels_in config) config.profile ((link, x) ∷ trace_of log) (lines_of rest) verdict Clean
+one-more : {w : ℕ} (config : Config) (log : Log w) (link : Link) (x : Beat w) (rest verdict : List ℕ) → IsGood config log link x
+    → JudgedAfter (levels_in config) config.profile ((link, x) ∷ trace_of log) (lines_of rest) verdict Clean
     → JudgedBehind config log (beat_line link x ++ rest) verdict
 unfolding JudgedAfter
 one-more config log link x rest verdict is j = rw (lines_of-line (spaced (fields_of link x)) rest (lacks-beat link x)) (inl (link, x, is.spells, is.good, j))
@@ -182,11 +185,13 @@ shows-none (Deliver link ch) outcome.Empty e = record { text = refl; beats = ref
 shows-none (Deliver link ch) outcome.Stalled e = record { text = refl; beats = refl }
 shows-none (Deliver link ch) outcome.NoSuchClient e = record { text = refl; beats = refl }
 
-still-judged : {w : ℕ} (config : Config) (log : Log w) (event : Event w) (o : Outcome w) (rest verdict : List ℕ) → is_moving o ≡ false → JudgedBehind config ((event, o) ∷ log) rest verdict → JudgedBehind config log (trace_text event o ++ rest) verdict
+still-judged : {w : ℕ} (config : Config) (log : Log w) (event : Event w) (o : Outcome w) (rest verdict : List ℕ) → is_moving o ≡ false
+    → JudgedBehind config ((event, o) ∷ log) rest verdict → JudgedBehind config log (trace_text event o ++ rest) verdict
 unfolding trace_of
 still-judged config log event o rest verdict still j = let none = shows-none event o still in rw none.text (rw none.beats at j)
 
-delivery-judged : {w : ℕ} (config : Config) (log : Log w) (link : Link) (ch : Channel) (o : Outcome w) (rest verdict : List ℕ) → IsGiven config ((Deliver link ch, o) ∷ log) → AreRanged ((Deliver link ch, o) ∷ log)
+delivery-judged : {w : ℕ} (config : Config) (log : Log w) (link : Link) (ch : Channel) (o : Outcome w) (rest verdict : List ℕ)
+    → IsGiven config ((Deliver link ch, o) ∷ log) → AreRanged ((Deliver link ch, o) ∷ log)
     → JudgedBehind config ((Deliver link ch, o) ∷ log) rest verdict → JudgedBehind config log (trace_text (Deliver link ch) o ++ rest) verdict
 unfolding flow trace_of
 delivery-judged config log link ch (outcome.Moved x) rest verdict given ranged j =
@@ -198,12 +203,15 @@ delivery-judged config log link ch outcome.Empty rest verdict given ranged j = s
 delivery-judged config log link ch outcome.Stalled rest verdict given ranged j = still-judged config log (Deliver link ch) outcome.Stalled rest verdict refl j
 delivery-judged config log link ch outcome.NoSuchClient rest verdict given ranged j = still-judged config log (Deliver link ch) outcome.NoSuchClient rest verdict refl j
 
-event-judged : {w : ℕ} (config : Config) (log : Log w) (event : Event w) (rest verdict : List ℕ) → IsGiven config ((event, outcome_after config log event) ∷ log) → AreRanged ((event, outcome_after config log event) ∷ log)
+event-judged : {w : ℕ} (config : Config) (log : Log w) (event : Event w) (rest verdict : List ℕ)
+    → IsGiven config ((event, outcome_after config log event) ∷ log) → AreRanged ((event, outcome_after config log event) ∷ log)
     → JudgedBehind config ((event, outcome_after config log event) ∷ log) rest verdict → JudgedBehind config log (trace_text event (outcome_after config log event) ++ rest) verdict
-event-judged config log (Ask client op) rest verdict given ranged j = still-judged config log (Ask client op) (outcome_after config log (Ask client op)) rest verdict (asked-still config log client op) j
+event-judged config log (Ask client op) rest verdict given ranged j =
+    still-judged config log (Ask client op) (outcome_after config log (Ask client op)) rest verdict (asked-still config log client op) j
 event-judged config log (Deliver link ch) rest verdict given ranged j = delivery-judged config log link ch (outcome_after config log (Deliver link ch)) rest verdict given ranged j
 
-event-extends : {w : ℕ} (config : Config) (log : Log w) (event : Event w) → IsGiven config log → AreRanged log → IsTyped event → IsRanged event → Extends config log (trace_text event (outcome_after config log event)) ((event, outcome_after config log event) ∷ log)
+event-extends : {w : ℕ} (config : Config) (log : Log w) (event : Event w) → IsGiven config log → AreRanged log → IsTyped event → IsRanged event
+    → Extends config log (trace_text event (outcome_after config log event)) ((event, outcome_after config log event) ∷ log)
 unfolding AreRanged
 event-extends config log event given ranged typed inside =
     let grown = given-more config log event (outcome_after config log event) given typed refl in
@@ -211,7 +219,8 @@ event-extends config log event given ranged typed inside =
 
 -- ---- what lines show
 
-delivery-extends : {w : ℕ} (config : Config) (log : Log w) (o : Option (Link × Channel)) → IsGiven config log → AreRanged log → Extends config log (delivery_text true config log o) (with_delivery config o log)
+delivery-extends : {w : ℕ} (config : Config) (log : Log w) (o : Option (Link × Channel)) → IsGiven config log → AreRanged log
+    → Extends config log (delivery_text true config log o) (with_delivery config o log)
 delivery-extends config log None given ranged = nothing-more config log given ranged
 delivery-extends config log (Some d) given ranged = event-extends config log (Deliver d.0 d.1) given ranged tt tt
 
@@ -221,10 +230,12 @@ deliveries-extend config zero log given ranged = nothing-more config log given r
 deliveries-extend config (suc n) log given ranged =
     let next = next_delivery config (after config log) in
     let one = delivery-extends config log next given ranged in
-    and-then config log (with_delivery config next log) (drained config n (with_delivery config next log)) (delivery_text true config log next) (deliveries_text true config n (with_delivery config next log)) one
+    and-then config log (with_delivery config next log) (drained config n (with_delivery config next log)) (delivery_text true config log next)
+    (deliveries_text true config n (with_delivery config next log)) one
     (deliveries-extend config n (with_delivery config next log) one.given one.ranged)
 
-said-extends : {w : ℕ} (config : Config) (log : Log w) (line : List ℕ) (said : Line w) (text : List ℕ) (grown : Log w) → IsGiven config log → AreRanged log → SpellsLine line said → Plays true config log said text grown → Extends config log text grown
+said-extends : {w : ℕ} (config : Config) (log : Log w) (line : List ℕ) (said : Line w) (text : List ℕ) (grown : Log w) → IsGiven config log → AreRanged log
+    → SpellsLine line said → Plays true config log said text grown → Extends config log text grown
 said-extends config log line (line_of.Event event) text grown given ranged spells (says, is) =
     rw (says, is) (event-extends config log event given ranged (typed-spelled line event given.width spells) (ranged-spelled line event spells))
 said-extends config log line line_of.Drain text grown given ranged spells (n, all, says, is) =
@@ -246,7 +257,8 @@ record ShowsTrace {w : ℕ} (config : Config) (log : Log w) (text : List ℕ) (s
   ends : Ends text trace status
   judged : JudgedBehind config log trace verdict
 
-shows-trace : {w : ℕ} (config : Config) (n : ℕ) (log : Log w) (lines : List (List ℕ)) (text : List ℕ) (status : Status) → IsGiven config log → AreRanged log → PlayedAfter true config n log lines text status → ShowsTrace config log text status
+shows-trace : {w : ℕ} (config : Config) (n : ℕ) (log : Log w) (lines : List (List ℕ)) (text : List ℕ) (status : Status) → IsGiven config log → AreRanged log
+    → PlayedAfter true config n log lines text status → ShowsTrace config log text status
 unfolding PlayedAfter JudgedAfter lines_of
 shows-trace config n log [] text status given ranged (is, ends) = rw ends (record { trace = []; verdict = clean_text (length (trace_of log)); ends = is; judged = (refl, refl) })
 shows-trace config n log (line ∷ lines) text status given ranged (inl (said, first, rest, grown, spells, plays, is, played)) =
@@ -268,7 +280,8 @@ clean-says levels p t (line ∷ lines) text (inl (link, x, spells, good, rest)) 
 clean-says levels p t (line ∷ lines) text (inr (fault, is, says, ends)) = absurd cc
 
 -- the header of the trace names what that of the schedule does
-trace-heads : (line : List ℕ) (version : Version) (config : Config) → HeadsSchedule line version config → SpellsHeader (header_line version (levels_in config)) (width_of version) config.profile (levels_in config)
+trace-heads : (line : List ℕ) (version : Version) (config : Config) → HeadsSchedule line version config
+    → SpellsHeader (header_line version (levels_in config)) (width_of version) config.profile (levels_in config)
 trace-heads line version config heads =
     let counted = and_parts (nat_le 1 (length config.clients.items)) (nat_le (length config.clients.items) 16) heads.spelled.clients_fit in
     let same : length (levels_in config) ≡ length config.clients.items = length-map config.clients.items (λ client. client.level) in
@@ -280,14 +293,19 @@ trace-heads line version config heads =
       so_many = (omega (arith, same, leb-true 1 (length config.clients.items) counted.0), omega (arith, same, leb-true (length config.clients.items) 16 counted.1));
     }
 
-headed-clean : (line : List ℕ) (version : Version) (config : Config) (trace verdict : List ℕ) → HeadsSchedule line version config → JudgedBehind {w = bytes_of (width_of version)} config [] trace verdict
+headed-clean : (line : List ℕ) (version : Version) (config : Config) (trace verdict : List ℕ) → HeadsSchedule line version config
+    → JudgedBehind {w = bytes_of (width_of version)} config [] trace verdict
     → IsClean (header_line version (levels_in config) ++ trace)
 unfolding Judged trace_of
 headed-clean line version config trace verdict heads judged =
     let lines = lines_of-line (trace_word ++ version_text version ++ levels_text (levels_in config)) trace (lacks-header version (levels_in config)) in
     let all : 0 + length (lines_of trace) ≡ length (lines_of trace) = omega arith in
-    let says : verdict ≡ clean_text (length (lines_of trace)) = clean-says (levels_in config) config.profile [] (lines_of trace) verdict judged ∙ ap clean_text all in
-    (length (lines_of trace), ap (λ (l : List (List ℕ)). length l) lines ∙ omega arith, rw lines (inl (width_of version, config.profile, levels_in config, trace-heads line version config heads, rw says at judged)))
+    let says : verdict ≡ clean_text (length (lines_of trace)) = clean-says (levels_in config) config.profile [] (lines_of trace) verdict judged ∙ ap clean_text all in (
+      length (lines_of trace),
+      ap (λ (l : List (List ℕ)). length l) lines
+          ∙ omega arith,
+      rw lines (inl (width_of version, config.profile, levels_in config, trace-heads line version config heads, rw says at judged)),
+    )
 
 whole-clean : (top rest trace : List ℕ) (status : Status) → IsClean (top ++ trace) → Ends rest trace status → IsCleanUpTo (top ++ rest) status
 whole-clean top rest trace Clean clean is = rw is clean
@@ -298,6 +316,7 @@ pub trace-clean : (lines : List (List ℕ)) (text : List ℕ) (status : Status) 
 unfolding Played AreRanged
 trace-clean [] text status (is, ends) = rw ends (inl is)
 trace-clean (line ∷ lines) text status (inl (version, config, rest, heads, is, played)) =
-    let shows = shows-trace {w = bytes_of (width_of version)} config 2 [] lines rest status (given-first config (is_width_of (width_of version)) (header-fits line version config heads.spelled)) tt played in
+    let shows = shows-trace {w = bytes_of (width_of version)} config 2 [] lines rest status
+    (given-first config (is_width_of (width_of version)) (header-fits line version config heads.spelled)) tt played in
     rw is (whole-clean (header_line version (levels_in config)) rest shows.trace status (headed-clean line version config shows.trace shows.verdict heads shows.judged) shows.ends)
 trace-clean (line ∷ lines) text status (inr (none, is, ends)) = rw ends (inl is)

@@ -71,14 +71,82 @@ lacks-letter : (c : ℕ) → IsOther c → LacksLf (c ∷ [])
 lacks-letter c other = All-cons IsOther c [] other (All-nil IsOther)
 
 lacks-fields : {w : ℕ} (link : Link) (x : Beat w) → AllLack (fields_of link x)
-lacks-fields {w} link (A x) =
-    (lacks-digits 2 link.0, (lacks-letter 65 refl, (lacks-digits 1 _, (lacks-digits 1 x.param, (lacks-digits 1 x.size, (lacks-digits 2 x.source, (lacks-digits 8 x.address, (lacks-digits (w / 4) x.mask, (lacks-lanes x.lanes, (lacks-bit x.corrupt, tt))))))))))
-lacks-fields {w} link (B x) =
-    (lacks-digits 2 link.0, (lacks-letter 66 refl, (lacks-digits 1 _, (lacks-digits 1 x.param, (lacks-digits 1 x.size, (lacks-digits 2 x.source, (lacks-digits 8 x.address, (lacks-digits (w / 4) x.mask, (lacks-lanes x.lanes, (lacks-bit x.corrupt, tt))))))))))
-lacks-fields link (C x) =
-    (lacks-digits 2 link.0, (lacks-letter 67 refl, (lacks-digits 1 _, (lacks-digits 1 x.param, (lacks-digits 1 x.size, (lacks-digits 2 x.source, (lacks-digits 8 x.address, (lacks-lanes x.lanes, (lacks-bit x.corrupt, tt)))))))))
-lacks-fields link (D x) =
-    (lacks-digits 2 link.0, (lacks-letter 68 refl, (lacks-digits 1 _, (lacks-digits 1 x.param, (lacks-digits 1 x.size, (lacks-digits 2 x.source, (lacks-digits 2 x.sink, (lacks-bit x.denied, (lacks-lanes x.lanes, (lacks-bit x.corrupt, tt))))))))))
+lacks-fields {w} link (A x) = (
+  lacks-digits 2 link.0,
+  (
+    lacks-letter 65 refl,
+    (
+      lacks-digits 1 _,
+      (
+        lacks-digits 1 x.param,
+        (
+          lacks-digits 1 x.size,
+          (
+            lacks-digits 2 x.source,
+            (lacks-digits 8 x.address, (lacks-digits (w / 4) x.mask, (lacks-lanes x.lanes, (lacks-bit x.corrupt, tt)))),
+          ),
+        ),
+      ),
+    ),
+  ),
+)
+lacks-fields {w} link (B x) = (
+  lacks-digits 2 link.0,
+  (
+    lacks-letter 66 refl,
+    (
+      lacks-digits 1 _,
+      (
+        lacks-digits 1 x.param,
+        (
+          lacks-digits 1 x.size,
+          (
+            lacks-digits 2 x.source,
+            (lacks-digits 8 x.address, (lacks-digits (w / 4) x.mask, (lacks-lanes x.lanes, (lacks-bit x.corrupt, tt)))),
+          ),
+        ),
+      ),
+    ),
+  ),
+)
+lacks-fields link (C x) = (
+  lacks-digits 2 link.0,
+  (
+    lacks-letter 67 refl,
+    (
+      lacks-digits 1 _,
+      (
+        lacks-digits 1 x.param,
+        (
+          lacks-digits 1 x.size,
+          (
+            lacks-digits 2 x.source,
+            (lacks-digits 8 x.address, (lacks-lanes x.lanes, (lacks-bit x.corrupt, tt))),
+          ),
+        ),
+      ),
+    ),
+  ),
+)
+lacks-fields link (D x) = (
+  lacks-digits 2 link.0,
+  (
+    lacks-letter 68 refl,
+    (
+      lacks-digits 1 _,
+      (
+        lacks-digits 1 x.param,
+        (
+          lacks-digits 1 x.size,
+          (
+            lacks-digits 2 x.source,
+            (lacks-digits 2 x.sink, (lacks-bit x.denied, (lacks-lanes x.lanes, (lacks-bit x.corrupt, tt)))),
+          ),
+        ),
+      ),
+    ),
+  ),
+)
 lacks-fields link (E x) = (lacks-digits 2 link.0, (lacks-letter 69 refl, (lacks-digits 2 x.sink, tt)))
 
 pub lacks-beat : {w : ℕ} (link : Link) (x : Beat w) → LacksLf (spaced (fields_of link x))
@@ -108,4 +176,5 @@ lacks-levels [] = All-nil IsOther
 lacks-levels (l ∷ levels) = lacks-append (codes " " ++ level_text l) (levels_text levels) (lacks-level l) (lacks-levels levels)
 
 pub lacks-header : (version : Version) (levels : List Level) → LacksLf (trace_word ++ version_text version ++ levels_text levels)
-lacks-header version levels = lacks-append (trace_word ++ version_text version) (levels_text levels) (lacks-append trace_word (version_text version) (lacks-all trace_word refl) (lacks-version version)) (lacks-levels levels)
+lacks-header version levels = lacks-append (trace_word ++ version_text version) (levels_text levels)
+    (lacks-append trace_word (version_text version) (lacks-all trace_word refl) (lacks-version version)) (lacks-levels levels)

@@ -5,7 +5,7 @@ use Rattle.std.proofs.lemmas.Bool.{eqb-false}
 use Rattle.std.proofs.lemmas.List.Elements.{All-head}
 use Rattle.tl_beat.specs.declared.beat.Link.{Link}
 use Rattle.tl_beat.specs.declared.beat.Beat.{Beat}
-use Rattle.tl_beat.specs.declared.opcode.Channel.{Channel}
+use Rattle.tl_beat.specs.declared.channel.Channel.{Channel}
 use Rattle.tl_beat.specs.Line.{IsWritable}
 use Rattle.tl_burst.specs.Messages.{History}
 use Rattle.tl_params.specs.declared.config.Config.{Config}
@@ -29,7 +29,8 @@ taken {w} link x t = go (link.0 == link.0) refl
     go true e = refl
     go false e = absurd (eqb-false link.0 link.0 e refl)
 
-pub delivered-writable : {w : ℕ} (config : Config) (log : Log w) (link : Link) (ch : Channel) (o : Outcome w) (x : Beat w) → IsGiven config ((Deliver link ch, o) ∷ log) → flow link.0 ((Deliver link ch, o) ∷ log) ≡ x ∷ flow link.0 log → IsWritable x
+pub delivered-writable : {w : ℕ} (config : Config) (log : Log w) (link : Link) (ch : Channel) (o : Outcome w) (x : Beat w)
+    → IsGiven config ((Deliver link ch, o) ∷ log) → flow link.0 ((Deliver link ch, o) ∷ log) ≡ x ∷ flow link.0 log → IsWritable x
 delivered-writable config log link ch o x given flowing = All-head IsWritable x (flow link.0 log) (subst (All IsWritable) flowing (have-room config ((Deliver link ch, o) ∷ log) given link.0))
 
 -- where no beat is moved there is none without room

@@ -9,8 +9,8 @@ use Rattle.tl_beat.specs.declared.beat.Beat.{Beat}
 use Rattle.tl_beat.specs.declared.beat.Beat.TheVariants as beat
 use Rattle.tl_beat.specs.declared.beat.BeatA.{BeatA}
 use Rattle.tl_beat.specs.declared.beat.Link.{Link}
-use Rattle.tl_beat.specs.declared.opcode.Channel.{Channel}
-use Rattle.tl_beat.specs.declared.opcode.Channel.TheVariants as channel
+use Rattle.tl_beat.specs.declared.channel.Channel.{Channel}
+use Rattle.tl_beat.specs.declared.channel.Channel.TheVariants as channel
 use Rattle.tl_beat.specs.declared.opcode.OpD.TheVariants as opd
 use Rattle.tl_burst.specs.declared.message.Message.{Message}
 use Rattle.tl_burst.specs.declared.message.Message.TheVariants as message
@@ -93,7 +93,8 @@ bytes_come {w} o m bytes beats width lawful long burst =
 -- ---- how the client ends an access that is answered
 
 ends_answered : {w : ℕ} (o : Option Level) (m : MessageA w) (d : MessageD w) (r : memory.AccessResult) (beats : List (Beat w)) → IsWidth w → illegal_message_at o (message.A m) ≡ None
-    → message.D d ≡ access_answer m (answer_of (message.A m) r) → IsReach m r → beats ≡ burst_of (message.D d) → finish_of w d.opcode d.param d.size m.address (payload_of beats) ≡ finish_with (message.A m) r
+    → message.D d ≡ access_answer m (answer_of (message.A m) r) → IsReach m r → beats ≡ burst_of (message.D d)
+    → finish_of w d.opcode d.param d.size m.address (payload_of beats) ≡ finish_with (message.A m) r
 ends_answered {w} o m d memory.Done beats width lawful answer reach burst =
     ap (λ (i : MessageD w). finish_of w i.opcode i.param i.size m.address (payload_of beats)) (same-response d (answer_message opd.AccessAck no_payload m) answer)
 ends_answered {w} o m d memory.Hinted beats width lawful answer reach burst =
@@ -112,7 +113,8 @@ finish_sourced source m (memory.Bytes bytes) = refl
 -- ---- as the machine allows
 
 -- what is open ends with its reply
-open_ends : {w : ℕ} (c source : ℕ) (m : Machine w) (a : MessageA w) (r : memory.AccessResult) (x : Beat w) → m.opened c Requests source ≡ Some (record { asked = Access (message.A a); answer = Some r })
+open_ends : {w : ℕ} (c source : ℕ) (m : Machine w) (a : MessageA w) (r : memory.AccessResult) (x : Beat w)
+    → m.opened c Requests source ≡ Some (record { asked = Access (message.A a); answer = Some r })
     → Ends (m.opened c (pool_of (finish_with (message.A a) r)) source) x (finish_with (message.A a) r)
 open_ends c source m a memory.Done x e = rw e refl
 open_ends c source m a memory.Hinted x e = rw e refl
@@ -143,7 +145,8 @@ record IsOver {w : ℕ} (config : Config) (log : Log w) (c source : ℕ) (h : Sh
   pub reach : IsReach (sourced source asked) reply
   pub pending_is : request_of source ((after config log).clients c).past ≡ Some (a_beat_of (sourced source asked) 0)
 
-over : {w : ℕ} (config : Config) (log : Log w) (c source : ℕ) (h : Shadow w) → IsMatched config log h.mail h.request h.state (after config log) → h.state.uses c source ≡ Replied → IsOver config log c source h
+over : {w : ℕ} (config : Config) (log : Log w) (c source : ℕ) (h : Shadow w) → IsMatched config log h.mail h.request h.state (after config log)
+    → h.state.uses c source ≡ Replied → IsOver config log c source h
 over {w} config log c source h is used = record {
   asked = open_.1.0;
   reply = open_.0;
@@ -152,10 +155,13 @@ over {w} config log c source h is used = record {
   opened = open_.1.2;
   answer = answers.0;
   reach = answers.1;
-  pending_is = request_open source (a_beat_of (sourced source open_.1.0) 0) ((after config log).clients c).past ((is.known c).opens source ∙ asked_replied (h.state.uses c source) (h.mail.request c source) (rendered Acquire c (block_used (h.state.uses c source)) (h.state.block (block_used (h.state.uses c source)))) used ∙ ap first_of open_.1.1);
+  pending_is = request_open source (a_beat_of (sourced source open_.1.0) 0) ((after config log).clients c).past
+      ((is.known c).opens source ∙ asked_replied (h.state.uses c source) (h.mail.request c source)
+      (rendered Acquire c (block_used (h.state.uses c source)) (h.state.block (block_used (h.state.uses c source)))) used ∙ ap first_of open_.1.1);
 }
   where
-    opened_as : (u : Use) → u ≡ Replied → IsOpened c source h.mail h.state u ((remembered config log).opened c Requests source) → IsOpened c source h.mail h.state Replied ((remembered config log).opened c Requests source)
+    opened_as : (u : Use) → u ≡ Replied → IsOpened c source h.mail h.state u ((remembered config log).opened c Requests source)
+        → IsOpened c source h.mail h.state Replied ((remembered config log).opened c Requests source)
     opened_as u e i = rw e at i
 
     open_ : IsOpened c source h.mail h.state Replied ((remembered config log).opened c Requests source)
@@ -173,11 +179,13 @@ whole_response {w} config log link ch h x source f end =
     ∙ ap burst_of end.response_is
 
 -- an answer ends its access as the machine allows
-pub ends-answer : {w : ℕ} (config : Config) (log : Log w) (link : Link) (ch : Channel) (h : Shadow w) (x : Beat w) (source : ℕ) (f : Finish) → IsWidth w → IsMatched config log h.mail h.request h.state (after config log)
+pub ends-answer : {w : ℕ} (config : Config) (log : Log w) (link : Link) (ch : Channel) (h : Shadow w) (x : Beat w) (source : ℕ) (f : Finish) → IsWidth w
+    → IsMatched config log h.mail h.request h.state (after config log)
     → (end : IsEnding config log link ch h x source f) → end.first.kind ≡ Answer → Ends ((remembered config log).opened link.0 (pool_of f) source) x f
 ends-answer {w} config log link ch h x source f width is end e =
     subst (λ (i : Finish). Ends (m.opened c (pool_of i) source) x i) (sym fin)
-    (subst (λ (i : ℕ). Ends (m.opened c (pool_of (finish_with (message.A it.asked) it.reply)) i) x (finish_with (message.A it.asked) it.reply)) (sym from) (open_ends c n m it.asked it.reply x it.opened))
+    (subst (λ (i : ℕ). Ends (m.opened c (pool_of (finish_with (message.A it.asked) it.reply)) i) x (finish_with (message.A it.asked) it.reply)) (sym from)
+    (open_ends c n m it.asked it.reply x it.opened))
   where
     sys : System w
     sys = after config log

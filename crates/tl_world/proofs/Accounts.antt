@@ -8,7 +8,7 @@ use Rattle.std.proofs.lemmas.Bool.{cases_eq, ne_eqb, eqb-true}
 use Rattle.std.proofs.lemmas.Option.{same_Some}
 use Rattle.tl_burst.specs.declared.message.MessageA.{MessageA}
 use Rattle.tl_burst.specs.Burst.{a_beat_of}
-use Rattle.tl_beat.specs.declared.opcode.Channel.TheVariants as channel
+use Rattle.tl_beat.specs.declared.channel.Channel.TheVariants as channel
 use Rattle.tl_burst.specs.Messages.{unfinished}
 use Rattle.tl_params.specs.declared.config.Config.{Config}
 use Rattle.tl_params.specs.declared.key.Key.TheVariants.{ProbeOf}
@@ -121,7 +121,9 @@ granted-is {w} {X} caching config request s e inv kept is n v found = go (s.bloc
 
     granted : is_granted_in (s.block n).service ≡ true → waits.is_granted t v ≡ true
     granted f =
-        let settled = all-settled config n t (λ c. is.probes c n ∙ ap not (quiet_unless ((s.block n).pair c) (view (s.block n).service c) ((inv.blocks n).phases c) (granted_views (s.block n).service c f))) in
+        let settled = all-settled config n t (λ c. is.probes c n
+        ∙ ap not (quiet_unless ((s.block n).pair c) (view (s.block n).service c) ((inv.blocks n).phases c) (granted_views (s.block n).service c f)))
+        in
         let awaited : is_awaited config n t (Some v) ≡ true = ap (is_awaited config n t) (sym found) ∙ kept.steady.awaited n in
         only (waits.is_granted t v) (rw settled at awaited)
       where
@@ -148,7 +150,8 @@ granted-is {w} {X} caching config request s e inv kept is n v found = go (s.bloc
     go (GrantTaken q) f = granted (rw f refl)
 
 -- what a service says of the client whose request it is, and of another
-acquiring-is : {w : ℕ} (c n tracker : ℕ) (m : MessageA w) (t : Trace w) (service : Service) → IsFor service n m → ((v : manager.Service w) → service_with (client_in service) tracker m ≡ Some v → waits.is_granted t v ≡ is_granted_in service)
+acquiring-is : {w : ℕ} (c n tracker : ℕ) (m : MessageA w) (t : Trace w) (service : Service) → IsFor service n m
+    → ((v : manager.Service w) → service_with (client_in service) tracker m ≡ Some v → waits.is_granted t v ≡ is_granted_in service)
     → is_acquiring c t (service_with (client_in service) tracker m) ≡ is_own (view service c)
 acquiring-is c n tracker m t Free for granted = refl
 acquiring-is c n tracker m t (Waits r own source k) for granted = rw (granted (at_service r tracker m) refl, for.0, swapped r c) (go own (c == r))
@@ -171,7 +174,8 @@ acquiring-is c n tracker m t (GrantTaken q) for granted = rw (granted (at_servic
 abbrev is_grant_of : View → Bool
 is_grant_of v = is_granting v || is_acknowledging v
 
-granting-is : {w : ℕ} (c n tracker : ℕ) (m : MessageA w) (t : Trace w) (service : Service) → ((v : manager.Service w) → service_with (client_in service) tracker m ≡ Some v → waits.is_granted t v ≡ is_granted_in service)
+granting-is : {w : ℕ} (c n tracker : ℕ) (m : MessageA w) (t : Trace w) (service : Service)
+    → ((v : manager.Service w) → service_with (client_in service) tracker m ≡ Some v → waits.is_granted t v ≡ is_granted_in service)
     → is_granted_to c t (service_with (client_in service) tracker m) ≡ is_grant_of (view service c)
 granting-is c n tracker m t Free granted = refl
 granting-is c n tracker m t (Waits r own source k) granted = rw (granted (at_service r tracker m) refl) (go (r == c) (own && (c == r)))
@@ -192,12 +196,15 @@ granting-is c n tracker m t (GrantTaken q) granted = rw (granted (at_service q t
     go true = refl
     go false = refl
 
-pub managed-traced : {w : ℕ} {X : Type 0} (caching : ℕ → Bool) (config : Config) (request : ℕ → MessageA w) (s : State X) (e : End w) → IsInvariant caching s → IsKept config e → IsTraced request s e.trace → IsManaged request s e.trace
+pub managed-traced : {w : ℕ} {X : Type 0} (caching : ℕ → Bool) (config : Config) (request : ℕ → MessageA w) (s : State X) (e : End w) → IsInvariant caching s
+    → IsKept config e → IsTraced request s e.trace → IsManaged request s e.trace
 managed-traced {w} {X} caching config request s e inv kept is = record {
   recorded_is = is.recorded_is;
   probes = is.probes;
-  acquires = λ c n. (kept.steady.accounted.blocks n).acquires c ∙ ap (is_acquiring c e.trace) (is.serving_is n) ∙ acquiring-is c n (s.block n).tracker (request n) e.trace (s.block n).service (is.requests n) (granted n);
-  grant_acks = λ c n. (kept.steady.accounted.blocks n).grants c ∙ ap (is_granted_to c e.trace) (is.serving_is n) ∙ granting-is c n (s.block n).tracker (request n) e.trace (s.block n).service (granted n);
+  acquires = λ c n. (kept.steady.accounted.blocks n).acquires c ∙ ap (is_acquiring c e.trace) (is.serving_is n)
+      ∙ acquiring-is c n (s.block n).tracker (request n) e.trace (s.block n).service (is.requests n) (granted n);
+  grant_acks = λ c n. (kept.steady.accounted.blocks n).grants c ∙ ap (is_granted_to c e.trace) (is.serving_is n)
+      ∙ granting-is c n (s.block n).tracker (request n) e.trace (s.block n).service (granted n);
   serving_is = is.serving_is;
 }
   where
@@ -207,7 +214,8 @@ managed-traced {w} {X} caching config request s e inv kept is = record {
 -- ---- sources
 
 -- a source that is served is that of a service that isn't granted, and the other way
-asking-served : {w : ℕ} {X : Type 0} (caching : ℕ → Bool) (request : ℕ → MessageA w) (s : State X) (c source n tracker : ℕ) (service : Service) → IsInvariant caching s → (s.block n).service ≡ service → IsFor service n (request n) → is_granted_in service ≡ false
+asking-served : {w : ℕ} {X : Type 0} (caching : ℕ → Bool) (request : ℕ → MessageA w) (s : State X) (c source n tracker : ℕ) (service : Service)
+    → IsInvariant caching s → (s.block n).service ≡ service → IsFor service n (request n) → is_granted_in service ≡ false
     → (r : ℕ) → client_in service ≡ Some r → (r == c) ≡ true → ((request n).source == source) ≡ true → is_served c (s.uses c source) s ≡ true
 asking-served caching request s c source n tracker Free inv f for ungranted r client same here = absurd cc
 asking-served caching request s c source n tracker (GrantSent q d k) inv f for ungranted r client same here = absurd cc
@@ -225,7 +233,8 @@ asking-served {w} {X} caching request s c source n tracker (Waits q own src k) i
         let waits_so : (s.block n).service ≡ Waits c true source k = f ∙ rw (q_is, src_is, g) refl in
         let sourced : IsOwnSource (Waits c true source k) (s.block n).source = rw waits_so at (inv.blocks n).own_source in
         let own_view : view (s.block n).service c ≡ Own = rw (waits_so, same_number c) refl in
-        let wants : is_wanting ((s.block n).pair c).acquiring ≡ true = not-calm ((s.block n).pair c).acquiring (own_wants ((s.block n).pair c) (view (s.block n).service c) ((inv.blocks n).phases c) own_view) in
+        let wants : is_wanting ((s.block n).pair c).acquiring ≡ true =
+        not-calm ((s.block n).pair c).acquiring (own_wants ((s.block n).pair c) (view (s.block n).service c) ((inv.blocks n).phases c) own_view) in
         let used = acquires_of-is n (s.uses c source) (inv.named.acquires c source n ∙ rw (wants, ← sourced, same_number source) refl) in
         rw (used, own_view) refl
     go false g =
@@ -270,8 +279,10 @@ served-waits {X} caching s c source (Acquires n) inv f e = go (s.block n).servic
 
     go : (service : Service) → (s.block n).service ≡ service → is_own (view (s.block n).service c) ≡ true → IsServing c source s
     go Free g h = absurd (let no : false ≡ true = rw g at h in cc)
-    go (GrantSent q d k) g h = absurd (let one : is_own (view (GrantSent q d k) c) ≡ true = rw g at h in let none = no_grant (c == q) (Granting d k) GrantedOther refl refl in let no : false ≡ true = sym none ∙ one in cc)
-    go (GrantTaken q) g h = absurd (let one : is_own (view (GrantTaken q) c) ≡ true = rw g at h in let none = no_grant (c == q) Acknowledging GrantedOther refl refl in let no : false ≡ true = sym none ∙ one in cc)
+    go (GrantSent q d k) g h = absurd (let one : is_own (view (GrantSent q d k) c) ≡ true = rw g at h in let none =
+        no_grant (c == q) (Granting d k) GrantedOther refl refl in let no : false ≡ true = sym none ∙ one in cc)
+    go (GrantTaken q) g h = absurd (let one : is_own (view (GrantTaken q) c) ≡ true = rw g at h in let none =
+        no_grant (c == q) Acknowledging GrantedOther refl refl in let no : false ≡ true = sym none ∙ one in cc)
     go (Waits r own src k) g h =
         let both = only (own && (c == r)) k (rw g at h) in
         let mine = and_left own (c == r) both in
@@ -287,13 +298,15 @@ sources-traced {w} {X} caching config request s e inv kept is c source = one_tru
     t : Trace w
     t = e.trace
 
-    at_block : (n : ℕ) (v : manager.Service w) (service : Service) → (s.block n).service ≡ service → service_with (client_in service) (s.block n).tracker (request n) ≡ Some v → is_asking c source t v ≡ true
+    at_block : (n : ℕ) (v : manager.Service w) (service : Service) → (s.block n).service ≡ service
+        → service_with (client_in service) (s.block n).tracker (request n) ≡ Some v → is_asking c source t v ≡ true
         → waits.is_granted t v ≡ is_granted_in service → is_served c (s.uses c source) s ≡ true
     at_block n v Free f found asks granted = absurd (let no : None ≡ Some v = found in cc)
     at_block n v (Waits r own src k) f found asks granted =
         let v_is = some_is (at_service r (s.block n).tracker (request n)) v found in
         let here : is_asking c source t (at_service r (s.block n).tracker (request n)) ≡ true = ap (is_asking c source t) v_is ∙ asks in
-        asking-served caching request s c source n (s.block n).tracker (Waits r own src k) inv f (rw f at (is.requests n)) refl r refl (and_left (r == c) _ here) (and_left ((request n).source == source) _ (and_right (r == c) _ here))
+        asking-served caching request s c source n (s.block n).tracker (Waits r own src k) inv f (rw f at (is.requests n)) refl r refl
+        (and_left (r == c) _ here) (and_left ((request n).source == source) _ (and_right (r == c) _ here))
     at_block n v (GrantSent q d k) f found asks granted = absurd (ungranted v asks granted)
       where
         ungranted : (u : manager.Service w) → is_asking c source t u ≡ true → waits.is_granted t u ≡ true → ⊥
@@ -312,7 +325,8 @@ sources-traced {w} {X} caching config request s e inv kept is c source = one_tru
     asking : is_any (is_asking c source t) (services t) ≡ true → is_served c (s.uses c source) s ≡ true
     asking any =
         let one = any-found (is_asking c source t) (services t) kept.blocks_apart any in
-        at_block one.block one.service (s.block one.block).service refl (sym (is.serving_is one.block) ∙ one.serves) one.passes (granted-is caching config request s e inv kept is one.block one.service one.serves)
+        at_block one.block one.service (s.block one.block).service refl (sym (is.serving_is one.block) ∙ one.serves) one.passes
+        (granted-is caching config request s e inv kept is one.block one.service one.serves)
 
     serving_it : is_served c (s.uses c source) s ≡ true → is_any (is_asking c source t) (services t) ≡ true
     serving_it served =
@@ -400,7 +414,8 @@ sinks-traced {w} {X} caching config request s e inv kept is c sink = one_truth _
 
 -- ---- all of it
 
-cap-of : {w : ℕ} (service : Service) (n : ℕ) (m : MessageA w) (k : Cap) → IsFor service n m → is_granted_in service ≡ false → (service ≡ Free → ⊥) → cap_probed m.opcode m.param ≡ Some k → k ≡ cap_waited service
+cap-of : {w : ℕ} (service : Service) (n : ℕ) (m : MessageA w) (k : Cap) → IsFor service n m → is_granted_in service ≡ false → (service ≡ Free → ⊥)
+    → cap_probed m.opcode m.param ≡ Some k → k ≡ cap_waited service
 cap-of Free n m k for ungranted busy e = absurd (busy refl)
 cap-of (Waits r own source j) n m k for ungranted busy e = same_Some k j (sym e ∙ for.3)
 cap-of (GrantSent q d j) n m k for ungranted busy e = absurd cc
@@ -421,10 +436,12 @@ probes-traced {w} {X} caching config request s e inv kept is c n sent =
     let caps : cap_probed (request n).opcode (request n).param ≡ Some probed.cap = rw (← of.0) probed.caps in
     probed.probe ∙ ap (λ (k : Cap). Some (probe_beat n k)) (cap-of (s.block n).service n (request n) probed.cap (is.requests n) granted of.1 caps)
 
-pub are_served-traced : {w : ℕ} {X : Type 0} (caching : ℕ → Bool) (config : Config) (request : ℕ → MessageA w) (s : State X) (e : End w) → IsInvariant caching s → IsKept config e → IsTraced request s e.trace → AreServed request s e.trace
+pub are_served-traced : {w : ℕ} {X : Type 0} (caching : ℕ → Bool) (config : Config) (request : ℕ → MessageA w) (s : State X) (e : End w) → IsInvariant caching s
+    → IsKept config e → IsTraced request s e.trace → AreServed request s e.trace
 are_served-traced {w} {X} caching config request s e inv kept is = record {
   sources = λ c source.
-      source-pending c source e.trace kept.steady.accounted ∙ ap (λ b. comes_in_request source (unfinished channel.A (on_link c e.trace)) || b) (sources-traced caching config request s e inv kept is c source)
+      source-pending c source e.trace kept.steady.accounted
+      ∙ ap (λ b. comes_in_request source (unfinished channel.A (on_link c e.trace)) || b) (sources-traced caching config request s e inv kept is c source)
       ∙ or_comm (comes_in_request source (unfinished channel.A (on_link c e.trace))) (is_served c (s.uses c source) s);
   sinks = λ c sink. sink-pending c sink e.trace kept.sinks ∙ sinks-traced caching config request s e inv kept is c sink;
   requests = is.requests;

@@ -4,8 +4,8 @@ use Rattle.tl_beat.specs.Width.{IsWidth}
 use Rattle.tl_beat.specs.declared.beat.Beat.{Beat}
 use Rattle.tl_beat.specs.declared.beat.BeatE.{BeatE}
 use Rattle.tl_beat.specs.declared.beat.Link.{Link}
-use Rattle.tl_beat.specs.declared.opcode.Channel.{Channel}
-use Rattle.tl_beat.specs.declared.opcode.Channel.TheVariants as channel
+use Rattle.tl_beat.specs.declared.channel.Channel.{Channel}
+use Rattle.tl_beat.specs.declared.channel.Channel.TheVariants as channel
 use Rattle.tl_burst.specs.Burst.{beat_of}
 use Rattle.tl_burst.specs.Messages.{unfinished}
 use Rattle.tl_burst.specs.Part.{completes}
@@ -46,8 +46,10 @@ ack_kind Answer e = absurd cc
 ack_kind Grant e = absurd cc
 ack_kind ReleaseAck e = absurd cc
 
-pub delivered-e : {w : ℕ} (config : Config) (log : Log w) (link : Link) (h : Shadow w) (terms : client.Terms) (x : Beat w) (queue : List (Beat w)) → IsWidth w → IsMatched config log h.mail h.request h.state (after config log)
-    → terms_at config link.0 ≡ Some terms → (after config log).channels link.0 channel.E ≡ x ∷ queue → is_moving (stepped config (Deliver link channel.E) (after config log)).outcome ≡ true → IsDelivered config log link channel.E h
+pub delivered-e : {w : ℕ} (config : Config) (log : Log w) (link : Link) (h : Shadow w) (terms : client.Terms) (x : Beat w) (queue : List (Beat w)) → IsWidth w
+    → IsMatched config log h.mail h.request h.state (after config log)
+    → terms_at config link.0 ≡ Some terms → (after config log).channels link.0 channel.E ≡ x ∷ queue
+    → is_moving (stepped config (Deliver link channel.E) (after config log)).outcome ≡ true → IsDelivered config log link channel.E h
 unfolding rendered with_messages performing accesses_answered
 delivered-e {w} config log link h terms x queue width matched known beats moving = go (completes x (unfinished channel.E (on_link link.0 sys.manager.trace))) refl
   where
@@ -76,19 +78,24 @@ delivered-e {w} config log link h terms x queue width matched known beats moving
     gives = ap (λ (z : Beat w). (deed config link z sys.manager).handed) x_is ∙ ap (λ d. d.handed) (deed-ack config link y sys.manager)
 
     sent : (h.state.block n).service ≡ GrantTaken link.0
-    sent = acknowledging-is (h.state.block n).service link.0 (holds-first GrantAck (h.state.link link.0).e is.first.rest (token GrantAck n) (λ i. shown GrantAck link.0 (h.state.block i)) tokens refl (matched.invariant.transfers link.0 GrantAck refl))
+    sent = acknowledging-is (h.state.block n).service link.0
+        (holds-first GrantAck (h.state.link link.0).e is.first.rest (token GrantAck n) (λ i. shown GrantAck link.0 (h.state.block i)) tokens refl
+        (matched.invariant.transfers link.0 GrantAck refl))
 
     go : (b : Bool) → completes x (unfinished channel.E (on_link link.0 sys.manager.trace)) ≡ b → IsDelivered config log link channel.E h
     go false part = delivered-part config log link channel.E h x queue width matched refl is part
     go true last =
         delivered-last config log link channel.E h x queue [] (λ d at. None) refl is last gives (λ d at. unpushed d at)
-        (λ taken. subst (λ (k : Kind). AreCarried (kind_taken config (next_tracker sys) link.0 k n is.first.rest h).mail (kind_taken config (next_tracker sys) link.0 k n is.first.rest h).state (after_taken config link channel.E x queue sys [])) (sym kind)
+        (λ taken. subst (λ (k : Kind). AreCarried (kind_taken config (next_tracker sys) link.0 k n is.first.rest h).mail
+        (kind_taken config (next_tracker sys) link.0 k n is.first.rest h).state (after_taken config link channel.E x queue sys [])) (sym kind)
         (grant_ack_taken-carried (is_caching config) link.0 n is.first.rest h.mail h.state sys (after_taken config link channel.E x queue sys []) x queue width matched.invariant
         (invariant-taken config log h sys link.0 GrantAck n is.first.rest matched tokens tt) tokens sent taken matched.carried))
-        (subst (λ (k : Kind). IsBeside (kind_taken config (next_tracker sys) link.0 k n is.first.rest h).mail (kind_taken config (next_tracker sys) link.0 k n is.first.rest h).state (performing [] (remembered config log))) (sym kind) quiet)
+        (subst (λ (k : Kind). IsBeside (kind_taken config (next_tracker sys) link.0 k n is.first.rest h).mail
+        (kind_taken config (next_tracker sys) link.0 k n is.first.rest h).state (performing [] (remembered config log))) (sym kind) quiet)
       where
         unpushed : (d : ℕ) (at : Channel) → (after_taken config link channel.E x queue sys []).channels d at ≡ (with_channel link.0 channel.E queue sys).channels d at
         unpushed d at = refl
 
         quiet : IsBeside h.mail (grant_ack_taken link.0 n is.first.rest h.state) (performing [] (remembered config log))
-        quiet = beside_block n (freed_block (h.state.block n)) h.mail h.state (grant_ack_taken link.0 n is.first.rest h.state) (remembered config log) (λ i. refl) (λ d i. refl) (λ d i. refl) refl (λ d. refl) (λ d. refl) matched.beside
+        quiet = beside_block n (freed_block (h.state.block n)) h.mail h.state (grant_ack_taken link.0 n is.first.rest h.state) (remembered config log)
+            (λ i. refl) (λ d i. refl) (λ d i. refl) refl (λ d. refl) (λ d. refl) matched.beside

@@ -5,8 +5,8 @@ use Rattle.std.proofs.lemmas.Bool.{ne_eqb, eqb-true}
 use Rattle.tl_beat.specs.declared.beat.Beat.{Beat}
 use Rattle.tl_beat.specs.declared.beat.Beat.TheVariants as beat
 use Rattle.tl_beat.specs.declared.beat.BeatA.{BeatA}
-use Rattle.tl_beat.specs.declared.opcode.Channel.{Channel}
-use Rattle.tl_beat.specs.declared.opcode.Channel.TheVariants as channel
+use Rattle.tl_beat.specs.declared.channel.Channel.{Channel}
+use Rattle.tl_beat.specs.declared.channel.Channel.TheVariants as channel
 use Rattle.tl_beat.specs.declared.opcode.OpB.TheVariants as b
 use Rattle.tl_burst.specs.declared.message.Message.TheVariants as message
 use Rattle.tl_burst.specs.declared.message.MessageA.{MessageA}
@@ -107,7 +107,9 @@ release-comes {w} config log mail request s sys c n is kept = go (s.link c).c re
     kinds Release x xs e f i =
         rw f (release_comes w (prune_told ((s.block x.number).pair c).letting) ((s.block x.number).release_source c) x.number n i (s.block x.number).truth (λ same.
         let first : (s.link c).c ≡ token Release x.number ∷ xs = e ∙ ap (λ (k : Kind). token k x.number ∷ xs) f in
-        let shows : is_releasing ((s.block x.number).pair c).letting ≡ true = holds-first Release (s.link c).c xs (token Release x.number) (λ j. shown Release c (s.block j)) first refl (is.invariant.transfers c Release refl) in
+        let shows : is_releasing ((s.block x.number).pair c).letting ≡ true =
+        holds-first Release (s.link c).c xs (token Release x.number) (λ j. shown Release c (s.block j)) first refl
+        (is.invariant.transfers c Release refl) in
         let no : true ≡ false = sym shows ∙ ap (λ j. is_releasing ((s.block j).pair c).letting) same ∙ kept in
         cc))
     kinds Request x xs e f i = absurd (apart x xs e (rw f refl))
@@ -126,10 +128,12 @@ release-comes {w} config log mail request s sys c n is kept = go (s.link c).c re
 
 -- a source that isn't in service, and of which no burst is unfinished, is free
 source-free : {w : ℕ} (config : Config) (log : Log w) (mail : Mail w) (request : ℕ → MessageA w) (s : State (List ℕ)) (sys : System w) (c source : ℕ)
-    → IsMatched config log mail request s sys → is_served c (s.uses c source) s ≡ false → unfinished channel.A (on_link c sys.manager.trace) ≡ [] → pending (key.RequestSource source) (on_link c sys.manager.trace) ≡ false
+    → IsMatched config log mail request s sys → is_served c (s.uses c source) s ≡ false → unfinished channel.A (on_link c sys.manager.trace) ≡ []
+    → pending (key.RequestSource source) (on_link c sys.manager.trace) ≡ false
 source-free config log mail request s sys c source is unserved none = is.served.sources c source ∙ rw (unserved, none) refl
 
-access-order : {w : ℕ} (p : Profile) (x : BeatA w) (t : History w) → is_acquire x.opcode ≡ false → unfinished channel.A t ≡ [] → pending (key.RequestSource x.source) t ≡ false → broken_in_order p (beat.A x) t ≡ None
+access-order : {w : ℕ} (p : Profile) (x : BeatA w) (t : History w) → is_acquire x.opcode ≡ false → unfinished channel.A t ≡ []
+    → pending (key.RequestSource x.source) t ≡ false → broken_in_order p (beat.A x) t ≡ None
 unfolding broken_order
 access-order p x t access none free = rw (none, free, access) refl
 
@@ -180,10 +184,13 @@ pub order-acquire : {w : ℕ} (config : Config) (log : Log w) (mail : Mail w) (r
     → unfinished channel.A (on_link c sys.manager.trace) ≡ begun (message.A (acquisition (acquire_opcode is_it.whole) is_it.grow ((s.block n).source c) n)) k
     → broken_in_order config.profile (beat.A (a_beat_of (acquisition (acquire_opcode is_it.whole) is_it.grow ((s.block n).source c) n) k)) (on_link c sys.manager.trace) ≡ None
 order-acquire {w} config log mail request s sys c n zero is is_it free burst =
-    acquire-legal config.profile n p.recorded (a_beat_of (acquisition (acquire_opcode is_it.whole) is_it.grow ((s.block n).source c) n) 0) (on_link c sys.manager.trace) (acquires-so is_it.whole) (same_block n) burst
+    acquire-legal config.profile n p.recorded (a_beat_of (acquisition (acquire_opcode is_it.whole) is_it.grow ((s.block n).source c) n) 0)
+    (on_link c sys.manager.trace) (acquires-so is_it.whole) (same_block n) burst
     (source-free config log mail request s sys c ((s.block n).source c) is (rw (is_it.used, idle) refl) burst)
     (is.managed.acquires c n ∙ rw idle refl)
-    ((is.manager_kept.releases c).blocks n ∙ release-comes config log mail request s sys c n is (kept-is p.letting (and_right (is_quiet p.probing) (is_kept p.letting) (and_left (is_quiet p.probing && is_kept p.letting) (same_perm p.recorded p.held) settled))))
+    ((is.manager_kept.releases c).blocks n ∙ release-comes config log mail request s sys c n is
+    (kept-is p.letting (and_right (is_quiet p.probing) (is_kept p.letting)
+    (and_left (is_quiet p.probing && is_kept p.letting) (same_perm p.recorded p.held) settled))))
     (is.managed.recorded_is c n)
     (grows is_it.grow p.recorded p.held is_it.whole (acquire_fits is_it.whole is_it.grow p (view (s.block n).service c) well is_it.wants)
     (and_right (is_quiet p.probing && is_kept p.letting) (same_perm p.recorded p.held) settled))
@@ -214,7 +221,8 @@ unserved-free {w} request s t n is none = go (s.block n).service (ap is_some (sy
     go (GrantTaken q) e = absurd cc
 
 -- the tracker of the next service is of no block
-pub free-untracked : {w : ℕ} {X : Type 0} (caching : ℕ → Bool) (request : ℕ → MessageA w) (s : State X) (t : Trace w) → IsInvariant caching s → IsManaged request s t → s.tracked (least_untaken (trackers_of (services t))) ≡ None
+pub free-untracked : {w : ℕ} {X : Type 0} (caching : ℕ → Bool) (request : ℕ → MessageA w) (s : State X) (t : Trace w) → IsInvariant caching s
+    → IsManaged request s t → s.tracked (least_untaken (trackers_of (services t))) ≡ None
 free-untracked {w} caching request s t inv is = go (s.tracked i) refl
   where
     i : ℕ
@@ -222,7 +230,8 @@ free-untracked {w} caching request s t inv is = go (s.tracked i) refl
 
     among : (n r : ℕ) → service_of_block n (services t) ≡ service_with (Some r) (s.block n).tracker (request n) → i ≡ (s.block n).tracker → ⊥
     among n r found same =
-        let one : is_one_of (s.block n).tracker (trackers_of (services t)) ≡ true = tracker_among n (services t) (record { tracker = (s.block n).tracker; link = record { 0 = r }; request = request n }) found in
+        let one : is_one_of (s.block n).tracker (trackers_of (services t)) ≡ true =
+        tracker_among n (services t) (record { tracker = (s.block n).tracker; link = record { 0 = r }; request = request n }) found in
         let none : is_one_of (s.block n).tracker (trackers_of (services t)) ≡ false = ap (λ j. is_one_of j (trackers_of (services t))) (sym same) ∙ least_free-is_free (trackers_of (services t)) in
         cc
 
@@ -273,7 +282,8 @@ pub passes-first : {w : ℕ} (config : Config) (c : ℕ) (x : BeatA w) (sys : Sy
 passes-first config c x sys live is order moves =
     judged-passes config is.level (link_of c) channel.A (beat.A x) sys.manager (open-level config is.level c sys.manager live is.level_is) is.lawful order moves is.inside is.clean
 
-waits_at : {w : ℕ} (config : Config) (l : Level) (link : Link) (x : BeatA w) (t : Trace w) → illegal l channel.A (beat.A x) ≡ None → before_stall (broken_in_order config.profile (beat.A x) (on_link link.0 t)) ≡ None
+waits_at : {w : ℕ} (config : Config) (l : Level) (link : Link) (x : BeatA w) (t : Trace w) → illegal l channel.A (beat.A x) ≡ None
+    → before_stall (broken_in_order config.profile (beat.A x) (on_link link.0 t)) ≡ None
     → must_wait config link (beat.A x) t ≡ true → judged_at config l link channel.A (beat.A x) t ≡ manager.Waits
 unfolding judged_at
 waits_at config l link x t lawful order waits = rw (lawful, order, waits) refl
@@ -292,7 +302,9 @@ early_none false false = refl
 
 early_first : {w : ℕ} (p : Profile) (x : BeatA w) (t : History w) → unfinished channel.A t ≡ [] → pending (key.RequestSource x.source) t ≡ false → before_stall (broken_in_order p (beat.A x) t) ≡ None
 unfolding broken_order
-early_first p x t none free = rw (none, free) (early_none (is_acquire x.opcode && (pending (key.AcquireOf (block_at x.address)) t || pending (key.ReleaseOf (block_at x.address)) t)) (is_acquire x.opcode && not (grows_from x.param (held (block_at x.address) t))))
+early_first p x t none free = rw (none, free) (early_none
+    (is_acquire x.opcode && (pending (key.AcquireOf (block_at x.address)) t || pending (key.ReleaseOf (block_at x.address)) t))
+    (is_acquire x.opcode && not (grows_from x.param (held (block_at x.address) t))))
 
 pub early-acquire : {w : ℕ} (config : Config) (log : Log w) (mail : Mail w) (request : ℕ → MessageA w) (s : State (List ℕ)) (sys : System w) (c n k : ℕ)
     → IsMatched config log mail request s sys → (is_it : IsWanted w c n s)
@@ -314,7 +326,8 @@ early-acquire {w} config log mail request s sys c n (suc i) is is_it burst =
 
 -- ---- the answers
 
-pub offered-taken : {w : ℕ} (config : Config) (link : Link) (ch : Channel) (x : Beat w) (e : End w) → judged config link ch x e ≡ Passes → offered config link ch x e ≡ (manager.Sent (deed config link x e).handed, taken link x (deed config link x e) e)
+pub offered-taken : {w : ℕ} (config : Config) (link : Link) (ch : Channel) (x : Beat w) (e : End w) → judged config link ch x e ≡ Passes
+    → offered config link ch x e ≡ (manager.Sent (deed config link x e).handed, taken link x (deed config link x e) e)
 unfolding offered
 offered-taken config link ch x e f = ap (λ j. offered_as j config link x e) f
 

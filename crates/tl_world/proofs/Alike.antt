@@ -9,7 +9,9 @@ use Rattle.tl_params.specs.declared.param.Report.{Report}
 use Rattle.tl_world.specs.Phase.{Pair, View, Idle, Own, Other, Granting, Acknowledging, GrantedOther, Probing, Quiet, Sent, Answered, Letting, Kept, Acquiring, Calm, is_calm, is_quiet}
 use Rattle.tl_world.specs.PhaseSteps.{after_acquire, after_release, after_served, after_grant_sent, after_probe, after_report, after_release_taken, after_release_ack, after_grant}
 use Rattle.tl_world.specs.Token.{Kind, Request, Acquire, Probe, ProbeAck, Release, Answer, Grant, ReleaseAck, GrantAck, set}
-use Rattle.tl_world.specs.Protocol.{Service, Free, Waits, GrantSent, GrantTaken, Block, view, is_wanting, is_unserved, is_sent, is_answered, is_releasing, is_acked, is_granting, is_acknowledging, shown, acquiring_block, releasing_block, granted_at_once, served_block, probed_block, reported_block, ended_block, granted_block, let_block, taken_block, let_go_block, freed_block}
+use Rattle.tl_world.specs.Protocol.{Service, Free, Waits, GrantSent, GrantTaken, Block, view, is_wanting, is_unserved, is_sent, is_answered, is_releasing}
+use Rattle.tl_world.specs.Protocol.{is_acked, is_granting, is_acknowledging, shown, acquiring_block, releasing_block, granted_at_once, served_block}
+use Rattle.tl_world.specs.Protocol.{probed_block, reported_block, ended_block, granted_block, let_block, taken_block, let_go_block, freed_block}
 use Rattle.tl_world.specs.Invariant.{IsWell}
 use Rattle.tl_world.proofs.Facts.{granting_asks, quiet_at_rest}
 use Rattle.tl_world.proofs.Showing.{IsAlike, AreAlike, carries}
@@ -194,7 +196,8 @@ unanswered Quiet e f = cc
 unanswered (Sent k) e f = cc
 unanswered (Answered r) e f = cc
 
-pub alike-served : (caching : ℕ → Bool) (r : ℕ) (own : Bool) (source tracker : ℕ) (k : Cap) (b : Block (List ℕ)) → IsWell caching b → b.service ≡ Free → (i : ℕ) → AreAlike i b (served_block r own source tracker k b)
+pub alike-served : (caching : ℕ → Bool) (r : ℕ) (own : Bool) (source tracker : ℕ) (k : Cap) (b : Block (List ℕ)) → IsWell caching b → b.service ≡ Free → (i : ℕ)
+    → AreAlike i b (served_block r own source tracker k b)
 alike-served caching r own source tracker k b well free i = go
   where
     quiet : is_quiet (b.pair i).probing ≡ true
@@ -323,7 +326,8 @@ alike-ended c q source r k f b waits bytes i = go (cases_eq i c)
     go at ReleaseAck e g = (refl, inl refl)
     go at GrantAck e g = absurd (unacknowledged b.service i (Waits q false source k) waits (waits_unacknowledged false q source k i) e)
 
-pub alike-granted : (c q source : ℕ) (r : Report) (own d : Bool) (k gift : Cap) (b : Block (List ℕ)) → b.service ≡ Waits q own source k → (c ≡ q → ⊥) → (i : ℕ) → AreAlike i b (granted_block c q r d gift b)
+pub alike-granted : (c q source : ℕ) (r : Report) (own d : Bool) (k gift : Cap) (b : Block (List ℕ)) → b.service ≡ Waits q own source k → (c ≡ q → ⊥) → (i : ℕ)
+    → AreAlike i b (granted_block c q r d gift b)
 alike-granted c q source r own d k gift b waits apart i = go (cases_eq i c)
   where
     reported : ℕ → Pair

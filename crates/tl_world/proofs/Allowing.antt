@@ -2,8 +2,8 @@
 use Rattle.std.proofs.Common.{◌≡◌, ℕ, Bool, true, false, List, ◌∷◌, Option, Some, None, refl, sym, ◌∙◌, ap, subst}
 use Rattle.tl_beat.specs.declared.beat.Beat.{Beat}
 use Rattle.tl_beat.specs.declared.beat.Link.{Link}
-use Rattle.tl_beat.specs.declared.opcode.Channel.{Channel}
-use Rattle.tl_beat.specs.declared.opcode.Channel.TheVariants as channel
+use Rattle.tl_beat.specs.declared.channel.Channel.{Channel}
+use Rattle.tl_beat.specs.declared.channel.Channel.TheVariants as channel
 use Rattle.tl_burst.specs.declared.message.Message.TheVariants as message
 use Rattle.tl_burst.specs.declared.message.MessageD.{MessageD}
 use Rattle.tl_burst.specs.Burst.{d_beat_of}
@@ -50,7 +50,8 @@ whole_trunk perm.None held d cap.ToN grow.NtoB e = absurd cc
 whole_trunk perm.None held d cap.ToN grow.NtoT e = absurd cc
 whole_trunk perm.None held d cap.ToN grow.BtoT e = absurd cc
 
-ends_granted : {w : ℕ} (n : ℕ) (bytes : List ℕ) (x : Beat w) (k : Cap) (whole : Bool) (g : Grow) (y : Acquiring) → y ≡ Wants whole g → cap_named x ≡ cap_right k → (whole ≡ true → cap_right k ≡ perm.Trunk)
+ends_granted : {w : ℕ} (n : ℕ) (bytes : List ℕ) (x : Beat w) (k : Cap) (whole : Bool) (g : Grow) (y : Acquiring) → y ≡ Wants whole g → cap_named x ≡ cap_right k
+    → (whole ≡ true → cap_right k ≡ perm.Trunk)
     → EndsOp (op_of {w = w} y n bytes) None x (finish.Granted (cap_right k))
 ends_granted n bytes x k true g y e named trunk = rw e (ap finish.Granted (trunk refl))
 ends_granted n bytes x k false g y e named trunk = rw e (ap finish.Granted (sym named))
@@ -62,7 +63,8 @@ let_open {w} n o opened x e is = go (rw e at is)
     go found = rw found.1 refl
 
 -- a Grant, and a ReleaseAck, end their operations as the machine allows
-pub ends-transfer : {w : ℕ} (config : Config) (log : Log w) (link : Link) (ch : Channel) (h : Shadow w) (x : Beat w) (source : ℕ) (f : Finish) → IsMatched config log h.mail h.request h.state (after config log)
+pub ends-transfer : {w : ℕ} (config : Config) (log : Log w) (link : Link) (ch : Channel) (h : Shadow w) (x : Beat w) (source : ℕ) (f : Finish)
+    → IsMatched config log h.mail h.request h.state (after config log)
     → (end : IsEnding config log link ch h x source f) → (end.first.kind ≡ Answer → ⊥) → Ends ((remembered config log).opened link.0 (pool_of f) source) x f
 unfolding rendered
 ends-transfer {w} config log link ch h x source f is end other = go end.first.kind refl end.first.own
@@ -90,7 +92,9 @@ ends-transfer {w} config log link ch h x source f is end other = go end.first.ki
         let due = grant-due (is_caching config) c n end.first.rest h.state is.invariant (tokens Grant e) in
         let sent : MessageD w = grant_message due.data_too due.k ((h.state.block n).source c) (h.state.block n).tracker (h.state.block n).truth in
         let same : end.response ≡ sent = same-response end.response sent (sym (response_is Grant e) ∙ grant-rendered c n h.state due) in
-        let fin : f ≡ finish.Granted (cap_right due.k) = end.finish_is ∙ granted-at (d_beat_of end.response end.first.next.k) (sys.clients c) due.data_too due.k (ap (λ (i : MessageD w). i.opcode) same) (ap (λ (i : MessageD w). i.param) same) in
+        let fin : f ≡ finish.Granted (cap_right due.k) = end.finish_is
+        ∙ granted-at (d_beat_of end.response end.first.next.k) (sys.clients c) due.data_too due.k (ap (λ (i : MessageD w). i.opcode) same)
+        (ap (λ (i : MessageD w). i.param) same) in
         let from : source ≡ (h.state.block n).source c = end.source_is ∙ ap (λ (i : MessageD w). i.source) same in
         let opened = opened-acquire config log h sys c source n (h.state.uses c source) is refl (ap (h.state.uses c) from ∙ due.used) in
         let named : cap_named x ≡ cap_right due.k = ap (λ (y : Beat w). cap_named y) end.beat_is ∙ ap (λ (i : MessageD w). capped i.param) same ∙ cap-gives due.k in
@@ -98,7 +102,9 @@ ends-transfer {w} config log link ch h x source f is end other = go end.first.ki
         subst (λ (i : Finish). Ends (m.opened c (pool_of i) source) x i) (sym fin)
         (subst (λ (o : Option (Open w)). Ends o x (finish.Granted (cap_right due.k))) (sym opened)
         (ends_granted n ((h.state.block n).waiting c) x due.k due.whole due.g ((h.state.block n).pair c).acquiring due.wants named
-        (λ whole. whole_trunk ((h.state.block n).pair c).recorded ((h.state.block n).pair c).held due.data_too due.k due.g (ap (λ (b : Bool). grant_fits ((h.state.block n).pair c).recorded ((h.state.block n).pair c).held due.data_too due.k (Wants b due.g)) (sym whole) ∙ fits))))
+        (λ whole. whole_trunk ((h.state.block n).pair c).recorded ((h.state.block n).pair c).held due.data_too due.k due.g
+        (ap (λ (b : Bool). grant_fits ((h.state.block n).pair c).recorded ((h.state.block n).pair c).held due.data_too due.k (Wants b due.g)) (sym whole)
+        ∙ fits))))
     go ReleaseAck e own =
         let sent : MessageD w = ack_message ((h.state.block n).release_source c) in
         let same : end.response ≡ sent = same-response end.response sent (sym (response_is ReleaseAck e)) in

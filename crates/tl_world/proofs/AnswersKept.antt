@@ -27,12 +27,14 @@ use Rattle.tl_manager.specs.Handing.{access_answer, no_payload}
 use Rattle.tl_manager.specs.Holders.{cap_probed}
 use Rattle.tl_manager.specs.Service.{is_access_answer}
 use Rattle.tl_world.specs.Follow as follow
-use Rattle.tl_world.specs.Follow.{Shadow, with_state, bytes_at, asked, probes_some, some_below, access_taken, request_taken, is_unheld, gift, acquire_taken, granted_after, last_taken, ack_taken, taken_by_client, kind_taken}
+use Rattle.tl_world.specs.Follow.{Shadow, with_state, bytes_at, asked, probes_some, some_below, access_taken, request_taken, is_unheld, gift, acquire_taken}
+use Rattle.tl_world.specs.Follow.{granted_after, last_taken, ack_taken, taken_by_client, kind_taken}
 use Rattle.tl_world.specs.Invariant.{cap_asked}
 use Rattle.tl_world.specs.Log.{Log}
 use Rattle.tl_world.specs.Phase.{Acquiring, Calm, Wants, is_quiet}
 use Rattle.tl_world.specs.PhaseSteps.{is_granted_data}
-use Rattle.tl_world.specs.Protocol.{Service, Free, Waits, GrantSent, GrantTaken, Block, State, Use, Closed, Asked, InService, Replied, Acquires, token, on, is_probed, acquire_served, acquire_granted, report_taken, written}
+use Rattle.tl_world.specs.Protocol.{Service, Free, Waits, GrantSent, GrantTaken, Block, State, Use, Closed, Asked, InService, Replied, Acquires, token, on}
+use Rattle.tl_world.specs.Protocol.{is_probed, acquire_served, acquire_granted, report_taken, written}
 use Rattle.tl_world.specs.Render.{Mail, report_told}
 use Rattle.tl_world.specs.Sources.{IsFor}
 use Rattle.tl_world.specs.System.{System}
@@ -116,7 +118,8 @@ answered-used c source u mail s s' none uses h =
     (unanswered source (mail.request c source) (mail.answer c source) (s'.uses c source) (ap is_unanswered (ap (λ (f : ℕ → ℕ → Use). f c source) uses ∙ set_at-same c source u s.uses) ∙ none)) h
 
 -- an access that is answered
-answered-now : {w : ℕ} (c source : ℕ) (x : Message w) (mail : Mail w) (s s' : State (List ℕ)) → s'.uses ≡ set_at c source Replied s.uses → IsAnswer source (mail.request c source) x → AreAnswered mail s
+answered-now : {w : ℕ} (c source : ℕ) (x : Message w) (mail : Mail w) (s s' : State (List ℕ)) → s'.uses ≡ set_at c source Replied s.uses
+    → IsAnswer source (mail.request c source) x → AreAnswered mail s
     → AreAnswered (record { request = mail.request; answer = set_at c source x mail.answer }) s'
 answered-now {w} c source x mail s s' uses new h =
     answered-at c source mail (record { request = mail.request; answer = set_at c source x mail.answer }) s s'
@@ -140,7 +143,8 @@ answered-asked c (op.Acquire n g) (reply.Value v) h all = all
 answered-asked c (op.Acquire n g) reply.Stored h all = all
 answered-asked c (op.Acquire n g) reply.Miss h all = all
 answered-asked c (op.Acquire n g) (reply.Busy why) h all = all
-answered-asked c (op.AcquireWhole n bytes) (reply.Started source) h all = answered-used c source (Acquires n) h.mail h.state (asked c (op.AcquireWhole n bytes) (reply.Started source) h).state refl refl all
+answered-asked c (op.AcquireWhole n bytes) (reply.Started source) h all =
+    answered-used c source (Acquires n) h.mail h.state (asked c (op.AcquireWhole n bytes) (reply.Started source) h).state refl refl all
 answered-asked c (op.AcquireWhole n bytes) (reply.Value v) h all = all
 answered-asked c (op.AcquireWhole n bytes) reply.Stored h all = all
 answered-asked c (op.AcquireWhole n bytes) reply.Miss h all = all
@@ -165,7 +169,8 @@ answered-asked c (op.Access (message.E m)) r h all = all
 
 -- ---- messages that are taken
 
-answered_request : {w : ℕ} (clients c source tracker : ℕ) (m : MessageA w) (rest : List Token) (h : Shadow w) → h.mail.request c source ≡ message.A m → is_acquire m.opcode ≡ false → m.source ≡ source → AreAnsweredIn h
+answered_request : {w : ℕ} (clients c source tracker : ℕ) (m : MessageA w) (rest : List Token) (h : Shadow w) → h.mail.request c source ≡ message.A m
+    → is_acquire m.opcode ≡ false → m.source ≡ source → AreAnsweredIn h
     → AreAnsweredIn (request_taken clients c source (message.A m) tracker rest h)
 answered_request {w} clients c source tracker m rest h is access from all = go (probes_some clients c false (cap_probed m.opcode m.param) (h.state.block n).pair) (cap_probed m.opcode m.param)
   where
@@ -184,7 +189,8 @@ answered_request {w} clients c source tracker m rest h is access from all = go (
     go false None = now
     go false (Some k) = now
 
-answered_acquire : {w : ℕ} (clients : ℕ) (p : Profile) (c n tracker : ℕ) (x : Acquiring) (rest : List Token) (h : Shadow w) → AreAnsweredIn h → AreAnsweredIn (acquire_taken clients p c n x tracker rest h)
+answered_acquire : {w : ℕ} (clients : ℕ) (p : Profile) (c n tracker : ℕ) (x : Acquiring) (rest : List Token) (h : Shadow w) → AreAnsweredIn h
+    → AreAnsweredIn (acquire_taken clients p c n x tracker rest h)
 answered_acquire clients p c n tracker Calm rest h all = all
 answered_acquire {w} clients p c n tracker (Wants whole g) rest h all = go (some_below clients (λ i. is_probed c true (cap_asked (Wants whole g)) (b.pair i).recorded i))
   where
@@ -192,25 +198,30 @@ answered_acquire {w} clients p c n tracker (Wants whole g) rest h all = go (some
     b = h.state.block n
 
     go : (x : Bool)
-        → AreAnswered h.mail (if x then acquire_served c n (b.source c) tracker (cap_asked (Wants whole g)) rest h.state else acquire_granted c n tracker (is_granted_data whole g (b.pair c).recorded) (gift p whole g (is_unheld clients b.pair)) rest h.state)
+        → AreAnswered h.mail (if x then acquire_served c n (b.source c) tracker (cap_asked (Wants whole g)) rest h.state else acquire_granted c n tracker
+        (is_granted_data whole g (b.pair c).recorded) (gift p whole g (is_unheld clients b.pair)) rest h.state)
     go true = all
     go false = all
 
-answered_granted : {w : ℕ} (clients : ℕ) (p : Profile) (c q n : ℕ) (r : Report) (x : Acquiring) (rest : List Token) (h : Shadow w) → AreAnsweredIn h → AreAnsweredIn (granted_after clients p c q n r x rest h)
+answered_granted : {w : ℕ} (clients : ℕ) (p : Profile) (c q n : ℕ) (r : Report) (x : Acquiring) (rest : List Token) (h : Shadow w) → AreAnsweredIn h
+    → AreAnsweredIn (granted_after clients p c q n r x rest h)
 answered_granted clients p c q n r Calm rest h all = all
 answered_granted clients p c q n r (Wants whole g) rest h all = all
 
-answered_last : {w : ℕ} (clients : ℕ) (p : Profile) (c n : ℕ) (r : Report) (service : Service) (rest : List Token) (h : Shadow w) → IsServedWith h.mail service (h.request n) → IsFor service n (h.request n) → AreAnsweredIn h
+answered_last : {w : ℕ} (clients : ℕ) (p : Profile) (c n : ℕ) (r : Report) (service : Service) (rest : List Token) (h : Shadow w)
+    → IsServedWith h.mail service (h.request n) → IsFor service n (h.request n) → AreAnsweredIn h
     → AreAnsweredIn (last_taken clients p c n r service rest h)
 answered_last clients p c n r Free rest h with for all = all
 answered_last clients p c n r (GrantSent q d k) rest h with for all = all
 answered_last clients p c n r (GrantTaken q) rest h with for all = all
 answered_last clients p c n r (Waits q true source k) rest h with for all = answered_granted clients p c q n r ((h.state.block n).pair q).acquiring rest h all
 answered_last {w} clients p c n r (Waits q false source k) rest h with for all =
-    answered-now q source (follow.answers (h.request n) (written r (h.state.block n).truth (h.state.block n).memory)) h.mail h.state (last_taken clients p c n r (Waits q false source k) rest h).state refl
+    answered-now q source (follow.answers (h.request n) (written r (h.state.block n).truth (h.state.block n).memory)) h.mail h.state
+    (last_taken clients p c n r (Waits q false source k) rest h).state refl
     (rw with (answers-access source (h.request n) (written r (h.state.block n).truth (h.state.block n).memory) for.0 for.1)) all
 
-answered_ack : {w : ℕ} (clients : ℕ) (p : Profile) (c n : ℕ) (r : Report) (rest : List Token) (h : Shadow w) → IsServedWith h.mail (h.state.block n).service (h.request n) → IsFor (h.state.block n).service n (h.request n) → AreAnsweredIn h
+answered_ack : {w : ℕ} (clients : ℕ) (p : Profile) (c n : ℕ) (r : Report) (rest : List Token) (h : Shadow w)
+    → IsServedWith h.mail (h.state.block n).service (h.request n) → IsFor (h.state.block n).service n (h.request n) → AreAnsweredIn h
     → AreAnsweredIn (ack_taken clients p c n r rest h)
 answered_ack {w} clients p c n r rest h with for all = go (some_below clients (λ i. not (i == c) && not (is_quiet ((h.state.block n).pair i).probing)))
   where
@@ -224,13 +235,15 @@ answered_grant c n (Waits q own source k) rest h all = all
 answered_grant c n (GrantTaken q) rest h all = all
 answered_grant c n (GrantSent q d k) rest h all = answered-used c ((h.state.block n).source c) Closed h.mail h.state (taken_by_client c n (GrantSent q d k) rest h).state refl refl all
 
-pub answered-kind_taken : {w : ℕ} (config : Config) (log : Log w) (tracker c : ℕ) (k : Kind) (i : ℕ) (rest : List Token) (h : Shadow w) (sys : System w) → IsMatched config log h.mail h.request h.state sys → on k (h.state.link c) ≡ token k i ∷ rest
+pub answered-kind_taken : {w : ℕ} (config : Config) (log : Log w) (tracker c : ℕ) (k : Kind) (i : ℕ) (rest : List Token) (h : Shadow w) (sys : System w)
+    → IsMatched config log h.mail h.request h.state sys → on k (h.state.link c) ≡ token k i ∷ rest
     → AreAnswered (kind_taken config tracker c k i rest h).mail (kind_taken config tracker c k i rest h).state
 answered-kind_taken {w} config log tracker c Request i rest h sys is first =
     let asked = asked-first config log h.mail h.request h.state sys c i rest is first in
     subst (λ (m : Message w). AreAnsweredIn (request_taken (length config.clients.items) c i m tracker rest h)) (sym asked.is_it)
     (answered_request (length config.clients.items) c i tracker asked.request rest h asked.is_it asked.access asked.source_is is.answered)
-answered-kind_taken config log tracker c Acquire n rest h sys is first = answered_acquire (length config.clients.items) config.profile c n tracker ((h.state.block n).pair c).acquiring rest h is.answered
+answered-kind_taken config log tracker c Acquire n rest h sys is first =
+    answered_acquire (length config.clients.items) config.profile c n tracker ((h.state.block n).pair c).acquiring rest h is.answered
 answered-kind_taken config log tracker c Probe n rest h sys is first = is.answered
 answered-kind_taken config log tracker c ProbeAck n rest h sys is first =
     answered_ack (length config.clients.items) config.profile c n (report_told ((h.state.block n).pair c).probing) rest h (is.served_with n) (is.served.requests n) is.answered

@@ -8,7 +8,7 @@ use Rattle.tl_beat.specs.declared.beat.Beat.{Beat}
 use Rattle.tl_beat.specs.declared.beat.Beat.TheVariants as beat
 use Rattle.tl_beat.specs.declared.beat.BeatA.{BeatA}
 use Rattle.tl_beat.specs.declared.beat.Link.{Link}
-use Rattle.tl_beat.specs.declared.opcode.Channel.TheVariants as channel
+use Rattle.tl_beat.specs.declared.channel.Channel.TheVariants as channel
 use Rattle.tl_burst.specs.declared.message.Message.TheVariants.{A}
 use Rattle.tl_burst.specs.declared.message.MessageA.{MessageA}
 use Rattle.tl_burst.specs.Burst.{lanes_at, a_beat_of, beats_of, begun, IsBlankAfter}
@@ -121,7 +121,8 @@ payload-from from w payload some room lanes blank =
     let few : min (from + w - from) (length (drop from payload)) ≤ length (drop from payload) = omega arith in
     omega (arith, cut, dropped, rest, zeros, total, room, lanes, few, some)
 
-payload-length : (w k n : ℕ) (carries : Bool) (payload : List ℕ) → 0 < w → n ≡ suc k → w * n ≤ 64 → IfSome (lanes_at carries w payload k) (λ lanes. length lanes ≡ w) → IsZeroFrom (if carries then w * n else 0) payload → length payload ≡ 64
+payload-length : (w k n : ℕ) (carries : Bool) (payload : List ℕ) → 0 < w → n ≡ suc k → w * n ≤ 64
+    → IfSome (lanes_at carries w payload k) (λ lanes. length lanes ≡ w) → IsZeroFrom (if carries then w * n else 0) payload → length payload ≡ 64
 payload-length w k n true payload some last room lanes blank =
     let whole : w * n ≡ w * k + w = rw last (omega arith) in
     payload-from (w * k) w payload some (rw whole at room) lanes (rw whole at blank)
@@ -163,20 +164,24 @@ ends-coming config c k m e is = rw (is.burst, length-begun (A m) k) refl
 abbrev pub service_for : {w : ℕ} → ℕ → MessageA w → Trace w → Service w
 service_for c m t = record { tracker = least_untaken (trackers_of (services t)); link = link_of c; request = m }
 
-pub served-last : {w : ℕ} (config : Config) (c k : ℕ) (m : MessageA w) (e : End w) → IsComing config c k m e → beats_of (A m) ≡ suc k → IsServed (link_of c) (a_beat_of m k) (service_for c m e.trace) e.trace
+pub served-last : {w : ℕ} (config : Config) (c k : ℕ) (m : MessageA w) (e : End w) → IsComing config c k m e → beats_of (A m) ≡ suc k
+    → IsServed (link_of c) (a_beat_of m k) (service_for c m e.trace) e.trace
 served-last {w} config c k m e is last = record {
   last = ends-coming config c k m e is ∙ rw last (is_last k (suc k) (omega arith));
-  made = ap (option_map with_tracker) (ap (λ (b : List (Beat w)). request_carried (beat.A (a_beat_of m k) ∷ b)) is.burst ∙ request-again m (begun (A m) (suc k)) is.width (request-filled m k is.width last is.typed is.blank) (ap (begun (A m)) (sym last), is.blank));
+  made = ap (option_map with_tracker) (ap (λ (b : List (Beat w)). request_carried (beat.A (a_beat_of m k) ∷ b)) is.burst
+      ∙ request-again m (begun (A m) (suc k)) is.width (request-filled m k is.width last is.typed is.blank) (ap (begun (A m)) (sym last), is.blank));
 }
   where
     with_tracker : MessageA w → Service w
     with_tracker r = record { tracker = least_untaken (trackers_of (services e.trace)); link = link_of c; request = r }
 
 -- and it may be performed
-pub ready-last : {w : ℕ} (config : Config) (c k : ℕ) (m : MessageA w) (e : End w) → IsComing config c k m e → beats_of (A m) ≡ suc k → IsReady config (block_at m.address) (service_for c m e.trace) (with_beat c m k e.trace)
+pub ready-last : {w : ℕ} (config : Config) (c k : ℕ) (m : MessageA w) (e : End w) → IsComing config c k m e → beats_of (A m) ≡ suc k
+    → IsReady config (block_at m.address) (service_for c m e.trace) (with_beat c m k e.trace)
 ready-last {w} config c k m e is last =
     let served = served-last config c k m e is last in
     let found = made (link_of c) (a_beat_of m k) e.trace served.last (le-leb m.size 6 m.small) in
-    let same : service_made (link_of c) (a_beat_of m k) e.trace found.0 ≡ service_for c m e.trace = some_is (service_made (link_of c) (a_beat_of m k) e.trace found.0) (service_for c m e.trace) (sym found.1.made ∙ served.made) in
+    let same : service_made (link_of c) (a_beat_of m k) e.trace found.0 ≡ service_for c m e.trace =
+    some_is (service_made (link_of c) (a_beat_of m k) e.trace found.0) (service_for c m e.trace) (sym found.1.made ∙ served.made) in
     subst (λ (v : Service w). IsReady config (block_at m.address) v (with_beat c m k e.trace)) same
     (request-ready config (link_of c) (a_beat_of m k) e found.0 (taken-coming config c k m e is) found.1)

@@ -9,7 +9,11 @@ use Rattle.tl_params.specs.declared.param.Prune.{Prune}
 use Rattle.tl_params.specs.declared.param.Report.{Report}
 use Rattle.tl_world.specs.Phase.{Pair, is_kept}
 use Rattle.tl_world.specs.PhaseSteps.{after_acquire, after_release, after_served, after_grant_sent, after_probe, after_report, after_release_taken, after_release_ack, after_grant}
-use Rattle.tl_world.specs.Protocol.{Block, State, Use, Closed, Asked, InService, Replied, Acquires, access_asked, acquiring_block, acquire_asked, releasing_block, release_asked, stored_block, block_stored, performed_block, access_answered, granted_at_once, acquire_granted, served_pair, served_block, acquire_served, access_served, probed_block, probe_taken, reported_block, report_taken, ended_block, report_answers, granted_pair, granted_block, report_grants, let_block, release_taken, answer_taken, taken_block, grant_taken, granted_copy, let_go_block, release_ack_taken, freed_block, grant_ack_taken}
+use Rattle.tl_world.specs.Protocol.{Block, State, Use, Closed, Asked, InService, Replied, Acquires, access_asked, acquiring_block, acquire_asked}
+use Rattle.tl_world.specs.Protocol.{releasing_block, release_asked, stored_block, block_stored, performed_block, access_answered, granted_at_once}
+use Rattle.tl_world.specs.Protocol.{acquire_granted, served_pair, served_block, acquire_served, access_served, probed_block, probe_taken, reported_block}
+use Rattle.tl_world.specs.Protocol.{report_taken, ended_block, report_answers, granted_pair, granted_block, report_grants, let_block, release_taken}
+use Rattle.tl_world.specs.Protocol.{answer_taken, taken_block, grant_taken, granted_copy, let_go_block, release_ack_taken, freed_block, grant_ack_taken}
 use Rattle.tl_world.specs.Render.{Mail}
 use Rattle.tl_world.specs.Token.{Token, set, set_at}
 use Rattle.tl_world.proofs.ClientEnd.{IsSameUse, is_access, IsAside}
@@ -57,7 +61,14 @@ pair-aside c b b' held acquiring letting source copy waiting = record {
 -- another client's event
 others-aside : (d : ℕ) (b b' : Block (List ℕ)) → b'.pair d ≡ b.pair d → b'.source d ≡ b.source d → b'.copy d ≡ b.copy d → b'.waiting d ≡ b.waiting d → IsAsideBlock d b b'
 others-aside d b b' pair source copy waiting =
-    record { held = ap (λ (p : Pair). p.held) pair; acquiring = ap (λ (p : Pair). p.acquiring) pair; letting = ap (λ (p : Pair). is_kept p.letting) pair; source = source; copy = copy; waiting = waiting }
+    record {
+      held = ap (λ (p : Pair). p.held) pair;
+      acquiring = ap (λ (p : Pair). p.acquiring) pair;
+      letting = ap (λ (p : Pair). is_kept p.letting) pair;
+      source = source;
+      copy = copy;
+      waiting = waiting;
+    }
 
 -- ---- uses
 
@@ -102,7 +113,9 @@ pub aside-acquire_asked : {w : ℕ} (c n source d : ℕ) (whole : Bool) (g : Gro
     → IsAside d mail mail s (acquire_asked c n source whole g bytes s)
 aside-acquire_asked c n source d whole g bytes mail s ne =
     aside-block d n (acquiring_block c source whole g bytes (s.block n)) mail mail s (acquire_asked c n source whole g bytes s) refl
-    (others-aside d (s.block n) (acquiring_block c source whole g bytes (s.block n)) (set-other c d (after_acquire whole g ((s.block n).pair c)) (s.block n).pair ne) (set-other c d source (s.block n).source ne) refl (set-other c d bytes (s.block n).waiting ne))
+    (others-aside d (s.block n) (acquiring_block c source whole g bytes (s.block n))
+    (set-other c d (after_acquire whole g ((s.block n).pair c)) (s.block n).pair ne) (set-other c d source (s.block n).source ne) refl
+    (set-other c d bytes (s.block n).waiting ne))
     (λ i. refl) (λ i. inl (set_at-other c d source i (Acquires n) s.uses ne)) (λ i. refl)
 
 pub aside-release_asked : {w : ℕ} (c n source d : ℕ) (r : Prune) (mail : Mail w) (s : State (List ℕ)) → (d ≡ c → ⊥) → IsAside d mail mail s (release_asked c n source r s)
@@ -141,7 +154,8 @@ pub aside-grant_taken : {w : ℕ} (c n d : ℕ) (whole data_too : Bool) (k : Cap
 aside-grant_taken c n d whole data_too k rest mail s ne =
     let b : Block (List ℕ) = s.block n in
     aside-block d n (taken_block c whole data_too k b) mail mail s (grant_taken c n whole data_too k rest s) refl
-    (others-aside d b (taken_block c whole data_too k b) (set-other c d (after_grant k (b.pair c)) b.pair ne) refl (set-other c d (granted_copy whole data_too (b.waiting c) b.truth (b.copy c)) b.copy ne) refl)
+    (others-aside d b (taken_block c whole data_too k b) (set-other c d (after_grant k (b.pair c)) b.pair ne) refl
+    (set-other c d (granted_copy whole data_too (b.waiting c) b.truth (b.copy c)) b.copy ne) refl)
     (λ i. refl) (λ i. inl (set_at-other c d (b.source c) i Closed s.uses ne)) (λ i. refl)
 
 pub aside-release_ack_taken : {w : ℕ} (c n d : ℕ) (rest : List Token) (mail : Mail w) (s : State (List ℕ)) → (d ≡ c → ⊥) → IsAside d mail mail s (release_ack_taken c n rest s)
@@ -162,7 +176,8 @@ entry_aside c n d p b b' pair held acquiring letting source copy waiting =
     (ap (λ (f : ℕ → Pair). is_kept (f d).letting) pair ∙ set-part (λ (q : Pair). is_kept q.letting) c p b.pair letting d)
     source copy waiting
 
-served_aside : {A : Type 0} (part : Pair → A) (r : ℕ) (own : Bool) (k : Cap) (pair : ℕ → Pair) (d : ℕ) → part (after_served k (pair d)) ≡ part (pair d) → part (served_pair r own k pair d) ≡ part (pair d)
+served_aside : {A : Type 0} (part : Pair → A) (r : ℕ) (own : Bool) (k : Cap) (pair : ℕ → Pair) (d : ℕ) → part (after_served k (pair d)) ≡ part (pair d)
+    → part (served_pair r own k pair d) ≡ part (pair d)
 served_aside {A} part r own k pair d e = go (own && (d == r))
   where
     go : (z : Bool) → part (if z then pair d else after_served k (pair d)) ≡ part (pair d)
@@ -176,7 +191,8 @@ aside-access_answered c n source d f rest mail answer s access =
     (pair-aside d (s.block n) (performed_block f (s.block n)) refl refl refl refl refl refl)
     (λ i. refl) (uses-moved c source Replied s.uses access refl d) (λ i. refl)
 
-pub aside-acquire_granted : {w : ℕ} (r n tracker d : ℕ) (data_too : Bool) (k : Cap) (rest : List Token) (mail : Mail w) (s : State (List ℕ)) → IsAside d mail mail s (acquire_granted r n tracker data_too k rest s)
+pub aside-acquire_granted : {w : ℕ} (r n tracker d : ℕ) (data_too : Bool) (k : Cap) (rest : List Token) (mail : Mail w) (s : State (List ℕ))
+    → IsAside d mail mail s (acquire_granted r n tracker data_too k rest s)
 aside-acquire_granted r n tracker d data_too k rest mail s =
     aside-block d n (granted_at_once r tracker data_too k (s.block n)) mail mail s (acquire_granted r n tracker data_too k rest s) refl
     (entry_aside r n d (after_grant_sent k ((s.block n).pair r)) (s.block n) (granted_at_once r tracker data_too k (s.block n)) refl refl refl refl refl refl refl)
@@ -189,12 +205,14 @@ served_block_aside r source tracker d own k b =
 
 pub aside-acquire_served : {w : ℕ} (r n source tracker d : ℕ) (k : Cap) (rest : List Token) (mail : Mail w) (s : State (List ℕ)) → IsAside d mail mail s (acquire_served r n source tracker k rest s)
 aside-acquire_served r n source tracker d k rest mail s =
-    aside-block d n (served_block r true source tracker k (s.block n)) mail mail s (acquire_served r n source tracker k rest s) refl (served_block_aside r source tracker d true k (s.block n)) (λ i. refl) (λ i. inl refl) (λ i. refl)
+    aside-block d n (served_block r true source tracker k (s.block n)) mail mail s (acquire_served r n source tracker k rest s) refl
+    (served_block_aside r source tracker d true k (s.block n)) (λ i. refl) (λ i. inl refl) (λ i. refl)
 
 pub aside-access_served : {w : ℕ} (r n source tracker d : ℕ) (k : Cap) (rest : List Token) (mail : Mail w) (s : State (List ℕ)) → is_access (s.uses r source) ≡ true
     → IsAside d mail mail s (access_served r n source tracker k rest s)
 aside-access_served r n source tracker d k rest mail s access =
-    aside-block d n (served_block r false source tracker k (s.block n)) mail mail s (access_served r n source tracker k rest s) refl (served_block_aside r source tracker d false k (s.block n)) (λ i. refl)
+    aside-block d n (served_block r false source tracker k (s.block n)) mail mail s (access_served r n source tracker k rest s) refl
+    (served_block_aside r source tracker d false k (s.block n)) (λ i. refl)
     (uses-moved r source (InService n) s.uses access refl d) (λ i. refl)
 
 pub aside-report_taken : {w : ℕ} (c n d : ℕ) (r : Report) (rest : List Token) (mail : Mail w) (s : State (List ℕ)) → IsAside d mail mail s (report_taken c n r rest s)
@@ -202,7 +220,8 @@ aside-report_taken c n d r rest mail s =
     aside-block d n (reported_block c r (s.block n)) mail mail s (report_taken c n r rest s) refl
     (entry_aside c n d (after_report r ((s.block n).pair c)) (s.block n) (reported_block c r (s.block n)) refl refl refl refl refl refl refl) (λ i. refl) (λ i. inl refl) (λ i. refl)
 
-pub aside-report_answers : {w : ℕ} (c q n source d : ℕ) (r : Report) (f : List ℕ → List ℕ) (rest : List Token) (mail : Mail w) (answer : ℕ → ℕ → Message w) (s : State (List ℕ)) → is_access (s.uses q source) ≡ true
+pub aside-report_answers : {w : ℕ} (c q n source d : ℕ) (r : Report) (f : List ℕ → List ℕ) (rest : List Token) (mail : Mail w) (answer : ℕ → ℕ → Message w)
+    (s : State (List ℕ)) → is_access (s.uses q source) ≡ true
     → IsAside d mail (record { request = mail.request; answer = answer }) s (report_answers c q n source r f rest s)
 aside-report_answers c q n source d r f rest mail answer s access =
     aside-block d n (ended_block c r f (s.block n)) mail (record { request = mail.request; answer = answer }) s (report_answers c q n source r f rest s) refl
@@ -217,7 +236,8 @@ granted_part {A} part c q d r k pair sent told = go (d == q) refl
     go true e = sent ∙ ap (λ (i : ℕ). part (pair i)) (sym (eqb-true d q e))
     go false e = set-part part c (after_report r (pair c)) pair told d
 
-pub aside-report_grants : {w : ℕ} (c q n d : ℕ) (r : Report) (data_too : Bool) (k : Cap) (rest : List Token) (mail : Mail w) (s : State (List ℕ)) → IsAside d mail mail s (report_grants c q n r data_too k rest s)
+pub aside-report_grants : {w : ℕ} (c q n d : ℕ) (r : Report) (data_too : Bool) (k : Cap) (rest : List Token) (mail : Mail w) (s : State (List ℕ))
+    → IsAside d mail mail s (report_grants c q n r data_too k rest s)
 aside-report_grants c q n d r data_too k rest mail s =
     let b : Block (List ℕ) = s.block n in
     aside-block d n (granted_block c q r data_too k b) mail mail s (report_grants c q n r data_too k rest s) refl
@@ -226,11 +246,13 @@ aside-report_grants c q n d r data_too k rest mail s =
     (λ i. refl) (λ i. inl refl) (λ i. refl)
 
 -- a Release that is taken is still open at its client
-pub aside-release_taken : {w : ℕ} (c n d : ℕ) (r : Prune) (rest : List Token) (mail : Mail w) (s : State (List ℕ)) → is_kept ((s.block n).pair c).letting ≡ false → IsAside d mail mail s (release_taken c n r rest s)
+pub aside-release_taken : {w : ℕ} (c n d : ℕ) (r : Prune) (rest : List Token) (mail : Mail w) (s : State (List ℕ))
+    → is_kept ((s.block n).pair c).letting ≡ false → IsAside d mail mail s (release_taken c n r rest s)
 aside-release_taken c n d r rest mail s releasing =
     aside-block d n (let_block c r (s.block n)) mail mail s (release_taken c n r rest s) refl
     (entry_aside c n d (after_release_taken r ((s.block n).pair c)) (s.block n) (let_block c r (s.block n)) refl refl refl (sym releasing) refl refl refl) (λ i. refl) (λ i. inl refl) (λ i. refl)
 
 pub aside-grant_ack_taken : {w : ℕ} (c n d : ℕ) (rest : List Token) (mail : Mail w) (s : State (List ℕ)) → IsAside d mail mail s (grant_ack_taken c n rest s)
 aside-grant_ack_taken c n d rest mail s =
-    aside-block d n (freed_block (s.block n)) mail mail s (grant_ack_taken c n rest s) refl (pair-aside d (s.block n) (freed_block (s.block n)) refl refl refl refl refl refl) (λ i. refl) (λ i. inl refl) (λ i. refl)
+    aside-block d n (freed_block (s.block n)) mail mail s (grant_ack_taken c n rest s) refl
+    (pair-aside d (s.block n) (freed_block (s.block n)) refl refl refl refl refl refl) (λ i. refl) (λ i. inl refl) (λ i. refl)

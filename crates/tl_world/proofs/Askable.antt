@@ -136,10 +136,12 @@ record IsAt {w : ℕ} (config : Config) (c : ℕ) (terms : Terms) (h : Shadow w)
   level_is : level_of config c ≡ Some terms.level
   closes : (source : ℕ) → is_some (asked_by h.mail h.state c source) ≡ false → h.state.uses c source ≡ Closed
 
-free_use : {w : ℕ} (config : Config) (c source : ℕ) (terms : Terms) (h : Shadow w) (e : End w) → IsAt config c terms h e → pending (RequestSource source) e.past ≡ false → h.state.uses c source ≡ Closed
+free_use : {w : ℕ} (config : Config) (c source : ℕ) (terms : Terms) (h : Shadow w) (e : End w) → IsAt config c terms h e
+    → pending (RequestSource source) e.past ≡ false → h.state.uses c source ≡ Closed
 free_use config c source terms h e at free = at.closes source (sym (at.end.opened.requests source) ∙ free)
 
-done_may : {w : ℕ} (config : Config) (c : ℕ) (terms : Terms) (o : Op w) (h : Shadow w) (e : End w) → IsAt config c terms h e → NotBusy terms o e → IsAskable (is_caching config) c o (done terms o e).reply h
+done_may : {w : ℕ} (config : Config) (c : ℕ) (terms : Terms) (o : Op w) (h : Shadow w) (e : End w) → IsAt config c terms h e → NotBusy terms o e
+    → IsAskable (is_caching config) c o (done terms o e).reply h
 done_may config c terms (op.Load address size) h e at free = tt
 done_may config c terms (op.Store address size value) h e at free = store_may (is_caching config) c address size value (held_at e (block_at address)) e h (at.end.known.held_is (block_at address))
 done_may config c terms (op.Acquire n g) h e at free =
@@ -168,14 +170,16 @@ done_may config c terms (op.Release n r) h e at free =
       swap_perms ((h.state.block n).pair c).held (prune_left r) ∙ ap (same_perm (prune_left r)) (sym (at.end.known.held_is n))
           ∙ not-false (same_perm (prune_left r) (held_at e n)) free.b3,
     )
-done_may config c terms (op.Access (message.A m)) h e at free = free_use config c (source_or_0 (free_request terms e.past)) terms h e at (least_free-some (λ s. pending (RequestSource s) e.past) 0 terms.sources free.b1).0
+done_may config c terms (op.Access (message.A m)) h e at free =
+    free_use config c (source_or_0 (free_request terms e.past)) terms h e at (least_free-some (λ s. pending (RequestSource s) e.past) 0 terms.sources free.b1).0
 done_may config c terms (op.Access (message.B m)) h e at free = tt
 done_may config c terms (op.Access (message.C m)) h e at free = tt
 done_may config c terms (op.Access (message.D m)) h e at free = tt
 done_may config c terms (op.Access (message.E m)) h e at free = tt
 
 -- What a client answers to an operation, the protocol allows.
-pub askable : {w : ℕ} (config : Config) (log : Log w) (mail : Mail w) (request : ℕ → MessageA w) (s : State (List ℕ)) (sys : System w) (terms : Terms) (c : ℕ) (o : Op w) → IsMatched config log mail request s sys
+pub askable : {w : ℕ} (config : Config) (log : Log w) (mail : Mail w) (request : ℕ → MessageA w) (s : State (List ℕ)) (sys : System w) (terms : Terms) (c : ℕ)
+    (o : Op w) → IsMatched config log mail request s sys
     → terms_at config c ≡ Some terms
     → IsAskable (is_caching config) c o (ask.asked terms o (sys.clients c)).reply (shadow_of mail request s)
 askable {w} config log mail request s sys terms c o h at =

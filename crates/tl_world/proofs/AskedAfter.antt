@@ -60,7 +60,9 @@ use Rattle.tl_world.proofs.ManagersAfter.{release_channel}
 abbrev pub IsPlain : {w : ℕ} → Op w → Reply → Type 0
 IsPlain {w} o r = (c : ℕ) (h : Shadow w) → (asked c o r h ≡ h) × ((m : Option (Message w)) → IsHandedOut c o r h m → m ≡ None)
 
-pub reply-cases : {w : ℕ} (P : Op w → Reply → Type 0) (o : Op w) (r : Reply) → IsReply o r → ((address size value : ℕ) → P (op.Store address size value) reply.Stored) → ((n : ℕ) (g : Grow) (source : ℕ) → P (op.Acquire n g) (reply.Started source))
+pub reply-cases : {w : ℕ} (P : Op w → Reply → Type 0) (o : Op w) (r : Reply) → IsReply o r
+    → ((address size value : ℕ) → P (op.Store address size value) reply.Stored)
+    → ((n : ℕ) (g : Grow) (source : ℕ) → P (op.Acquire n g) (reply.Started source))
     → ((n : ℕ) (bytes : List ℕ) (source : ℕ) → P (op.AcquireWhole n bytes) (reply.Started source)) → ((n : ℕ) (p : Prune) (source : ℕ) → P (op.Release n p) (reply.Started source))
     → ((x : MessageA w) (source : ℕ) → P (op.Access (message.A x)) (reply.Started source)) → ((o : Op w) (r : Reply) → IsPlain o r → P o r) → P o r
 reply-cases P (op.Load address size) (reply.Value v) is stored acquires stores releases accesses others = others (op.Load address size) (reply.Value v) (λ c h. (refl, λ m e. e))
@@ -116,7 +118,8 @@ reply-cases P (op.Access (message.E x)) (reply.Busy why) is stored acquires stor
 
 -- ---- channels
 
-rendered_acquiring : {w : ℕ} (c n source : ℕ) (whole : Bool) (g : Grow) (bytes : List ℕ) (b : Block (List ℕ)) → rendered {w = w} Acquire c n (acquiring_block c source whole g bytes b) ≡ message.A (acquisition (acquire_opcode whole) g source n)
+rendered_acquiring : {w : ℕ} (c n source : ℕ) (whole : Bool) (g : Grow) (bytes : List ℕ) (b : Block (List ℕ))
+    → rendered {w = w} Acquire c n (acquiring_block c source whole g bytes b) ≡ message.A (acquisition (acquire_opcode whole) g source n)
 rendered_acquiring {w} c n source whole g bytes b =
     rendered-acquire c n (acquiring_block c source whole g bytes b) whole g (ap (λ (p : Pair). p.acquiring) (set-same c (after_acquire whole g (b.pair c)) b.pair))
     ∙ ap (λ (i : ℕ). message.A (acquisition {w = w} (acquire_opcode whole) g i n)) (set-same c source b.source)
@@ -126,19 +129,25 @@ unfolding rendered
 rendered_releasing {w} c n source p b = rw (set-same c (after_release p (b.pair c)) b.pair, set-same c source b.release_source) refl
 
 abbrev CarriesAsked : {w : ℕ} → Config → ℕ → Shadow w → System w → Op w → Reply → Type 0
-CarriesAsked {w} config c h sys o r = (m : Option (Message w)) (e : client.End w) → IsAskable (is_caching config) c o r h → IsInvariant (is_caching config) (asked c o r h).state → IsHandedOut c o r h m
-    → IsHanded (pushes_at c (pushes_of m)) sys (with_messages (handed_by c m) (with_client c e sys)) → AreCarried (asked c o r h).mail (asked c o r h).state (with_messages (handed_by c m) (with_client c e sys))
+CarriesAsked {w} config c h sys o r = (m : Option (Message w)) (e : client.End w) → IsAskable (is_caching config) c o r h
+    → IsInvariant (is_caching config) (asked c o r h).state → IsHandedOut c o r h m
+    → IsHanded (pushes_at c (pushes_of m)) sys (with_messages (handed_by c m) (with_client c e sys))
+    → AreCarried (asked c o r h).mail (asked c o r h).state (with_messages (handed_by c m) (with_client c e sys))
 
-carried_asked : {w : ℕ} (config : Config) (log : Log w) (h : Shadow w) (sys : System w) (c : ℕ) (o : Op w) (r : Reply) → IsWidth w → IsMatched config log h.mail h.request h.state sys → IsReply o r → CarriesAsked config c h sys o r
+carried_asked : {w : ℕ} (config : Config) (log : Log w) (h : Shadow w) (sys : System w) (c : ℕ) (o : Op w) (r : Reply) → IsWidth w
+    → IsMatched config log h.mail h.request h.state sys → IsReply o r → CarriesAsked config c h sys o r
 carried_asked {w} config log h sys c o r width is may_be = reply-cases (CarriesAsked config c h sys) o r may_be stored acquires stores releases accesses others
   where
     s : State (List ℕ)
     s = h.state
 
-    handed_as : (m n : Option (Message w)) (e : client.End w) → m ≡ n → IsHanded (pushes_at c (pushes_of m)) sys (with_messages (handed_by c m) (with_client c e sys)) → IsHanded (pushes_at c (pushes_of n)) sys (with_messages (handed_by c n) (with_client c e sys))
+    handed_as : (m n : Option (Message w)) (e : client.End w) → m ≡ n
+        → IsHanded (pushes_at c (pushes_of m)) sys (with_messages (handed_by c m) (with_client c e sys))
+        → IsHanded (pushes_at c (pushes_of n)) sys (with_messages (handed_by c n) (with_client c e sys))
     handed_as m n e f i = subst (λ (x : Option (Message w)). IsHanded (pushes_at c (pushes_of x)) sys (with_messages (handed_by c x) (with_client c e sys))) f i
 
-    carried_as : (m n : Option (Message w)) (mail : Mail w) (z : State (List ℕ)) (e : client.End w) → m ≡ n → AreCarried mail z (with_messages (handed_by c n) (with_client c e sys)) → AreCarried mail z (with_messages (handed_by c m) (with_client c e sys))
+    carried_as : (m n : Option (Message w)) (mail : Mail w) (z : State (List ℕ)) (e : client.End w) → m ≡ n
+        → AreCarried mail z (with_messages (handed_by c n) (with_client c e sys)) → AreCarried mail z (with_messages (handed_by c m) (with_client c e sys))
     carried_as m n mail z e f i = subst (λ (x : Option (Message w)). AreCarried mail z (with_messages (handed_by c x) (with_client c e sys))) (sym f) i
 
     low : (n : ℕ) → same_perm ((s.block n).pair c).held perm.Trunk ≡ true → (d : ℕ) → (same_perm ((s.block n).pair d).held perm.Trunk || same_perm ((s.block n).pair d).recorded perm.None) ≡ true
@@ -153,23 +162,29 @@ carried_asked {w} config log h sys c o r width is may_be = reply-cases (CarriesA
     stored : (address size value : ℕ) → CarriesAsked config c h sys (op.Store address size value) reply.Stored
     stored address size value m e may inv handed queued =
         carried_as m None _ _ e handed
-        (block_stored-carried (is_caching config) c (block_at address) _ h.mail s sys _ width is.invariant inv (none-carried (is_caching config) (s.block (block_at address)) (is.invariant.blocks (block_at address)) (low (block_at address) may)) (handed_as m None e handed queued) is.carried)
+        (block_stored-carried (is_caching config) c (block_at address) _ h.mail s sys _ width is.invariant inv
+        (none-carried (is_caching config) (s.block (block_at address)) (is.invariant.blocks (block_at address)) (low (block_at address) may))
+        (handed_as m None e handed queued) is.carried)
 
     acquires : (n : ℕ) (g : Grow) (source : ℕ) → CarriesAsked config c h sys (op.Acquire n g) (reply.Started source)
     acquires n g source m e may inv handed queued =
         carried_as m _ _ _ e handed
-        (acquire_asked-carried (is_caching config) c n source false g _ (message.A (acquisition a.AcquireBlock g source n)) h.mail s sys _ width is.invariant inv may.2 refl (rendered_acquiring c n source false g _ (s.block n)) (handed_as m _ e handed queued) is.carried)
+        (acquire_asked-carried (is_caching config) c n source false g _
+        (message.A (acquisition a.AcquireBlock g source n)) h.mail s sys _ width is.invariant inv may.2 refl
+        (rendered_acquiring c n source false g _ (s.block n)) (handed_as m _ e handed queued) is.carried)
 
     stores : (n : ℕ) (bytes : List ℕ) (source : ℕ) → CarriesAsked config c h sys (op.AcquireWhole n bytes) (reply.Started source)
     stores n bytes source m e may inv handed queued =
         carried_as m _ _ _ e handed
-        (acquire_asked-carried (is_caching config) c n source true (whole_grow ((s.block n).pair c).held) bytes (message.A (acquisition a.AcquirePerm (whole_grow ((s.block n).pair c).held) source n)) h.mail s sys _ width is.invariant inv may.2 refl
+        (acquire_asked-carried (is_caching config) c n source true (whole_grow ((s.block n).pair c).held) bytes
+        (message.A (acquisition a.AcquirePerm (whole_grow ((s.block n).pair c).held) source n)) h.mail s sys _ width is.invariant inv may.2 refl
         (rendered_acquiring c n source true (whole_grow ((s.block n).pair c).held) bytes (s.block n)) (handed_as m _ e handed queued) is.carried)
 
     releases : (n : ℕ) (p : Prune) (source : ℕ) → CarriesAsked config c h sys (op.Release n p) (reply.Started source)
     releases n p source m e may inv handed queued =
         carried_as m _ _ _ e handed
-        (release_asked-carried (is_caching config) c n source p (release p source n (s.block n).truth) h.mail s sys _ width is.invariant inv may.3 (release_channel w p source n (s.block n).truth) (rendered_releasing c n source p (s.block n)) (handed_as m _ e handed queued) is.carried)
+        (release_asked-carried (is_caching config) c n source p (release p source n (s.block n).truth) h.mail s sys _ width is.invariant inv may.3
+        (release_channel w p source n (s.block n).truth) (rendered_releasing c n source p (s.block n)) (handed_as m _ e handed queued) is.carried)
 
     accesses : (x : MessageA w) (source : ℕ) → CarriesAsked config c h sys (op.Access (message.A x)) (reply.Started source)
     accesses x source m e may inv handed queued =
@@ -181,20 +196,23 @@ carried_asked {w} config log h sys c o r width is may_be = reply-cases (CarriesA
         subst (λ (x : Shadow w). AreCarried x.mail x.state (with_messages (handed_by c m) (with_client c e sys))) (sym (plain c h).0)
         (carried_as m None _ _ e none (nothing_asked-carried (is_caching config) c h.mail s sys _ width is.invariant (handed_as m None e none queued) is.carried))
 
-pub carried-ask : {w : ℕ} (config : Config) (log : Log w) (h : Shadow w) (sys : System w) (c : ℕ) (terms : client.Terms) (o : Op w) → IsWidth w → IsMatched config log h.mail h.request h.state sys → terms_at config c ≡ Some terms
+pub carried-ask : {w : ℕ} (config : Config) (log : Log w) (h : Shadow w) (sys : System w) (c : ℕ) (terms : client.Terms) (o : Op w) → IsWidth w
+    → IsMatched config log h.mail h.request h.state sys → terms_at config c ≡ Some terms
     → AreCarried (asked c o (ask.asked terms o (sys.clients c)).reply h).mail (asked c o (ask.asked terms o (sys.clients c)).reply h).state (stepped config (Ask c o) sys).after
 carried-ask {w} config log h sys c terms o width is known =
     let x = ask.asked terms o (sys.clients c) in
     let well = asked-well config log h sys c terms o width is known in
     let inv = asked-kept (is_caching config) c o x.reply h is.invariant well.may in
     subst (λ (y : Step w). AreCarried (asked c o x.reply h).mail (asked c o x.reply h).state y.after) (sym (stepped-asked config c o sys terms known))
-    (carried_asked config log h sys c o x.reply width is well.reply x.message x.after well.may inv well.message (handed-client c x.message x.after sys (λ at. unfinished-asked terms o (sys.clients c) at width (is.kept c))))
+    (carried_asked config log h sys c o x.reply width is well.reply x.message x.after well.may inv well.message
+    (handed-client c x.message x.after sys (λ at. unfinished-asked terms o (sys.clients c) at width (is.kept c))))
 
 -- ---- the one memory
 
 none_answered : {w : ℕ} (c : ℕ) (o : Op w) (r : Reply) (h : Shadow w) (m : Option (Message w)) → IsReply o r → IsHandedOut c o r h m → accesses_answered (handed_by c m) ≡ []
 unfolding accesses_answered
-none_answered {w} c o r h m may_be = reply-cases (λ i j. IsHandedOut c i j h m → accesses_answered (handed_by c m) ≡ []) o r may_be (λ address size value e. none e) (λ n g source e. one_a (acquisition a.AcquireBlock g source n) e)
+none_answered {w} c o r h m may_be = reply-cases (λ i j. IsHandedOut c i j h m → accesses_answered (handed_by c m) ≡ []) o r may_be
+    (λ address size value e. none e) (λ n g source e. one_a (acquisition a.AcquireBlock g source n) e)
     (λ n bytes source e. one_a (acquisition a.AcquirePerm (whole_grow ((h.state.block n).pair c).held) source n) e)
     (λ n p source e. released p source n (h.state.block n).truth e) (λ x source e. one_a (sourced source x) e) (λ i j plain e. none ((plain c h).1 m e))
   where
@@ -209,7 +227,8 @@ none_answered {w} c o r h m may_be = reply-cases (λ i j. IsHandedOut c i j h m 
     released prune.TtoN source n bytes e = rw e refl
     released prune.BtoN source n bytes e = rw e refl
 
-pub beside-ask : {w : ℕ} (config : Config) (log : Log w) (h : Shadow w) (c : ℕ) (terms : client.Terms) (o : Op w) → IsWidth w → IsMatched config log h.mail h.request h.state (after config log) → terms_at config c ≡ Some terms
+pub beside-ask : {w : ℕ} (config : Config) (log : Log w) (h : Shadow w) (c : ℕ) (terms : client.Terms) (o : Op w) → IsWidth w
+    → IsMatched config log h.mail h.request h.state (after config log) → terms_at config c ≡ Some terms
     → IsBeside (asked c o (ask.asked terms o ((after config log).clients c)).reply h).mail (asked c o (ask.asked terms o ((after config log).clients c)).reply h).state
     (remembered config ((Ask c o, outcome.Replied (ask.asked terms o ((after config log).clients c)).reply) ∷ log))
 unfolding remembered performing
@@ -217,16 +236,21 @@ beside-ask {w} config log h c terms o width is known =
     let sys = after config log in
     let x = ask.asked terms o (sys.clients c) in
     let well = asked-well config log h sys c terms o width is known in
-    let none : accesses_answered (stepped config (Ask c o) sys).handed ≡ [] = ap (λ (y : Step w). accesses_answered y.handed) (stepped-asked config c o sys terms known) ∙ none_answered c o x.reply h x.message well.reply well.message in
+    let none : accesses_answered (stepped config (Ask c o) sys).handed ≡ [] =
+    ap (λ (y : Step w). accesses_answered y.handed) (stepped-asked config c o sys terms known)
+    ∙ none_answered c o x.reply h x.message well.reply well.message in
     subst (λ (l : List (ℕ × ℕ)). IsBeside (asked c o x.reply h).mail (asked c o x.reply h).state (performing l (after_reply c o x.reply (remembered config log)))) (sym none)
     (beside-asked (is_caching config) c o x.reply h (remembered config log) is.invariant is.sized well.reply well.may well.word is.beside)
 
-pub continues-ask : {w : ℕ} (config : Config) (log : Log w) (h : Shadow w) (c : ℕ) (terms : client.Terms) (o : Op w) → IsWidth w → IsMatched config log h.mail h.request h.state (after config log) → terms_at config c ≡ Some terms
+pub continues-ask : {w : ℕ} (config : Config) (log : Log w) (h : Shadow w) (c : ℕ) (terms : client.Terms) (o : Op w) → IsWidth w
+    → IsMatched config log h.mail h.request h.state (after config log) → terms_at config c ≡ Some terms
     → Continues config (Ask c o, outcome.Replied (ask.asked terms o ((after config log).clients c)).reply) log
 unfolding remembered performing Performs
 continues-ask {w} config log h c terms o width is known =
     let sys = after config log in
     let x = ask.asked terms o (sys.clients c) in
     let well = asked-well config log h sys c terms o width is known in
-    let none : accesses_answered (stepped config (Ask c o) sys).handed ≡ [] = ap (λ (y : Step w). accesses_answered y.handed) (stepped-asked config c o sys terms known) ∙ none_answered c o x.reply h x.message well.reply well.message in
+    let none : accesses_answered (stepped config (Ask c o) sys).handed ≡ [] =
+    ap (λ (y : Step w). accesses_answered y.handed) (stepped-asked config c o sys terms known)
+    ∙ none_answered c o x.reply h x.message well.reply well.message in
     (after_reply c o x.reply (remembered config log), [], (rw known refl, well.replies, refl), ap (λ (l : List (ℕ × ℕ)). performing l (after_reply c o x.reply (remembered config log))) none)

@@ -4,7 +4,7 @@ use Rattle.std.proofs.Common.{◌≡◌, ℕ, ◌+◌, ◌*◌, ◌/◌, ◌%◌
 use Rattle.std.specs.Prelude.{◌==◌, is_some, is_none, unwrap_or, slice_index, nat_le}
 use Rattle.std.proofs.lemmas.Bool.{eqb-true, and_parts, not-false, or_parts}
 use Rattle.tl_beat.specs.Width.{IsWidth}
-use Rattle.tl_beat.specs.declared.opcode.Channel.TheVariants as channel
+use Rattle.tl_beat.specs.declared.channel.Channel.TheVariants as channel
 use Rattle.tl_beat.specs.declared.opcode.OpA.TheVariants as a
 use Rattle.tl_burst.specs.declared.message.Message.{Message}
 use Rattle.tl_burst.specs.declared.message.Message.TheVariants as message
@@ -83,7 +83,8 @@ answer_some source (message.C m) x h = absurd h
 answer_some source (message.D m) x h = absurd h
 answer_some source (message.E m) x h = absurd h
 
-pub unused : {w : ℕ} (config : Config) (log : Log w) (mail : Mail w) (request : ℕ → MessageA w) (s : State (List ℕ)) (sys : System w) (c source : ℕ) → IsMatched config log mail request s sys → pending (RequestSource source) (sys.clients c).past ≡ false
+pub unused : {w : ℕ} (config : Config) (log : Log w) (mail : Mail w) (request : ℕ → MessageA w) (s : State (List ℕ)) (sys : System w) (c source : ℕ)
+    → IsMatched config log mail request s sys → pending (RequestSource source) (sys.clients c).past ≡ false
     → s.uses c source ≡ Closed
 unused {w} config log mail request s sys c source h free = go (s.uses c source) refl (h.sourced c source) (h.answered c source) (sym ((h.opened c).requests source) ∙ free)
   where
@@ -129,7 +130,8 @@ busy_well config c (op.Access (message.D x)) why h m e = record { may = tt; word
 busy_well config c (op.Access (message.E x)) why h m e = record { may = tt; word = tt; source = tt; reply = tt; replies = tt; message = refl }
 
 -- the number that a Load reads is the one memory's
-loaded_number : (f : Memory) (address size : ℕ) (bytes : List ℕ) → address % 64 + 2 ^ size ≤ 64 → IsBlock f (block_at address) bytes → number_from (slice_index bytes) (address % 64) (2 ^ size) ≡ number_from f address (2 ^ size)
+loaded_number : (f : Memory) (address size : ℕ) (bytes : List ℕ) → address % 64 + 2 ^ size ≤ 64 → IsBlock f (block_at address) bytes
+    → number_from (slice_index bytes) (address % 64) (2 ^ size) ≡ number_from f address (2 ^ size)
 loaded_number f address size bytes room is =
     number_same (slice_index bytes) f (address % 64) address (2 ^ size)
     (λ i lt. let place : 64 * (address / 64) + (address % 64 + i) ≡ address + i = omega arith in sym (is (address % 64 + i) (omega (arith, room, lt))) ∙ ap f place)
@@ -157,7 +159,8 @@ sourced_beat l x source i = refl
 sourced_legal : {w : ℕ} (l : Level) (x : MessageA w) (source : ℕ) → illegal_message l channel.A (message.A x) ≡ None → illegal_message l channel.A (access source x) ≡ None
 sourced_legal l x source e = legal_from_beats l channel.A (access source x) (λ i lt. sourced_beat l x source i ∙ legal_beat l channel.A (message.A x) i e lt)
 
-pub asked-well : {w : ℕ} (config : Config) (log : Log w) (h : Shadow w) (sys : System w) (c : ℕ) (terms : Terms) (o : Op w) → IsWidth w → IsMatched config log h.mail h.request h.state sys → terms_at config c ≡ Some terms
+pub asked-well : {w : ℕ} (config : Config) (log : Log w) (h : Shadow w) (sys : System w) (c : ℕ) (terms : Terms) (o : Op w) → IsWidth w
+    → IsMatched config log h.mail h.request h.state sys → terms_at config c ≡ Some terms
     → IsAskedWell config c o h (remembered config log) (asked terms o (sys.clients c))
 asked-well {w} config log h sys c terms o width is known = asked-cases terms o e (IsAskedWell config c o h m) (λ why. busy_well config c o why h m e) (λ free. well o free)
   where
@@ -204,13 +207,15 @@ asked-well {w} config log h sys c terms o width is known = asked-cases terms o e
     load_well address size perm.None f word = record { may = tt; word = tt; source = tt; reply = tt; replies = refl; message = refl }
     load_well address size perm.Branch f word = read address size word (ap (λ p. same_perm p perm.None) f)
       where
-        read : (address size : ℕ) → is_word address size ≡ true → same_perm ((s.block (block_at address)).pair c).held perm.None ≡ false → IsAskedWell config c (op.Load address size) h m (only (reply.Value (loaded address size (copy_at e (block_at address)))) e)
+        read : (address size : ℕ) → is_word address size ≡ true → same_perm ((s.block (block_at address)).pair c).held perm.None ≡ false
+            → IsAskedWell config c (op.Load address size) h m (only (reply.Value (loaded address size (copy_at e (block_at address)))) e)
         read address size word some = record {
           may = tt;
           word = tt;
           source = tt;
           reply = tt;
-          replies = ap (λ (bytes : List ℕ). number_from (slice_index bytes) (address % 64) (2 ^ size)) (copy_is (block_at address) some) ∙ loaded_number m.memory address size (s.block (block_at address)).truth (word_room address size word) (is.beside.memory (block_at address));
+          replies = ap (λ (bytes : List ℕ). number_from (slice_index bytes) (address % 64) (2 ^ size)) (copy_is (block_at address) some)
+              ∙ loaded_number m.memory address size (s.block (block_at address)).truth (word_room address size word) (is.beside.memory (block_at address));
           message = refl;
         }
     load_well address size perm.Trunk f word = record {
@@ -218,11 +223,14 @@ asked-well {w} config log h sys c terms o width is known = asked-cases terms o e
       word = tt;
       source = tt;
       reply = tt;
-      replies = ap (λ (bytes : List ℕ). number_from (slice_index bytes) (address % 64) (2 ^ size)) (copy_is (block_at address) (ap (λ p. same_perm p perm.None) f)) ∙ loaded_number m.memory address size (s.block (block_at address)).truth (word_room address size word) (is.beside.memory (block_at address));
+      replies = ap (λ (bytes : List ℕ). number_from (slice_index bytes) (address % 64) (2 ^ size))
+          (copy_is (block_at address) (ap (λ p. same_perm p perm.None) f))
+          ∙ loaded_number m.memory address size (s.block (block_at address)).truth (word_room address size word) (is.beside.memory (block_at address));
       message = refl;
     }
 
-    store_well : (address size value : ℕ) (p : Perm) → ((s.block (block_at address)).pair c).held ≡ p → is_word address size ≡ true → IsAskedWell config c (op.Store address size value) h m (store address size value p e)
+    store_well : (address size value : ℕ) (p : Perm) → ((s.block (block_at address)).pair c).held ≡ p → is_word address size ≡ true
+        → IsAskedWell config c (op.Store address size value) h m (store address size value p e)
     store_well address size value perm.None f word = record { may = tt; word = tt; source = tt; reply = tt; replies = refl; message = refl }
     store_well address size value perm.Branch f word = record { may = tt; word = tt; source = tt; reply = tt; replies = refl; message = refl }
     store_well address size value perm.Trunk f word =
@@ -237,9 +245,11 @@ asked-well {w} config log h sys c terms o width is known = asked-cases terms o e
         (refl, rw level_is (sourced_legal terms.level x (source_or_0 (free_request terms e.past)) (none_rule (illegal_message terms.level channel.A (message.A x)) parts.0)), to_blank x none parts.1)
 
     well : (i : Op w) → NotBusy terms i e → IsAskedWell config c i h m (done terms i e)
-    well (op.Load address size) free = subst (λ (p : Perm). IsAskedWell config c (op.Load address size) h m (load address size p e)) (sym (held_is (block_at address))) (load_well address size ((s.block (block_at address)).pair c).held refl (formed (op.Load address size) free))
+    well (op.Load address size) free = subst (λ (p : Perm). IsAskedWell config c (op.Load address size) h m (load address size p e))
+        (sym (held_is (block_at address))) (load_well address size ((s.block (block_at address)).pair c).held refl (formed (op.Load address size) free))
     well (op.Store address size value) free =
-        subst (λ (p : Perm). IsAskedWell config c (op.Store address size value) h m (store address size value p e)) (sym (held_is (block_at address))) (store_well address size value ((s.block (block_at address)).pair c).held refl (formed (op.Store address size value) free))
+        subst (λ (p : Perm). IsAskedWell config c (op.Store address size value) h m (store address size value p e)) (sym (held_is (block_at address)))
+        (store_well address size value ((s.block (block_at address)).pair c).held refl (formed (op.Store address size value) free))
     well (op.Acquire n g) free =
         let closed = free_source free.b1 in
         let still = transfers n free.b2 in

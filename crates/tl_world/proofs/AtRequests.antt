@@ -3,7 +3,7 @@
 use Rattle.std.proofs.Common.{◌≡◌, subst, ℕ, suc, ◌+◌, ◌*◌, ◌<◌, Bool, false, List, Some, None, refl, sym, ◌∙◌, ap, ap₂, inl, inr}
 use Rattle.std.proofs.lemmas.Bool.{cases_eq, ne_eqb}
 use Rattle.tl_beat.specs.declared.beat.Beat.TheVariants as beat
-use Rattle.tl_beat.specs.declared.opcode.Channel.TheVariants as channel
+use Rattle.tl_beat.specs.declared.channel.Channel.TheVariants as channel
 use Rattle.tl_burst.specs.declared.message.Message.TheVariants.{A}
 use Rattle.tl_burst.specs.declared.message.MessageA.{MessageA}
 use Rattle.tl_burst.specs.Burst.{a_beat_of, beats_of}
@@ -50,10 +50,12 @@ end_with c k m d e = taken (link_of c) (beat.A (a_beat_of m k)) d e
 
 pub kept-coming : {w : ℕ} (config : Config) (c k : ℕ) (m : MessageA w) (e : End w) → IsComing config c k m e → IsKept config (end_after config c k m e)
 kept-coming {w} config c k m e is =
-    subst (λ (p : Reception w × End w). IsKept config p.1) (offered-taken config (link_of c) channel.A (beat.A (a_beat_of m k)) e is.passes) (kept-offered config (link_of c) channel.A (beat.A (a_beat_of m k)) e is.width is.typed is.kept)
+    subst (λ (p : Reception w × End w). IsKept config p.1) (offered-taken config (link_of c) channel.A (beat.A (a_beat_of m k)) e is.passes)
+    (kept-offered config (link_of c) channel.A (beat.A (a_beat_of m k)) e is.width is.typed is.kept)
 
 -- other blocks of the memory stay
-pub memory-coming : {w : ℕ} (config : Config) (c k i : ℕ) (m : MessageA w) (e : End w) → IsComing config c k m e → (i ≡ block_at m.address → ⊥) → bytes_from (end_after config c k m e).memory (64 * i) 64 ≡ bytes_from e.memory (64 * i) 64
+pub memory-coming : {w : ℕ} (config : Config) (c k i : ℕ) (m : MessageA w) (e : End w) → IsComing config c k m e → (i ≡ block_at m.address → ⊥)
+    → bytes_from (end_after config c k m e).memory (64 * i) 64 ≡ bytes_from e.memory (64 * i) 64
 memory-coming {w} config c k i m e is other =
     block-same (end_after config c k m e).memory e.memory i (λ x f.
     sym (ap (λ (p : Reception w × End w). p.1.memory x) (offered-taken config (link_of c) channel.A (beat.A (a_beat_of m k)) e is.passes))
@@ -62,19 +64,22 @@ memory-coming {w} config c k i m e is other =
 -- ---- a beat that isn't the last
 
 pub at_manager-more : {w : ℕ} (caching : ℕ → Bool) (config : Config) (mail : Mail w) (request : ℕ → MessageA w) (s : State (List ℕ)) (c k : ℕ) (m : MessageA w) (e : End w)
-    → IsInvariant caching s → IsComing config c k m e → k + 1 < beats_of (A m) → IsUnwaited c m.source s → IsAtManager config mail request s e → IsAtManager config mail request s (end_after config c k m e)
+    → IsInvariant caching s → IsComing config c k m e → k + 1 < beats_of (A m) → IsUnwaited c m.source s → IsAtManager config mail request s e
+    → IsAtManager config mail request s (end_after config c k m e)
 unfolding with_handed
 at_manager-more {w} caching config mail request s c k m e inv is more unwaited known =
     let part : ends (beat.A (a_beat_of m k)) (on_link c e.trace) ≡ false = ends-coming config c k m e is ∙ not_last k (beats_of (A m)) more in
     let done : deed config (link_of c) (beat.A (a_beat_of m k)) e ≡ nothing e.memory = deed-part config (link_of c) (beat.A (a_beat_of m k)) e part in
     let kept : IsKept config (end_with c k m (nothing e.memory) e) = subst (λ (d : Deed w). IsKept config (end_with c k m d e)) done (kept-coming config c k m e is) in
     subst (λ (d : Deed w). IsAtManager config mail request s (end_with c k m d e)) (sym done)
-    (at_manager-traced caching config mail request s (end_with c k m (nothing e.memory) e) inv kept (traced-more config request s c k m e is more unwaited (traced-known request s e.trace known.managed known.served))
+    (at_manager-traced caching config mail request s (end_with c k m (nothing e.memory) e) inv kept
+    (traced-more config request s c k m e is more unwaited (traced-known request s e.trace known.managed known.served))
     known.served_with known.memory known.all_live)
 
 -- ---- the last one: others are probed
 
-pub deed-probing : {w : ℕ} (config : Config) (c k n : ℕ) (j : Cap) (m : MessageA w) (e : End w) → IsComing config c k m e → beats_of (A m) ≡ suc k → block_at m.address ≡ n → cap_probed m.opcode m.param ≡ Some j
+pub deed-probing : {w : ℕ} (config : Config) (c k n : ℕ) (j : Cap) (m : MessageA w) (e : End w) → IsComing config c k m e → beats_of (A m) ≡ suc k
+    → block_at m.address ≡ n → cap_probed m.opcode m.param ≡ Some j
     → is_nobody (probed config (service_for c m e.trace) j (with_beat c m k e.trace)) ≡ false
     → deed config (link_of c) (beat.A (a_beat_of m k)) e ≡ record { handed = probes n j (probed config (service_for c m e.trace) j (with_beat c m k e.trace)); memory = e.memory }
 deed-probing {w} config c k n j m e is last block caps someone =
@@ -85,7 +90,8 @@ deed-probing {w} config c k n j m e is last block caps someone =
     probing_of : ℕ → List ℕ → Deed w
     probing_of i ds = record { handed = probes i j ds; memory = e.memory }
 
-pub at_manager-probing : {w : ℕ} (caching : ℕ → Bool) (config : Config) (mail : Mail w) (request : ℕ → MessageA w) (c k n : ℕ) (own : Bool) (source : ℕ) (j : Cap) (m : MessageA w) (s u : State (List ℕ)) (e : End w)
+pub at_manager-probing : {w : ℕ} (caching : ℕ → Bool) (config : Config) (mail : Mail w) (request : ℕ → MessageA w) (c k n : ℕ) (own : Bool) (source : ℕ)
+    (j : Cap) (m : MessageA w) (s u : State (List ℕ)) (e : End w)
     → IsInvariant caching u
     → ((i : ℕ) → u.block i ≡ set n (served_block c own source (least_untaken (trackers_of (services e.trace))) j (s.block n)) s.block i)
     → IsProbing config c k n own source j m s e → is_nobody (probed config (service_for c m e.trace) j (with_beat c m k e.trace)) ≡ false → IsServedWith mail (Waits c own source j) m

@@ -3,7 +3,7 @@ use Rattle.std.proofs.Common.{◌≡◌, ℕ, ◌+◌, ◌<◌, ◌≤◌, Bool,
 use Rattle.std.specs.Prelude.{if◌then◌else◌, Option, Some, None, length}
 use Rattle.std.proofs.lemmas.Bool.{cases_eq}
 use Rattle.tl_beat.specs.declared.beat.Beat.{Beat}
-use Rattle.tl_beat.specs.declared.opcode.Channel.{Channel}
+use Rattle.tl_beat.specs.declared.channel.Channel.{Channel}
 use Rattle.tl_burst.specs.Burst.{beats_of}
 use Rattle.tl_params.specs.declared.config.Config.{Config}
 use Rattle.tl_world.specs.Invariant.{IsInvariant, is_asked, is_replied}
@@ -62,7 +62,8 @@ module _ {X : Type 0} (config : Config) (size : ℕ) (left left' : Left) (answer
   none-more = record {
     uses = λ c i.
         use-no-more config size left left' answer answer s s c i (s.uses c i) refl refl (omega arith) (λ u. le c Request i) (λ u. le c Answer i) (λ m u. probes_less m)
-        (λ m u. acquire-no-more size (left c Acquire m) (left' c Acquire m) (left c Grant m) (left' c Grant m) (probes_weight number size left m (s.block m)) (probes_weight number size left' m (s.block m)) (view (s.block m).service c) (λ v. le c Acquire m) (le c Grant m) (probes_less m));
+        (λ m u. acquire-no-more size (left c Acquire m) (left' c Acquire m) (left c Grant m) (left' c Grant m) (probes_weight number size left m (s.block m))
+        (probes_weight number size left' m (s.block m)) (view (s.block m).service c) (λ v. le c Acquire m) (le c Grant m) (probes_less m));
     lets = λ c i. lets_less c (s.lets c i);
     acks = λ c. omega arith;
   }
@@ -109,7 +110,8 @@ module _ {X : Type 0} (config : Config) (size : ℕ) (left left' : Left) (answer
     grant_less m less e = acquire_owes m (grant_named caching s c m inv e) (go (view (s.block m).service c) e)
       where
         go : (v : View) → is_granting v ≡ true
-            → acquire_weight size (left' c Acquire m) (left' c Grant m) (probes_weight number size left' m (s.block m)) v + 1 ≤ acquire_weight size (left c Acquire m) (left c Grant m) (probes_weight number size left m (s.block m)) v
+            → acquire_weight size (left' c Acquire m) (left' c Grant m) (probes_weight number size left' m (s.block m)) v + 1 ≤ acquire_weight size
+            (left c Acquire m) (left c Grant m) (probes_weight number size left m (s.block m)) v
         go (Granting d k) f = omega (arith, less)
         go Idle f = absurd cc
         go Own f = absurd cc
@@ -143,7 +145,8 @@ module _ {X : Type 0} (config : Config) (size : ℕ) (left left' : Left) (answer
         here : pair_weight size left' m c ((s.block m).pair c) + 1 ≤ pair_weight size left m c ((s.block m).pair c)
         here = go ((s.block m).pair c).probing e
           where
-            go : (x : Probing) → is_answered x ≡ true → probing_weight size (left' c ProbeAck m) ((s.block m).pair c).recorded x + 1 ≤ probing_weight size (left c ProbeAck m) ((s.block m).pair c).recorded x
+            go : (x : Probing) → is_answered x ≡ true → probing_weight size (left' c ProbeAck m) ((s.block m).pair c).recorded x + 1 ≤ probing_weight size
+                (left c ProbeAck m) ((s.block m).pair c).recorded x
             go (Answered r) f = less
             go (Sent k) f = absurd cc
             go Quiet f = absurd cc
@@ -175,12 +178,14 @@ taken_more : {w : ℕ} (b : Bool) (rest rest' : List (Beat w)) → length rest �
 taken_more true rest rest' le = le
 taken_more false rest rest' le = omega arith
 
-pub beat-falls : {w : ℕ} (config : Config) (caching : ℕ → Bool) (ch : Channel) (c : ℕ) (mail : Mail w) (s : State (List ℕ)) (sys sys' : System w) (x : Beat w) (queue : List (Beat w)) (size : ℕ) (answer : ℕ → ℕ → ℕ)
+pub beat-falls : {w : ℕ} (config : Config) (caching : ℕ → Bool) (ch : Channel) (c : ℕ) (mail : Mail w) (s : State (List ℕ)) (sys sys' : System w) (x : Beat w)
+    (queue : List (Beat w)) (size : ℕ) (answer : ℕ → ℕ → ℕ)
     → (first : IsFirst ch c mail s sys x queue) → first.next.k + 1 < beats_of (message_of_kind first.kind mail s c first.number) → IsBegun c ch x (unfinished_at sys) (unfinished_at sys')
     → IsInvariant caching s → AreClients config s → c < length config.clients.items
     → potential config size (beats_left mail s (unfinished_at sys')) answer s + 1 ≤ potential config size (beats_left mail s (unfinished_at sys)) answer s
 beat-falls {w} config caching ch c mail s sys sys' x queue size answer first more begun inv all lt =
-    message-less config size (beats_left mail s (unfinished_at sys)) (beats_left mail s (unfinished_at sys')) answer s less caching inv all c lt first.kind first.number shown_it one_less (heavy (is_light first.kind) refl)
+    message-less config size (beats_left mail s (unfinished_at sys))
+    (beats_left mail s (unfinished_at sys')) answer s less caching inv all c lt first.kind first.number shown_it one_less (heavy (is_light first.kind) refl)
   where
     longer : (d : ℕ) (at : Channel) → (d ≡ c) ⊎ (d ≡ c → ⊥) → (at ≡ ch) ⊎ (at ≡ ch → ⊥) → length (unfinished_at sys d at) ≤ length (unfinished_at sys' d at)
     longer d at (inl e) (inl f) = rw (e, f, begun.here) (omega arith)
@@ -189,7 +194,8 @@ beat-falls {w} config caching ch c mail s sys sys' x queue size answer first mor
 
     less : (d : ℕ) (k : Kind) (m : ℕ) → beats_left mail s (unfinished_at sys') d k m ≤ beats_left mail s (unfinished_at sys) d k m
     less d k m =
-        let more = taken_more (is_front k m (tokens_on (channel_for k) (s.link d))) (unfinished_at sys d (channel_for k)) (unfinished_at sys' d (channel_for k)) (longer d (channel_for k) (cases_eq d c) (same_channels (channel_for k) ch)) in
+        let more = taken_more (is_front k m (tokens_on (channel_for k) (s.link d))) (unfinished_at sys d (channel_for k)) (unfinished_at sys' d (channel_for k))
+        (longer d (channel_for k) (cases_eq d c) (same_channels (channel_for k) ch)) in
         omega (arith, more)
 
     shown_it : shows_it s c first.kind first.number ≡ true

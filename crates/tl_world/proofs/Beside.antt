@@ -41,7 +41,8 @@ pub open-here : {w : ℕ} (c : ℕ) (pool : Pool) (source : ℕ) (o : Option (Op
 open-here c Requests source o m = rw (same_number c, same_number source) refl
 open-here c Releases source o m = rw (same_number c, same_number source) refl
 
-pub open-there : {w : ℕ} (c : ℕ) (pool : Pool) (source : ℕ) (o : Option (Open w)) (m : Machine w) (d i : ℕ) → IsElsewhere c source d i → (with_open c pool source o m).opened d pool i ≡ m.opened d pool i
+pub open-there : {w : ℕ} (c : ℕ) (pool : Pool) (source : ℕ) (o : Option (Open w)) (m : Machine w) (d i : ℕ) → IsElsewhere c source d i
+    → (with_open c pool source o m).opened d pool i ≡ m.opened d pool i
 open-there {w} c pool source o m d i else_ = elim (cases_eq d c) [
   | inl same ↦ elim (cases_eq i source) [
     | inl also ↦ absurd (else_ same also)
@@ -81,7 +82,8 @@ abbrev pub IsSameAnswer : {w : ℕ} → Use → Message w → Message w → Type
 IsSameAnswer Replied x y = y ≡ x
 IsSameAnswer u x y = ⊤
 
-pub opened-still : {w : ℕ} (c source : ℕ) (mail mail' : Mail w) (s s' : State (List ℕ)) (u : Use) (o : Option (Open w)) → mail'.request c source ≡ mail.request c source → IsSameAnswer u (mail.answer c source) (mail'.answer c source)
+pub opened-still : {w : ℕ} (c source : ℕ) (mail mail' : Mail w) (s s' : State (List ℕ)) (u : Use) (o : Option (Open w))
+    → mail'.request c source ≡ mail.request c source → IsSameAnswer u (mail.answer c source) (mail'.answer c source)
     → IsSameAcquire c s s' u → IsOpened c source mail s u o → IsOpened c source mail' s' u o
 opened-still c source mail mail' s s' Closed o request answer acquire h = h
 opened-still {w} c source mail mail' s s' Asked o request answer acquire h = subst (λ (m : Message w). IsAccess source m None o) (sym request) h
@@ -103,7 +105,9 @@ pub record IsStill {w : ℕ} (mail : Mail w) (s s' : State (List ℕ)) (m m' : M
   pub opened : (d : ℕ) (pool : Pool) (i : ℕ) → m'.opened d pool i ≡ m.opened d pool i
   pub acquires : (d n : ℕ) → (((s'.block n).pair d).acquiring ≡ ((s.block n).pair d).acquiring) × ((s'.block n).waiting d ≡ (s.block n).waiting d)
 
-pub same_acquire : (c : ℕ) (s s' : State (List ℕ)) (u : Use) → ((n : ℕ) → (((s'.block n).pair c).acquiring ≡ ((s.block n).pair c).acquiring) × ((s'.block n).waiting c ≡ (s.block n).waiting c)) → IsSameAcquire c s s' u
+pub same_acquire : (c : ℕ) (s s' : State (List ℕ)) (u : Use)
+    → ((n : ℕ) → (((s'.block n).pair c).acquiring ≡ ((s.block n).pair c).acquiring) × ((s'.block n).waiting c ≡ (s.block n).waiting c))
+    → IsSameAcquire c s s' u
 same_acquire c s s' Closed e = tt
 same_acquire c s s' Asked e = tt
 same_acquire c s s' (InService n) e = tt
@@ -128,7 +132,8 @@ beside-still {w} mail s s' m m' is h = record {
   memory = is.memory;
   requests = λ d i.
       moved_opened d i mail s' (s.uses d i) (s'.uses d i) (m.opened d Requests i) (m'.opened d Requests i) (is.uses d i) (is.opened d Requests i)
-      (opened-still d i mail mail s s' (s.uses d i) (m.opened d Requests i) refl (same_answer (s.uses d i) (mail.answer d i)) (same_acquire d s s' (s.uses d i) (λ n. is.acquires d n)) (h.requests d i));
+      (opened-still d i mail mail s s' (s.uses d i) (m.opened d Requests i) refl (same_answer (s.uses d i) (mail.answer d i))
+      (same_acquire d s s' (s.uses d i) (λ n. is.acquires d n)) (h.requests d i));
   releases = λ d i. moved_let (s.lets d i) (s'.lets d i) (m.opened d Releases i) (m'.opened d Releases i) (is.lets d i) (is.opened d Releases i) (h.releases d i);
 }
 
@@ -155,10 +160,12 @@ pub beside-used : {w : ℕ} (c source : ℕ) (u : Use) (mail mail' : Mail w) (s 
 beside-used {w} c source u mail mail' s s' m m' is h = record {
   memory = is.memory;
   requests = λ d i. elim (place-cases c source d i) [
-    | inl same ↦ rw (same.0, same.1) (moved_opened c source mail' s' u (s'.uses c source) (m'.opened c Requests source) (m'.opened c Requests source) (is.uses c source ∙ set_at-same c source u s.uses) refl is.here)
+    | inl same ↦ rw (same.0, same.1) (moved_opened c source mail' s' u (s'.uses c source) (m'.opened c Requests source) (m'.opened c Requests source)
+        (is.uses c source ∙ set_at-same c source u s.uses) refl is.here)
     | inr else_ ↦
         moved_opened d i mail' s' (s.uses d i) (s'.uses d i) (m.opened d Requests i) (m'.opened d Requests i) (is.uses d i ∙ set_at-there c source u s.uses d i else_) (is.there d i else_)
-        (opened-still d i mail mail' s s' (s.uses d i) (m.opened d Requests i) (is.requests d i else_) (answer_as (s.uses d i) (mail.answer d i) (mail'.answer d i) (is.answers d i else_)) (is.acquires d i else_) (h.requests d i))
+        (opened-still d i mail mail' s s' (s.uses d i) (m.opened d Requests i) (is.requests d i else_)
+        (answer_as (s.uses d i) (mail.answer d i) (mail'.answer d i) (is.answers d i else_)) (is.acquires d i else_) (h.requests d i))
   ];
   releases = λ d i. moved_let (s.lets d i) (s'.lets d i) (m.opened d Releases i) (m'.opened d Releases i) (is.lets d i) (is.releases d i) (h.releases d i);
 }
@@ -178,7 +185,8 @@ beside-let {w} c source l mail s s' m m' is h = record {
   memory = is.memory;
   requests = λ d i.
       moved_opened d i mail s' (s.uses d i) (s'.uses d i) (m.opened d Requests i) (m'.opened d Requests i) (is.uses d i) (is.requests d i)
-      (opened-still d i mail mail s s' (s.uses d i) (m.opened d Requests i) refl (same_answer (s.uses d i) (mail.answer d i)) (same_acquire d s s' (s.uses d i) (λ n. is.acquires d n)) (h.requests d i));
+      (opened-still d i mail mail s s' (s.uses d i) (m.opened d Requests i) refl (same_answer (s.uses d i) (mail.answer d i))
+      (same_acquire d s s' (s.uses d i) (λ n. is.acquires d n)) (h.requests d i));
   releases = λ d i. elim (place-cases c source d i) [
     | inl same ↦ rw (same.0, same.1) (moved_let l (s'.lets c source) (m'.opened c Releases source) (m'.opened c Releases source) (is.lets c source ∙ set_at-same c source l s.lets) refl is.here)
     | inr else_ ↦ moved_let (s.lets d i) (s'.lets d i) (m.opened d Releases i) (m'.opened d Releases i) (is.lets d i ∙ set_at-there c source l s.lets d i else_) (is.there d i else_) (h.releases d i)
@@ -191,9 +199,11 @@ beside-let {w} c source l mail s s' m m' is h = record {
 abbrev pub done_at : {w : ℕ} → ℕ → ℕ → Message w → Machine w → Machine w
 done_at c source a m = with_open c Requests source (Some (record { asked = op.Access a; answer = Some (effect a m.memory).1 })) (with_memory (effect a m.memory).0 m)
 
-pub performed-open : {w : ℕ} (c source : ℕ) (a : Message w) (m : Machine w) → m.opened c Requests source ≡ Some (record { asked = op.Access a; answer = None }) → performed c source m ≡ Some (done_at c source a m)
+pub performed-open : {w : ℕ} (c source : ℕ) (a : Message w) (m : Machine w) → m.opened c Requests source ≡ Some (record { asked = op.Access a; answer = None })
+    → performed c source m ≡ Some (done_at c source a m)
 performed-open c source a m e = rw e refl
 
-pub performing-one : {w : ℕ} (c source : ℕ) (a : Message w) (m : Machine w) → m.opened c Requests source ≡ Some (record { asked = op.Access a; answer = None }) → performing ((c, source) ∷ []) m ≡ done_at c source a m
+pub performing-one : {w : ℕ} (c source : ℕ) (a : Message w) (m : Machine w) → m.opened c Requests source ≡ Some (record { asked = op.Access a; answer = None })
+    → performing ((c, source) ∷ []) m ≡ done_at c source a m
 unfolding performing
 performing-one c source a m e = rw e refl

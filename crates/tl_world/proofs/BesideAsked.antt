@@ -23,7 +23,8 @@ use Rattle.tl_world.specs.Invariant.{acquires_of, IsInvariant}
 use Rattle.tl_world.specs.Machine.{Machine, Open, Requests, Releases, with_open, with_number, after_reply}
 use Rattle.tl_world.specs.Phase.{Pair, Acquiring, Calm, Wants}
 use Rattle.tl_world.specs.PhaseSteps.{after_acquire, after_release}
-use Rattle.tl_world.specs.Protocol.{Block, State, Use, Closed, Asked, InService, Replied, Acquires, is_wanting, access_asked, acquiring_block, acquire_asked, releasing_block, release_asked, stored_block, block_stored}
+use Rattle.tl_world.specs.Protocol.{Block, State, Use, Closed, Asked, InService, Replied, Acquires, is_wanting, access_asked, acquiring_block, acquire_asked}
+use Rattle.tl_world.specs.Protocol.{releasing_block, release_asked, stored_block, block_stored}
 use Rattle.tl_world.specs.Render.{Mail}
 use Rattle.tl_world.specs.Token.{set, set_at}
 use Rattle.tl_world.specs.Whole.{AreSized}
@@ -45,8 +46,10 @@ acquires-else c n source new p s s' blocks pairs waits alone d i else_ = go (s.u
   where
     here : (d ≡ c → ⊥) → (((s'.block n).pair d).acquiring ≡ ((s.block n).pair d).acquiring) × ((s'.block n).waiting d ≡ (s.block n).waiting d)
     here ne =
-        let at : s'.block n ≡ new = blocks n ∙ set-same n new s.block in
-        (ap (λ (b : Block (List ℕ)). (b.pair d).acquiring) at ∙ ap (λ (q : Pair). q.acquiring) (pairs d ∙ set-other c d p (s.block n).pair ne), ap (λ (b : Block (List ℕ)). b.waiting d) at ∙ waits d ne)
+        let at : s'.block n ≡ new = blocks n ∙ set-same n new s.block in (
+          ap (λ (b : Block (List ℕ)). (b.pair d).acquiring) at ∙ ap (λ (q : Pair). q.acquiring) (pairs d ∙ set-other c d p (s.block n).pair ne),
+          ap (λ (b : Block (List ℕ)). b.waiting d) at ∙ waits d ne,
+        )
 
     there : (k : ℕ) → (k ≡ n → ⊥) → (((s'.block k).pair d).acquiring ≡ ((s.block k).pair d).acquiring) × ((s'.block k).waiting d ≡ (s.block k).waiting d)
     there k ne =
@@ -89,7 +92,8 @@ IsReply o r = ⊤
 truth_as : (f : Memory) (n i : ℕ) (new : Block (List ℕ)) (block : ℕ → Block (List ℕ)) → new.truth ≡ (block n).truth → IsBlock f i (block i).truth → IsBlock f i (set n new block i).truth
 truth_as f n i new block e h = subst (λ (bytes : List ℕ). IsBlock f i bytes) (sym (set-part (λ (b : Block (List ℕ)). b.truth) n new block e i)) h
 
-pub beside-acquire_asked : {w : ℕ} (caching : ℕ → Bool) (c n source : ℕ) (whole : Bool) (g : Grow) (bytes : List ℕ) (o : Op w) (mail : Mail w) (s : State (List ℕ)) (m : Machine w) → IsInvariant caching s → ((s.block n).pair c).acquiring ≡ Calm
+pub beside-acquire_asked : {w : ℕ} (caching : ℕ → Bool) (c n source : ℕ) (whole : Bool) (g : Grow) (bytes : List ℕ) (o : Op w) (mail : Mail w)
+    (s : State (List ℕ)) (m : Machine w) → IsInvariant caching s → ((s.block n).pair c).acquiring ≡ Calm
     → op_of (Wants whole g) n bytes ≡ o → IsBeside mail s m → IsBeside mail (acquire_asked c n source whole g bytes s) (with_open c Requests source (Some (record { asked = o; answer = None })) m)
 beside-acquire_asked {w} caching c n source whole g bytes o mail s m inv calm is h = beside-used c source (Acquires n) mail mail s s' m m' (record {
   memory = λ i. truth_as m.memory n i new s.block refl (h.memory i);
@@ -98,7 +102,8 @@ beside-acquire_asked {w} caching c n source whole g bytes o mail s m inv calm is
   here =
       open-here c Requests source (Some (record { asked = o; answer = None })) m
       ∙ ap (λ (y : Op w). Some (record { asked = y; answer = None })) (sym is)
-      ∙ sym (ap (λ (b : Block (List ℕ)). opened_as (b.pair c).acquiring (b.waiting c)) (set-same n new s.block) ∙ ap (λ (p : Pair). opened_as p.acquiring (set c bytes (s.block n).waiting c)) (set-same c after (s.block n).pair)
+      ∙ sym (ap (λ (b : Block (List ℕ)). opened_as (b.pair c).acquiring (b.waiting c)) (set-same n new s.block)
+      ∙ ap (λ (p : Pair). opened_as p.acquiring (set c bytes (s.block n).waiting c)) (set-same c after (s.block n).pair)
       ∙ ap (opened_as (Wants whole g)) (set-same c bytes (s.block n).waiting));
   there = λ d i else_. open-there c Requests source (Some (record { asked = o; answer = None })) m d i else_;
   releases = λ d i. open-releases c source (Some (record { asked = o; answer = None })) m d i;
@@ -124,23 +129,31 @@ beside-acquire_asked {w} caching c n source whole g bytes o mail s m inv calm is
 
 pub beside-release_asked : {w : ℕ} (c n source : ℕ) (r : Prune) (mail : Mail w) (s : State (List ℕ)) (m : Machine w) → IsBeside mail s m
     → IsBeside mail (release_asked c n source r s) (with_open c Releases source (Some (record { asked = op.Release n r; answer = None })) m)
-beside-release_asked {w} c n source r mail s m h = beside-let c source (Some n) mail s (release_asked c n source r s) m (with_open c Releases source (Some (record { asked = op.Release n r; answer = None })) m) (record {
-  memory = λ i. truth_as m.memory n i new s.block refl (h.memory i);
-  uses = λ d i. refl;
-  lets = λ d i. refl;
-  here = (r, open-here c Releases source (Some (record { asked = op.Release n r; answer = None })) m);
-  there = λ d i else_. open-there c Releases source (Some (record { asked = op.Release n r; answer = None })) m d i else_;
-  requests = λ d i. open-requests c source (Some (record { asked = op.Release n r; answer = None })) m d i;
-  acquires = λ d i. (set-part (λ (b : Block (List ℕ)). (b.pair d).acquiring) n new s.block (set-part (λ (p : Pair). p.acquiring) c (after_release r ((s.block n).pair c)) (s.block n).pair refl d) i, set-part (λ (b : Block (List ℕ)). b.waiting d) n new s.block refl i);
-}) h
+beside-release_asked {w} c n source r mail s m h =
+    beside-let c source (Some n) mail s (release_asked c n source r s) m
+    (with_open c Releases source (Some (record { asked = op.Release n r; answer = None })) m) (record {
+      memory = λ i. truth_as m.memory n i new s.block refl (h.memory i);
+      uses = λ d i. refl;
+      lets = λ d i. refl;
+      here = (r, open-here c Releases source (Some (record { asked = op.Release n r; answer = None })) m);
+      there = λ d i else_. open-there c Releases source (Some (record { asked = op.Release n r; answer = None })) m d i else_;
+      requests = λ d i. open-requests c source (Some (record { asked = op.Release n r; answer = None })) m d i;
+      acquires = λ d i. (
+        set-part (λ (b : Block (List ℕ)). (b.pair d).acquiring) n new s.block
+            (set-part (λ (p : Pair). p.acquiring) c (after_release r ((s.block n).pair c)) (s.block n).pair refl d) i,
+        set-part (λ (b : Block (List ℕ)). b.waiting d) n new s.block refl i,
+      );
+    }) h
   where
     new : Block (List ℕ)
     new = releasing_block c source r (s.block n)
 
 pub beside-access_asked : {w : ℕ} (c source : ℕ) (a : MessageA w) (mail : Mail w) (s : State (List ℕ)) (m : Machine w) → IsBeside mail s m
-    → IsBeside (record { request = set_at c source (access source a) mail.request; answer = mail.answer }) (access_asked c source s) (with_open c Requests source (Some (record { asked = op.Access (message.A a); answer = None })) m)
+    → IsBeside (record { request = set_at c source (access source a) mail.request; answer = mail.answer }) (access_asked c source s)
+    (with_open c Requests source (Some (record { asked = op.Access (message.A a); answer = None })) m)
 beside-access_asked {w} c source a mail s m h =
-    beside-used c source Asked mail (record { request = set_at c source (access source a) mail.request; answer = mail.answer }) s (access_asked c source s) m (with_open c Requests source (Some (record { asked = op.Access (message.A a); answer = None })) m) (record {
+    beside-used c source Asked mail (record { request = set_at c source (access source a) mail.request; answer = mail.answer }) s (access_asked c source s) m
+    (with_open c Requests source (Some (record { asked = op.Access (message.A a); answer = None })) m) (record {
       memory = h.memory;
       uses = λ d i. refl;
       lets = λ d i. refl;
@@ -159,7 +172,8 @@ beside-access_asked {w} c source a mail s m h =
     same_blocks d Replied = tt
     same_blocks d (Acquires n) = (refl, refl)
 
-pub beside-block_stored : {w : ℕ} (caching : ℕ → Bool) (c address size value : ℕ) (mail : Mail w) (s : State (List ℕ)) (m : Machine w) → IsInvariant caching s → AreSized (s.block (block_at address)) → is_word address size ≡ true
+pub beside-block_stored : {w : ℕ} (caching : ℕ → Bool) (c address size value : ℕ) (mail : Mail w) (s : State (List ℕ)) (m : Machine w) → IsInvariant caching s
+    → AreSized (s.block (block_at address)) → is_word address size ≡ true
     → same_perm ((s.block (block_at address)).pair c).held perm.Trunk ≡ true → IsBeside mail s m
     → IsBeside mail (block_stored c (block_at address) (copy_stored address size value ((s.block (block_at address)).copy c)) s) (record m { memory = with_number address size value m.memory })
 beside-block_stored {w} caching c address size value mail s m inv sized word trunk h =
@@ -197,19 +211,22 @@ beside-block_stored {w} caching c address size value mail s m inv sized word tru
         subst (λ (b : Block (List ℕ)). IsBlock (with_number address size value m.memory) i b.truth) (sym (set-other n i new s.block other))
         (block-unstored address size value i (s.block i).truth m.memory (word_room address size word) other (h.memory i))
 
-pub beside-asked : {w : ℕ} (caching : ℕ → Bool) (c : ℕ) (o : Op w) (r : Reply) (h : Shadow w) (m : Machine w) → IsInvariant caching h.state → ((n : ℕ) → AreSized (h.state.block n)) → IsReply o r → IsAskable caching c o r h → IsSizedAsk c o r h
+pub beside-asked : {w : ℕ} (caching : ℕ → Bool) (c : ℕ) (o : Op w) (r : Reply) (h : Shadow w) (m : Machine w) → IsInvariant caching h.state
+    → ((n : ℕ) → AreSized (h.state.block n)) → IsReply o r → IsAskable caching c o r h → IsSizedAsk c o r h
     → IsBeside h.mail h.state m → IsBeside (asked c o r h).mail (asked c o r h).state (after_reply c o r m)
 beside-asked caching c (op.Load address size) (reply.Value v) h m inv sized is may word b = b
 beside-asked caching c (op.Load address size) reply.Stored h m inv sized is may word b = b
 beside-asked caching c (op.Load address size) reply.Miss h m inv sized is may word b = b
 beside-asked caching c (op.Load address size) (reply.Started source) h m inv sized is may word b = absurd is
 beside-asked caching c (op.Load address size) (reply.Busy why) h m inv sized is may word b = b
-beside-asked caching c (op.Store address size value) reply.Stored h m inv sized is may word b = beside-block_stored caching c address size value h.mail h.state m inv (sized (block_at address)) word.0 word.1 b
+beside-asked caching c (op.Store address size value) reply.Stored h m inv sized is may word b =
+    beside-block_stored caching c address size value h.mail h.state m inv (sized (block_at address)) word.0 word.1 b
 beside-asked caching c (op.Store address size value) (reply.Value v) h m inv sized is may word b = b
 beside-asked caching c (op.Store address size value) reply.Miss h m inv sized is may word b = b
 beside-asked caching c (op.Store address size value) (reply.Started source) h m inv sized is may word b = absurd is
 beside-asked caching c (op.Store address size value) (reply.Busy why) h m inv sized is may word b = b
-beside-asked caching c (op.Acquire n g) (reply.Started source) h m inv sized is may word b = beside-acquire_asked caching c n source false g ((h.state.block n).waiting c) (op.Acquire n g) h.mail h.state m inv may.2 refl b
+beside-asked caching c (op.Acquire n g) (reply.Started source) h m inv sized is may word b =
+    beside-acquire_asked caching c n source false g ((h.state.block n).waiting c) (op.Acquire n g) h.mail h.state m inv may.2 refl b
 beside-asked caching c (op.Acquire n g) (reply.Value v) h m inv sized is may word b = b
 beside-asked caching c (op.Acquire n g) reply.Stored h m inv sized is may word b = b
 beside-asked caching c (op.Acquire n g) reply.Miss h m inv sized is may word b = b

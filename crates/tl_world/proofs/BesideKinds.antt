@@ -21,7 +21,10 @@ use Rattle.tl_world.specs.Invariant.{acquires_of, IsInvariant}
 use Rattle.tl_world.specs.Machine.{Machine, Open, Requests, Releases, with_open, with_memory, memory_after, after_end}
 use Rattle.tl_world.specs.Phase.{Pair, Answered, Acquiring, Calm, Wants, is_kept, is_quiet}
 use Rattle.tl_world.specs.PhaseSteps.{after_served, after_grant_sent, after_report, after_release_ack, after_grant}
-use Rattle.tl_world.specs.Protocol.{Service, Free, Waits, GrantSent, GrantTaken, Block, State, Use, Closed, InService, Replied, Acquires, is_wanting, is_probed, written, performed_block, served_block, granted_at_once, reported_block, ended_block, granted_block, granted_pair, taken_block, granted_truth, let_go_block, access_answered, access_served, report_taken, report_answers, answer_taken, grant_taken, release_ack_taken}
+use Rattle.tl_world.specs.Protocol.{Service, Free, Waits, GrantSent, GrantTaken, Block, State, Use, Closed, InService, Replied, Acquires, is_wanting, is_probed}
+use Rattle.tl_world.specs.Protocol.{written, performed_block, served_block, granted_at_once, reported_block, ended_block, granted_block, granted_pair}
+use Rattle.tl_world.specs.Protocol.{taken_block, granted_truth, let_go_block, access_answered, access_served, report_taken, report_answers, answer_taken}
+use Rattle.tl_world.specs.Protocol.{grant_taken, release_ack_taken}
 use Rattle.tl_world.specs.Remembered.{performing}
 use Rattle.tl_world.specs.Render.{Mail}
 use Rattle.tl_world.specs.Token.{Kind, Request, ProbeAck, Token, set, set_at}
@@ -59,10 +62,12 @@ accesses_by config c _ i h = []
 
 -- ---- one block changes, and no source
 
-pub beside_block : {w : ℕ} (n : ℕ) (new : Block (List ℕ)) (mail : Mail w) (s s' : State (List ℕ)) (m : Machine w) → ((i : ℕ) → s'.block i ≡ set n new s.block i) → ((d i : ℕ) → s'.uses d i ≡ s.uses d i) → ((d i : ℕ) → s'.lets d i ≡ s.lets d i)
+pub beside_block : {w : ℕ} (n : ℕ) (new : Block (List ℕ)) (mail : Mail w) (s s' : State (List ℕ)) (m : Machine w) → ((i : ℕ) → s'.block i ≡ set n new s.block i)
+    → ((d i : ℕ) → s'.uses d i ≡ s.uses d i) → ((d i : ℕ) → s'.lets d i ≡ s.lets d i)
     → new.truth ≡ (s.block n).truth → ((d : ℕ) → (new.pair d).acquiring ≡ ((s.block n).pair d).acquiring) → ((d : ℕ) → new.waiting d ≡ (s.block n).waiting d) → IsBeside mail s m → IsBeside mail s' m
 beside_block {w} n new mail s s' m blocks uses lets truth acquiring waiting h = beside-still mail s s' m m (record {
-  memory = λ i. subst (λ (bytes : List ℕ). IsBlock m.memory i bytes) (sym (ap (λ (b : Block (List ℕ)). b.truth) (blocks i) ∙ set-part (λ (b : Block (List ℕ)). b.truth) n new s.block truth i)) (h.memory i);
+  memory = λ i. subst (λ (bytes : List ℕ). IsBlock m.memory i bytes)
+      (sym (ap (λ (b : Block (List ℕ)). b.truth) (blocks i) ∙ set-part (λ (b : Block (List ℕ)). b.truth) n new s.block truth i)) (h.memory i);
   uses = uses;
   lets = lets;
   opened = λ d pool i. refl;
@@ -85,13 +90,16 @@ served_acquiring r own k pair d = go (own && (d == r))
 
 granted_acquiring : (c q : ℕ) (r : Report) (k : Cap) (pair : ℕ → Pair) (d : ℕ) → (granted_pair c q r k pair d).acquiring ≡ (pair d).acquiring
 granted_acquiring c q r k pair d = elim (cases_eq d q) [
-  | inl same ↦ ap (λ (j : ℕ). (granted_pair c q r k pair j).acquiring) same ∙ ap (λ (p : Pair). p.acquiring) (set-same q (after_grant_sent k (pair q)) (set c (after_report r (pair c)) pair)) ∙ sym (ap (λ (j : ℕ). (pair j).acquiring) same)
+  | inl same ↦ ap (λ (j : ℕ). (granted_pair c q r k pair j).acquiring) same
+      ∙ ap (λ (p : Pair). p.acquiring) (set-same q (after_grant_sent k (pair q)) (set c (after_report r (pair c)) pair))
+      ∙ sym (ap (λ (j : ℕ). (pair j).acquiring) same)
   | inr other ↦ ap (λ (p : Pair). p.acquiring) (set-other q d (after_grant_sent k (pair q)) (set c (after_report r (pair c)) pair) other) ∙ same_acquiring c (after_report r (pair c)) pair refl d
 ]
 
 -- ---- a request
 
-beside_served : {w : ℕ} (config : Config) (c source : ℕ) (x : MessageA w) (tracker : ℕ) (k : Cap) (rest : List Token) (mail : Mail w) (s : State (List ℕ)) (m : Machine w) → IsPerformed config c source x mail s m
+beside_served : {w : ℕ} (config : Config) (c source : ℕ) (x : MessageA w) (tracker : ℕ) (k : Cap) (rest : List Token) (mail : Mail w) (s : State (List ℕ))
+    (m : Machine w) → IsPerformed config c source x mail s m
     → IsBeside mail s m → IsBeside mail (access_served c (block_at x.address) source tracker k rest s) m
 beside_served {w} config c source x tracker k rest mail s m is h =
     beside-used c source (InService n) mail mail s s' m m (record {
@@ -103,7 +111,11 @@ beside_served {w} config c source x tracker k rest mail s m is h =
       releases = λ d i. refl;
       requests = λ d i else_. refl;
       answers = λ d i else_. refl;
-      acquires = λ d i else_. same_acquire d s s' (s.uses d i) (λ j. (set-part (λ (b : Block (List ℕ)). (b.pair d).acquiring) n new s.block (served_acquiring c false k (s.block n).pair d) j, set-part (λ (b : Block (List ℕ)). b.waiting d) n new s.block refl j));
+      acquires = λ d i else_. same_acquire d s s' (s.uses d i)
+          (λ j. (
+            set-part (λ (b : Block (List ℕ)). (b.pair d).acquiring) n new s.block (served_acquiring c false k (s.block n).pair d) j,
+            set-part (λ (b : Block (List ℕ)). b.waiting d) n new s.block refl j,
+          ));
     }) h
   where
     n : ℕ
@@ -117,7 +129,8 @@ beside_served {w} config c source x tracker k rest mail s m is h =
 
 beside_answered : {w : ℕ} (config : Config) (c source : ℕ) (x : MessageA w) (rest : List Token) (mail : Mail w) (s : State (List ℕ)) (m : Machine w) → IsPerformed config c source x mail s m
     → ((s.block (block_at x.address)).memory ≡ (s.block (block_at x.address)).truth) ⊎ (cap_probed x.opcode x.param ≡ None) → IsBeside mail s m
-    → IsBeside (record { request = mail.request; answer = set_at c source (answers x (s.block (block_at x.address)).memory) mail.answer }) (access_answered c (block_at x.address) source (performs x) rest s) (performing ((c, source) ∷ []) m)
+    → IsBeside (record { request = mail.request; answer = set_at c source (answers x (s.block (block_at x.address)).memory) mail.answer })
+    (access_answered c (block_at x.address) source (performs x) rest s) (performing ((c, source) ∷ []) m)
 beside_answered {w} config c source x rest mail s m is same h =
     beside-performed config c source x (s.block n).memory mail s (access_answered c n source (performs x) rest s) m is (λ f block. reply_same same)
     (λ i ne. ap (λ (b : Block (List ℕ)). b.truth) (set-other n i new s.block ne)) (ap (λ (b : Block (List ℕ)). b.truth) (set-same n new s.block))
@@ -129,7 +142,8 @@ beside_answered {w} config c source x rest mail s m is same h =
     new : Block (List ℕ)
     new = performed_block (performs x) (s.block n)
 
-    reply_same : ((s.block n).memory ≡ (s.block n).truth) ⊎ (cap_probed x.opcode x.param ≡ None) → (effect (message.A x) (bytes_at n (s.block n).truth)).1 ≡ (effect (message.A x) (bytes_at n (s.block n).memory)).1
+    reply_same : ((s.block n).memory ≡ (s.block n).truth) ⊎ (cap_probed x.opcode x.param ≡ None)
+        → (effect (message.A x) (bytes_at n (s.block n).truth)).1 ≡ (effect (message.A x) (bytes_at n (s.block n).memory)).1
     reply_same (inl e) = ap (λ (b : List ℕ). (effect (message.A x) (bytes_at n b)).1) (sym e)
     reply_same (inr e) = intent-reply x (bytes_at n (s.block n).truth) (bytes_at n (s.block n).memory) e
 
@@ -161,8 +175,10 @@ pub beside-acquire : {w : ℕ} (clients : ℕ) (p : Profile) (c n : ℕ) (x : Ac
     → IsBeside (acquire_taken clients p c n x tracker rest h).mail (acquire_taken clients p c n x tracker rest h).state m
 beside-acquire clients p c n Calm tracker rest h m beside = beside
 beside-acquire {w} clients p c n (Wants whole g) tracker rest h m beside =
-    either _ _ _ (beside_block n (served_block c true (b.source c) tracker _ b) h.mail h.state _ m (λ i. refl) (λ d i. refl) (λ d i. refl) refl (λ d. served_acquiring c true _ b.pair d) (λ d. refl) beside)
-    (beside_block n (granted_at_once c tracker _ _ b) h.mail h.state _ m (λ i. refl) (λ d i. refl) (λ d i. refl) refl (λ d. same_acquiring c (after_grant_sent _ (b.pair c)) b.pair refl d) (λ d. refl) beside)
+    either _ _ _ (beside_block n (served_block c true (b.source c) tracker _ b) h.mail h.state _ m (λ i. refl) (λ d i. refl) (λ d i. refl) refl
+    (λ d. served_acquiring c true _ b.pair d) (λ d. refl) beside)
+    (beside_block n (granted_at_once c tracker _ _ b) h.mail h.state _ m (λ i. refl) (λ d i. refl) (λ d i. refl) refl
+    (λ d. same_acquiring c (after_grant_sent _ (b.pair c)) b.pair refl d) (λ d. refl) beside)
   where
     b : Block (List ℕ)
     b = h.state.block n
@@ -181,14 +197,22 @@ IsWaiting config n _ h m = ⊤
 beside_ended : {w : ℕ} (caching : ℕ → Bool) (config : Config) (c q n source : ℕ) (r : Report) (k : Cap) (rest : List Token) (h : Shadow w) (m : Machine w) → IsInvariant caching h.state
     → (h.state.block n).service ≡ Waits q false source k → ((h.state.block n).pair c).probing ≡ Answered r → ((d : ℕ) → (d ≡ c → ⊥) → is_quiet ((h.state.block n).pair d).probing ≡ true)
     → IsPerformed config q source (h.request n) h.mail h.state m → block_at (h.request n).address ≡ n → IsBeside h.mail h.state m
-    → IsBeside (record { request = h.mail.request; answer = set_at q source (answers (h.request n) (written r (h.state.block n).truth (h.state.block n).memory)) h.mail.answer }) (report_answers c q n source r (performs (h.request n)) rest h.state)
+    → IsBeside (record {
+      request = h.mail.request;
+      answer =
+          set_at q source (answers (h.request n) (written r (h.state.block n).truth (h.state.block n).memory)) h.mail.answer;
+    })
+    (report_answers c q n source r (performs (h.request n)) rest h.state)
     (performing ((q, source) ∷ []) m)
 beside_ended {w} caching config c q n source r k rest h m inv waits answered settled is at beside =
     beside-performed config q source x (written r b.truth b.memory) h.mail h.state s' m is (λ f block. reply_same)
     (λ i ne. ap (λ (y : Block (List ℕ)). y.truth) (set-other n i new h.state.block (λ e. ne (e ∙ sym at))))
     (subst (λ (j : ℕ). (set n new h.state.block j).truth ≡ performs x (h.state.block j).truth) (sym at) (ap (λ (y : Block (List ℕ)). y.truth) (set-same n new h.state.block)))
     (λ d i. refl) (λ d i. refl)
-    (λ d i. (set-part (λ (y : Block (List ℕ)). (y.pair d).acquiring) n new h.state.block (same_acquiring c (after_report r (b.pair c)) b.pair refl d) i, set-part (λ (y : Block (List ℕ)). y.waiting d) n new h.state.block refl i)) beside
+    (λ d i. (
+      set-part (λ (y : Block (List ℕ)). (y.pair d).acquiring) n new h.state.block (same_acquiring c (after_report r (b.pair c)) b.pair refl d) i,
+      set-part (λ (y : Block (List ℕ)). y.waiting d) n new h.state.block refl i,
+    )) beside
   where
     b : Block (List ℕ)
     b = h.state.block n
@@ -205,29 +229,37 @@ beside_ended {w} caching config c q n source r k rest h m inv waits answered set
     told : written r b.truth b.memory ≡ b.truth
     told = memory-reported caching c q source r k b (inv.blocks n) waits answered settled
 
-    reply_same : (effect (message.A x) (bytes_at (block_at x.address) (h.state.block (block_at x.address)).truth)).1 ≡ (effect (message.A x) (bytes_at (block_at x.address) (written r b.truth b.memory))).1
+    reply_same : (effect (message.A x) (bytes_at (block_at x.address) (h.state.block (block_at x.address)).truth)).1
+        ≡ (effect (message.A x) (bytes_at (block_at x.address) (written r b.truth b.memory))).1
     reply_same = ap (λ (bytes : List ℕ). (effect (message.A x) (bytes_at (block_at x.address) bytes)).1) (ap (λ (j : ℕ). (h.state.block j).truth) at ∙ sym told)
 
-beside_last : {w : ℕ} (caching : ℕ → Bool) (config : Config) (clients : ℕ) (p : Profile) (c n : ℕ) (r : Report) (v : Service) (rest : List Token) (h : Shadow w) (m : Machine w) → IsInvariant caching h.state → (h.state.block n).service ≡ v
+beside_last : {w : ℕ} (caching : ℕ → Bool) (config : Config) (clients : ℕ) (p : Profile) (c n : ℕ) (r : Report) (v : Service) (rest : List Token) (h : Shadow w)
+    (m : Machine w) → IsInvariant caching h.state → (h.state.block n).service ≡ v
     → ((h.state.block n).pair c).probing ≡ Answered r → ((d : ℕ) → (d ≡ c → ⊥) → is_quiet ((h.state.block n).pair d).probing ≡ true) → IsWaiting config n v h m → IsBeside h.mail h.state m
     → IsBeside (last_taken clients p c n r v rest h).mail (last_taken clients p c n r v rest h).state (performing (last_accesses v) m)
 unfolding performing
 beside_last caching config clients p c n r Free rest h m inv e answered settled is beside = beside
 beside_last caching config clients p c n r (GrantSent q d k) rest h m inv e answered settled is beside = beside
 beside_last caching config clients p c n r (GrantTaken q) rest h m inv e answered settled is beside = beside
-beside_last caching config clients p c n r (Waits q false source k) rest h m inv e answered settled is beside = beside_ended caching config c q n source r k rest h m inv e answered settled is.0 is.1 beside
+beside_last caching config clients p c n r (Waits q false source k) rest h m inv e answered settled is beside =
+    beside_ended caching config c q n source r k rest h m inv e answered settled is.0 is.1 beside
 beside_last {w} caching config clients p c n r (Waits q true source k) rest h m inv e answered settled is beside = go ((h.state.block n).pair q).acquiring
   where
     go : (x : Acquiring) → IsBeside (granted_after clients p c q n r x rest h).mail (granted_after clients p c q n r x rest h).state m
     go Calm = beside
-    go (Wants whole g) = beside_block n (granted_block c q r _ _ (h.state.block n)) h.mail h.state _ m (λ i. refl) (λ d i. refl) (λ d i. refl) refl (λ d. granted_acquiring c q r _ (h.state.block n).pair d) (λ d. refl) beside
+    go (Wants whole g) = beside_block n (granted_block c q r _ _ (h.state.block n)) h.mail h.state _ m (λ i. refl) (λ d i. refl) (λ d i. refl) refl
+        (λ d. granted_acquiring c q r _ (h.state.block n).pair d) (λ d. refl) beside
 
-pub beside-report : {w : ℕ} (caching : ℕ → Bool) (config : Config) (c n : ℕ) (r : Report) (rest : List Token) (h : Shadow w) (m : Machine w) → IsInvariant caching h.state → ((h.state.block n).pair c).probing ≡ Answered r
-    → (some_below (length config.clients.items) (λ d. not (d == c) && not (is_quiet ((h.state.block n).pair d).probing)) ≡ false → (d : ℕ) → (d ≡ c → ⊥) → is_quiet ((h.state.block n).pair d).probing ≡ true)
+pub beside-report : {w : ℕ} (caching : ℕ → Bool) (config : Config) (c n : ℕ) (r : Report) (rest : List Token) (h : Shadow w) (m : Machine w)
+    → IsInvariant caching h.state → ((h.state.block n).pair c).probing ≡ Answered r
+    → (some_below (length config.clients.items) (λ d. not (d == c) && not (is_quiet ((h.state.block n).pair d).probing)) ≡ false → (d : ℕ) → (d ≡ c → ⊥)
+    → is_quiet ((h.state.block n).pair d).probing ≡ true)
     → IsWaiting config n (h.state.block n).service h m → IsBeside h.mail h.state m
-    → IsBeside (ack_taken (length config.clients.items) config.profile c n r rest h).mail (ack_taken (length config.clients.items) config.profile c n r rest h).state (performing (accesses_by config c ProbeAck n h) m)
+    → IsBeside (ack_taken (length config.clients.items) config.profile c n r rest h).mail
+    (ack_taken (length config.clients.items) config.profile c n r rest h).state (performing (accesses_by config c ProbeAck n h) m)
 unfolding performing
-beside-report {w} caching config c n r rest h m inv answered settled is beside = go (some_below (length config.clients.items) (λ d. not (d == c) && not (is_quiet ((h.state.block n).pair d).probing))) refl
+beside-report {w} caching config c n r rest h m inv answered settled is beside =
+    go (some_below (length config.clients.items) (λ d. not (d == c) && not (is_quiet ((h.state.block n).pair d).probing))) refl
   where
     reported : Shadow w
     reported = record h { state = report_taken c n r rest h.state }
@@ -237,7 +269,8 @@ beside-report {w} caching config c n r rest h m inv answered settled is beside =
 
     go : (y : Bool) → some_below (length config.clients.items) (λ d. not (d == c) && not (is_quiet ((h.state.block n).pair d).probing)) ≡ y
         → IsBeside (if y then reported else last).mail (if y then reported else last).state (performing (if y then [] else last_accesses (h.state.block n).service) m)
-    go true e = beside_block n (reported_block c r (h.state.block n)) h.mail h.state reported.state m (λ i. refl) (λ d i. refl) (λ d i. refl) refl (λ d. same_acquiring c (after_report r ((h.state.block n).pair c)) (h.state.block n).pair refl d) (λ d. refl) beside
+    go true e = beside_block n (reported_block c r (h.state.block n)) h.mail h.state reported.state m (λ i. refl) (λ d i. refl) (λ d i. refl) refl
+        (λ d. same_acquiring c (after_report r ((h.state.block n).pair c)) (h.state.block n).pair refl d) (λ d. refl) beside
     go false e = beside_last caching config (length config.clients.items) config.profile c n r (h.state.block n).service rest h m inv refl answered (settled e) is beside
 
 -- ---- responses
@@ -249,7 +282,8 @@ beside-answer {w} c source rest mail s m used h = go (m.opened c Requests source
     replied : (u : Use) → u ≡ Replied → IsOpened c source mail s u (m.opened c Requests source) → IsOpened c source mail s Replied (m.opened c Requests source)
     replied u e i = rw e at i
 
-    go : (o : Option (Open w)) → m.opened c Requests source ≡ o → IsOpened c source mail s Replied (m.opened c Requests source) → IsBeside mail (answer_taken c source rest s) (after_end c Requests source o m)
+    go : (o : Option (Open w)) → m.opened c Requests source ≡ o → IsOpened c source mail s Replied (m.opened c Requests source)
+        → IsBeside mail (answer_taken c source rest s) (after_end c Requests source o m)
     go None e i = absurd (let no : Some (record { asked = op.Access (message.A i.1.0); answer = Some i.0 }) ≡ None = sym i.1.2 ∙ e in cc)
     go (Some o) e i =
         let asked : o ≡ record { asked = op.Access (message.A i.1.0); answer = Some i.0 } = some_is o (record { asked = op.Access (message.A i.1.0); answer = Some i.0 }) (sym e ∙ i.1.2) in
@@ -274,10 +308,13 @@ only_source : (caching : ℕ → Bool) (s : State (List ℕ)) (c n i : ℕ) → 
 only_source caching s c n i inv ne e =
     let yes : acquires_of n (s.uses c i) ≡ true = ap (acquires_of n) e ∙ same_number n in
     let named : acquires_of n (s.uses c i) ≡ (is_wanting ((s.block n).pair c).acquiring && (i == (s.block n).source c)) = inv.named.acquires c i n in
-    let no : (is_wanting ((s.block n).pair c).acquiring && (i == (s.block n).source c)) ≡ false = ap (λ (b : Bool). is_wanting ((s.block n).pair c).acquiring && b) (ne_eqb i ((s.block n).source c) ne) ∙ and-false (is_wanting ((s.block n).pair c).acquiring) in
+    let no : (is_wanting ((s.block n).pair c).acquiring && (i == (s.block n).source c)) ≡ false =
+    ap (λ (b : Bool). is_wanting ((s.block n).pair c).acquiring && b) (ne_eqb i ((s.block n).source c) ne)
+    ∙ and-false (is_wanting ((s.block n).pair c).acquiring) in
     let differ : true ≡ false = sym yes ∙ named ∙ no in cc
 
-pub beside-grant : {w : ℕ} (caching : ℕ → Bool) (c n : ℕ) (d : Bool) (k : Cap) (rest : List Token) (mail : Mail w) (s : State (List ℕ)) (m : Machine w) → IsInvariant caching s → is_wanting ((s.block n).pair c).acquiring ≡ true → IsBeside mail s m
+pub beside-grant : {w : ℕ} (caching : ℕ → Bool) (c n : ℕ) (d : Bool) (k : Cap) (rest : List Token) (mail : Mail w) (s : State (List ℕ)) (m : Machine w)
+    → IsInvariant caching s → is_wanting ((s.block n).pair c).acquiring ≡ true → IsBeside mail s m
     → IsBeside mail (grant_taken c n (is_whole ((s.block n).pair c).acquiring) d k rest s) (after_end c Requests ((s.block n).source c) (m.opened c Requests ((s.block n).source c)) m)
 beside-grant {w} caching c n d k rest mail s m inv wants h =
     subst (λ (o : Option (Open w)). IsBeside mail s' (after_end c Requests source o m)) (sym opened)
@@ -337,9 +374,11 @@ beside-grant {w} caching c n d k rest mail s m inv wants h =
     block_now i (inl same) =
         subst (λ (j : ℕ). IsBlock (memory_after asked m.memory) j (set n new s.block j).truth) (sym same)
         (subst (λ (y : Block (List ℕ)). IsBlock (memory_after asked m.memory) n y.truth) (sym (set-same n new s.block)) (here (b.pair c).acquiring (b.waiting c) wants))
-    block_now i (inr other) = subst (λ (y : Block (List ℕ)). IsBlock (memory_after asked m.memory) i y.truth) (sym (set-other n i new s.block other)) (there (b.pair c).acquiring (b.waiting c) i wants other)
+    block_now i (inr other) = subst (λ (y : Block (List ℕ)). IsBlock (memory_after asked m.memory) i y.truth) (sym (set-other n i new s.block other))
+        (there (b.pair c).acquiring (b.waiting c) i wants other)
 
-pub beside-release_ack : {w : ℕ} (caching : ℕ → Bool) (c n : ℕ) (rest : List Token) (mail : Mail w) (s : State (List ℕ)) (m : Machine w) → IsInvariant caching s → is_kept ((s.block n).pair c).letting ≡ false → IsBeside mail s m
+pub beside-release_ack : {w : ℕ} (caching : ℕ → Bool) (c n : ℕ) (rest : List Token) (mail : Mail w) (s : State (List ℕ)) (m : Machine w) → IsInvariant caching s
+    → is_kept ((s.block n).pair c).letting ≡ false → IsBeside mail s m
     → IsBeside mail (release_ack_taken c n rest s) (after_end c Releases ((s.block n).release_source c) (m.opened c Releases ((s.block n).release_source c)) m)
 beside-release_ack {w} caching c n rest mail s m inv acked h =
     subst (λ (o : Option (Open w)). IsBeside mail s' (after_end c Releases source o m)) (sym released.1)
@@ -350,7 +389,11 @@ beside-release_ack {w} caching c n rest mail s m inv acked h =
       here = open-here c Releases source None m;
       there = λ e i else_. open-there c Releases source None m e i else_;
       requests = λ e i. open-requests c source None m e i;
-      acquires = λ e i. (set-part (λ (y : Block (List ℕ)). (y.pair e).acquiring) n new s.block (same_acquiring c (after_release_ack ((s.block n).pair c)) (s.block n).pair refl e) i, set-part (λ (y : Block (List ℕ)). y.waiting e) n new s.block refl i);
+      acquires = λ e i. (
+        set-part (λ (y : Block (List ℕ)). (y.pair e).acquiring) n new s.block
+            (same_acquiring c (after_release_ack ((s.block n).pair c)) (s.block n).pair refl e) i,
+        set-part (λ (y : Block (List ℕ)). y.waiting e) n new s.block refl i,
+      );
     }) h)
   where
     source : ℕ

@@ -74,12 +74,19 @@ IsOnce l h m = (l ≡ []) ⊎ ((q : ℕ) × (source : ℕ) × (l ≡ (q, source)
 pub once-performs : {w : ℕ} (l : List (ℕ × ℕ)) (h : Shadow w) (m : Machine w) → IsOnce l h m → Performs l m (performing l m)
 unfolding Performs performing
 once-performs l h m (inl none) = rw none refl
-once-performs l h m (inr (q, source, one, opened)) = rw one (done_at q source (message.A opened.0) m, performed-open q source (message.A opened.0) m opened.2, performing-one q source (message.A opened.0) m opened.2)
+once-performs l h m (inr (q, source, one, opened)) =
+    rw one (
+      done_at q source (message.A opened.0) m,
+      performed-open q source (message.A opened.0) m opened.2,
+      performing-one q source (message.A opened.0) m opened.2,
+    )
 
-pub request-accesses : {w : ℕ} (config : Config) (log : Log w) (h : Shadow w) (sys : System w) (c source k : ℕ) → IsMatched config log h.mail h.request h.state sys → (asked : IsAsked config c source h.mail h.state)
+pub request-accesses : {w : ℕ} (config : Config) (log : Log w) (h : Shadow w) (sys : System w) (c source k : ℕ)
+    → IsMatched config log h.mail h.request h.state sys → (asked : IsAsked config c source h.mail h.state)
     → IsComing config c k asked.request sys.manager → beats_of (message.A asked.request) ≡ suc k
     → accesses_answered (deed config (link_of c) (beat.A (a_beat_of asked.request k)) sys.manager).handed
-    ≡ access_list c source (probes_some (length config.clients.items) c false (cap_probed asked.request.opcode asked.request.param) (h.state.block (block_at asked.request.address)).pair) (cap_probed asked.request.opcode asked.request.param)
+    ≡ access_list c source (probes_some (length config.clients.items) c false (cap_probed asked.request.opcode asked.request.param)
+    (h.state.block (block_at asked.request.address)).pair) (cap_probed asked.request.opcode asked.request.param)
 request-accesses {w} config log h sys c source k is asked comes last = accesses (probes_some clients c false (cap_probed m.opcode m.param) b.pair) (cap_probed m.opcode m.param) refl refl
   where
     m : MessageA w
@@ -108,14 +115,17 @@ request-accesses {w} config log h sys c source k is asked comes last = accesses 
     accesses false (Some j) f g = answered f
     accesses true (Some j) f g =
         let some : some_below clients (λ d. is_probed c false j (b.pair d).recorded d) ≡ true = rw g at f in
-        ap (λ (d : Deed w). accesses_answered d.handed) (deed-probing config c k n j m sys.manager comes last refl g (probed-some config log h.mail h.request h.state sys c k n false j m is asked.access refl ∙ ap not some))
+        ap (λ (d : Deed w). accesses_answered d.handed) (deed-probing config c k n j m sys.manager comes last refl g
+        (probed-some config log h.mail h.request h.state sys c k n false j m is asked.access refl ∙ ap not some))
         ∙ accesses-probes w n j (probed config (service_for c m sys.manager.trace) j (with_beat c m k sys.manager.trace))
 
-pub request-once : {w : ℕ} (config : Config) (log : Log w) (h : Shadow w) (sys : System w) (c source k : ℕ) (machine : Machine w) → IsMatched config log h.mail h.request h.state sys → (asked : IsAsked config c source h.mail h.state)
+pub request-once : {w : ℕ} (config : Config) (log : Log w) (h : Shadow w) (sys : System w) (c source k : ℕ) (machine : Machine w)
+    → IsMatched config log h.mail h.request h.state sys → (asked : IsAsked config c source h.mail h.state)
     → IsComing config c k asked.request sys.manager → beats_of (message.A asked.request) ≡ suc k → IsBeside h.mail h.state machine
     → IsOnce (accesses_answered (deed config (link_of c) (beat.A (a_beat_of asked.request k)) sys.manager).handed) h machine
 request-once {w} config log h sys c source k machine is asked comes last beside =
-    go (probes_some (length config.clients.items) c false (cap_probed asked.request.opcode asked.request.param) (h.state.block (block_at asked.request.address)).pair) (cap_probed asked.request.opcode asked.request.param)
+    go (probes_some (length config.clients.items) c false (cap_probed asked.request.opcode asked.request.param)
+    (h.state.block (block_at asked.request.address)).pair) (cap_probed asked.request.opcode asked.request.param)
     (request-accesses config log h sys c source k is asked comes last)
   where
     opened : IsAccess source (h.mail.request c source) None (machine.opened c Requests source)
@@ -128,13 +138,16 @@ request-once {w} config log h sys c source k machine is asked comes last beside 
     go false (Some j) e = inr (c, source, e, opened)
     go false None e = inr (c, source, e, opened)
 
-pub beside-request_taken : {w : ℕ} (config : Config) (log : Log w) (h : Shadow w) (sys : System w) (c source k : ℕ) (rest : List Token) (machine : Machine w) → IsMatched config log h.mail h.request h.state sys → (asked : IsAsked config c source h.mail h.state)
+pub beside-request_taken : {w : ℕ} (config : Config) (log : Log w) (h : Shadow w) (sys : System w) (c source k : ℕ) (rest : List Token) (machine : Machine w)
+    → IsMatched config log h.mail h.request h.state sys → (asked : IsAsked config c source h.mail h.state)
     → IsComing config c k asked.request sys.manager → beats_of (message.A asked.request) ≡ suc k → IsBeside h.mail h.state machine
     → IsBeside (kind_taken config (next_tracker sys) c Request source rest h).mail (kind_taken config (next_tracker sys) c Request source rest h).state
     (performing (accesses_answered (deed config (link_of c) (beat.A (a_beat_of asked.request k)) sys.manager).handed) machine)
 beside-request_taken {w} config log h sys c source k rest machine is asked comes last beside =
-    subst (λ (i : Message w). IsBeside (request_taken clients c source i tracker rest h).mail (request_taken clients c source i tracker rest h).state (performing (accesses_answered done) machine)) (sym asked.is_it)
-    (subst (λ (l : List (ℕ × ℕ)). IsBeside (request_taken clients c source (message.A m) tracker rest h).mail (request_taken clients c source (message.A m) tracker rest h).state (performing l machine))
+    subst (λ (i : Message w). IsBeside (request_taken clients c source i tracker rest h).mail (request_taken clients c source i tracker rest h).state
+    (performing (accesses_answered done) machine)) (sym asked.is_it)
+    (subst (λ (l : List (ℕ × ℕ)). IsBeside (request_taken clients c source (message.A m) tracker rest h).mail
+    (request_taken clients c source (message.A m) tracker rest h).state (performing l machine))
     (sym (request-accesses config log h sys c source k is asked comes last))
     (beside-request (is_caching config) config c source tracker m rest h machine is.invariant (plain-past config) performed_so beside))
   where
@@ -191,7 +204,8 @@ acquire-accesses {w} config log h sys c n k is asked comes last = none (some_bel
     none : (x : Bool) → some_below clients (λ d. is_probed c true j (b.pair d).recorded d) ≡ x → accesses_answered (deed config (link_of c) (beat.A (a_beat_of m k)) sys.manager).handed ≡ []
     none true f =
         ap (λ (d : Deed w). accesses_answered d.handed)
-        (deed-probing config c k n j m sys.manager comes last (same_block n) caps (probed-some config log h.mail h.request h.state sys c k n true j m is (acquires-so asked.whole) (same_block n) ∙ ap not f))
+        (deed-probing config c k n j m sys.manager comes last (same_block n) caps
+        (probed-some config log h.mail h.request h.state sys c k n true j m is (acquires-so asked.whole) (same_block n) ∙ ap not f))
         ∙ accesses-probes w n j (probed config (service_for c m sys.manager.trace) j (with_beat c m k sys.manager.trace))
     none false f =
         ap (λ (d : Deed w). accesses_answered d.handed)
@@ -199,10 +213,12 @@ acquire-accesses {w} config log h sys c n k is asked comes last = none (some_bel
         ∙ performed-acquire config (service_for c m sys.manager.trace) (with_beat c m k sys.manager.trace) sys.manager.memory (acquires-so asked.whole))
         ∙ accesses-grant config c (service_for c m sys.manager.trace) (with_beat c m k sys.manager.trace) sys.manager.memory
 
-pub beside-acquire_taken : {w : ℕ} (config : Config) (log : Log w) (h : Shadow w) (sys : System w) (c n k : ℕ) (rest : List Token) (machine : Machine w) → IsMatched config log h.mail h.request h.state sys → (asked : IsWanted w c n h.state)
+pub beside-acquire_taken : {w : ℕ} (config : Config) (log : Log w) (h : Shadow w) (sys : System w) (c n k : ℕ) (rest : List Token) (machine : Machine w)
+    → IsMatched config log h.mail h.request h.state sys → (asked : IsWanted w c n h.state)
     → IsComing config c k (acquire_wanted c n h.state asked) sys.manager → beats_of (message.A (acquire_wanted c n h.state asked)) ≡ suc k → IsBeside h.mail h.state machine
     → IsBeside (kind_taken config (next_tracker sys) c Acquire n rest h).mail (kind_taken config (next_tracker sys) c Acquire n rest h).state
     (performing (accesses_answered (deed config (link_of c) (beat.A (a_beat_of (acquire_wanted c n h.state asked) k)) sys.manager).handed) machine)
 unfolding performing
 beside-acquire_taken {w} config log h sys c n k rest machine is asked comes last beside =
-    rw (acquire-accesses config log h sys c n k is asked comes last) (beside-acquire (length config.clients.items) config.profile c n ((h.state.block n).pair c).acquiring (next_tracker sys) rest h machine beside)
+    rw (acquire-accesses config log h sys c n k is asked comes last)
+    (beside-acquire (length config.clients.items) config.profile c n ((h.state.block n).pair c).acquiring (next_tracker sys) rest h machine beside)

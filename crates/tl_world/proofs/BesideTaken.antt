@@ -72,12 +72,16 @@ low_all : each_phase low_test ≡ true
 unfolding each_phase low_test
 low_all = refl
 
-low_recorded : (p : Pair) (v : View) → ok p v ≡ true → (is_other v && (not (same_perm (report_left (report_told p.probing)) perm.Trunk) && not (is_sent p.probing))) ≡ true → not (same_perm p.recorded perm.Trunk) ≡ true
+low_recorded : (p : Pair) (v : View) → ok p v ≡ true
+    → (is_other v && (not (same_perm (report_left (report_told p.probing)) perm.Trunk) && not (is_sent p.probing))) ≡ true
+    → not (same_perm p.recorded perm.Trunk) ≡ true
 unfolding low_test
-low_recorded p v h e = implies_is (is_other v && (not (same_perm (report_left (report_told p.probing)) perm.Trunk) && not (is_sent p.probing))) (not (same_perm p.recorded perm.Trunk)) (of_phase low_test low_all p v h) e
+low_recorded p v h e = implies_is (is_other v && (not (same_perm (report_left (report_told p.probing)) perm.Trunk) && not (is_sent p.probing)))
+    (not (same_perm p.recorded perm.Trunk)) (of_phase low_test low_all p v h) e
 
 -- the last report has been told
-pub memory-reported : (caching : ℕ → Bool) (c q source : ℕ) (r : Report) (k : Cap) (b : Block (List ℕ)) → IsWell caching b → b.service ≡ Waits q false source k → (b.pair c).probing ≡ Answered r → ((d : ℕ) → (d ≡ c → ⊥) → is_quiet (b.pair d).probing ≡ true)
+pub memory-reported : (caching : ℕ → Bool) (c q source : ℕ) (r : Report) (k : Cap) (b : Block (List ℕ)) → IsWell caching b → b.service ≡ Waits q false source k
+    → (b.pair c).probing ≡ Answered r → ((d : ℕ) → (d ≡ c → ⊥) → is_quiet (b.pair d).probing ≡ true)
     → written r b.truth b.memory ≡ b.truth
 memory-reported caching c q source r k b well waits answered settled = go (same_perm (report_left r) perm.Trunk) refl
   where
@@ -138,7 +142,9 @@ reply_reach {w} x f = go x.opcode
 
 -- the machine after it
 pub beside-performed : {w : ℕ} (config : Config) (c source : ℕ) (a : MessageA w) (bytes : List ℕ) (mail : Mail w) (s s' : State (List ℕ)) (m : Machine w) → IsPerformed config c source a mail s m
-    → ((f : Memory) → IsBlock f (block_at a.address) (s.block (block_at a.address)).truth → (effect (message.A a) (bytes_at (block_at a.address) (s.block (block_at a.address)).truth)).1 ≡ (effect (message.A a) (bytes_at (block_at a.address) bytes)).1)
+    → ((f : Memory) → IsBlock f (block_at a.address) (s.block (block_at a.address)).truth
+    → (effect (message.A a) (bytes_at (block_at a.address) (s.block (block_at a.address)).truth)).1
+    ≡ (effect (message.A a) (bytes_at (block_at a.address) bytes)).1)
     → ((i : ℕ) → (i ≡ block_at a.address → ⊥) → (s'.block i).truth ≡ (s.block i).truth) → (s'.block (block_at a.address)).truth ≡ performs a (s.block (block_at a.address)).truth
     → ((d i : ℕ) → s'.uses d i ≡ set_at c source Replied s.uses d i) → ((d i : ℕ) → s'.lets d i ≡ s.lets d i)
     → ((d n : ℕ) → (((s'.block n).pair d).acquiring ≡ ((s.block n).pair d).acquiring) × ((s'.block n).waiting d ≡ (s.block n).waiting d))
@@ -152,7 +158,12 @@ beside-performed {w} config c source a bytes mail s s' m is same_reply others ch
       here = (
         (effect (message.A is.opened.0) m.memory).1,
         (is.opened.0, is.opened.1, open-here c Requests source (Some now) (with_memory (effect (message.A is.opened.0) m.memory).0 m)),
-        subst (λ (x : Message w). Answers x (effect (message.A is.opened.0) m.memory).1 (set_at c source (answers a bytes) mail.answer c source)) (sym is.request) (set_at-same c source (answers a bytes) mail.answer ∙ ap (λ r. access_answer a (answer_of (message.A a) r)) (sym reply_is), reaches),
+        subst (λ (x : Message w). Answers x (effect (message.A is.opened.0) m.memory).1 (set_at c source (answers a bytes) mail.answer c source))
+            (sym is.request) (
+              set_at-same c source (answers a bytes) mail.answer
+                  ∙ ap (λ r. access_answer a (answer_of (message.A a) r)) (sym reply_is),
+              reaches,
+            ),
       );
       there = λ d i else_. open-there c Requests source (Some now) (with_memory (effect (message.A is.opened.0) m.memory).0 m) d i else_;
       releases = λ d i. open-releases c source (Some now) (with_memory (effect (message.A is.opened.0) m.memory).0 m) d i;
@@ -184,11 +195,13 @@ beside-performed {w} config c source a bytes mail s s' m is same_reply others ch
         subst (λ (j : ℕ). IsBlock (effect (message.A is.opened.0) m.memory).0 j (s'.block j).truth) (sym same)
         (subst (λ (y : Memory × memory.AccessResult). IsBlock y.0 n (s'.block n).truth) (sym effect_is) (subst (λ (z : List ℕ). IsBlock (effect (message.A a) m.memory).0 n z) (sym changed) blocks.0))
     block_now i (inr other) =
-        subst (λ (y : Memory × memory.AccessResult). IsBlock y.0 i (s'.block i).truth) (sym effect_is) (subst (λ (z : List ℕ). IsBlock (effect (message.A a) m.memory).0 i z) (sym (others i other)) (blocks.1 i other))
+        subst (λ (y : Memory × memory.AccessResult). IsBlock y.0 i (s'.block i).truth) (sym effect_is)
+        (subst (λ (z : List ℕ). IsBlock (effect (message.A a) m.memory).0 i z) (sym (others i other)) (blocks.1 i other))
 
     reply_is : (effect (message.A is.opened.0) m.memory).1 ≡ (effect (message.A a) (bytes_at n bytes)).1
     reply_is =
-        ap (λ (y : Memory × memory.AccessResult). y.1) effect_is ∙ reply-performed (level_of config c) a m.memory (s.block n).truth is.width is.sent.1 (h.memory n) is.long ∙ same_reply m.memory (h.memory n)
+        ap (λ (y : Memory × memory.AccessResult). y.1) effect_is
+        ∙ reply-performed (level_of config c) a m.memory (s.block n).truth is.width is.sent.1 (h.memory n) is.long ∙ same_reply m.memory (h.memory n)
 
     reaches : IsReach a (effect (message.A is.opened.0) m.memory).1
     reaches = subst (λ (y : Memory × memory.AccessResult). IsReach a y.1) (sym effect_is) (reply_reach a m.memory)

@@ -5,8 +5,10 @@ use Rattle.std.proofs.lemmas.Bool.{eqb-true}
 use Rattle.tl_params.specs.declared.param.Cap.{Cap}
 use Rattle.tl_params.specs.declared.param.Grow.{Grow}
 use Rattle.tl_world.specs.Invariant.{is_asked, is_replied, is_of, acquires_of, serves_of}
-use Rattle.tl_world.specs.Phase.{View, Own, Other, Granting, Acknowledging, GrantedOther, is_calm, Probing, Quiet, Sent, Answered, Letting, Kept, Releasing, Acked, Acquiring, Calm, Wants, is_quiet, is_kept}
-use Rattle.tl_world.specs.Protocol.{Service, Free, Waits, GrantSent, GrantTaken, Use, Closed, Asked, InService, Replied, Acquires, view, is_wanting, is_sent, is_answered, is_releasing, is_acked, is_granting, is_acknowledging}
+use Rattle.tl_world.specs.Phase.{View, Own, Other, Granting, Acknowledging, GrantedOther, is_calm, Probing, Quiet, Sent, Answered, Letting, Kept, Releasing}
+use Rattle.tl_world.specs.Phase.{Acked, Acquiring, Calm, Wants, is_quiet, is_kept}
+use Rattle.tl_world.specs.Protocol.{Service, Free, Waits, GrantSent, GrantTaken, Use, Closed, Asked, InService, Replied, Acquires, view, is_wanting, is_sent}
+use Rattle.tl_world.specs.Protocol.{is_answered, is_releasing, is_acked, is_granting, is_acknowledging}
 use Rattle.tl_world.specs.Render.{cap_sent, report_told, prune_told}
 use Rattle.tl_world.proofs.Facts.{is_other}
 

@@ -1,7 +1,7 @@
 -- An Acquire that is started alone brings what it asks for.
 use Rattle.std.proofs.Common.{◌≡◌, subst, ℕ, zero, suc, true, false, List, ◌∷◌, Option, Some, None, refl, sym, ◌∙◌, ap}
 use Rattle.tl_beat.specs.declared.beat.Link.{Link}
-use Rattle.tl_beat.specs.declared.opcode.Channel.{Channel}
+use Rattle.tl_beat.specs.declared.channel.Channel.{Channel}
 use Rattle.tl_params.specs.declared.config.Config.{Config}
 use Rattle.tl_params.specs.declared.param.Grow.{Grow}
 use Rattle.tl_params.specs.declared.profile.Profile.{Profile}
@@ -51,7 +51,8 @@ lone_asked : (p : Profile) (c n source : ℕ) (g : Grow) (bytes : List ℕ) (s :
 lone_asked p c n source g bytes s closed = record {
   others = λ d i else_. set_at-there c source (Acquires n) s.uses d i else_ ∙ closed.uses d i;
   brings = wanting (s'.uses c source) ((s'.block n).pair c) (set_at-same c source (Acquires n) s.uses)
-      (ap (λ (b : Block (List ℕ)). (b.pair c).acquiring) (set-same n (acquiring_block c source false g bytes (s.block n)) s.block) ∙ ap (λ (x : Pair). x.acquiring) (set-same c (after_acquire false g ((s.block n).pair c)) (s.block n).pair));
+      (ap (λ (b : Block (List ℕ)). (b.pair c).acquiring) (set-same n (acquiring_block c source false g bytes (s.block n)) s.block)
+      ∙ ap (λ (x : Pair). x.acquiring) (set-same c (after_acquire false g ((s.block n).pair c)) (s.block n).pair));
 }
   where
     s' : State (List ℕ)
@@ -65,7 +66,8 @@ lone_started : {w : ℕ} (config : Config) (log : Log w) (c n source : ℕ) (g :
 unfolding shadow IsLog
 lone_started {w} config log c n source g none given =
     subst (λ (o : Outcome w). IsLone config.profile c n source g (followed_by config (Ask c (Acquire n g)) o (after config log) (shadow config log)).state) given.is_log.0
-    (lone_asked config.profile c n source g (((shadow config log).state.block n).waiting c) (shadow config log).state (nothing_open config log (given-before config (Ask c (Acquire n g), Replied (Started source)) log given) none))
+    (lone_asked config.profile c n source g (((shadow config log).state.block n).waiting c) (shadow config log).state
+    (nothing_open config log (given-before config (Ask c (Acquire n g), Replied (Started source)) log given) none))
 
 -- ---- as it is drained
 
@@ -76,7 +78,9 @@ lone_delivered {w} config log c n source g link ch given is =
     let matched = matched-given config log given in
     delivered-cases config log h.mail h.request h.state (after config log) link ch (λ (i : Shadow w). IsLone config.profile c n source g i.state) given.width matched is
     (λ x queue d.
-    lone-kind_taken config.profile c n source g (is_caching config) config (next_tracker (after config log)) link.0 d.first.kind d.first.number d.first.rest h matched.invariant matched.given (on-first config h.mail h.state (after config log) link ch x queue d) is)
+    lone-kind_taken config.profile c n source g (is_caching config) config
+    (next_tracker (after config log)) link.0 d.first.kind d.first.number d.first.rest h matched.invariant matched.given
+    (on-first config h.mail h.state (after config log) link ch x queue d) is)
 
 lone_next : {w : ℕ} (config : Config) (log : Log w) (c n source : ℕ) (g : Grow) (o : Option (Link × Channel)) → IsGiven config log → IsLone config.profile c n source g (shadow config log).state
     → IsLone config.profile c n source g (shadow config (with_delivery config o log)).state
@@ -110,4 +114,6 @@ alone {w} config log client block source n grow none given drains =
     let end : Log w = drained config n start in
     let is = lone_drained config n start client block source grow (record { given = given; lone = lone_started config log client block source grow none given }) in
     let closed = nothing_open config end is.given drains.nothing_left in
-    ap (grown_to config.profile grow) (((matched-given config end is.given).known client).held_is block) ∙ brought config.profile block grow ((shadow config end).state.uses client source) (((shadow config end).state.block block).pair client) (closed.uses client source) is.lone.brings
+    ap (grown_to config.profile grow) (((matched-given config end is.given).known client).held_is block)
+    ∙ brought config.profile block grow ((shadow config end).state.uses client source) (((shadow config end).state.block block).pair client)
+    (closed.uses client source) is.lone.brings

@@ -26,7 +26,8 @@ use Rattle.tl_world.specs.declared.event.Event.TheVariants.{Ask, Deliver}
 use Rattle.tl_world.specs.declared.event.Outcome.{Outcome}
 use Rattle.tl_world.specs.declared.event.Outcome.TheVariants as outcome
 use Rattle.tl_world.specs.Log.{Log, after}
-use Rattle.tl_world.specs.Machine.{Machine, Open, Pool, Requests, after_end, after_reply, first, memory_after, moved, performed, performed_op, performed_open, pool_of, pool_of_op, same_pool, with_memory, with_open}
+use Rattle.tl_world.specs.Machine.{Machine, Open, Pool, Requests, after_end, after_reply, first, memory_after, moved, performed, performed_op, performed_open}
+use Rattle.tl_world.specs.Machine.{pool_of, pool_of_op, same_pool, with_memory, with_open}
 use Rattle.tl_world.specs.Ranged.{AreBytes, AreRanged, IsRanged, IsRangedOp}
 use Rattle.tl_world.specs.Remembered.{accesses_answered, performing, remembered}
 use Rattle.tl_world.specs.Step.{stepped}
@@ -130,14 +131,16 @@ pub record IsRangedMachine {w : ℕ} (m : Machine w) : Type 0 where
 first-ranged : {w : ℕ} → IsRangedMachine (first {w = w})
 first-ranged = record { memory = λ address. lit< tt; opened = λ c pool source. tt }
 
-opened-ranged : {w : ℕ} (client : ℕ) (at : Pool) (n : ℕ) (o : Option (Open w)) (f : Memory) (m : Machine w) → HasBytes f → IsRangedOpen o → IsRangedMachine m → IsRangedMachine (with_open client at n o (with_memory f m))
+opened-ranged : {w : ℕ} (client : ℕ) (at : Pool) (n : ℕ) (o : Option (Open w)) (f : Memory) (m : Machine w) → HasBytes f → IsRangedOpen o → IsRangedMachine m
+    → IsRangedMachine (with_open client at n o (with_memory f m))
 opened-ranged {w} client at n o f m bytes is was = record { memory = bytes; opened = λ c pool source. go c pool source ((c == client) && (same_pool pool at && (source == n))) }
   where
     go : (c : ℕ) (pool : Pool) (source : ℕ) (b : Bool) → IsRangedOpen (if b then o else m.opened c pool source)
     go c pool source true = is
     go c pool source false = was.opened c pool source
 
-started-ranged : {w : ℕ} (client : ℕ) (o : Op w) (n : ℕ) (m : Machine w) → IsRangedOp o → IsRangedMachine m → IsRangedMachine (with_open client (pool_of_op o) n (Some (record { asked = o; answer = None })) m)
+started-ranged : {w : ℕ} (client : ℕ) (o : Op w) (n : ℕ) (m : Machine w) → IsRangedOp o → IsRangedMachine m
+    → IsRangedMachine (with_open client (pool_of_op o) n (Some (record { asked = o; answer = None })) m)
 started-ranged client o n m is was = opened-ranged client (pool_of_op o) n (Some (record { asked = o; answer = None })) m.memory m was.memory (is, tt) was
 
 reply-ranged : {w : ℕ} (client : ℕ) (o : Op w) (r : Reply) (m : Machine w) → IsRangedOp o → IsRangedMachine m → IsRangedMachine (after_reply client o r m)
@@ -224,4 +227,5 @@ pub remembered-ranged : {w : ℕ} (config : Config) (log : Log w) → AreRanged 
 unfolding remembered AreRanged
 remembered-ranged config [] ranged = first-ranged
 remembered-ranged config (x ∷ log) ranged =
-    performing-ranged (accesses_answered (stepped config x.0 (after config log)).handed) (moved x.0 x.1 (remembered config log)) (moved-ranged x.0 x.1 (remembered config log) ranged.0 (remembered-ranged config log ranged.1))
+    performing-ranged (accesses_answered (stepped config x.0 (after config log)).handed) (moved x.0 x.1 (remembered config log))
+    (moved-ranged x.0 x.1 (remembered config log) ranged.0 (remembered-ranged config log ranged.1))

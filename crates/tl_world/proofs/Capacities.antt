@@ -2,11 +2,12 @@
 use Rattle.std.proofs.Common.{◌≡◌, ℕ, ◌+◌, ◌<◌, ◌≤◌, Bool, true, false, refl, sym, ◌∙◌, ap, subst, arith}
 use Rattle.std.specs.Prelude.{◌||◌, not, length, Option, Some, None}
 use Rattle.std.proofs.lemmas.Bool.{and_parts}
-use Rattle.tl_beat.specs.declared.opcode.Channel.{Channel}
-use Rattle.tl_beat.specs.declared.opcode.Channel.TheVariants as channel
+use Rattle.tl_beat.specs.declared.channel.Channel.{Channel}
+use Rattle.tl_beat.specs.declared.channel.Channel.TheVariants as channel
 use Rattle.tl_world.specs.Phase.{Pair, View, Other, Idle, Own, Granting, Acknowledging, GrantedOther, is_kept, is_quiet, is_idle, ok}
 use Rattle.tl_world.specs.Token.{Kind, Request, Acquire, Probe, ProbeAck, Release, Answer, Grant, ReleaseAck, GrantAck, Token, same_kind, is, one_if, count}
-use Rattle.tl_world.specs.Protocol.{Service, Free, Waits, GrantSent, GrantTaken, State, Use, Closed, Asked, Replied, Acquires, token, view, on, tokens_on, is_on, is_wanting, is_granting, is_acknowledging, shown}
+use Rattle.tl_world.specs.Protocol.{Service, Free, Waits, GrantSent, GrantTaken, State, Use, Closed, Asked, Replied, Acquires, token, view, on, tokens_on}
+use Rattle.tl_world.specs.Protocol.{is_on, is_wanting, is_granting, is_acknowledging, shown}
 use Rattle.tl_world.specs.Invariant.{IsInvariant, is_asked, is_replied, is_busy}
 use Rattle.tl_world.proofs.Distinct.{passing, pass-or-not, all-pass, few, IsThere}
 use Rattle.tl_world.proofs.Tokens.{same_number}

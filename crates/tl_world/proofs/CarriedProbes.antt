@@ -5,8 +5,8 @@ use Rattle.std.specs.Prelude.{◌==◌, if◌then◌else◌}
 use Rattle.std.proofs.lemmas.Bool.{cases_eq, cases_lt, ne_eqb}
 use Rattle.tl_beat.specs.Width.{IsWidth}
 use Rattle.tl_beat.specs.declared.beat.Beat.{Beat}
-use Rattle.tl_beat.specs.declared.opcode.Channel.{Channel}
-use Rattle.tl_beat.specs.declared.opcode.Channel.TheVariants as channel
+use Rattle.tl_beat.specs.declared.channel.Channel.{Channel}
+use Rattle.tl_beat.specs.declared.channel.Channel.TheVariants as channel
 use Rattle.tl_burst.specs.declared.message.Message.{Message}
 use Rattle.tl_burst.specs.Burst.{beats_of}
 use Rattle.tl_params.specs.declared.param.Cap.{Cap}
@@ -17,7 +17,8 @@ use Rattle.tl_manager.specs.Holders.{clients_from}
 use Rattle.tl_world.specs.Phase.{Pair}
 use Rattle.tl_world.specs.PhaseSteps.{is_above, after_served}
 use Rattle.tl_world.specs.Token.{Kind, Request, Acquire, Probe, ProbeAck, Answer, Grant, Token, set, set_at}
-use Rattle.tl_world.specs.Protocol.{Free, Waits, Block, State, Link, token, tokens_on, shown, with_probe, is_probed, popped_link, granted_link, served_link, served_block, acquire_served, access_served, report_answers, ended_block, report_grants, granted_block}
+use Rattle.tl_world.specs.Protocol.{Free, Waits, Block, State, Link, token, tokens_on, shown, with_probe, is_probed, popped_link, granted_link, served_link}
+use Rattle.tl_world.specs.Protocol.{served_block, acquire_served, access_served, report_answers, ended_block, report_grants, granted_block}
 use Rattle.tl_world.specs.Invariant.{IsInvariant, is_replied}
 use Rattle.tl_world.specs.Move.{Move, Stays, Pushes, Pops, IsMoved}
 use Rattle.tl_world.specs.Matched.{AreCarried}
@@ -36,7 +37,8 @@ use Rattle.tl_world.proofs.Tokens.{same_number, set-same, set-other}
 
 -- ---- Probes that are handed out
 
-own_probe : {w : ℕ} (n : ℕ) (k : Cap) (d : ℕ) (s : System w) → (with_message d (probe_of_block n k) s).channels d channel.B ≡ s.channels d channel.B ++ beats_from (probe_of_block n k) 0 (beats_of (probe_of_block {w = w} n k))
+own_probe : {w : ℕ} (n : ℕ) (k : Cap) (d : ℕ) (s : System w) → (with_message d (probe_of_block n k) s).channels d channel.B ≡ s.channels d channel.B
+    ++ beats_from (probe_of_block n k) 0 (beats_of (probe_of_block {w = w} n k))
 own_probe n k d s = rw (same_number d) refl
 
 other_probe : {w : ℕ} (n : ℕ) (k : Cap) (c d : ℕ) (at : Channel) (s : System w) → (d ≡ c → ⊥) → (with_message c (probe_of_block n k) s).channels d at ≡ s.channels d at
@@ -50,12 +52,14 @@ aside_probe {w} n k c d at s aside = rw aside (go (d == c))
     go false = refl
 
 -- Probes go on channel B
-pub probes-aside : {w : ℕ} (n : ℕ) (k : Cap) (clients : List ℕ) (d : ℕ) (at : Channel) (s : System w) → same_channel at channel.B ≡ false → (with_messages (probes n k clients) s).channels d at ≡ s.channels d at
+pub probes-aside : {w : ℕ} (n : ℕ) (k : Cap) (clients : List ℕ) (d : ℕ) (at : Channel) (s : System w) → same_channel at channel.B ≡ false
+    → (with_messages (probes n k clients) s).channels d at ≡ s.channels d at
 unfolding with_messages
 probes-aside n k [] d at s aside = refl
 probes-aside n k (c ∷ clients) d at s aside = probes-aside n k clients d at (with_message c (probe_of_block n k) s) aside ∙ aside_probe n k c d at s aside
 
-probes_below : {w : ℕ} (n : ℕ) (k : Cap) (first count : ℕ) (test : ℕ → Bool) (d : ℕ) (s : System w) → d < first → (with_messages (probes n k (clients_from first count test)) s).channels d channel.B ≡ s.channels d channel.B
+probes_below : {w : ℕ} (n : ℕ) (k : Cap) (first count : ℕ) (test : ℕ → Bool) (d : ℕ) (s : System w) → d < first
+    → (with_messages (probes n k (clients_from first count test)) s).channels d channel.B ≡ s.channels d channel.B
 unfolding with_messages clients_from
 probes_below n k first zero test d s lt = refl
 probes_below {w} n k first (suc count) test d s lt = go (λ u. probes_below n k (first + 1) count test d u (omega (arith, lt))) (test first)
@@ -67,7 +71,8 @@ probes_below {w} n k first (suc count) test d s lt = go (λ u. probes_below n k 
         rest (with_message first (probe_of_block n k) s) ∙ other_probe n k first d channel.B s ne
     go rest false = rest s
 
-pub probes-past : {w : ℕ} (n : ℕ) (k : Cap) (first count : ℕ) (test : ℕ → Bool) (d : ℕ) (s : System w) → first + count ≤ d → (with_messages (probes n k (clients_from first count test)) s).channels d channel.B ≡ s.channels d channel.B
+pub probes-past : {w : ℕ} (n : ℕ) (k : Cap) (first count : ℕ) (test : ℕ → Bool) (d : ℕ) (s : System w) → first + count ≤ d
+    → (with_messages (probes n k (clients_from first count test)) s).channels d channel.B ≡ s.channels d channel.B
 unfolding with_messages clients_from
 probes-past n k first zero test d s le = refl
 probes-past {w} n k first (suc count) test d s le = go (λ u. probes-past n k (first + 1) count test d u (omega (arith, le))) (test first)
@@ -87,10 +92,12 @@ probes-among {w} n k first (suc count) test d s le lt =
     go (cases_eq d first) (λ ne u. probes-among n k (first + 1) count test d u (omega (arith, le, ne)) (omega (arith, lt)))
   where
     Rest : Type 0
-    Rest = (u : System w) → (with_messages (probes n k (clients_from (first + 1) count test)) u).channels d channel.B ≡ behind (if test d then Some (probe_of_block n k) else None) (u.channels d channel.B)
+    Rest = (u : System w) → (with_messages (probes n k (clients_from (first + 1) count test)) u).channels d channel.B ≡ behind
+        (if test d then Some (probe_of_block n k) else None) (u.channels d channel.B)
 
     at_first : (b : Bool)
-        → (with_messages (probes n k (if b then d ∷ clients_from (d + 1) count test else clients_from (d + 1) count test)) s).channels d channel.B ≡ behind (if b then Some (probe_of_block n k) else None) (s.channels d channel.B)
+        → (with_messages (probes n k (if b then d ∷ clients_from (d + 1) count test else clients_from (d + 1) count test)) s).channels d channel.B ≡ behind
+        (if b then Some (probe_of_block n k) else None) (s.channels d channel.B)
     at_first true = probes_below n k (d + 1) count test d (with_message d (probe_of_block n k) s) (omega arith) ∙ own_probe n k d s
     at_first false = probes_below n k (d + 1) count test d s (omega arith)
 
@@ -110,7 +117,8 @@ abbrev pub probe_pushes : {w : ℕ} → ℕ → Cap → (ℕ → Bool) → ℕ �
 probe_pushes n k test d channel.B = if test d then Some (probe_of_block n k) else None
 probe_pushes n k test d _ = None
 
-pub channels-probes : {w : ℕ} (n : ℕ) (k : Cap) (count : ℕ) (test probed : ℕ → Bool) (s : System w) → ((d : ℕ) → d < count → test d ≡ probed d) → ((d : ℕ) → count ≤ d → probed d ≡ false) → (d : ℕ) (at : Channel)
+pub channels-probes : {w : ℕ} (n : ℕ) (k : Cap) (count : ℕ) (test probed : ℕ → Bool) (s : System w) → ((d : ℕ) → d < count → test d ≡ probed d)
+    → ((d : ℕ) → count ≤ d → probed d ≡ false) → (d : ℕ) (at : Channel)
     → (with_messages (probes n k (clients_from 0 count test)) s).channels d at ≡ behind (probe_pushes n k probed d at) (s.channels d at)
 channels-probes n k count test probed s same none d channel.A = probes-aside n k (clients_from 0 count test) d channel.A s refl
 channels-probes n k count test probed s same none d channel.C = probes-aside n k (clients_from 0 count test) d channel.C s refl
@@ -170,7 +178,8 @@ pushes_is n k test d channel.D = refl
 pushes_is n k test d channel.E = refl
 
 -- the Probe that one is sent
-sent_probe : (w r : ℕ) (own : Bool) (n : ℕ) (k : Cap) (d : ℕ) (p : Pair) → is_probed r own k p.recorded d ≡ true → probe_of_block {w = w} n (cap_sent (if own && (d == r) then p else after_served k p).probing) ≡ probe_of_block n k
+sent_probe : (w r : ℕ) (own : Bool) (n : ℕ) (k : Cap) (d : ℕ) (p : Pair) → is_probed r own k p.recorded d ≡ true
+    → probe_of_block {w = w} n (cap_sent (if own && (d == r) then p else after_served k p).probing) ≡ probe_of_block n k
 sent_probe w r own n k d p e = go (own && (d == r)) (is_above k p.recorded) refl e
   where
     go : (x y : Bool) → is_above k p.recorded ≡ y → (not x && y) ≡ true → probe_of_block {w = w} n (cap_sent (if x then p else after_served k p).probing) ≡ probe_of_block n k
@@ -183,10 +192,15 @@ sent_rendered : {w : ℕ} (r : ℕ) (own : Bool) (source tracker : ℕ) (n : ℕ
 unfolding rendered
 sent_rendered {w} r own source tracker n k d b e = sent_probe w r own n k d (b.pair d) e
 
-pub served-shown : {w : ℕ} (caching : ℕ → Bool) (r n : ℕ) (own : Bool) (source tracker : ℕ) (k : Cap) (rest : List Token) (mail : Mail w) (s s' : State (List ℕ)) → IsInvariant caching s → IsInvariant caching s' → (s.link r).a ≡ token (kind_served own) (number_served own n source) ∷ rest → (s.block n).service ≡ Free → ((i : ℕ) → s'.block i ≡ set n (served_block r own source tracker k (s.block n)) s.block i) → ((d : ℕ) → s'.link d ≡ served_link r own n k rest (s.block n) s.link d) → IsShown caching n r channel.A (probe_pushes n k (λ d. is_probed r own k ((s.block n).pair d).recorded d)) mail mail s s'
+pub served-shown : {w : ℕ} (caching : ℕ → Bool) (r n : ℕ) (own : Bool) (source tracker : ℕ) (k : Cap) (rest : List Token) (mail : Mail w)
+    (s s' : State (List ℕ)) → IsInvariant caching s → IsInvariant caching s' → (s.link r).a ≡ token (kind_served own) (number_served own n source) ∷ rest
+    → (s.block n).service ≡ Free → ((i : ℕ) → s'.block i ≡ set n (served_block r own source tracker k (s.block n)) s.block i)
+    → ((d : ℕ) → s'.link d ≡ served_link r own n k rest (s.block n) s.link d)
+    → IsShown caching n r channel.A (probe_pushes n k (λ d. is_probed r own k ((s.block n).pair d).recorded d)) mail mail s s'
 served-shown {w} caching r n own source tracker k rest mail s s' inv inv' first free blocks links = record {
   moves = moves;
-  showing = showing-block caching n new moves mail mail s s' inv inv' (λ d ch. moved d ch) blocks (alike-served caching r own source tracker k (s.block n) (inv.blocks n) free) (λ i j e f. refl) (λ i j e f. refl);
+  showing = showing-block caching n new moves mail mail s s' inv inv' (λ d ch. moved d ch) blocks
+      (alike-served caching r own source tracker k (s.block n) (inv.blocks n) free) (λ i j e f. refl) (λ i j e f. refl);
   fits = λ d at. fits d at;
 }
   where
@@ -214,22 +228,28 @@ served-shown {w} caching r n own source tracker k rest mail s s' inv inv' first 
     fits : (d : ℕ) (at : Channel) → Fits ((d == r) && same_channel at channel.A) (probe_pushes n k test d at) (moves d at) (λ j l. message_of mail s' d (token j l))
     fits d at = rw (pushes_is {w = w} n k test d at) (served_fits n k at (d == r) (test d) (kind_served own) (number_served own n source) (λ j l. message_of mail s' d (token j l)) (render_is d))
 
-pub served-carried : {w : ℕ} (caching : ℕ → Bool) (r n : ℕ) (own : Bool) (source tracker : ℕ) (k : Cap) (rest : List Token) (mail : Mail w) (s s' : State (List ℕ)) (sys sys' : System w) (x : Beat w) (queue : List (Beat w)) → IsWidth w
+pub served-carried : {w : ℕ} (caching : ℕ → Bool) (r n : ℕ) (own : Bool) (source tracker : ℕ) (k : Cap) (rest : List Token) (mail : Mail w)
+    (s s' : State (List ℕ)) (sys sys' : System w) (x : Beat w) (queue : List (Beat w)) → IsWidth w
     → IsInvariant caching s → IsInvariant caching s' → (s.link r).a ≡ token (kind_served own) (number_served own n source) ∷ rest → (s.block n).service ≡ Free
     → ((i : ℕ) → s'.block i ≡ set n (served_block r own source tracker k (s.block n)) s.block i) → ((d : ℕ) → s'.link d ≡ served_link r own n k rest (s.block n) s.link d)
     → IsTaken r channel.A x queue (probe_pushes n k (λ d. is_probed r own k ((s.block n).pair d).recorded d)) sys sys' → AreCarried mail s sys → AreCarried mail s' sys'
 served-carried {w} caching r n own source tracker k rest mail s s' sys sys' x queue width inv inv' first free blocks links taken h =
-    carried-shown caching n r channel.A (probe_pushes n k (λ d. is_probed r own k ((s.block n).pair d).recorded d)) mail mail s s' sys sys' x queue width (served-shown caching r n own source tracker k rest mail s s' inv inv' first free blocks links) taken h
+    carried-shown caching n r channel.A (probe_pushes n k (λ d. is_probed r own k ((s.block n).pair d).recorded d)) mail mail s s' sys sys' x queue width
+    (served-shown caching r n own source tracker k rest mail s s' inv inv' first free blocks links) taken h
 
-pub acquire_served-carried : {w : ℕ} (caching : ℕ → Bool) (r n source tracker : ℕ) (k : Cap) (rest : List Token) (mail : Mail w) (s : State (List ℕ)) (sys sys' : System w) (x : Beat w) (queue : List (Beat w)) → IsWidth w
+pub acquire_served-carried : {w : ℕ} (caching : ℕ → Bool) (r n source tracker : ℕ) (k : Cap) (rest : List Token) (mail : Mail w) (s : State (List ℕ))
+    (sys sys' : System w) (x : Beat w) (queue : List (Beat w)) → IsWidth w
     → IsInvariant caching s → IsInvariant caching (acquire_served r n source tracker k rest s) → (s.link r).a ≡ token Acquire n ∷ rest → (s.block n).service ≡ Free
-    → IsTaken r channel.A x queue (probe_pushes n k (λ d. is_probed r true k ((s.block n).pair d).recorded d)) sys sys' → AreCarried mail s sys → AreCarried mail (acquire_served r n source tracker k rest s) sys'
+    → IsTaken r channel.A x queue (probe_pushes n k (λ d. is_probed r true k ((s.block n).pair d).recorded d)) sys sys' → AreCarried mail s sys
+    → AreCarried mail (acquire_served r n source tracker k rest s) sys'
 acquire_served-carried caching r n source tracker k rest mail s sys sys' x queue width inv inv' first free taken h =
     served-carried caching r n true source tracker k rest mail s (acquire_served r n source tracker k rest s) sys sys' x queue width inv inv' first free (λ i. refl) (λ d. refl) taken h
 
-pub access_served-carried : {w : ℕ} (caching : ℕ → Bool) (r n source tracker : ℕ) (k : Cap) (rest : List Token) (mail : Mail w) (s : State (List ℕ)) (sys sys' : System w) (x : Beat w) (queue : List (Beat w)) → IsWidth w
+pub access_served-carried : {w : ℕ} (caching : ℕ → Bool) (r n source tracker : ℕ) (k : Cap) (rest : List Token) (mail : Mail w) (s : State (List ℕ))
+    (sys sys' : System w) (x : Beat w) (queue : List (Beat w)) → IsWidth w
     → IsInvariant caching s → IsInvariant caching (access_served r n source tracker k rest s) → (s.link r).a ≡ token Request source ∷ rest → (s.block n).service ≡ Free
-    → IsTaken r channel.A x queue (probe_pushes n k (λ d. is_probed r false k ((s.block n).pair d).recorded d)) sys sys' → AreCarried mail s sys → AreCarried mail (access_served r n source tracker k rest s) sys'
+    → IsTaken r channel.A x queue (probe_pushes n k (λ d. is_probed r false k ((s.block n).pair d).recorded d)) sys sys' → AreCarried mail s sys
+    → AreCarried mail (access_served r n source tracker k rest s) sys'
 access_served-carried caching r n source tracker k rest mail s sys sys' x queue width inv inv' first free taken h =
     served-carried caching r n false source tracker k rest mail s (access_served r n source tracker k rest s) sys sys' x queue width inv inv' first free (λ i. refl) (λ d. refl) taken h
 
@@ -271,7 +291,13 @@ popped_is c d rest link = elim (cases_eq d c) [
   | inr other ↦ rw (ne_eqb d c other) refl
 ]
 
-pub report_answers-shown : {w : ℕ} (caching : ℕ → Bool) (c q n source : ℕ) (r : Report) (k : Cap) (f : List ℕ → List ℕ) (rest : List Token) (m : Message w) (mail : Mail w) (s : State (List ℕ)) → IsInvariant caching s → IsInvariant caching (report_answers c q n source r f rest s) → (s.link c).c ≡ token ProbeAck n ∷ rest → (s.block n).service ≡ Waits q false source k → is_replied (s.uses q source) ≡ false → ((j : Kind) (i : ℕ) → shown j i (s.block n) ≡ true → shown j i (ended_block c r f (s.block n)) ≡ true → (carries j i (s.block n) ≡ false) ⊎ (f (s.block n).truth ≡ (s.block n).truth)) → channel_of_message m ≡ channel.D → IsShown caching n c channel.C (pushes_at q (pushes_of (Some m))) mail (record { request = mail.request; answer = set_at q source m mail.answer }) s (report_answers c q n source r f rest s)
+pub report_answers-shown : {w : ℕ} (caching : ℕ → Bool) (c q n source : ℕ) (r : Report) (k : Cap) (f : List ℕ → List ℕ) (rest : List Token) (m : Message w)
+    (mail : Mail w) (s : State (List ℕ)) → IsInvariant caching s → IsInvariant caching (report_answers c q n source r f rest s)
+    → (s.link c).c ≡ token ProbeAck n ∷ rest → (s.block n).service ≡ Waits q false source k → is_replied (s.uses q source) ≡ false
+    → ((j : Kind) (i : ℕ) → shown j i (s.block n) ≡ true → shown j i (ended_block c r f (s.block n)) ≡ true → (carries j i (s.block n) ≡ false)
+    ⊎ (f (s.block n).truth ≡ (s.block n).truth)) → channel_of_message m ≡ channel.D
+    → IsShown caching n c channel.C (pushes_at q (pushes_of (Some m))) mail (record { request = mail.request; answer = set_at q source m mail.answer }) s
+    (report_answers c q n source r f rest s)
 report_answers-shown {w} caching c q n source r k f rest m mail s inv inv' first waits used bytes chan = record {
   moves = moves;
   showing = showing-block caching n new moves mail mail' s s' inv inv' (λ d ch. moved d ch) (λ i. refl) (alike-ended c q source r k f (s.block n) waits bytes) (λ d i e g. refl)
@@ -305,22 +331,28 @@ report_answers-shown {w} caching c q n source r k f rest m mail s inv inv' first
     fits : (d : ℕ) (at : Channel) → Fits ((d == c) && same_channel at channel.C) (pushes_at q (pushes_of (Some m)) d at) (moves d at) (λ j l. message_of mail' s' d (token j l))
     fits d at = rw chan (ended_fits n source m at (d == c) (d == q) (λ j l. message_of mail' s' d (token j l)) (answer_is d))
 
-pub report_answers-carried : {w : ℕ} (caching : ℕ → Bool) (c q n source : ℕ) (r : Report) (k : Cap) (f : List ℕ → List ℕ) (rest : List Token) (m : Message w) (mail : Mail w) (s : State (List ℕ)) (sys sys' : System w) (x : Beat w) (queue : List (Beat w))
+pub report_answers-carried : {w : ℕ} (caching : ℕ → Bool) (c q n source : ℕ) (r : Report) (k : Cap) (f : List ℕ → List ℕ) (rest : List Token) (m : Message w)
+    (mail : Mail w) (s : State (List ℕ)) (sys sys' : System w) (x : Beat w) (queue : List (Beat w))
     → IsWidth w → IsInvariant caching s → IsInvariant caching (report_answers c q n source r f rest s) → (s.link c).c ≡ token ProbeAck n ∷ rest → (s.block n).service ≡ Waits q false source k
     → is_replied (s.uses q source) ≡ false
     → ((j : Kind) (i : ℕ) → shown j i (s.block n) ≡ true → shown j i (ended_block c r f (s.block n)) ≡ true → (carries j i (s.block n) ≡ false) ⊎ (f (s.block n).truth ≡ (s.block n).truth))
     → channel_of_message m ≡ channel.D → IsTaken c channel.C x queue (pushes_at q (pushes_of (Some m))) sys sys' → AreCarried mail s sys
     → AreCarried (record { request = mail.request; answer = set_at q source m mail.answer }) (report_answers c q n source r f rest s) sys'
 report_answers-carried {w} caching c q n source r k f rest m mail s sys sys' x queue width inv inv' first waits used bytes chan taken h =
-    carried-shown caching n c channel.C (pushes_at q (pushes_of (Some m))) mail (record { request = mail.request; answer = set_at q source m mail.answer }) s (report_answers c q n source r f rest s) sys sys' x queue width (report_answers-shown caching c q n source r k f rest m mail s inv inv' first waits used bytes chan) taken h
+    carried-shown caching n c channel.C (pushes_at q (pushes_of (Some m))) mail (record { request = mail.request; answer = set_at q source m mail.answer }) s
+    (report_answers c q n source r f rest s) sys sys' x queue width
+    (report_answers-shown caching c q n source r k f rest m mail s inv inv' first waits used bytes chan) taken h
 
 -- ---- the last report, for which an Acquire is granted
 
-granted_moved : (n c q d : ℕ) (ch : Channel) (rest : List Token) (link : ℕ → Link) → (c ≡ q → ⊥) → (link c).c ≡ token ProbeAck n ∷ rest → IsMoved (granted_moves n c q d ch) (tokens_on ch (link d)) (tokens_on ch (granted_link c q n rest link d))
+granted_moved : (n c q d : ℕ) (ch : Channel) (rest : List Token) (link : ℕ → Link) → (c ≡ q → ⊥) → (link c).c ≡ token ProbeAck n ∷ rest
+    → IsMoved (granted_moves n c q d ch) (tokens_on ch (link d)) (tokens_on ch (granted_link c q n rest link d))
 granted_moved n c q d ch rest link apart first = elim (cases_eq d q) [
   | inl same ↦ rw same (at_sender ch (granted_link c q n rest link q) (set-same q (record (link q) { d = (link q).d ++ token Grant n ∷ [] }) (popped_link c rest link)))
   | inr other ↦ elim (cases_eq d c) [
-    | inl also ↦ rw also (at_reporter ch (granted_link c q n rest link c) (set-other q c (record (link q) { d = (link q).d ++ token Grant n ∷ [] }) (popped_link c rest link) apart ∙ set-same c (record (link c) { c = rest }) link))
+    | inl also ↦ rw also (at_reporter ch (granted_link c q n rest link c)
+        (set-other q c (record (link q) { d = (link q).d ++ token Grant n ∷ [] }) (popped_link c rest link) apart
+        ∙ set-same c (record (link c) { c = rest }) link))
     | inr neither ↦
         at_other ch (granted_link c q n rest link d) other neither
         (set-other q d (record (link q) { d = (link q).d ++ token Grant n ∷ [] }) (popped_link c rest link) other ∙ set-other c d (record (link c) { c = rest }) link neither)
@@ -391,10 +423,15 @@ granted_fits {w} n m at c q d render e = rw (same at) (cases at (d == c) (d == q
     same channel.D = refl
     same channel.E = refl
 
-pub report_grants-shown : {w : ℕ} (caching : ℕ → Bool) (c q n source : ℕ) (r : Report) (d : Bool) (k gift : Cap) (rest : List Token) (m : Message w) (mail : Mail w) (s : State (List ℕ)) → IsInvariant caching s → IsInvariant caching (report_grants c q n r d gift rest s) → (s.link c).c ≡ token ProbeAck n ∷ rest → (s.block n).service ≡ Waits q true source k → (c ≡ q → ⊥) → channel_of_message m ≡ channel.D → rendered Grant q n (granted_block c q r d gift (s.block n)) ≡ m → IsShown caching n c channel.C (pushes_at q (pushes_of (Some m))) mail mail s (report_grants c q n r d gift rest s)
+pub report_grants-shown : {w : ℕ} (caching : ℕ → Bool) (c q n source : ℕ) (r : Report) (d : Bool) (k gift : Cap) (rest : List Token) (m : Message w)
+    (mail : Mail w) (s : State (List ℕ)) → IsInvariant caching s → IsInvariant caching (report_grants c q n r d gift rest s)
+    → (s.link c).c ≡ token ProbeAck n ∷ rest → (s.block n).service ≡ Waits q true source k → (c ≡ q → ⊥) → channel_of_message m ≡ channel.D
+    → rendered Grant q n (granted_block c q r d gift (s.block n)) ≡ m
+    → IsShown caching n c channel.C (pushes_at q (pushes_of (Some m))) mail mail s (report_grants c q n r d gift rest s)
 report_grants-shown {w} caching c q n source r d k gift rest m mail s inv inv' first waits apart chan is = record {
   moves = moves;
-  showing = showing-block caching n new moves mail mail s s' inv inv' (λ i ch. granted_moved n c q i ch rest s.link apart first) (λ i. refl) (alike-granted c q source r true d k gift (s.block n) waits apart) (λ i j e f. refl) (λ i j e f. refl);
+  showing = showing-block caching n new moves mail mail s s' inv inv' (λ i ch. granted_moved n c q i ch rest s.link apart first) (λ i. refl)
+      (alike-granted c q source r true d k gift (s.block n) waits apart) (λ i j e f. refl) (λ i j e f. refl);
   fits = λ i at. fits i at;
 }
   where
@@ -416,9 +453,12 @@ report_grants-shown {w} caching c q n source r d k gift rest m mail s inv inv' f
     fits : (i : ℕ) (at : Channel) → Fits ((i == c) && same_channel at channel.C) (pushes_at q (pushes_of (Some m)) i at) (moves i at) (λ j l. message_of mail s' i (token j l))
     fits i at = rw chan (granted_fits n m at c q i (λ j l. message_of mail s' i (token j l)) (grant_is i))
 
-pub report_grants-carried : {w : ℕ} (caching : ℕ → Bool) (c q n source : ℕ) (r : Report) (d : Bool) (k gift : Cap) (rest : List Token) (m : Message w) (mail : Mail w) (s : State (List ℕ)) (sys sys' : System w) (x : Beat w) (queue : List (Beat w))
+pub report_grants-carried : {w : ℕ} (caching : ℕ → Bool) (c q n source : ℕ) (r : Report) (d : Bool) (k gift : Cap) (rest : List Token) (m : Message w)
+    (mail : Mail w) (s : State (List ℕ)) (sys sys' : System w) (x : Beat w) (queue : List (Beat w))
     → IsWidth w → IsInvariant caching s → IsInvariant caching (report_grants c q n r d gift rest s) → (s.link c).c ≡ token ProbeAck n ∷ rest → (s.block n).service ≡ Waits q true source k → (c ≡ q → ⊥)
-    → channel_of_message m ≡ channel.D → rendered Grant q n (granted_block c q r d gift (s.block n)) ≡ m → IsTaken c channel.C x queue (pushes_at q (pushes_of (Some m))) sys sys' → AreCarried mail s sys
+    → channel_of_message m ≡ channel.D → rendered Grant q n (granted_block c q r d gift (s.block n)) ≡ m
+    → IsTaken c channel.C x queue (pushes_at q (pushes_of (Some m))) sys sys' → AreCarried mail s sys
     → AreCarried mail (report_grants c q n r d gift rest s) sys'
 report_grants-carried {w} caching c q n source r d k gift rest m mail s sys sys' x queue width inv inv' first waits apart chan is taken h =
-    carried-shown caching n c channel.C (pushes_at q (pushes_of (Some m))) mail mail s (report_grants c q n r d gift rest s) sys sys' x queue width (report_grants-shown caching c q n source r d k gift rest m mail s inv inv' first waits apart chan is) taken h
+    carried-shown caching n c channel.C (pushes_at q (pushes_of (Some m))) mail mail s (report_grants c q n r d gift rest s) sys sys' x queue width
+    (report_grants-shown caching c q n source r d k gift rest m mail s inv inv' first waits apart chan is) taken h

@@ -6,8 +6,8 @@ use Rattle.std.proofs.Math.Bool.{and_comm}
 use Rattle.tl_beat.specs.declared.beat.Beat.{Beat}
 use Rattle.tl_beat.specs.declared.beat.Beat.TheVariants as beat
 use Rattle.tl_beat.specs.declared.beat.BeatA.{BeatA}
-use Rattle.tl_beat.specs.declared.opcode.Channel.{Channel}
-use Rattle.tl_beat.specs.declared.opcode.Channel.TheVariants as channel
+use Rattle.tl_beat.specs.declared.channel.Channel.{Channel}
+use Rattle.tl_beat.specs.declared.channel.Channel.TheVariants as channel
 use Rattle.tl_burst.specs.declared.message.Message.{Message}
 use Rattle.tl_burst.specs.declared.message.Message.TheVariants as message
 use Rattle.tl_burst.specs.declared.message.MessageA.{MessageA}
@@ -78,19 +78,22 @@ on_a x channel.C = refl
 on_a x channel.D = refl
 on_a x channel.E = refl
 
-heard-coming : {w : ℕ} (config : Config) (c k : ℕ) (m : MessageA w) (queue : List (Beat w)) (sys : System w) → IsComing config c k m sys.manager → HasTaken c (beat.A (a_beat_of m k)) sys.manager (end_after config c k m sys.manager)
+heard-coming : {w : ℕ} (config : Config) (c k : ℕ) (m : MessageA w) (queue : List (Beat w)) (sys : System w) → IsComing config c k m sys.manager
+    → HasTaken c (beat.A (a_beat_of m k)) sys.manager (end_after config c k m sys.manager)
 heard-coming {w} config c k m queue sys is =
     let x : Beat w = beat.A (a_beat_of m k) in
     let step : Step w = handing (outcome.Moved x) (deed config (link_of c) x sys.manager).handed (with_manager (end_after config c k m sys.manager) (with_channel c channel.A queue sys)) in
     manager-heard config (link_of c) channel.A x queue sys step is.width is.typed is.kept (record { takes = offered-taken config (link_of c) channel.A x sys.manager is.passes; step_is = refl })
 
 -- what is handed out stands behind what was on the channels
-pub landed-coming : {w : ℕ} (config : Config) (c k : ℕ) (m : MessageA w) (queue : List (Beat w)) (sys : System w) (handed : Handed w) (pushes : ℕ → Channel → Option (Message w)) → IsComing config c k m sys.manager
+pub landed-coming : {w : ℕ} (config : Config) (c k : ℕ) (m : MessageA w) (queue : List (Beat w)) (sys : System w) (handed : Handed w)
+    (pushes : ℕ → Channel → Option (Message w)) → IsComing config c k m sys.manager
     → sys.channels c channel.A ≡ beat.A (a_beat_of m k) ∷ queue → (deed config (link_of c) (beat.A (a_beat_of m k)) sys.manager).handed ≡ handed
     → ((s : System w) (d : ℕ) (at : Channel) → (with_messages handed s).channels d at ≡ behind (pushes d at) (s.channels d at))
     → IsLanded c channel.A (beat.A (a_beat_of m k)) queue pushes sys (system_after config c k m queue sys)
 landed-coming {w} config c k m queue sys handed pushes is beats done pushed =
-    landed-manager c channel.A (beat.A (a_beat_of m k)) queue pushes (deed config (link_of c) (beat.A (a_beat_of m k)) sys.manager).handed (end_after config c k m sys.manager) sys refl beats (on_a (a_beat_of m k)) (heard-coming config c k m queue sys is)
+    landed-manager c channel.A (beat.A (a_beat_of m k)) queue pushes (deed config (link_of c) (beat.A (a_beat_of m k)) sys.manager).handed
+    (end_after config c k m sys.manager) sys refl beats (on_a (a_beat_of m k)) (heard-coming config c k m queue sys is)
     (λ d at. ap (λ (i : Handed w). (with_messages i base).channels d at) done ∙ pushed base d at)
   where
     base : System w
@@ -102,13 +105,15 @@ nothing-handed : {w : ℕ} (s : System w) (d : ℕ) (at : Channel) → (with_mes
 unfolding with_messages
 nothing-handed s d at = refl
 
-pub carried-more : {w : ℕ} (config : Config) (log : Log w) (mail : Mail w) (request : ℕ → MessageA w) (s : State (List ℕ)) (sys : System w) (c k : ℕ) (m : MessageA w) (queue : List (Beat w)) → IsMatched config log mail request s sys
+pub carried-more : {w : ℕ} (config : Config) (log : Log w) (mail : Mail w) (request : ℕ → MessageA w) (s : State (List ℕ)) (sys : System w) (c k : ℕ)
+    (m : MessageA w) (queue : List (Beat w)) → IsMatched config log mail request s sys
     → IsComing config c k m sys.manager → sys.channels c channel.A ≡ beat.A (a_beat_of m k) ∷ queue → completes (beat.A (a_beat_of m k)) (unfinished channel.A (on_link c sys.manager.trace)) ≡ false
     → AreCarried mail s (system_after config c k m queue sys)
 carried-more {w} config log mail request s sys c k m queue is comes beats part =
     let x : Beat w = beat.A (a_beat_of m k) in
     let done : (deed config (link_of c) x sys.manager).handed ≡ [] = ap (λ (d : Deed w). d.handed) (deed-part config (link_of c) x sys.manager part) in
-    carried-part mail s c channel.A x queue (λ d at. None) sys (system_after config c k m queue sys) comes.width (landed-coming config c k m queue sys [] (λ d at. None) comes beats done nothing-handed) (λ d at. refl) part is.carried
+    carried-part mail s c channel.A x queue (λ d at. None) sys (system_after config c k m queue sys) comes.width
+    (landed-coming config c k m queue sys [] (λ d at. None) comes beats done nothing-handed) (λ d at. refl) part is.carried
 
 -- ---- its last beat: others are probed
 
@@ -120,14 +125,17 @@ nothing_above cap.ToB false = refl
 nothing_above cap.ToN true = refl
 nothing_above cap.ToN false = refl
 
-pub taken-probing : {w : ℕ} (config : Config) (log : Log w) (mail : Mail w) (request : ℕ → MessageA w) (s : State (List ℕ)) (sys : System w) (c k n : ℕ) (own : Bool) (j : Cap) (m : MessageA w) (queue : List (Beat w)) → IsMatched config log mail request s sys
+pub taken-probing : {w : ℕ} (config : Config) (log : Log w) (mail : Mail w) (request : ℕ → MessageA w) (s : State (List ℕ)) (sys : System w) (c k n : ℕ)
+    (own : Bool) (j : Cap) (m : MessageA w) (queue : List (Beat w)) → IsMatched config log mail request s sys
     → IsComing config c k m sys.manager → sys.channels c channel.A ≡ beat.A (a_beat_of m k) ∷ queue → beats_of (message.A m) ≡ suc k → is_acquire m.opcode ≡ own → block_at m.address ≡ n
     → (deed config (link_of c) (beat.A (a_beat_of m k)) sys.manager).handed ≡ probes n j (probed config (service_for c m sys.manager.trace) j (with_beat c m k sys.manager.trace))
     → IsTaken c channel.A (beat.A (a_beat_of m k)) queue (probe_pushes n j (λ d. is_probed c own j ((s.block n).pair d).recorded d)) sys (system_after config c k m queue sys)
 taken-probing {w} config log mail request s sys c k n own j m queue is comes beats last kind block done =
     taken-landed c channel.A (beat.A (a_beat_of m k)) queue pushes sys (system_after config c k m queue sys)
     (landed-coming config c k m queue sys (probes n j (probed config (service_for c m sys.manager.trace) j (with_beat c m k sys.manager.trace))) pushes comes beats done
-    (λ v d at. channels-probes n j (length config.clients.items) (λ i. holders.is_above j (recorded i (block_at m.address) (with_beat c m k sys.manager.trace)) && not (is_spared (service_for c m sys.manager.trace) i)) test v (λ i lt. same i) none d at))
+    (λ v d at. channels-probes n j (length config.clients.items)
+    (λ i. holders.is_above j (recorded i (block_at m.address) (with_beat c m k sys.manager.trace))
+    && not (is_spared (service_for c m sys.manager.trace) i)) test v (λ i lt. same i) none d at))
     (ends-coming config c k m sys.manager comes ∙ rw last (is_last k (suc k) (omega arith)))
   where
     test : ℕ → Bool
@@ -137,14 +145,16 @@ taken-probing {w} config log mail request s sys c k n own j m queue is comes bea
     pushes = probe_pushes n j test
 
     same : (i : ℕ) → (holders.is_above j (recorded i (block_at m.address) (with_beat c m k sys.manager.trace)) && not (is_spared (service_for c m sys.manager.trace) i)) ≡ test i
-    same i = rw (block, recorded-beat c k m sys.manager.trace i n, is.managed.recorded_is i n, kind, same_above j ((s.block n).pair i).recorded, swapped c i) (and_comm (is_above j ((s.block n).pair i).recorded) (not (own && (i == c))))
+    same i = rw (block, recorded-beat c k m sys.manager.trace i n, is.managed.recorded_is i n, kind, same_above j ((s.block n).pair i).recorded, swapped c i)
+        (and_comm (is_above j ((s.block n).pair i).recorded) (not (own && (i == c))))
 
     none : (d : ℕ) → length config.clients.items ≤ d → test d ≡ false
     none d past = rw (beyond-none config log mail request s sys n is d past) (nothing_above j (own && (d == c)))
 
 -- ---- one message is handed out
 
-pub taken-answering : {w : ℕ} (config : Config) (c k : ℕ) (m : MessageA w) (i : Message w) (queue : List (Beat w)) (sys : System w) → IsComing config c k m sys.manager → sys.channels c channel.A ≡ beat.A (a_beat_of m k) ∷ queue → beats_of (message.A m) ≡ suc k
+pub taken-answering : {w : ℕ} (config : Config) (c k : ℕ) (m : MessageA w) (i : Message w) (queue : List (Beat w)) (sys : System w)
+    → IsComing config c k m sys.manager → sys.channels c channel.A ≡ beat.A (a_beat_of m k) ∷ queue → beats_of (message.A m) ≡ suc k
     → (deed config (link_of c) (beat.A (a_beat_of m k)) sys.manager).handed ≡ (link_of c, i) ∷ []
     → IsTaken c channel.A (beat.A (a_beat_of m k)) queue (pushes_at c (pushes_of (Some i))) sys (system_after config c k m queue sys)
 taken-answering {w} config c k m i queue sys comes beats last done =
@@ -155,14 +165,19 @@ taken-answering {w} config c k m i queue sys comes beats last done =
 -- ---- an Acquire
 
 -- after an Acquire that was taken
-pub carried-acquire_taken : {w : ℕ} (config : Config) (log : Log w) (h : Shadow w) (sys : System w) (c n k : ℕ) (rest : List Token) (queue : List (Beat w)) → IsMatched config log h.mail h.request h.state sys
+pub carried-acquire_taken : {w : ℕ} (config : Config) (log : Log w) (h : Shadow w) (sys : System w) (c n k : ℕ) (rest : List Token) (queue : List (Beat w))
+    → IsMatched config log h.mail h.request h.state sys
     → (h.state.link c).a ≡ token Acquire n ∷ rest → (asked : IsWanted w c n h.state)
-    → IsComing config c k (acquire_wanted c n h.state asked) sys.manager → sys.channels c channel.A ≡ beat.A (a_beat_of (acquire_wanted c n h.state asked) k) ∷ queue → beats_of (message.A (acquire_wanted c n h.state asked)) ≡ suc k
+    → IsComing config c k (acquire_wanted c n h.state asked) sys.manager
+    → sys.channels c channel.A ≡ beat.A (a_beat_of (acquire_wanted c n h.state asked) k) ∷ queue
+    → beats_of (message.A (acquire_wanted c n h.state asked)) ≡ suc k
     → must_wait config (link_of c) (beat.A (a_beat_of (acquire_wanted c n h.state asked) k)) sys.manager.trace ≡ false
-    → AreCarried (kind_taken config (next_tracker sys) c Acquire n rest h).mail (kind_taken config (next_tracker sys) c Acquire n rest h).state (system_after config c k (acquire_wanted c n h.state asked) queue sys)
+    → AreCarried (kind_taken config (next_tracker sys) c Acquire n rest h).mail (kind_taken config (next_tracker sys) c Acquire n rest h).state
+    (system_after config c k (acquire_wanted c n h.state asked) queue sys)
 carried-acquire_taken {w} config log h sys c n k rest queue is first asked comes beats last moves =
     subst (λ (i : Acquiring). AreCarried (acquire_taken clients config.profile c n i tracker rest h).mail (acquire_taken clients config.profile c n i tracker rest h).state after) (sym asked.wants)
-    (go (some_below clients (λ d. is_probed c true j (b.pair d).recorded d)) refl (subst (λ (i : Acquiring). IsInvariant (is_caching config) (acquire_taken clients config.profile c n i tracker rest h).state) asked.wants inv))
+    (go (some_below clients (λ d. is_probed c true j (b.pair d).recorded d)) refl
+    (subst (λ (i : Acquiring). IsInvariant (is_caching config) (acquire_taken clients config.profile c n i tracker rest h).state) asked.wants inv))
   where
     b : Block (List ℕ)
     b = h.state.block n
@@ -212,9 +227,11 @@ carried-acquire_taken {w} config log h sys c n k rest queue is first asked comes
     go false f kept =
         let new = granted_at_once c tracker data_too given b in
         let well : IsWell (is_caching config) new = subst (IsWell (is_caching config)) (set-same n new h.state.block) (kept.blocks n) in
-        acquire_granted-carried (is_caching config) c n tracker data_too given rest (rendered Grant c n new) h.mail h.state sys after (beat.A (a_beat_of m k)) queue comes.width is.invariant kept first ready.0
+        acquire_granted-carried (is_caching config) c n tracker data_too given rest (rendered Grant c n new) h.mail h.state sys after
+        (beat.A (a_beat_of m k)) queue comes.width is.invariant kept first ready.0
         (once_on_d w c n tracker data_too given b) refl
-        (taken-answering config c k m (rendered Grant c n new) queue sys comes beats last (handed-granted config log h.mail h.request h.state sys (is_caching config) c n k is asked comes last (rw caps f) well)) is.carried
+        (taken-answering config c k m (rendered Grant c n new) queue sys comes beats last
+        (handed-granted config log h.mail h.request h.state sys (is_caching config) c n k is asked comes last (rw caps f) well)) is.carried
 
 -- ---- an access
 
@@ -224,7 +241,8 @@ answer_on_d m answer.Hint = refl
 answer_on_d m (answer.Data payload) = refl
 
 -- an access that is answered at once changes the bytes only where no message carries them
-pub unread-bytes : {w : ℕ} (config : Config) (log : Log w) (mail : Mail w) (request : ℕ → MessageA w) (s : State (List ℕ)) (sys : System w) (c n : ℕ) (m : MessageA w) → IsMatched config log mail request s sys → is_acquire m.opcode ≡ false
+pub unread-bytes : {w : ℕ} (config : Config) (log : Log w) (mail : Mail w) (request : ℕ → MessageA w) (s : State (List ℕ)) (sys : System w) (c n : ℕ)
+    (m : MessageA w) → IsMatched config log mail request s sys → is_acquire m.opcode ≡ false
     → probes_some (length config.clients.items) c false (cap_probed m.opcode m.param) (s.block n).pair ≡ false
     → (k : Kind) (d : ℕ) → (carries k d (s.block n) ≡ false) ⊎ (performs m (s.block n).truth ≡ (s.block n).truth)
 unread-bytes {w} config log mail request s sys c n m is access none k d = elim (leaves-bytes m (s.block n).truth access (is.sized n).truth) [
@@ -243,11 +261,13 @@ unread-bytes {w} config log mail request s sys c n m is access none k d = elim (
     ]
 
 -- after the last beat of an access that was taken
-pub carried-request_taken : {w : ℕ} (config : Config) (log : Log w) (h : Shadow w) (sys : System w) (c source k : ℕ) (rest : List Token) (queue : List (Beat w)) → IsMatched config log h.mail h.request h.state sys
+pub carried-request_taken : {w : ℕ} (config : Config) (log : Log w) (h : Shadow w) (sys : System w) (c source k : ℕ) (rest : List Token) (queue : List (Beat w))
+    → IsMatched config log h.mail h.request h.state sys
     → (h.state.link c).a ≡ token Request source ∷ rest → (asked : IsAsked config c source h.mail h.state)
     → IsComing config c k asked.request sys.manager → sys.channels c channel.A ≡ beat.A (a_beat_of asked.request k) ∷ queue → beats_of (message.A asked.request) ≡ suc k
     → must_wait config (link_of c) (beat.A (a_beat_of asked.request k)) sys.manager.trace ≡ false
-    → AreCarried (kind_taken config (next_tracker sys) c Request source rest h).mail (kind_taken config (next_tracker sys) c Request source rest h).state (system_after config c k asked.request queue sys)
+    → AreCarried (kind_taken config (next_tracker sys) c Request source rest h).mail (kind_taken config (next_tracker sys) c Request source rest h).state
+    (system_after config c k asked.request queue sys)
 carried-request_taken {w} config log h sys c source k rest queue is first asked comes beats last moves =
     subst (λ (i : Message w). Carries (request_taken clients c source i tracker rest h)) (sym asked.is_it)
     (go (probes_some clients c false (cap_probed m.opcode m.param) b.pair) (cap_probed m.opcode m.param) refl refl
@@ -280,9 +300,12 @@ carried-request_taken {w} config log h sys c source k rest queue is first asked 
     inv : IsInvariant (is_caching config) (kind_taken config tracker c Request source rest h).state
     inv = invariant-taken config log h sys c Request source rest is first (ready-request config log h sys c source k is asked comes last moves)
 
-    answered : probes_some clients c false (cap_probed m.opcode m.param) b.pair ≡ false → IsInvariant (is_caching config) (access_taken c source m tracker false None rest h).state → Carries (access_taken c source m tracker false None rest h)
+    answered : probes_some clients c false (cap_probed m.opcode m.param) b.pair ≡ false
+        → IsInvariant (is_caching config) (access_taken c source m tracker false None rest h).state
+        → Carries (access_taken c source m tracker false None rest h)
     answered none kept =
-        access_answered-carried (is_caching config) c n source (performs m) rest (answers m b.memory) h.mail h.state sys after (beat.A (a_beat_of m k)) queue comes.width is.invariant kept first asked.used
+        access_answered-carried (is_caching config) c n source (performs m) rest (answers m b.memory) h.mail h.state sys after
+        (beat.A (a_beat_of m k)) queue comes.width is.invariant kept first asked.used
         (unread-bytes config log h.mail h.request h.state sys c n m is asked.access none) (answer_on_d m (answer_of (message.A m) (effect (message.A m) (bytes_at n b.memory)).1))
         (taken-answering config c k m (answers m b.memory) queue sys comes beats last (handed-answered config log h.mail h.request h.state sys c source k is asked comes last none)) is.carried
 

@@ -5,8 +5,8 @@ use Rattle.std.specs.Prelude.{◌==◌, ◌&&◌, if◌then◌else◌, map, Opti
 use Rattle.std.proofs.lemmas.Bool.{cases_eq, ne_eqb}
 use Rattle.tl_beat.specs.Width.{IsWidth}
 use Rattle.tl_beat.specs.declared.beat.Beat.{Beat}
-use Rattle.tl_beat.specs.declared.opcode.Channel.{Channel}
-use Rattle.tl_beat.specs.declared.opcode.Channel.TheVariants as channel
+use Rattle.tl_beat.specs.declared.channel.Channel.{Channel}
+use Rattle.tl_beat.specs.declared.channel.Channel.TheVariants as channel
 use Rattle.tl_burst.specs.declared.message.Message.{Message}
 use Rattle.tl_burst.specs.Burst.{beats_of}
 use Rattle.tl_burst.specs.Messages.{unfinished}
@@ -124,7 +124,8 @@ not_there false b n le me = inl (omega (arith, le))
 not_there true false n le me = inl (omega (arith, me))
 
 pub messages-stay : {w : ℕ} (caching : ℕ → Bool) (n : ℕ) (moves : ℕ → Channel → Move) (mail mail' : Mail w) (s s' : State (List ℕ)) → IsShowing caching n moves mail mail' s s' → (d : ℕ) (ch : Channel)
-    → map (message_of mail' s' d) (staying (moves d ch) (tokens_on ch (s.link d)) (tokens_on ch (s'.link d))) ≡ map (message_of mail s d) (staying (moves d ch) (tokens_on ch (s.link d)) (tokens_on ch (s'.link d)))
+    → map (message_of mail' s' d) (staying (moves d ch) (tokens_on ch (s.link d)) (tokens_on ch (s'.link d))) ≡ map (message_of mail s d)
+    (staying (moves d ch) (tokens_on ch (s.link d)) (tokens_on ch (s'.link d)))
 messages-stay {w} caching n moves mail mail' s s' event d ch = map_kept (λ k i. message_of_kind k mail s d i) (λ k i. message_of_kind k mail' s' d i) stay (λ k i. each k i (is_on ch k) refl)
   where
     xs : List Token
@@ -262,11 +263,13 @@ same_channel-is channel.E channel.B e = absurd cc
 same_channel-is channel.E channel.C e = absurd cc
 same_channel-is channel.E channel.D e = absurd cc
 
-pub queued-taken : {w : ℕ} (c : ℕ) (ch : Channel) (x : Beat w) (queue : List (Beat w)) (pushes : ℕ → Channel → Option (Message w)) (moves : ℕ → Channel → Move) (mail : Mail w) (s : State (List ℕ)) (sys sys' : System w)
+pub queued-taken : {w : ℕ} (c : ℕ) (ch : Channel) (x : Beat w) (queue : List (Beat w)) (pushes : ℕ → Channel → Option (Message w)) (moves : ℕ → Channel → Move)
+    (mail : Mail w) (s : State (List ℕ)) (sys sys' : System w)
     → IsTaken c ch x queue pushes sys sys' → ((d : ℕ) (at : Channel) → Fits ((d == c) && same_channel at ch) (pushes d at) (moves d at) (λ k i. message_of mail s d (token k i)))
     → AreQueued moves mail s sys sys'
 queued-taken {w} c ch x queue pushes moves mail s sys sys' is fits d at =
-    queued-by ((d == c) && same_channel at ch) (pushes d at) (moves d at) (λ k i. message_of mail s d (token k i)) x queue (sys.channels d at) (sys'.channels d at) (unfinished at (receiver at d sys)) (unfinished at (receiver at d sys'))
+    queued-by ((d == c) && same_channel at ch) (pushes d at) (moves d at) (λ k i. message_of mail s d (token k i)) x queue (sys.channels d at)
+    (sys'.channels d at) (unfinished at (receiver at d sys)) (unfinished at (receiver at d sys'))
     (fits d at) (is.channels d at) (is.rests d at) (λ e. here e (cases_eq d c))
   where
     here : ((d == c) && same_channel at ch) ≡ true → (d ≡ c) ⊎ (d ≡ c → ⊥) → (sys.channels d at ≡ x ∷ queue) × (completes x (unfinished at (receiver at d sys)) ≡ true)
@@ -282,9 +285,11 @@ pub queued-handed : {w : ℕ} (pushes : ℕ → Channel → Option (Message w)) 
     → ((d : ℕ) (at : Channel) → Fits false (pushes d at) (moves d at) (λ k i. message_of mail s d (token k i)))
     → AreQueued moves mail s sys sys'
 queued-handed {w} pushes moves mail s sys sys' is fits d at =
-    queued-with (pushes d at) (moves d at) (sys.channels d at) (sys'.channels d at) (unfinished at (receiver at d sys)) (unfinished at (receiver at d sys')) (λ k i. message_of mail s d (token k i)) (fits d at) (is.channels d at) (is.rests d at)
+    queued-with (pushes d at) (moves d at) (sys.channels d at) (sys'.channels d at) (unfinished at (receiver at d sys)) (unfinished at (receiver at d sys'))
+    (λ k i. message_of mail s d (token k i)) (fits d at) (is.channels d at) (is.rests d at)
   where
-    queued-with : (push : Option (Message w)) (move : Move) (q after r rest : List (Beat w)) (render : Kind → ℕ → Message w) → Fits false push move render → after ≡ behind push q → rest ≡ r → IsQueued move render q after r rest
+    queued-with : (push : Option (Message w)) (move : Move) (q after r rest : List (Beat w)) (render : Kind → ℕ → Message w) → Fits false push move render
+        → after ≡ behind push q → rest ≡ r → IsQueued move render q after r rest
     queued-with None Stays q after r rest render f e g = (e, g)
     queued-with (Some m) (Pushes k n) q after r rest render f e g = (rw f e, g)
     queued-with None (Pushes k n) q after r rest render f e g = absurd f
@@ -310,7 +315,8 @@ moved-at c moves l link h d ch = elim (cases_eq d c) [
     still : (b : Bool) (k : Link) → b ≡ false → k ≡ link d → IsMoved (if b then moves ch else Stays) (tokens_on ch (link d)) (tokens_on ch k)
     still b k e f = rw (e, f) refl
 
-pub fits-at : {w : ℕ} (c : ℕ) (ch : Channel) (pushes : Channel → Option (Message w)) (moves : Channel → Move) (render : ℕ → Kind → ℕ → Message w) → ((at : Channel) → Fits (same_channel at ch) (pushes at) (moves at) (render c))
+pub fits-at : {w : ℕ} (c : ℕ) (ch : Channel) (pushes : Channel → Option (Message w)) (moves : Channel → Move) (render : ℕ → Kind → ℕ → Message w)
+    → ((at : Channel) → Fits (same_channel at ch) (pushes at) (moves at) (render c))
     → (d : ℕ) (at : Channel) → Fits ((d == c) && same_channel at ch) (pushes_at c pushes d at) (moves_at c moves d at) (render d)
 fits-at {w} c ch pushes moves render h d at = elim (cases_eq d c) [
   | inl same ↦ rw same (go (c == c) (same_number c))

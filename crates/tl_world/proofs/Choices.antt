@@ -65,6 +65,7 @@ pub waits-used : {X : Type 0} (caching : ℕ → Bool) (s : State X) (n r source
 waits-used caching s n r source true k inv e =
     let sourced : IsOwnSource (Waits r true source k) (s.block n).source = rw e at (inv.blocks n).own_source in
     let own_view : view (s.block n).service r ≡ Own = rw (e, same_number r) refl in
-    let wants : is_wanting ((s.block n).pair r).acquiring ≡ true = not-calm ((s.block n).pair r).acquiring (own_wants ((s.block n).pair r) (view (s.block n).service r) ((inv.blocks n).phases r) own_view) in
+    let wants : is_wanting ((s.block n).pair r).acquiring ≡ true =
+    not-calm ((s.block n).pair r).acquiring (own_wants ((s.block n).pair r) (view (s.block n).service r) ((inv.blocks n).phases r) own_view) in
     acquires_of-is n (s.uses r source) (inv.named.acquires r source n ∙ rw (wants, ← sourced, same_number source) refl)
 waits-used caching s n r source false k inv e = serves_of-is n (s.uses r source) (inv.named.serves r source n ∙ rw (e, same_number r, same_number source) refl)

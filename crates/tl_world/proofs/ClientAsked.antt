@@ -4,7 +4,7 @@ use Rattle.std.specs.Prelude.{◌==◌, ◌*◌, unwrap_or}
 use Rattle.std.proofs.lemmas.Bool.{cases_eq, eqb-true, ne_eqb, or_parts, not-false}
 use Rattle.tl_beat.specs.Width.{IsWidth}
 use Rattle.tl_beat.specs.declared.beat.BeatA.{BeatA}
-use Rattle.tl_beat.specs.declared.opcode.Channel.TheVariants as channel
+use Rattle.tl_beat.specs.declared.channel.Channel.TheVariants as channel
 use Rattle.tl_beat.specs.declared.opcode.OpA.TheVariants as a
 use Rattle.tl_beat.specs.declared.opcode.OpC.TheVariants as opc
 use Rattle.tl_burst.specs.declared.message.Message.{Message}
@@ -64,7 +64,8 @@ passed b x y e = rw e refl
 
 -- what each source asks for after an access is asked for
 asks_access : {w : ℕ} (c i : ℕ) (m : MessageA w) (mail : Mail w) (s : State (List ℕ))
-    → asked_by (record { request = set_at c m.source (message.A m) mail.request; answer = mail.answer }) (access_asked c m.source s) c i ≡ cond (m.source == i) (Some (a_beat_of m 0)) (asked_by mail s c i)
+    → asked_by (record { request = set_at c m.source (message.A m) mail.request; answer = mail.answer }) (access_asked c m.source s) c i ≡ cond (m.source == i)
+    (Some (a_beat_of m 0)) (asked_by mail s c i)
 asks_access {w} c i m mail s = elim (cases_eq i m.source) [
   | inl same ↦ ap (asked_by mail' s' c) same ∙ asks-access c m.source m mail' s' (ap is_access (set_at-same c m.source Asked s.uses)) (set_at-same c m.source (message.A m) mail.request)
       ∙ sym (chosen (m.source == i) (Some (a_beat_of m 0)) (asked_by mail s c i) (rw same (same_number m.source)))
@@ -82,7 +83,8 @@ pub end-access_asked : {w : ℕ} (c : ℕ) (m : MessageA w) (mail : Mail w) (s :
     → IsWellKept (sending (message.A m) e) → IsEnd (asked_by mail s c) c s e
     → IsEnd (asked_by (record { request = set_at c m.source (message.A m) mail.request; answer = mail.answer }) (access_asked c m.source s) c) c (access_asked c m.source s) (sending (message.A m) e)
 end-access_asked {w} c m mail s e width plain kept end =
-    let event : IsRequested c m (asked_by mail s c) asked' s s' = record { held = λ n. refl; letting = λ n. refl; lets = λ source. refl; acquiring = λ n. same n; asks = λ source. asks_access c source m mail s } in
+    let event : IsRequested c m (asked_by mail s c) asked' s s' =
+    record { held = λ n. refl; letting = λ n. refl; lets = λ source. refl; acquiring = λ n. same n; asks = λ source. asks_access c source m mail s } in
     record {
       known = known-requested c m (asked_by mail s c) asked' s s' e.past (sending (message.A m) e) width refl end.kept.a_whole kept event end.known;
       opened = opened-requested c m (asked_by mail s c) asked' s s' e.past width end.kept.a_whole event end.opened;
@@ -116,7 +118,9 @@ pub asks_acquire : {w : ℕ} (c n source i : ℕ) (whole : Bool) (g : Grow) (byt
     → asked_by mail (acquire_asked c n source whole g bytes s) c i ≡ cond (source == i) (Some (a_beat_of (acquisition (acquire_opcode whole) g source n) 0)) (asked_by mail s c i)
 asks_acquire {w} c n source i whole g bytes mail s named calm = elim (cases_eq i source) [
   | inl same ↦ ap (asked_by mail s' c) same
-      ∙ asks-acquire c source n source whole g mail s' (set_at-same c source (Acquires n) s.uses) (ap (λ (b : Block (List ℕ)). (b.pair c).acquiring) (set-same n new s.block) ∙ ap (λ (p : Pair). p.acquiring) (set-same c (after_acquire whole g ((s.block n).pair c)) (s.block n).pair))
+      ∙ asks-acquire c source n source whole g mail s' (set_at-same c source (Acquires n) s.uses)
+      (ap (λ (b : Block (List ℕ)). (b.pair c).acquiring) (set-same n new s.block)
+      ∙ ap (λ (p : Pair). p.acquiring) (set-same c (after_acquire whole g ((s.block n).pair c)) (s.block n).pair))
       (ap (λ (b : Block (List ℕ)). b.source c) (set-same n new s.block) ∙ set-same c source (s.block n).source)
       ∙ sym (chosen (source == i) (Some (a_beat_of (acquisition (acquire_opcode whole) g source n) 0)) (asked_by mail s c i) (rw same (same_number source)))
   | inr other ↦ asks-same c i mail mail s s' refl (inl (set_at-else c source i (Acquires n) s.uses other c))
@@ -183,7 +187,8 @@ end-acquire_asked {w} c n source whole g bytes mail s e f width named idle past 
 
     go : (i : ℕ) → is_storing (((s'.block i).pair c).acquiring) ≡ true → (i ≡ n) ⊎ (i ≡ n → ⊥) → f.waiting i ≡ Some ((s'.block i).waiting c)
     go i storing (inl same) =
-        let now : is_storing (Wants whole g) ≡ true = sym (ap (λ (b : Block (List ℕ)). is_storing (b.pair c).acquiring) (ap s'.block same ∙ set-same n new s.block) ∙ ap (λ (p : Pair). is_storing p.acquiring) pair_is) ∙ storing in
+        let now : is_storing (Wants whole g) ≡ true = sym (ap (λ (b : Block (List ℕ)). is_storing (b.pair c).acquiring)
+        (ap s'.block same ∙ set-same n new s.block) ∙ ap (λ (p : Pair). is_storing p.acquiring) pair_is) ∙ storing in
         ap f.waiting same ∙ here now ∙ ap Some (sym (ap (λ (b : Block (List ℕ)). b.waiting c) (ap s'.block same ∙ set-same n new s.block) ∙ set-same c bytes (s.block n).waiting))
     go i storing (inr other) =
         let old : s'.block i ≡ s.block i = set-other n i new s.block other in
@@ -265,7 +270,8 @@ end-release_asked {w} c n source r copy mail s e width begins kept end =
     kept_some perm.Branch x y some = refl
     kept_some perm.Trunk x y some = refl
 
-    copy_of : (i : ℕ) (b : Bool) → (i == n) ≡ b → same_perm (cond b (prune_right r) ((s.block i).pair c).held) perm.None ≡ false → cond (b && not (holds (prune_right r))) None (e.copies i) ≡ Some ((s.block i).copy c)
+    copy_of : (i : ℕ) (b : Bool) → (i == n) ≡ b → same_perm (cond b (prune_right r) ((s.block i).pair c).held) perm.None ≡ false
+        → cond (b && not (holds (prune_right r))) None (e.copies i) ≡ Some ((s.block i).copy c)
     copy_of i true same some =
         let before : holds ((s.block n).pair c).held ≡ true = ap holds (sym (end.known.held_is n)) ∙ falls_to r (held n e.past) begins in
         let here : i ≡ n = eqb-true i n same in
@@ -298,12 +304,15 @@ end-stored {w} c n bytes mail s e kept end = record {
       acquiring = λ i. set-part (λ (b : Block (List ℕ)). (b.pair c).acquiring) n new s.block refl i;
       letting = λ i. set-part (λ (b : Block (List ℕ)). is_kept (b.pair c).letting) n new s.block refl i;
       lets = λ i. refl;
-      asks = λ i. asks-same c i mail mail s s' refl (inl refl) (λ j used. set-part (λ (b : Block (List ℕ)). (b.pair c).acquiring) n new s.block refl j) (λ j used. set-part (λ (b : Block (List ℕ)). b.source c) n new s.block refl j);
+      asks = λ i. asks-same c i mail mail s s' refl (inl refl) (λ j used. set-part (λ (b : Block (List ℕ)). (b.pair c).acquiring) n new s.block refl j)
+          (λ j used. set-part (λ (b : Block (List ℕ)). b.source c) n new s.block refl j);
     }
 
     copy_of : (i : ℕ) → (i ≡ n) ⊎ (i ≡ n → ⊥) → same_perm ((s.block i).pair c).held perm.None ≡ false → cond (i == n) (Some bytes) (e.copies i) ≡ Some ((s'.block i).copy c)
-    copy_of i (inl here) some = chosen (i == n) (Some bytes) (e.copies i) (rw here (same_number n)) ∙ ap Some (sym (ap (λ (b : Block (List ℕ)). b.copy c) (ap s'.block here ∙ set-same n new s.block) ∙ set-same c bytes (s.block n).copy))
-    copy_of i (inr other) some = passed (i == n) (Some bytes) (e.copies i) (ne_eqb i n other) ∙ end.copies i some ∙ ap Some (sym (ap (λ (b : Block (List ℕ)). b.copy c) (set-other n i new s.block other)))
+    copy_of i (inl here) some = chosen (i == n) (Some bytes) (e.copies i) (rw here (same_number n))
+        ∙ ap Some (sym (ap (λ (b : Block (List ℕ)). b.copy c) (ap s'.block here ∙ set-same n new s.block) ∙ set-same c bytes (s.block n).copy))
+    copy_of i (inr other) some = passed (i == n) (Some bytes) (e.copies i) (ne_eqb i n other) ∙ end.copies i some
+        ∙ ap Some (sym (ap (λ (b : Block (List ℕ)). b.copy c) (set-other n i new s.block other)))
 
 -- ---- all operations
 
@@ -331,14 +340,17 @@ end_load c address size perm.None h e end kept = end
 end_load c address size perm.Branch h e end kept = end
 end_load c address size perm.Trunk h e end kept = end
 
-end_store : {w : ℕ} (c address size value : ℕ) (p : Perm) (h : Shadow w) (e : End w) → ((h.state.block (block_at address)).pair c).held ≡ p → IsEndOf c h e → IsAfter c (op.Store address size value) h (store address size value p e)
+end_store : {w : ℕ} (c address size value : ℕ) (p : Perm) (h : Shadow w) (e : End w) → ((h.state.block (block_at address)).pair c).held ≡ p → IsEndOf c h e
+    → IsAfter c (op.Store address size value) h (store address size value p e)
 end_store c address size value perm.None h e is end kept = end
 end_store c address size value perm.Branch h e is end kept = end
 end_store {w} c address size value perm.Trunk h e is end kept =
     let n = block_at address in
     let same : copy_at e n ≡ (h.state.block n).copy c = ap (λ (o : Option (List ℕ)). unwrap_or o zeros) (end.copies n (rw is refl)) in
     let bytes : copy_stored address size value (copy_at e n) ≡ copy_stored address size value ((h.state.block n).copy c) = ap (copy_stored address size value) same in
-    subst (λ (x : List ℕ). IsWellKept (with_copy n (Some x) e) → IsEnd (asked_by h.mail (block_stored c n (copy_stored address size value ((h.state.block n).copy c)) h.state) c) c (block_stored c n (copy_stored address size value ((h.state.block n).copy c)) h.state) (with_copy n (Some x) e))
+    subst (λ (x : List ℕ). IsWellKept (with_copy n (Some x) e)
+    → IsEnd (asked_by h.mail (block_stored c n (copy_stored address size value ((h.state.block n).copy c)) h.state) c) c
+    (block_stored c n (copy_stored address size value ((h.state.block n).copy c)) h.state) (with_copy n (Some x) e))
     (sym bytes) (λ k. end-stored c n (copy_stored address size value ((h.state.block n).copy c)) h.mail h.state e k end) kept
 
 end_done : {w : ℕ} (terms : Terms) (c : ℕ) (o : Op w) (h : Shadow w) (e : End w) → IsWidth w → AreNamed h.state → IsEndOf c h e → NotBusy terms o e → IsAfter c o h (done terms o e)
@@ -372,4 +384,5 @@ end_done terms c (op.Access (message.E m)) h e width named end free kept = end
 pub end-asked : {w : ℕ} (terms : Terms) (c : ℕ) (o : Op w) (h : Shadow w) (e : End w) → IsWidth w → AreNamed h.state → IsEndOf c h e
     → IsEndOf c (world.asked c o (ask.asked terms o e).reply h) (ask.asked terms o e).after
 end-asked terms c o h e width named end =
-    asked-cases terms o e (IsAfter c o h) (λ b kept. end_busy c o b h e end) (end_done terms c o h e width named end) (record { kept = kept-asked terms o e width end.kept; accounted = accounted-asked terms o e width end.kept end.accounted })
+    asked-cases terms o e (IsAfter c o h) (λ b kept. end_busy c o b h e end) (end_done terms c o h e width named end)
+    (record { kept = kept-asked terms o e width end.kept; accounted = accounted-asked terms o e width end.kept end.accounted })

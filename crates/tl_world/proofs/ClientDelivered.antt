@@ -9,7 +9,7 @@ use Rattle.tl_beat.specs.declared.beat.Beat.{Beat}
 use Rattle.tl_beat.specs.declared.beat.Beat.TheVariants as beat
 use Rattle.tl_beat.specs.declared.beat.BeatA.{BeatA}
 use Rattle.tl_beat.specs.declared.beat.BeatD.{BeatD}
-use Rattle.tl_beat.specs.declared.opcode.Channel.TheVariants as channel
+use Rattle.tl_beat.specs.declared.channel.Channel.TheVariants as channel
 use Rattle.tl_beat.specs.declared.opcode.OpD.{OpD}
 use Rattle.tl_beat.specs.declared.opcode.OpD.TheVariants as opd
 use Rattle.tl_burst.specs.declared.message.Message.{Message}
@@ -54,10 +54,13 @@ use Rattle.tl_world.proofs.Codes.{access_kind}
 -- ---- what a client does at a beat of channel D
 
 part_end : {w : ℕ} (y : BeatD w) (e : End w) → ends (beat.D y) e.past ≡ false → (taken (beat.D y) e).after ≡ with_past (beat.D y ∷ e.past) e
-part_end {w} y e more = ap (λ (b : Bool). (cond b (responded y (request_of y.source e.past) (payload_of (beat.D y ∷ unfinished channel.D e.past)) e) (silent verdict.Taken (with_past (beat.D y ∷ e.past) e))).after) more
+part_end {w} y e more = ap (λ (b : Bool). (cond b (responded y (request_of y.source e.past) (payload_of (beat.D y ∷ unfinished channel.D e.past)) e)
+    (silent verdict.Taken (with_past (beat.D y ∷ e.past) e))).after) more
 
-last_end : {w : ℕ} (y : BeatD w) (e : End w) → ends (beat.D y) e.past ≡ true → (taken (beat.D y) e).after ≡ (responded y (request_of y.source e.past) (payload_of (beat.D y ∷ unfinished channel.D e.past)) e).after
-last_end {w} y e last = ap (λ (b : Bool). (cond b (responded y (request_of y.source e.past) (payload_of (beat.D y ∷ unfinished channel.D e.past)) e) (silent verdict.Taken (with_past (beat.D y ∷ e.past) e))).after) last
+last_end : {w : ℕ} (y : BeatD w) (e : End w) → ends (beat.D y) e.past ≡ true
+    → (taken (beat.D y) e).after ≡ (responded y (request_of y.source e.past) (payload_of (beat.D y ∷ unfinished channel.D e.past)) e).after
+last_end {w} y e last = ap (λ (b : Bool). (cond b (responded y (request_of y.source e.past) (payload_of (beat.D y ∷ unfinished channel.D e.past)) e)
+    (silent verdict.Taken (with_past (beat.D y ∷ e.past) e))).after) last
 
 ended_plain : {w : ℕ} (o : OpD) (y : BeatD w) (f : Finish) (r : Option (BeatA w)) (payload : List ℕ) (e : End w) → is_grant o ≡ false → (ended o y f (granted o r payload e)).after ≡ e
 ended_plain opd.AccessAck y f r payload e plain = refl
@@ -88,17 +91,23 @@ well-of : {w : ℕ} (c : ℕ) (h : Shadow w) (e : End w) → IsEndOf c h e → I
 well-of c h e end = record { kept = end.kept; accounted = end.accounted }
 
 -- what its message tells of a beat
-taken-by : {w : ℕ} (config : Config) (terms : Terms) (tracker c : ℕ) (h : Shadow w) (m : MessageD w) (ms : List (Message w)) (x : Beat w) (queue : List (Beat w)) (e : End w) → IsWidth w → IsEndOf c h e
+taken-by : {w : ℕ} (config : Config) (terms : Terms) (tracker c : ℕ) (h : Shadow w) (m : MessageD w) (ms : List (Message w)) (x : Beat w)
+    (queue : List (Beat w)) (e : End w) → IsWidth w → IsEndOf c h e
     → IsNext x (unfinished channel.D e.past) (message.D m) ms queue → offered terms channel.D x e ≡ taken x e
-    → ((y : BeatD w) → x ≡ beat.D y → y.opcode ≡ m.opcode → y.source ≡ m.source → y.param ≡ m.param → ends (beat.D y) e.past ≡ true → x ∷ unfinished channel.D e.past ≡ burst_of (message.D m) → IsWellKept (taken (beat.D y) e).after
+    → ((y : BeatD w) → x ≡ beat.D y → y.opcode ≡ m.opcode → y.source ≡ m.source → y.param ≡ m.param → ends (beat.D y) e.past ≡ true
+    → x ∷ unfinished channel.D e.past ≡ burst_of (message.D m) → IsWellKept (taken (beat.D y) e).after
     → IsEndOf c (token_taken config tracker c (h.state.link c).d h) (taken (beat.D y) e).after)
     → IsTakenBy config terms tracker c h x e
 taken-by {w} config terms tracker c h m ms x queue e width end next takes lasts =
     let well = well-taken terms x e (taken x e).after width takes refl (well-of c h e end) in
     record {
       takes = takes;
-      more = λ goes. subst (λ (z : Beat w). IsEndOf c h (taken z e).after) (sym x_is) (end-part (asked_by h.mail h.state c) c y h.state e (taken (beat.D y) e).after (part_end y e (sym (ends_at x_is) ∙ goes)) (sym (ends_at x_is) ∙ goes) (well_y well) end);
-      last = λ done. subst (λ (z : Beat w). IsEndOf c (token_taken config tracker c (h.state.link c).d h) (taken z e).after) (sym x_is) (lasts y x_is refl refl refl (sym (ends_at x_is) ∙ done) (next.last (eqb-true (next.k + 1) (beats_of (message.D m)) (sym next.completes_is ∙ done))).1 (well_y well));
+      more = λ goes. subst (λ (z : Beat w). IsEndOf c h (taken z e).after) (sym x_is)
+          (end-part (asked_by h.mail h.state c) c y h.state e (taken (beat.D y) e).after (part_end y e (sym (ends_at x_is) ∙ goes)) (sym (ends_at x_is) ∙ goes)
+          (well_y well) end);
+      last = λ done. subst (λ (z : Beat w). IsEndOf c (token_taken config tracker c (h.state.link c).d h) (taken z e).after) (sym x_is)
+          (lasts y x_is refl refl refl (sym (ends_at x_is) ∙ done) (next.last (eqb-true (next.k + 1) (beats_of (message.D m)) (sym next.completes_is ∙ done))).1
+          (well_y well));
     }
   where
     y : BeatD w
@@ -120,11 +129,13 @@ abbrev pub shadow_of : {w : ℕ} → Mail w → (ℕ → MessageA w) → State (
 shadow_of mail request s = record { state = s; mail = mail; request = request }
 
 -- with the first token of channel D
-taken_token : {w : ℕ} (config : Config) (tracker c : ℕ) (k : Kind) (n : ℕ) (rest : List Token) (h : Shadow w) (e : End w) → (h.state.link c).d ≡ token k n ∷ rest → IsEndOf c (kind_taken config tracker c k n rest h) e
+taken_token : {w : ℕ} (config : Config) (tracker c : ℕ) (k : Kind) (n : ℕ) (rest : List Token) (h : Shadow w) (e : End w)
+    → (h.state.link c).d ≡ token k n ∷ rest → IsEndOf c (kind_taken config tracker c k n rest h) e
     → IsEndOf c (token_taken config tracker c (h.state.link c).d h) e
 taken_token config tracker c k n rest h e first end = subst (λ (xs : List Token). IsEndOf c (token_taken config tracker c xs h) e) (sym first) end
 
-pub answer-delivered : {w : ℕ} (config : Config) (log : Log w) (mail : Mail w) (request : ℕ → MessageA w) (s : State (List ℕ)) (sys : System w) (terms : Terms) (tracker c source : ℕ) (rest : List Token) (ms : List (Message w)) (x : Beat w) (queue : List (Beat w))
+pub answer-delivered : {w : ℕ} (config : Config) (log : Log w) (mail : Mail w) (request : ℕ → MessageA w) (s : State (List ℕ)) (sys : System w) (terms : Terms)
+    (tracker c source : ℕ) (rest : List Token) (ms : List (Message w)) (x : Beat w) (queue : List (Beat w))
     → IsWidth w → IsMatched config log mail request s sys → terms_at config c ≡ Some terms → sys.channels c channel.D ≡ x ∷ queue → (s.link c).d ≡ token Answer source ∷ rest
     → IsNext x (unfinished channel.D (sys.clients c).past) (mail.answer c source) ms queue
     → IsTakenBy config terms tracker c (shadow_of mail request s) x (sys.clients c)
@@ -136,12 +147,14 @@ answer-delivered {w} config log mail request s sys terms tracker c source rest m
     taken-by config terms tracker c (shadow_of mail request s) due.answer ms x queue e width end here
     (taken-d config log mail request s sys terms c due.answer ms x queue h at beats here (answer-first config.profile c source mail s e end due))
     (λ y y_is opcode from param last burst well. taken_token config tracker c Answer source rest (shadow_of mail request s) (taken (beat.D y) e).after first
-    (end-answer_taken c source y rest mail s e (taken (beat.D y) e).after (plain_end y e last (ap is_grant opcode ∙ kind.0)) last (ap is_grant opcode ∙ kind.0) (ap is_release_ack opcode ∙ kind.1) (from ∙ due.from) well end))
+    (end-answer_taken c source y rest mail s e (taken (beat.D y) e).after (plain_end y e last (ap is_grant opcode ∙ kind.0)) last (ap is_grant opcode ∙ kind.0)
+    (ap is_release_ack opcode ∙ kind.1) (from ∙ due.from) well end))
   where
     e : End w
     e = sys.clients c
 
-pub ack-delivered : {w : ℕ} (config : Config) (log : Log w) (mail : Mail w) (request : ℕ → MessageA w) (s : State (List ℕ)) (sys : System w) (terms : Terms) (tracker c n : ℕ) (rest : List Token) (ms : List (Message w)) (x : Beat w) (queue : List (Beat w))
+pub ack-delivered : {w : ℕ} (config : Config) (log : Log w) (mail : Mail w) (request : ℕ → MessageA w) (s : State (List ℕ)) (sys : System w) (terms : Terms)
+    (tracker c n : ℕ) (rest : List Token) (ms : List (Message w)) (x : Beat w) (queue : List (Beat w))
     → IsWidth w → IsMatched config log mail request s sys → terms_at config c ≡ Some terms → sys.channels c channel.D ≡ x ∷ queue → (s.link c).d ≡ token ReleaseAck n ∷ rest
     → IsNext x (unfinished channel.D (sys.clients c).past) (message.D (ack_message ((s.block n).release_source c))) ms queue
     → IsTakenBy config terms tracker c (shadow_of mail request s) x (sys.clients c)
@@ -151,7 +164,8 @@ ack-delivered {w} config log mail request s sys terms tracker c n rest ms x queu
     taken-by config terms tracker c (shadow_of mail request s) m ms x queue e width end next
     (taken-d config log mail request s sys terms c m ms x queue h at beats next (ack-first config.profile c n mail s e end let_))
     (λ y y_is opcode from param last burst well. taken_token config tracker c ReleaseAck n rest (shadow_of mail request s) (taken (beat.D y) e).after first
-    (end-release_ack_taken c n y rest mail s e (taken (beat.D y) e).after (plain_end y e last (ap is_grant opcode)) last (ap is_grant opcode) (ap is_release_ack opcode) from (ap (s.lets c) from ∙ let_) well end))
+    (end-release_ack_taken c n y rest mail s e (taken (beat.D y) e).after (plain_end y e last (ap is_grant opcode)) last (ap is_grant opcode)
+    (ap is_release_ack opcode) from (ap (s.lets c) from ∙ let_) well end))
   where
     e : End w
     e = sys.clients c
@@ -167,12 +181,15 @@ grant_blank {w} true k source sink payload width long =
 grant_blank {w} false k source sink payload width long = (refl, lit< tt)
 
 -- the bytes of a Grant that carries them
-grant_bytes : {w : ℕ} (data_too : Bool) (k : Cap) (source sink : ℕ) (payload : List ℕ) (beats : List (Beat w)) → IsWidth w → length payload ≡ 64 → beats ≡ burst_of (message.D (grant_message data_too k source sink payload)) → data_too ≡ true
+grant_bytes : {w : ℕ} (data_too : Bool) (k : Cap) (source sink : ℕ) (payload : List ℕ) (beats : List (Beat w)) → IsWidth w → length payload ≡ 64
+    → beats ≡ burst_of (message.D (grant_message data_too k source sink payload)) → data_too ≡ true
     → payload_of beats ≡ payload
-grant_bytes {w} true k source sink payload beats width long burst carries = payload-d (grant_message true k source sink payload) beats width long (burst, grant_blank {w = w} true k source sink payload width long)
+grant_bytes {w} true k source sink payload beats width long burst carries =
+    payload-d (grant_message true k source sink payload) beats width long (burst, grant_blank {w = w} true k source sink payload width long)
 grant_bytes false k source sink payload beats width long burst carries = absurd cc
 
-pub grant-delivered : {w : ℕ} (config : Config) (log : Log w) (mail : Mail w) (request : ℕ → MessageA w) (s : State (List ℕ)) (sys : System w) (terms : Terms) (tracker c n : ℕ) (rest : List Token) (ms : List (Message w)) (x : Beat w) (queue : List (Beat w))
+pub grant-delivered : {w : ℕ} (config : Config) (log : Log w) (mail : Mail w) (request : ℕ → MessageA w) (s : State (List ℕ)) (sys : System w) (terms : Terms)
+    (tracker c n : ℕ) (rest : List Token) (ms : List (Message w)) (x : Beat w) (queue : List (Beat w))
     → IsWidth w → IsMatched config log mail request s sys → terms_at config c ≡ Some terms → sys.channels c channel.D ≡ x ∷ queue → (s.link c).d ≡ token Grant n ∷ rest
     → IsNext x (unfinished channel.D (sys.clients c).past) (rendered Grant c n (s.block n)) ms queue
     → IsTakenBy config terms tracker c (shadow_of mail request s) x (sys.clients c)
@@ -189,7 +206,8 @@ grant-delivered {w} config log mail request s sys terms tracker c n rest ms x qu
       used = due.used;
       bare = fits.bare;
       has_copy = λ a b. holds_copy due.whole due.data_too ((s.block n).pair c).held a b fits.carried;
-      bytes = λ carries. grant_bytes due.data_too due.k ((s.block n).source c) (s.block n).tracker (s.block n).truth (beat.D y ∷ unfinished channel.D e.past) width (h.sized n).truth (ap (λ (z : Beat w). z ∷ unfinished channel.D e.past) (sym y_is) ∙ burst) carries;
+      bytes = λ carries. grant_bytes due.data_too due.k ((s.block n).source c) (s.block n).tracker (s.block n).truth
+          (beat.D y ∷ unfinished channel.D e.past) width (h.sized n).truth (ap (λ (z : Beat w). z ∷ unfinished channel.D e.past) (sym y_is) ∙ burst) carries;
     }) (last_end y e last) last well end)))
   where
     e : End w
@@ -223,7 +241,8 @@ grant-delivered {w} config log mail request s sys terms tracker c n rest ms x qu
         → IsEndOf c (kind_taken config tracker c Grant n rest (shadow_of mail request s)) (taken (beat.D y) e).after
     served y is =
         subst (λ (i : Service). IsEndOf c (taken_by_client c n i rest (shadow_of mail request s)) (taken (beat.D y) e).after) (sym due.service)
-        (subst (λ (i : Acquiring). IsEnd (asked_by mail (grant_taken c n (is_whole i) due.data_too due.k rest s) c) c (grant_taken c n (is_whole i) due.data_too due.k rest s) (taken (beat.D y) e).after) (sym due.wants) is)
+        (subst (λ (i : Acquiring). IsEnd (asked_by mail (grant_taken c n (is_whole i) due.data_too due.k rest s) c) c
+        (grant_taken c n (is_whole i) due.data_too due.k rest s) (taken (beat.D y) e).after) (sym due.wants) is)
 
 -- ---- all of channel D
 
@@ -232,7 +251,8 @@ pub ack_next : {w : ℕ} (c n : ℕ) (s : State (List ℕ)) (x : Beat w) (rest :
 unfolding rendered
 ack_next c n s x rest ms queue is = is
 
-pub delivered-d : {w : ℕ} (config : Config) (log : Log w) (mail : Mail w) (request : ℕ → MessageA w) (s : State (List ℕ)) (sys : System w) (terms : Terms) (tracker c : ℕ) (x : Beat w) (queue : List (Beat w)) → IsWidth w
+pub delivered-d : {w : ℕ} (config : Config) (log : Log w) (mail : Mail w) (request : ℕ → MessageA w) (s : State (List ℕ)) (sys : System w) (terms : Terms)
+    (tracker c : ℕ) (x : Beat w) (queue : List (Beat w)) → IsWidth w
     → IsMatched config log mail request s sys → terms_at config c ≡ Some terms → sys.channels c channel.D ≡ x ∷ queue
     → IsTakenBy config terms tracker c (shadow_of mail request s) x (sys.clients c)
 delivered-d {w} config log mail request s sys terms tracker c x queue width h at beats = go first.kind first.number first.tokens first.own first.next
@@ -245,7 +265,9 @@ delivered-d {w} config log mail request s sys terms tracker c x queue width h at
         → IsTakenBy config terms tracker c (shadow_of mail request s) x (sys.clients c)
     go Answer i tokens own next = answer-delivered config log mail request s sys terms tracker c i first.rest (map (message_of mail s c) first.rest) x queue width h at beats tokens next
     go Grant i tokens own next = grant-delivered config log mail request s sys terms tracker c i first.rest (map (message_of mail s c) first.rest) x queue width h at beats tokens next
-    go ReleaseAck i tokens own next = ack-delivered config log mail request s sys terms tracker c i first.rest (map (message_of mail s c) first.rest) x queue width h at beats tokens (ack_next c i s x (unfinished channel.D (sys.clients c).past) (map (message_of mail s c) first.rest) queue next)
+    go ReleaseAck i tokens own next = ack-delivered config log mail request s sys terms tracker c i first.rest
+        (map (message_of mail s c) first.rest) x queue width h at beats tokens
+        (ack_next c i s x (unfinished channel.D (sys.clients c).past) (map (message_of mail s c) first.rest) queue next)
     go Request i tokens own next = absurd cc
     go Acquire i tokens own next = absurd cc
     go Probe i tokens own next = absurd cc

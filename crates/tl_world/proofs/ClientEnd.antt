@@ -4,7 +4,7 @@ use Rattle.std.specs.Prelude.{◌&&◌, ◌==◌, if◌then◌else◌}
 use Rattle.tl_beat.specs.declared.beat.Beat.{Beat}
 use Rattle.tl_beat.specs.declared.beat.Beat.TheVariants as beat
 use Rattle.tl_beat.specs.declared.beat.BeatA.{BeatA}
-use Rattle.tl_beat.specs.declared.opcode.Channel.TheVariants as channel
+use Rattle.tl_beat.specs.declared.channel.Channel.TheVariants as channel
 use Rattle.tl_burst.specs.declared.message.Message.{Message}
 use Rattle.tl_burst.specs.declared.message.Message.TheVariants as message
 use Rattle.tl_burst.specs.declared.message.MessageA.{MessageA}
@@ -48,7 +48,8 @@ pub record IsEnd {w : ℕ} (asked : ℕ → Option (BeatA w)) (c : ℕ) (s : Sta
 
 pub end-matched : {w : ℕ} (config : Config) (log : Log w) (mail : Mail w) (request : ℕ → MessageA w) (s : State (List ℕ)) (sys : System w) → IsMatched config log mail request s sys → (c : ℕ)
     → IsEnd (asked_by mail s c) c s (sys.clients c)
-end-matched config log mail request s sys h c = record { known = h.known c; opened = h.opened c; kept = h.kept c; accounted = h.accounted c; copies = h.copies c; waiting = h.waiting c; live = h.live c }
+end-matched config log mail request s sys h c = record
+    { known = h.known c; opened = h.opened c; kept = h.kept c; accounted = h.accounted c; copies = h.copies c; waiting = h.waiting c; live = h.live c }
 
 -- what each call keeps of an end by itself
 pub record IsWellKept {w : ℕ} (e : End w) : Type 0 where
@@ -101,7 +102,8 @@ pub record IsSame {w : ℕ} (c : ℕ) (asked asked' : ℕ → Option (BeatA w)) 
   pub lets : (source : ℕ) → s'.lets c source ≡ s.lets c source
   pub asks : (source : ℕ) → asked' source ≡ asked source
 
-pub comes-same : {w : ℕ} (asked asked' : ℕ → Option (BeatA w)) (n : ℕ) (rest : List (Beat w)) → ((source : ℕ) → asked' source ≡ asked source) → comes_granting n asked' rest ≡ comes_granting n asked rest
+pub comes-same : {w : ℕ} (asked asked' : ℕ → Option (BeatA w)) (n : ℕ) (rest : List (Beat w)) → ((source : ℕ) → asked' source ≡ asked source)
+    → comes_granting n asked' rest ≡ comes_granting n asked rest
 comes-same asked asked' n [] same = refl
 comes-same asked asked' n (beat.A x ∷ rest) same = refl
 comes-same asked asked' n (beat.B x ∷ rest) same = refl
@@ -109,7 +111,8 @@ comes-same asked asked' n (beat.C x ∷ rest) same = refl
 comes-same asked asked' n (beat.D x ∷ rest) same = rw (same x.source) refl
 comes-same asked asked' n (beat.E x ∷ rest) same = refl
 
-pub known-same : {w : ℕ} (c : ℕ) (asked asked' : ℕ → Option (BeatA w)) (rest : List (Beat w)) (s s' : State (List ℕ)) (t : History w) → IsSame c asked asked' s s' → IsKnown asked rest c s t → IsKnown asked' rest c s' t
+pub known-same : {w : ℕ} (c : ℕ) (asked asked' : ℕ → Option (BeatA w)) (rest : List (Beat w)) (s s' : State (List ℕ)) (t : History w)
+    → IsSame c asked asked' s s' → IsKnown asked rest c s t → IsKnown asked' rest c s' t
 known-same c asked asked' rest s s' t same known = record {
   held_is = λ n. known.held_is n ∙ sym (same.held n);
   acquires = λ n. known.acquires n ∙ ap is_wanting (sym (same.acquiring n));
@@ -199,7 +202,8 @@ asks-same {w} c source mail mail' s s' request (inr both) a b =
 pub asks-closed : {w : ℕ} (c source : ℕ) (mail : Mail w) (s : State (List ℕ)) → s.uses c source ≡ Closed → asked_by mail s c source ≡ None
 asks-closed {w} c source mail s used = ap (λ (u : Use). asked_with u (mail.request c source) s.block c) used
 
-pub asks-access : {w : ℕ} (c source : ℕ) (m : MessageA w) (mail : Mail w) (s : State (List ℕ)) → is_access (s.uses c source) ≡ true → mail.request c source ≡ message.A m → asked_by mail s c source ≡ Some (a_beat_of m 0)
+pub asks-access : {w : ℕ} (c source : ℕ) (m : MessageA w) (mail : Mail w) (s : State (List ℕ)) → is_access (s.uses c source) ≡ true
+    → mail.request c source ≡ message.A m → asked_by mail s c source ≡ Some (a_beat_of m 0)
 asks-access {w} c source m mail s used request =
     access_asks (s.uses c source) (mail.request c source) used (rendered Acquire c (block_used (s.uses c source)) (s.block (block_used (s.uses c source)))) ∙ ap first_of request
 
@@ -207,7 +211,8 @@ acquire-first : {w : ℕ} (whole : Bool) (g : Grow) (source n : ℕ) → first_o
 acquire-first true g source n = refl
 acquire-first false g source n = refl
 
-pub asks-acquire : {w : ℕ} (c source n i : ℕ) (whole : Bool) (g : Grow) (mail : Mail w) (s : State (List ℕ)) → s.uses c source ≡ Acquires n → ((s.block n).pair c).acquiring ≡ Wants whole g → (s.block n).source c ≡ i
+pub asks-acquire : {w : ℕ} (c source n i : ℕ) (whole : Bool) (g : Grow) (mail : Mail w) (s : State (List ℕ)) → s.uses c source ≡ Acquires n
+    → ((s.block n).pair c).acquiring ≡ Wants whole g → (s.block n).source c ≡ i
     → asked_by mail s c source ≡ Some (a_beat_of (acquisition (acquire_opcode whole) g i n) 0)
 unfolding rendered
 asks-acquire {w} c source n i whole g mail s used wants from =

@@ -5,7 +5,7 @@ use Rattle.std.proofs.lemmas.Bool.{eqb-true}
 use Rattle.tl_beat.specs.Width.{IsWidth}
 use Rattle.tl_beat.specs.declared.beat.Beat.{Beat}
 use Rattle.tl_beat.specs.declared.beat.Beat.TheVariants as beat
-use Rattle.tl_beat.specs.declared.opcode.Channel.TheVariants as channel
+use Rattle.tl_beat.specs.declared.channel.Channel.TheVariants as channel
 use Rattle.tl_beat.specs.declared.opcode.OpB.TheVariants as opb
 use Rattle.tl_burst.specs.Messages.{unfinished}
 use Rattle.tl_params.specs.declared.param.Cap.{Cap}
@@ -31,7 +31,8 @@ use Rattle.tl_world.proofs.KnownProbed.{report_is, known-probed, opened-probed}
 use Rattle.tl_world.proofs.Tokens.{set-same, set-part}
 use Rattle.tl_world.proofs.Perms.{held-some}
 
-pub end-probe_taken : {w : ℕ} (c n : ℕ) (k : Cap) (rest : List Token) (mail : Mail w) (s : State (List ℕ)) (e : End w) → IsWidth w → IsWellKept (probed (probe_beat n k) n (held_at e n) e).after → IsEnd (asked_by mail s c) c s e
+pub end-probe_taken : {w : ℕ} (c n : ℕ) (k : Cap) (rest : List Token) (mail : Mail w) (s : State (List ℕ)) (e : End w) → IsWidth w
+    → IsWellKept (probed (probe_beat n k) n (held_at e n) e).after → IsEnd (asked_by mail s c) c s e
     → IsEnd (asked_by mail (probe_taken c n k rest s) c) c (probe_taken c n k rest s) (probed (probe_beat n k) n (held_at e n) e).after
 end-probe_taken {w} c n k rest mail s e width well end =
     let known = known-probed (asked_by mail s c) (unfinished channel.D e.past) c n k rest s e width end.kept.c_whole end.known in
@@ -43,7 +44,9 @@ end-probe_taken {w} c n k rest mail s e width well end =
       accounted = well.accounted;
       copies = λ i some. kept_copies n left g i ∙ copy_of i (i == n) refl (sym (column (λ (b : Block (List ℕ)). same_perm (b.pair c).held perm.None) n new s.block i) ∙ some)
           ∙ ap Some (sym (set-part (λ (b : Block (List ℕ)). b.copy c) n new s.block refl i));
-      waiting = λ i storing. kept_waits n left g i ∙ end.waiting i (sym (set-part (λ (b : Block (List ℕ)). is_storing (b.pair c).acquiring) n new s.block (ap (λ (q : Pair). is_storing q.acquiring) pair_is) i) ∙ storing)
+      waiting = λ i storing. kept_waits n left g i ∙ end.waiting i
+          (sym (set-part (λ (b : Block (List ℕ)). is_storing (b.pair c).acquiring) n new s.block (ap (λ (q : Pair). is_storing q.acquiring) pair_is) i)
+          ∙ storing)
           ∙ ap Some (sym (set-part (λ (b : Block (List ℕ)). b.waiting c) n new s.block refl i));
       live = kept_closed n left g ∙ end.live;
     }
@@ -88,7 +91,8 @@ end-probe_taken {w} c n k rest mail s e width well end =
     some_held perm.Branch e = refl
     some_held perm.Trunk e = refl
 
-    copy_of : (i : ℕ) (b : Bool) → (i == n) ≡ b → cond b (same_perm (new.pair c).held perm.None) (same_perm ((s.block i).pair c).held perm.None) ≡ false → cond (b && not (holds left)) None (e.copies i) ≡ Some ((s.block i).copy c)
+    copy_of : (i : ℕ) (b : Bool) → (i == n) ≡ b → cond b (same_perm (new.pair c).held perm.None) (same_perm ((s.block i).pair c).held perm.None) ≡ false
+        → cond (b && not (holds left)) None (e.copies i) ≡ Some ((s.block i).copy c)
     copy_of i false is some = end.copies i some
     copy_of i true is some =
         let stays : holds left ≡ true = ap holds left_is ∙ some_held (new.pair c).held some in

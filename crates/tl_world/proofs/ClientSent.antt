@@ -4,7 +4,7 @@ use Rattle.std.specs.Prelude.{◌==◌, ◌&&◌, is_some, option_map}
 use Rattle.tl_beat.specs.Width.{IsWidth}
 use Rattle.tl_beat.specs.declared.beat.BeatA.{BeatA}
 use Rattle.tl_beat.specs.declared.beat.BeatC.{BeatC}
-use Rattle.tl_beat.specs.declared.opcode.Channel.TheVariants as channel
+use Rattle.tl_beat.specs.declared.channel.Channel.TheVariants as channel
 use Rattle.tl_burst.specs.declared.message.Message.TheVariants.{A, C}
 use Rattle.tl_burst.specs.declared.message.MessageA.{MessageA}
 use Rattle.tl_burst.specs.declared.message.MessageC.{MessageC}
@@ -35,15 +35,18 @@ pub record IsRequested {w : ℕ} (c : ℕ) (m : MessageA w) (asked asked' : ℕ 
   pub acquiring : (n : ℕ) → is_wanting ((s'.block n).pair c).acquiring ≡ cond (is_acquire m.opcode && (block_at m.address == n)) true (is_wanting ((s.block n).pair c).acquiring)
   pub asks : (source : ℕ) → asked' source ≡ cond (m.source == source) (Some (a_beat_of m 0)) (asked source)
 
-pub known-requested : {w : ℕ} (c : ℕ) (m : MessageA w) (asked asked' : ℕ → Option (BeatA w)) (s s' : State (List ℕ)) (t : History w) (f : End w) → IsWidth w → f.past ≡ sent (A m) t → unfinished channel.A t ≡ []
+pub known-requested : {w : ℕ} (c : ℕ) (m : MessageA w) (asked asked' : ℕ → Option (BeatA w)) (s s' : State (List ℕ)) (t : History w) (f : End w) → IsWidth w
+    → f.past ≡ sent (A m) t → unfinished channel.A t ≡ []
     → IsWellKept f → IsRequested c m asked asked' s s' → IsKnown asked (unfinished channel.D t) c s t → IsKnown asked' (unfinished channel.D f.past) c s' f.past
 known-requested {w} c m asked asked' s s' t f width past none well event known =
     let some = beats-positive (A m) width in
     known-kept asked' c s' f well
     (λ n. ap (held n) past ∙ held-whole n (A m) t none some ∙ known.held_is n ∙ sym (event.held n))
-    (λ n. ap (pending (AcquireOf n)) past ∙ pending-whole (AcquireOf n) (A m) t none some ∙ ap (λ (b : Bool). cond (is_acquire m.opcode && (block_at m.address == n)) true b) (known.acquires n) ∙ sym (event.acquiring n))
+    (λ n. ap (pending (AcquireOf n)) past ∙ pending-whole (AcquireOf n) (A m) t none some
+    ∙ ap (λ (b : Bool). cond (is_acquire m.opcode && (block_at m.address == n)) true b) (known.acquires n) ∙ sym (event.acquiring n))
     (λ n. ap (pending (ReleaseOf n)) past ∙ pending-whole (ReleaseOf n) (A m) t none some ∙ known.releases n ∙ ap not (sym (event.letting n)))
-    (λ source. ap (open_beat source) past ∙ open_beat-a source m t width none ∙ ap (λ (o : Option (BeatA w)). cond (m.source == source) (Some (a_beat_of m 0)) o) (known.opens source) ∙ sym (event.asks source))
+    (λ source. ap (open_beat source) past ∙ open_beat-a source m t width none
+    ∙ ap (λ (o : Option (BeatA w)). cond (m.source == source) (Some (a_beat_of m 0)) o) (known.opens source) ∙ sym (event.asks source))
 
 some_cond : {X : Type 0} (b : Bool) (x : X) (o : Option X) → is_some (cond b (Some x) o) ≡ cond b true (is_some o)
 some_cond true x o = refl
@@ -54,7 +57,8 @@ pub opened-requested : {w : ℕ} (c : ℕ) (m : MessageA w) (asked asked' : ℕ 
 opened-requested {w} c m asked asked' s s' t width none event open_ =
     let some = beats-positive (A m) width in
     record {
-      requests = λ source. pending-whole (RequestSource source) (A m) t none some ∙ ap (λ (b : Bool). cond (m.source == source) true b) (open_.requests source) ∙ sym (some_cond (m.source == source) (a_beat_of m 0) (asked source)) ∙ sym (ap is_some (event.asks source));
+      requests = λ source. pending-whole (RequestSource source) (A m) t none some ∙ ap (λ (b : Bool). cond (m.source == source) true b) (open_.requests source)
+          ∙ sym (some_cond (m.source == source) (a_beat_of m 0) (asked source)) ∙ sym (ap is_some (event.asks source));
       releases = λ source. pending-whole (ReleaseSource source) (A m) t none some ∙ open_.releases source ∙ sym (ap is_some (event.lets source));
       released = λ source n is. ap (option_map (λ x. block_at x.address)) (release_of-whole source (A m) t none some) ∙ open_.released source n (sym (event.lets source) ∙ is);
       sizes = λ source n is. ap (option_map (λ x. x.size)) (release_of-whole source (A m) t none some) ∙ open_.sizes source n (sym (event.lets source) ∙ is);
@@ -95,8 +99,10 @@ opened-released {w} c i m p asked asked' s s' t width none event open_ =
       requests = λ source. pending-whole (RequestSource source) (C m) t none some ∙ open_.requests source ∙ sym (ap is_some (event.asks source));
       releases = λ source. pending-whole (ReleaseSource source) (C m) t none some ∙ opens source ∙ ap (λ (b : Bool). cond (m.source == source) true b) (open_.releases source)
           ∙ sym (some_cond (m.source == source) i (s.lets c source)) ∙ sym (ap is_some (event.lets source));
-      released = λ source n is. ap (option_map (λ x. block_at x.address)) (release_of-whole source (C m) t none some ∙ names source) ∙ last (m.source == source) n (λ x. block_at x.address) source (sym (event.lets source) ∙ is) (λ e. event.of_block ∙ e) (open_.released source n);
-      sizes = λ source n is. ap (option_map (λ x. x.size)) (release_of-whole source (C m) t none some ∙ names source) ∙ size (m.source == source) n source (sym (event.lets source) ∙ is) (open_.sizes source n);
+      released = λ source n is. ap (option_map (λ x. block_at x.address)) (release_of-whole source (C m) t none some ∙ names source)
+          ∙ last (m.source == source) n (λ x. block_at x.address) source (sym (event.lets source) ∙ is) (λ e. event.of_block ∙ e) (open_.released source n);
+      sizes = λ source n is. ap (option_map (λ x. x.size)) (release_of-whole source (C m) t none some ∙ names source)
+          ∙ size (m.source == source) n source (sym (event.lets source) ∙ is) (open_.sizes source n);
     }
   where
     opens : (source : ℕ) → cond (is_release m.opcode && (m.source == source)) true (pending (ReleaseSource source) t) ≡ cond (m.source == source) true (pending (ReleaseSource source) t)
@@ -105,7 +111,8 @@ opened-released {w} c i m p asked asked' s s' t width none event open_ =
     names : (source : ℕ) → cond (is_release m.opcode && (m.source == source)) (Some (c_beat_of m 0)) (release_of source t) ≡ cond (m.source == source) (Some (c_beat_of m 0)) (release_of source t)
     names source = rw event.releases refl
 
-    last : (b : Bool) (n : ℕ) (value : BeatC w → ℕ) (source : ℕ) → cond b (Some i) (s.lets c source) ≡ Some n → (i ≡ n → value (c_beat_of m 0) ≡ n) → (s.lets c source ≡ Some n → option_map value (release_of source t) ≡ Some n)
+    last : (b : Bool) (n : ℕ) (value : BeatC w → ℕ) (source : ℕ) → cond b (Some i) (s.lets c source) ≡ Some n → (i ≡ n → value (c_beat_of m 0) ≡ n)
+        → (s.lets c source ≡ Some n → option_map value (release_of source t) ≡ Some n)
         → option_map value (cond b (Some (c_beat_of m 0)) (release_of source t)) ≡ Some n
     last true n value source is here before = ap Some (here cc)
     last false n value source is here before = before is

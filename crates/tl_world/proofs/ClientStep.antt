@@ -7,8 +7,8 @@ use Rattle.tl_beat.specs.declared.beat.Beat.{Beat}
 use Rattle.tl_beat.specs.declared.beat.Beat.TheVariants as beat
 use Rattle.tl_beat.specs.declared.beat.BeatD.{BeatD}
 use Rattle.tl_beat.specs.declared.beat.Link.{Link}
-use Rattle.tl_beat.specs.declared.opcode.Channel.{Channel}
-use Rattle.tl_beat.specs.declared.opcode.Channel.TheVariants as channel
+use Rattle.tl_beat.specs.declared.channel.Channel.{Channel}
+use Rattle.tl_beat.specs.declared.channel.Channel.TheVariants as channel
 use Rattle.tl_beat.specs.declared.opcode.OpD.{OpD}
 use Rattle.tl_beat.specs.declared.opcode.OpD.TheVariants as opd
 use Rattle.tl_burst.specs.declared.message.Message.{Message}
@@ -77,12 +77,15 @@ other_client {w} k c e s ne = there (k == c) (ne_eqb k c ne)
     there : (b : Bool) → b ≡ false → cond b e (s.clients k) ≡ s.clients k
     there b f = rw f refl
 
-asked_ends : {w : ℕ} (config : Config) (log : Log w) (mail : Mail w) (request : ℕ → MessageA w) (s : State (List ℕ)) (sys : System w) (terms : Terms) (c k : ℕ) (o : Op w) → IsWidth w → IsMatched config log mail request s sys
+asked_ends : {w : ℕ} (config : Config) (log : Log w) (mail : Mail w) (request : ℕ → MessageA w) (s : State (List ℕ)) (sys : System w) (terms : Terms) (c k : ℕ)
+    (o : Op w) → IsWidth w → IsMatched config log mail request s sys
     → AreEnds config (Ask c o) sys (shadow_of mail request s) k (replied c (ask.asked terms o (sys.clients c)) sys)
 asked_ends {w} config log mail request s sys terms c k o width h = elim (cases_eq k c) [
   | inl same ↦ subst (λ (i : ℕ). AreEnds config (Ask c o) sys (shadow_of mail request s) i (replied c a sys)) (sym same)
-      (subst (λ (x : End w). IsEndOf c (asked c o a.reply (shadow_of mail request s)) x) (sym (now c ∙ own_client c a.after sys)) (end-asked terms c o (shadow_of mail request s) (sys.clients c) width h.invariant.named (end-matched config log mail request s sys h c)))
-  | inr other ↦ left_alone k (shadow_of mail request s) (asked c o a.reply (shadow_of mail request s)) (sys.clients k) ((replied c a sys).after.clients k) (leaves-asked c o a.reply (shadow_of mail request s) k other) (now k ∙ other_client k c a.after sys other) (end-matched config log mail request s sys h k)
+      (subst (λ (x : End w). IsEndOf c (asked c o a.reply (shadow_of mail request s)) x) (sym (now c ∙ own_client c a.after sys))
+      (end-asked terms c o (shadow_of mail request s) (sys.clients c) width h.invariant.named (end-matched config log mail request s sys h c)))
+  | inr other ↦ left_alone k (shadow_of mail request s) (asked c o a.reply (shadow_of mail request s)) (sys.clients k) ((replied c a sys).after.clients k)
+      (leaves-asked c o a.reply (shadow_of mail request s) k other) (now k ∙ other_client k c a.after sys other) (end-matched config log mail request s sys h k)
 ]
   where
     a : ask.Asked w
@@ -197,14 +200,18 @@ on_same channel.E Grant l is = absurd cc
 on_same channel.E ReleaseAck l is = absurd cc
 
 -- a message that the manager takes leaves all ends alone
-manager_leaves : {w : ℕ} (caching : ℕ → Bool) (config : Config) (tracker c : ℕ) (ch : Channel) (h : Shadow w) (d : ℕ) (sys : System w) (x : Beat w) (queue : List (Beat w)) → is_to_client ch ≡ false → IsInvariant caching h.state
+manager_leaves : {w : ℕ} (caching : ℕ → Bool) (config : Config) (tracker c : ℕ) (ch : Channel) (h : Shadow w) (d : ℕ) (sys : System w) (x : Beat w)
+    (queue : List (Beat w)) → is_to_client ch ≡ false → IsInvariant caching h.state
     → IsFirst ch c h.mail h.state sys x queue → Leaves d h (token_taken config tracker c (tokens_on ch (h.state.link c)) h)
 manager_leaves {w} caching config tracker c ch h d sys x queue down inv first =
     subst (λ (xs : List Token). Leaves d h (token_taken config tracker c xs h)) (sym first.tokens)
-    (leaves-at_manager caching config tracker c first.kind first.number first.rest h d (manager_kind ch first.kind down first.own) inv (on_same ch first.kind (h.state.link c) first.own ∙ first.tokens))
+    (leaves-at_manager caching config tracker c first.kind first.number first.rest h d (manager_kind ch first.kind down first.own) inv
+    (on_same ch first.kind (h.state.link c) first.own ∙ first.tokens))
 
-manager_ends : {w : ℕ} (config : Config) (log : Log w) (mail : Mail w) (request : ℕ → MessageA w) (s : State (List ℕ)) (sys : System w) (link : Link) (ch : Channel) (k : ℕ) (x : Beat w) (queue : List (Beat w)) (a : manager.Reception w × manager_end.End w) → IsWidth w
-    → IsMatched config log mail request s sys → sys.channels link.0 ch ≡ x ∷ queue → is_to_client ch ≡ false → AreEnds config (Deliver link ch) sys (shadow_of mail request s) k (manager_took link.0 ch x queue a sys)
+manager_ends : {w : ℕ} (config : Config) (log : Log w) (mail : Mail w) (request : ℕ → MessageA w) (s : State (List ℕ)) (sys : System w) (link : Link)
+    (ch : Channel) (k : ℕ) (x : Beat w) (queue : List (Beat w)) (a : manager.Reception w × manager_end.End w) → IsWidth w
+    → IsMatched config log mail request s sys → sys.channels link.0 ch ≡ x ∷ queue → is_to_client ch ≡ false
+    → AreEnds config (Deliver link ch) sys (shadow_of mail request s) k (manager_took link.0 ch x queue a sys)
 manager_ends config log mail request s sys link ch k x queue (manager.Refused rule, e) width h beats down = end-matched config log mail request s sys h k
 manager_ends config log mail request s sys link ch k x queue (manager.Stalled, e) width h beats down = end-matched config log mail request s sys h k
 manager_ends {w} config log mail request s sys link ch k x queue (manager.Sent handed, e) width h beats down = go (is_last (sys.channels link.0 ch) (unfinished ch (receiver ch link.0 sys)))
@@ -218,11 +225,16 @@ manager_ends {w} config log mail request s sys link ch k x queue (manager.Sent h
     same : (with_messages handed (with_manager e (with_channel link.0 ch queue sys))).clients k ≡ sys.clients k
     same = ap (λ (f : ℕ → End w). f k) (clients-with_messages handed (with_manager e (with_channel link.0 ch queue sys)))
 
-    go : (b : Bool) → IsEndOf k (if b then token_taken config tracker link.0 (tokens_on ch (s.link link.0)) before else before) ((with_messages handed (with_manager e (with_channel link.0 ch queue sys))).clients k)
+    go : (b : Bool) → IsEndOf k (if b then token_taken config tracker link.0 (tokens_on ch (s.link link.0)) before else before)
+        ((with_messages handed (with_manager e (with_channel link.0 ch queue sys))).clients k)
     go true =
-        left_alone k before (token_taken config tracker link.0 (tokens_on ch (s.link link.0)) before) (sys.clients k) ((with_messages handed (with_manager e (with_channel link.0 ch queue sys))).clients k)
-        (manager_leaves (is_caching config) config tracker link.0 ch before k sys x queue down h.invariant (first-token (is_caching config) ch link.0 mail s sys x queue width h.invariant h.carried beats)) same (end-matched config log mail request s sys h k)
-    go false = left_alone k before before (sys.clients k) ((with_messages handed (with_manager e (with_channel link.0 ch queue sys))).clients k) (leaves-none k before) same (end-matched config log mail request s sys h k)
+        left_alone k before (token_taken config tracker link.0 (tokens_on ch (s.link link.0)) before) (sys.clients k)
+        ((with_messages handed (with_manager e (with_channel link.0 ch queue sys))).clients k)
+        (manager_leaves (is_caching config) config tracker link.0 ch before k sys x queue down h.invariant
+        (first-token (is_caching config) ch link.0 mail s sys x queue width h.invariant h.carried beats)) same
+        (end-matched config log mail request s sys h k)
+    go false = left_alone k before before (sys.clients k) ((with_messages handed (with_manager e (with_channel link.0 ch queue sys))).clients k)
+        (leaves-none k before) same (end-matched config log mail request s sys h k)
 
 -- ---- a client takes a beat
 
@@ -254,23 +266,28 @@ moved (Ok (verdict.Taken, m)) c ch x queue e s unrefused moves = (refl, clients-
 moved (Ok (verdict.Done source f, m)) c ch x queue e s unrefused moves = (refl, clients-with_messages (handed_by c m) (with_client c e (with_channel c ch queue s)))
 
 -- a message that one client takes leaves the others' ends alone
-client_leaves : {w : ℕ} (config : Config) (tracker c : ℕ) (ch : Channel) (h : Shadow w) (d : ℕ) (sys : System w) (x : Beat w) (queue : List (Beat w)) → is_to_client ch ≡ true → (d ≡ c → ⊥) → IsFirst ch c h.mail h.state sys x queue
+client_leaves : {w : ℕ} (config : Config) (tracker c : ℕ) (ch : Channel) (h : Shadow w) (d : ℕ) (sys : System w) (x : Beat w) (queue : List (Beat w))
+    → is_to_client ch ≡ true → (d ≡ c → ⊥) → IsFirst ch c h.mail h.state sys x queue
     → Leaves d h (token_taken config tracker c (tokens_on ch (h.state.link c)) h)
 client_leaves {w} config tracker c ch h d sys x queue up other first =
-    subst (λ (xs : List Token). Leaves d h (token_taken config tracker c xs h)) (sym first.tokens) (leaves-at_client config tracker c first.kind first.number first.rest h d (client_kind ch first.kind up first.own) other)
+    subst (λ (xs : List Token). Leaves d h (token_taken config tracker c xs h)) (sym first.tokens)
+    (leaves-at_client config tracker c first.kind first.number first.rest h d (client_kind ch first.kind up first.own) other)
 
 -- the beat was taken: the ends after its step, given the client's own
-taken_ends : {w : ℕ} (config : Config) (log : Log w) (mail : Mail w) (request : ℕ → MessageA w) (s : State (List ℕ)) (sys : System w) (link : Link) (ch : Channel) (k : ℕ) (x : Beat w) (queue : List (Beat w)) (o : Offered w) → IsWidth w
+taken_ends : {w : ℕ} (config : Config) (log : Log w) (mail : Mail w) (request : ℕ → MessageA w) (s : State (List ℕ)) (sys : System w) (link : Link)
+    (ch : Channel) (k : ℕ) (x : Beat w) (queue : List (Beat w)) (o : Offered w) → IsWidth w
     → IsMatched config log mail request s sys → sys.channels link.0 ch ≡ x ∷ queue → is_to_client ch ≡ true → o ≡ taken x (sys.clients link.0)
     → (completes x (unfinished ch (receiver ch link.0 sys)) ≡ false → IsEndOf link.0 (shadow_of mail request s) (taken x (sys.clients link.0)).after)
     → (completes x (unfinished ch (receiver ch link.0 sys)) ≡ true
-    → IsEndOf link.0 (token_taken config (least_untaken (trackers_of (services sys.manager.trace))) link.0 (tokens_on ch (s.link link.0)) (shadow_of mail request s)) (taken x (sys.clients link.0)).after)
+    → IsEndOf link.0 (token_taken config (least_untaken (trackers_of (services sys.manager.trace))) link.0 (tokens_on ch (s.link link.0))
+    (shadow_of mail request s)) (taken x (sys.clients link.0)).after)
     → AreEnds config (Deliver link ch) sys (shadow_of mail request s) k (client_took link.0 ch x queue o sys)
 taken_ends {w} config log mail request s sys link ch k x queue o width h beats up takes more last =
     subst (λ (y : Offered w). AreEnds config (Deliver link ch) sys before k (client_took link.0 ch x queue y sys)) (sym takes)
     (subst (λ (b : Bool). IsEndOf k (if b && is_last (sys.channels link.0 ch) rest_now then event else before) ((client_took link.0 ch x queue t sys).after.clients k)) (sym moves.0)
     (subst (λ (f : ℕ → End w). IsEndOf k (if is_last (sys.channels link.0 ch) rest_now then event else before) (f k)) (sym moves.1)
-    (subst (λ (b : Bool). IsEndOf k (if b then event else before) ((with_client link.0 t.after (with_channel link.0 ch queue sys)).clients k)) (sym (ap (λ (beats_ : List (Beat w)). is_last beats_ rest_now) beats)) (go (completes x rest_now) refl (cases_eq k link.0)))))
+    (subst (λ (b : Bool). IsEndOf k (if b then event else before) ((with_client link.0 t.after (with_channel link.0 ch queue sys)).clients k))
+    (sym (ap (λ (beats_ : List (Beat w)). is_last beats_ rest_now) beats)) (go (completes x rest_now) refl (cases_eq k link.0)))))
   where
     before : Shadow w
     before = shadow_of mail request s
@@ -284,7 +301,8 @@ taken_ends {w} config log mail request s sys link ch k x queue o width h beats u
     t : Offered w
     t = taken x (sys.clients link.0)
 
-    moves : (is_moving (client_took link.0 ch x queue t sys).outcome ≡ true) × ((client_took link.0 ch x queue t sys).after.clients ≡ (with_client link.0 t.after (with_channel link.0 ch queue sys)).clients)
+    moves : (is_moving (client_took link.0 ch x queue t sys).outcome ≡ true)
+        × ((client_took link.0 ch x queue t sys).after.clients ≡ (with_client link.0 t.after (with_channel link.0 ch queue sys)).clients)
     moves = moved t.answer link.0 ch x queue t.after sys (taken_unrefused x (sys.clients link.0)) (taken_now x (sys.clients link.0))
 
     after : System w
@@ -301,17 +319,21 @@ taken_ends {w} config log mail request s sys link ch k x queue o width h beats u
     go false goes (inl same) = subst (λ (e : End w). IsEndOf k before e) (sym (own same)) (subst (λ (i : ℕ). IsEndOf i before t.after) (sym same) (more goes))
     go true done (inr ne) =
         left_alone k before event (sys.clients k) (after.clients k)
-        (client_leaves config (least_untaken (trackers_of (services sys.manager.trace))) link.0 ch before k sys x queue up ne (first-token (is_caching config) ch link.0 mail s sys x queue width h.invariant h.carried beats)) (others ne) (end-matched config log mail request s sys h k)
+        (client_leaves config (least_untaken (trackers_of (services sys.manager.trace))) link.0 ch before k sys x queue up ne
+        (first-token (is_caching config) ch link.0 mail s sys x queue width h.invariant h.carried beats)) (others ne)
+        (end-matched config log mail request s sys h k)
     go false goes (inr ne) = left_alone k before before (sys.clients k) (after.clients k) (leaves-none k before) (others ne) (end-matched config log mail request s sys h k)
 
-d_ends : {w : ℕ} (config : Config) (log : Log w) (mail : Mail w) (request : ℕ → MessageA w) (s : State (List ℕ)) (sys : System w) (terms : Terms) (link : Link) (k : ℕ) (x : Beat w) (queue : List (Beat w)) → IsWidth w
+d_ends : {w : ℕ} (config : Config) (log : Log w) (mail : Mail w) (request : ℕ → MessageA w) (s : State (List ℕ)) (sys : System w) (terms : Terms) (link : Link)
+    (k : ℕ) (x : Beat w) (queue : List (Beat w)) → IsWidth w
     → IsMatched config log mail request s sys → terms_at config link.0 ≡ Some terms → sys.channels link.0 channel.D ≡ x ∷ queue
     → AreEnds config (Deliver link channel.D) sys (shadow_of mail request s) k (client_took link.0 channel.D x queue (offered terms channel.D x (sys.clients link.0)) sys)
 d_ends {w} config log mail request s sys terms link k x queue width h at beats =
     let is = delivered-d config log mail request s sys terms (least_untaken (trackers_of (services sys.manager.trace))) link.0 x queue width h at beats in
     taken_ends config log mail request s sys link channel.D k x queue (offered terms channel.D x (sys.clients link.0)) width h beats refl is.takes is.more is.last
 
-b_ends : {w : ℕ} (config : Config) (log : Log w) (mail : Mail w) (request : ℕ → MessageA w) (s : State (List ℕ)) (sys : System w) (terms : Terms) (link : Link) (k : ℕ) (x : Beat w) (queue : List (Beat w)) → IsWidth w
+b_ends : {w : ℕ} (config : Config) (log : Log w) (mail : Mail w) (request : ℕ → MessageA w) (s : State (List ℕ)) (sys : System w) (terms : Terms) (link : Link)
+    (k : ℕ) (x : Beat w) (queue : List (Beat w)) → IsWidth w
     → IsMatched config log mail request s sys → terms_at config link.0 ≡ Some terms → sys.channels link.0 channel.B ≡ x ∷ queue
     → AreEnds config (Deliver link channel.B) sys (shadow_of mail request s) k (client_took link.0 channel.B x queue (offered terms channel.B x (sys.clients link.0)) sys)
 b_ends {w} config log mail request s sys terms link k x queue width h at beats = go (is_kept ((s.block comes.0).pair link.0).letting) refl
@@ -325,11 +347,13 @@ b_ends {w} config log mail request s sys terms link k x queue width h at beats =
         taken_ends config log mail request s sys link channel.B k x queue (offered terms channel.B x (sys.clients link.0)) width h beats refl (comes.1.takes kept)
         (λ goes. absurd (let no : true ≡ false = sym comes.1.whole ∙ goes in cc)) (λ done. comes.1.last kept)
     go false open_ =
-        subst (λ (o : Offered w). AreEnds config (Deliver link channel.B) sys (shadow_of mail request s) k (client_took link.0 channel.B x queue o sys)) (sym (comes.1.waits_for open_)) (end-matched config log mail request s sys h k)
+        subst (λ (o : Offered w). AreEnds config (Deliver link channel.B) sys (shadow_of mail request s) k (client_took link.0 channel.B x queue o sys))
+        (sym (comes.1.waits_for open_)) (end-matched config log mail request s sys h k)
 
 -- ---- every event
 
-delivered_ends : {w : ℕ} (config : Config) (log : Log w) (mail : Mail w) (request : ℕ → MessageA w) (s : State (List ℕ)) (sys : System w) (terms : Terms) (link : Link) (ch : Channel) (k : ℕ) (beats : List (Beat w)) → IsWidth w
+delivered_ends : {w : ℕ} (config : Config) (log : Log w) (mail : Mail w) (request : ℕ → MessageA w) (s : State (List ℕ)) (sys : System w) (terms : Terms)
+    (link : Link) (ch : Channel) (k : ℕ) (beats : List (Beat w)) → IsWidth w
     → IsMatched config log mail request s sys → terms_at config link.0 ≡ Some terms → sys.channels link.0 ch ≡ beats
     → AreEnds config (Deliver link ch) sys (shadow_of mail request s) k (step.delivered config terms link.0 ch beats sys)
 delivered_ends config log mail request s sys terms link ch k [] width h at beats = end-matched config log mail request s sys h k
@@ -342,7 +366,8 @@ delivered_ends config log mail request s sys terms link channel.C k (x ∷ queue
 delivered_ends config log mail request s sys terms link channel.E k (x ∷ queue) width h at beats =
     manager_ends config log mail request s sys link channel.E k x queue (manager.offered config (record { 0 = link.0 }) channel.E x sys.manager) width h beats refl
 
-event_ends : {w : ℕ} (config : Config) (log : Log w) (mail : Mail w) (request : ℕ → MessageA w) (s : State (List ℕ)) (sys : System w) (event : Event w) (o : Option Terms) (k : ℕ) → IsWidth w → IsMatched config log mail request s sys
+event_ends : {w : ℕ} (config : Config) (log : Log w) (mail : Mail w) (request : ℕ → MessageA w) (s : State (List ℕ)) (sys : System w) (event : Event w)
+    (o : Option Terms) (k : ℕ) → IsWidth w → IsMatched config log mail request s sys
     → terms_at config (client_of event) ≡ o → AreEnds config event sys (shadow_of mail request s) k (stepped_at config o event sys)
 event_ends config log mail request s sys (Ask c o) None k width h at = end-matched config log mail request s sys h k
 event_ends config log mail request s sys (Deliver link ch) None k width h at = end-matched config log mail request s sys h k
@@ -350,7 +375,8 @@ event_ends config log mail request s sys (Ask c o) (Some terms) k width h at = a
 event_ends config log mail request s sys (Deliver link ch) (Some terms) k width h at = delivered_ends config log mail request s sys terms link ch k (sys.channels link.0 ch) width h at refl
 
 -- Every client's end is that of the protocol after an event of the world.
-pub clients-kept : {w : ℕ} (config : Config) (log : Log w) (mail : Mail w) (request : ℕ → MessageA w) (s : State (List ℕ)) (sys : System w) (event : Event w) → IsWidth w → IsMatched config log mail request s sys → (k : ℕ)
+pub clients-kept : {w : ℕ} (config : Config) (log : Log w) (mail : Mail w) (request : ℕ → MessageA w) (s : State (List ℕ)) (sys : System w) (event : Event w)
+    → IsWidth w → IsMatched config log mail request s sys → (k : ℕ)
     → IsEndOf k (followed config event sys (shadow_of mail request s)) ((stepped config event sys).after.clients k)
 unfolding stepped
 clients-kept config log mail request s sys event width h k = event_ends config log mail request s sys event (terms_at config (client_of event)) k width h refl

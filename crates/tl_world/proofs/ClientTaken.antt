@@ -97,7 +97,8 @@ end-answer_taken {w} c source x rest mail s e f is last plain other from well en
     s' = answer_taken c source rest s
 
     asks_now : (i : ℕ) → (i ≡ source) ⊎ (i ≡ source → ⊥) → asked_by mail s' c i ≡ cond (x.source == i) None (asked_by mail s c i)
-    asks_now i (inl same) = asks-closed c i mail s' (ap (s'.uses c) same ∙ set_at-same c source Closed s.uses) ∙ sym (chosen (x.source == i) None (asked_by mail s c i) (rw (from, same) (same_number source)))
+    asks_now i (inl same) = asks-closed c i mail s' (ap (s'.uses c) same ∙ set_at-same c source Closed s.uses)
+        ∙ sym (chosen (x.source == i) None (asked_by mail s c i) (rw (from, same) (same_number source)))
     asks_now i (inr ne) = asks-same c i mail mail s s' refl (inl (set_at-else c source i Closed s.uses ne c)) (λ n used. refl) (λ n used. refl)
         ∙ sym (passed (x.source == i) None (asked_by mail s c i) (rw from (ne_eqb source i (λ g. ne (sym g)))))
 
@@ -149,8 +150,10 @@ end-release_ack_taken {w} c n x rest mail s e f is last plain acks from let_ wel
     pair_is = set-same c (after_release_ack ((s.block n).pair c)) (s.block n).pair
 
     lets_now : (i : ℕ) → (i ≡ (s.block n).release_source c) ⊎ (i ≡ (s.block n).release_source c → ⊥) → s'.lets c i ≡ cond (x.source == i) None (s.lets c i)
-    lets_now i (inl same) = ap (s'.lets c) same ∙ set_at-same c ((s.block n).release_source c) None s.lets ∙ sym (chosen (x.source == i) None (s.lets c i) (rw (from, same) (same_number ((s.block n).release_source c))))
-    lets_now i (inr ne) = set_at-else c ((s.block n).release_source c) i None s.lets ne c ∙ sym (passed (x.source == i) None (s.lets c i) (rw from (ne_eqb ((s.block n).release_source c) i (λ g. ne (sym g)))))
+    lets_now i (inl same) = ap (s'.lets c) same ∙ set_at-same c ((s.block n).release_source c) None s.lets
+        ∙ sym (chosen (x.source == i) None (s.lets c i) (rw (from, same) (same_number ((s.block n).release_source c))))
+    lets_now i (inr ne) = set_at-else c ((s.block n).release_source c) i None s.lets ne c
+        ∙ sym (passed (x.source == i) None (s.lets c i) (rw from (ne_eqb ((s.block n).release_source c) i (λ g. ne (sym g)))))
 
 -- ---- a Grant
 
@@ -176,11 +179,13 @@ ended_end : {w : ℕ} (o : OpD) (data_too : Bool) (x : BeatD w) (finish : Finish
 ended_end o true x finish g e = rw e refl
 ended_end o false x finish g e = rw e refl
 
-same_copy : {w : ℕ} (data_too : Bool) (r : BeatA w) (payload : List ℕ) (k : ℕ) (t : History w) (e : End w) → copy_granted (grant_opcode data_too) (Some r) payload k (with_past t e) ≡ copy_granted (grant_opcode data_too) (Some r) payload k e
+same_copy : {w : ℕ} (data_too : Bool) (r : BeatA w) (payload : List ℕ) (k : ℕ) (t : History w) (e : End w)
+    → copy_granted (grant_opcode data_too) (Some r) payload k (with_past t e) ≡ copy_granted (grant_opcode data_too) (Some r) payload k e
 same_copy true r payload k t e = refl
 same_copy false r payload k t e = refl
 
-grant_end : {w : ℕ} (data_too : Bool) (x : BeatD w) (r : BeatA w) (payload : List ℕ) (e f : End w) → x.opcode ≡ grant_opcode data_too → f ≡ (responded x (Some r) payload e).after → IsGrantTaken data_too x r payload e f
+grant_end : {w : ℕ} (data_too : Bool) (x : BeatD w) (r : BeatA w) (payload : List ℕ) (e f : End w) → x.opcode ≡ grant_opcode data_too
+    → f ≡ (responded x (Some r) payload e).after → IsGrantTaken data_too x r payload e f
 grant_end {w} data_too x r payload e f opcode is =
     let before : End w = with_past (beat.D x ∷ e.past) e in
     let g : End w = granted x.opcode (Some r) payload before in
@@ -189,11 +194,13 @@ grant_end {w} data_too x r payload e f opcode is =
     record {
       past_is = ap (λ (h : End w). h.past) sends ∙ ap (λ (t : History w). sent (E (record { sink = x.sink })) t) does.same_past;
       same_closed = ap (λ (h : End w). h.closed) sends ∙ does.same_closed;
-      new_copies = λ k. ap (λ (h : End w). h.copies k) sends ∙ does.new_copies k ∙ ap (λ (o : OpD). copy_granted o (Some r) payload k before) opcode ∙ same_copy data_too r payload k (beat.D x ∷ e.past) e;
+      new_copies = λ k. ap (λ (h : End w). h.copies k) sends ∙ does.new_copies k ∙ ap (λ (o : OpD). copy_granted o (Some r) payload k before) opcode
+          ∙ same_copy data_too r payload k (beat.D x ∷ e.past) e;
       new_waiting = λ k. ap (λ (h : End w). h.waiting k) sends ∙ does.new_waiting k ∙ ap (λ (o : OpD). waiting_granted o (Some r) k (e.waiting k)) opcode;
     }
 
-pub end-grant_taken : {w : ℕ} (c n : ℕ) (whole data_too : Bool) (g : Grow) (k : Cap) (x : BeatD w) (payload : List ℕ) (rest : List Token) (mail : Mail w) (s : State (List ℕ)) (e f : End w) → IsWidth w → AreNamed s
+pub end-grant_taken : {w : ℕ} (c n : ℕ) (whole data_too : Bool) (g : Grow) (k : Cap) (x : BeatD w) (payload : List ℕ) (rest : List Token) (mail : Mail w)
+    (s : State (List ℕ)) (e f : End w) → IsWidth w → AreNamed s
     → IsGrantOf c n whole data_too g k x payload s → f ≡ (responded x (request_of x.source e.past) payload e).after → ends (beat.D x) e.past ≡ true → IsWellKept f → IsEnd (asked_by mail s c) c s e
     → IsEnd (asked_by mail (grant_taken c n whole data_too k rest s) c) c (grant_taken c n whole data_too k rest s) f
 end-grant_taken {w} c n whole data_too g k x payload rest mail s e f width named is taken last well end =
@@ -252,7 +259,8 @@ end-grant_taken {w} c n whole data_too g k x payload rest mail s e f width named
         ne (eqb-true i source (and_right (is_wanting ((s.block n).pair c).acquiring) (i == source) both))
 
     asks_now : (i : ℕ) → (i ≡ source) ⊎ (i ≡ source → ⊥) → asked_by mail s' c i ≡ cond (x.source == i) None (asked_by mail s c i)
-    asks_now i (inl same) = asks-closed c i mail s' (ap (s'.uses c) same ∙ set_at-same c source Closed s.uses) ∙ sym (chosen (x.source == i) None (asked_by mail s c i) (rw (is.from, same) (same_number source)))
+    asks_now i (inl same) = asks-closed c i mail s' (ap (s'.uses c) same ∙ set_at-same c source Closed s.uses)
+        ∙ sym (chosen (x.source == i) None (asked_by mail s c i) (rw (is.from, same) (same_number source)))
     asks_now i (inr ne) = asks-same c i mail mail s s' refl (inl (set_at-else c source i Closed s.uses ne c))
         (λ j used. ap (λ (b : Block (List ℕ)). (b.pair c).acquiring) (set-other n j new s.block (apart i j ne used)))
         (λ j used. ap (λ (b : Block (List ℕ)). b.source c) (set-other n j new s.block (apart i j ne used)))
@@ -268,7 +276,9 @@ end-grant_taken {w} c n whole data_too g k x payload rest mail s e f width named
     elsewhere : (i : ℕ) → (i ≡ n → ⊥) → (i == block_at r.address) ≡ false
     elsewhere i ne = rw (same_block n) (ne_eqb i n ne)
 
-    copy_here : (i : ℕ) (y z : Bool) → whole ≡ y → data_too ≡ z → i ≡ n → copy_granted (grant_opcode z) (Some (a_beat_of {w = w} (acquisition (acquire_opcode y) g source n) 0)) payload i e ≡ Some (granted_copy y z ((s.block n).waiting c) (s.block n).truth ((s.block n).copy c))
+    copy_here : (i : ℕ) (y z : Bool) → whole ≡ y → data_too ≡ z → i ≡ n
+        → copy_granted (grant_opcode z) (Some (a_beat_of {w = w} (acquisition (acquire_opcode y) g source n) 0)) payload i e ≡ Some
+        (granted_copy y z ((s.block n).waiting c) (s.block n).truth ((s.block n).copy c))
     copy_here i true true a b same = absurd (let no : true ≡ false = sym (ap₂_and a b) ∙ is.bare in cc)
       where
         ap₂_and : {u v : Bool} → whole ≡ u → data_too ≡ v → (whole && data_too) ≡ (u && v)
@@ -287,7 +297,8 @@ end-grant_taken {w} c n whole data_too g k x payload rest mail s e f width named
 
     copy_now : (i : ℕ) → (i ≡ n) ⊎ (i ≡ n → ⊥) → same_perm ((s'.block i).pair c).held perm.None ≡ false → copy_granted (grant_opcode data_too) (Some r) payload i e ≡ Some ((s'.block i).copy c)
     copy_now i (inl same) some = copy_here i whole data_too refl refl same
-        ∙ ap Some (sym (ap (λ (b : Block (List ℕ)). b.copy c) (block_now i same) ∙ set-same c (granted_copy whole data_too ((s.block n).waiting c) (s.block n).truth ((s.block n).copy c)) (s.block n).copy))
+        ∙ ap Some (sym (ap (λ (b : Block (List ℕ)). b.copy c) (block_now i same)
+        ∙ set-same c (granted_copy whole data_too ((s.block n).waiting c) (s.block n).truth ((s.block n).copy c)) (s.block n).copy))
     copy_now i (inr ne) some =
         let old : s'.block i ≡ s.block i = set-other n i new s.block ne in
         copy_else i data_too ne ∙ end.copies i (sym (ap (λ (b : Block (List ℕ)). same_perm (b.pair c).held perm.None) old) ∙ some) ∙ ap Some (sym (ap (λ (b : Block (List ℕ)). b.copy c) old))
@@ -297,7 +308,9 @@ end-grant_taken {w} c n whole data_too g k x payload rest mail s e f width named
     waiting_else i false ne = passed ((i == block_at r.address) && is_acquire_perm r.opcode) None (e.waiting i) (ap (λ (u : Bool). u && is_acquire_perm r.opcode) (elsewhere i ne))
 
     waiting_now : (i : ℕ) → (i ≡ n) ⊎ (i ≡ n → ⊥) → is_storing ((s'.block i).pair c).acquiring ≡ true → waiting_granted (grant_opcode data_too) (Some r) i (e.waiting i) ≡ Some ((s'.block i).waiting c)
-    waiting_now i (inl same) storing = absurd (let no : false ≡ true = sym (ap (λ (b : Block (List ℕ)). is_storing (b.pair c).acquiring) (block_now i same) ∙ ap (λ (q : Pair). is_storing q.acquiring) pair_is) ∙ storing in cc)
+    waiting_now i (inl same) storing = absurd (let no : false ≡ true =
+        sym (ap (λ (b : Block (List ℕ)). is_storing (b.pair c).acquiring) (block_now i same)
+        ∙ ap (λ (q : Pair). is_storing q.acquiring) pair_is) ∙ storing in cc)
     waiting_now i (inr ne) storing =
         let old : s'.block i ≡ s.block i = set-other n i new s.block ne in
         waiting_else i data_too ne ∙ end.waiting i (sym (ap (λ (b : Block (List ℕ)). is_storing (b.pair c).acquiring) old) ∙ storing) ∙ ap Some (sym (ap (λ (b : Block (List ℕ)). b.waiting c) old))

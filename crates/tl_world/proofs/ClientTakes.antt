@@ -4,8 +4,8 @@ use Rattle.std.proofs.lemmas.Bool.{not-true}
 use Rattle.std.specs.Prelude.{All, is_some, slice_get, option_map}
 use Rattle.tl_beat.specs.declared.beat.Beat.{Beat}
 use Rattle.tl_beat.specs.declared.beat.BeatA.{BeatA}
-use Rattle.tl_beat.specs.declared.opcode.Channel.{Channel}
-use Rattle.tl_beat.specs.declared.opcode.Channel.TheVariants as channel
+use Rattle.tl_beat.specs.declared.channel.Channel.{Channel}
+use Rattle.tl_beat.specs.declared.channel.Channel.TheVariants as channel
 use Rattle.tl_burst.specs.declared.message.Message.{Message}
 use Rattle.tl_burst.specs.declared.message.Message.TheVariants as message
 use Rattle.tl_burst.specs.declared.message.MessageA.{MessageA}
@@ -69,10 +69,19 @@ terms-are config c terms e = go (slice_get config.clients.items c) refl
     some_is x y f = cc
 
     go : (o : Option ClientConfig) → slice_get config.clients.items c ≡ o → AreTermsOf config c terms
-    go None f = absurd (let no : None ≡ Some terms = sym (ap (option_map (λ (x : ClientConfig). record { level = x.level; profile = config.profile; sources = x.sources; blocks = config.blocks })) f) ∙ e in cc)
+    go None f = absurd (let no : None ≡ Some terms = sym
+        (ap (option_map (λ (x : ClientConfig). record {
+          level = x.level;
+          profile = config.profile;
+          sources = x.sources;
+          blocks =
+              config.blocks;
+        })) f) ∙ e in cc)
     go (Some x) f =
         let is : record { level = x.level; profile = config.profile; sources = x.sources; blocks = config.blocks } ≡ terms =
-        some_is (record { level = x.level; profile = config.profile; sources = x.sources; blocks = config.blocks }) terms (sym (ap (option_map (λ (y : ClientConfig). record { level = y.level; profile = config.profile; sources = y.sources; blocks = config.blocks })) f) ∙ e) in
+        some_is (record { level = x.level; profile = config.profile; sources = x.sources; blocks = config.blocks }) terms
+        (sym (ap (option_map (λ (y : ClientConfig). record { level = y.level; profile = config.profile; sources = y.sources; blocks = config.blocks })) f)
+        ∙ e) in
         record {
           level = ap (option_map (λ (y : ClientConfig). y.level)) f ∙ ap (λ (t : Terms). Some t.level) is;
           profile = ap (λ (t : Terms). t.profile) (sym is);
@@ -85,17 +94,20 @@ first_of_all : {X : Type 0} (P : X → Type 0) (xs rest : List X) (x : X) → xs
 first_of_all P xs rest x e h = let all : All P (x ∷ rest) = subst (All P) e h in all 0 x (omega arith)
 
 -- what each beat of a channel is
-pub sound-beat : {w : ℕ} (config : Config) (log : Log w) (mail : Mail w) (request : ℕ → MessageA w) (s : State (List ℕ)) (sys : System w) (c : ℕ) (ch : Channel) (x : Beat w) (queue : List (Beat w)) → IsMatched config log mail request s sys
+pub sound-beat : {w : ℕ} (config : Config) (log : Log w) (mail : Mail w) (request : ℕ → MessageA w) (s : State (List ℕ)) (sys : System w) (c : ℕ) (ch : Channel)
+    (x : Beat w) (queue : List (Beat w)) → IsMatched config log mail request s sys
     → sys.channels c ch ≡ x ∷ queue → manager.IsSound config (record { 0 = c }, x)
 sound-beat config log mail request s sys c ch x queue h beats = first_of_all (λ y. manager.IsSound config (record { 0 = c }, y)) (sys.channels c ch) queue x beats (h.sound c ch)
 
 -- a beat that goes on with its message breaks no rule of order, and so all do where the first doesn't
-pub next-legal : {w : ℕ} (p : Profile) (m : MessageD w) (k : ℕ) (t : History w) → unfinished channel.D t ≡ begun (message.D m) k → (unfinished channel.D t ≡ [] → broken_in_order p (beat_of (message.D m) 0) t ≡ None)
+pub next-legal : {w : ℕ} (p : Profile) (m : MessageD w) (k : ℕ) (t : History w) → unfinished channel.D t ≡ begun (message.D m) k
+    → (unfinished channel.D t ≡ [] → broken_in_order p (beat_of (message.D m) 0) t ≡ None)
     → broken_in_order p (beat_of (message.D m) k) t ≡ None
 next-legal p m zero t rest first = first rest
 next-legal p m (suc i) t rest first = later-legal p (message.D m) i t rest
 
-pub taken-d : {w : ℕ} (config : Config) (log : Log w) (mail : Mail w) (request : ℕ → MessageA w) (s : State (List ℕ)) (sys : System w) (terms : Terms) (c : ℕ) (m : MessageD w) (ms : List (Message w)) (x : Beat w) (queue : List (Beat w))
+pub taken-d : {w : ℕ} (config : Config) (log : Log w) (mail : Mail w) (request : ℕ → MessageA w) (s : State (List ℕ)) (sys : System w) (terms : Terms) (c : ℕ)
+    (m : MessageD w) (ms : List (Message w)) (x : Beat w) (queue : List (Beat w))
     → IsMatched config log mail request s sys → terms_at config c ≡ Some terms → sys.channels c channel.D ≡ x ∷ queue → IsNext x (unfinished channel.D (sys.clients c).past) (message.D m) ms queue
     → (unfinished channel.D (sys.clients c).past ≡ [] → broken_in_order config.profile (beat_of (message.D m) 0) (sys.clients c).past ≡ None)
     → offered terms channel.D x (sys.clients c) ≡ taken x (sys.clients c)
@@ -103,12 +115,16 @@ taken-d {w} config log mail request s sys terms c m ms x queue h at beats next f
     let is = terms-are config c terms at in
     let sound = sound-beat config log mail request s sys c channel.D x queue h beats in
     client-takes terms channel.D x (sys.clients c) (h.live c) refl (lawful is.level next.beat_is sound.lawful) (moves next.beat_is)
-    (ap (λ (p : Profile). broken_in_order p x (sys.clients c).past) is.profile ∙ ap (λ (y : Beat w). broken_in_order config.profile y (sys.clients c).past) next.beat_is ∙ next-legal config.profile m next.k (sys.clients c).past next.rest_is first)
+    (ap (λ (p : Profile). broken_in_order p x (sys.clients c).past) is.profile
+    ∙ ap (λ (y : Beat w). broken_in_order config.profile y (sys.clients c).past) next.beat_is
+    ∙ next-legal config.profile m next.k (sys.clients c).past next.rest_is first)
     (ap (λ (b : ℕ). is_outside b x) is.blocks ∙ sound.inside) sound.clean
   where
     lawful : level_of config c ≡ Some terms.level → x ≡ beat_of (message.D m) next.k → manager.illegal_at (level_of config c) x ≡ None → illegal terms.level channel.D x ≡ None
     lawful e f g =
-        let one : manager.illegal_at (Some terms.level) (beat_of (message.D m) next.k) ≡ None = sym (ap (λ (l : Option Level). manager.illegal_at l (beat_of (message.D m) next.k)) e) ∙ sym (ap (λ (y : Beat w). manager.illegal_at (level_of config c) y) f) ∙ g in
+        let one : manager.illegal_at (Some terms.level) (beat_of (message.D m) next.k) ≡ None =
+        sym (ap (λ (l : Option Level). manager.illegal_at l (beat_of (message.D m) next.k)) e)
+        ∙ sym (ap (λ (y : Beat w). manager.illegal_at (level_of config c) y) f) ∙ g in
         ap (λ (y : Beat w). illegal terms.level channel.D y) f ∙ one
 
     moves : x ≡ beat_of (message.D m) next.k → waits x (sys.clients c).past ≡ false
@@ -124,7 +140,8 @@ live_request {w} source r t e = go (pending (RequestSource source) t) refl e
     go true f g = (refl, g)
     go false f g = absurd cc
 
-pub answer-first : {w : ℕ} (p : Profile) (c source : ℕ) (mail : Mail w) (s : State (List ℕ)) (e : End w) → IsEnd (asked_by mail s c) c s e → (due : IsAnswerDue c source mail s) → unfinished channel.D e.past ≡ []
+pub answer-first : {w : ℕ} (p : Profile) (c source : ℕ) (mail : Mail w) (s : State (List ℕ)) (e : End w) → IsEnd (asked_by mail s c) c s e
+    → (due : IsAnswerDue c source mail s) → unfinished channel.D e.past ≡ []
     → broken_in_order p (beat_of (message.D due.answer) 0) e.past ≡ None
 answer-first {w} p c source mail s e end due whole =
     let kind = access_kind due.answer.opcode due.answers_access in
@@ -148,7 +165,8 @@ answers_acquire true false e = refl
 answers_acquire false true e = refl
 answers_acquire false false e = refl
 
-pub fits_asked : (p : Profile) (whole : Bool) (g : Grow) (k : Cap) → cap_fits whole g k ≡ true → gives_asked p (Wants whole g) k ≡ true → fits_grow p (acquire_opcode whole) (grow_code g) (cap_code k) ≡ true
+pub fits_asked : (p : Profile) (whole : Bool) (g : Grow) (k : Cap) → cap_fits whole g k ≡ true → gives_asked p (Wants whole g) k ≡ true
+    → fits_grow p (acquire_opcode whole) (grow_code g) (cap_code k) ≡ true
 fits_asked profile.One false grow.NtoB cap.ToB e f = refl
 fits_asked profile.Two false grow.NtoB cap.ToB e f = refl
 fits_asked profile.Two false grow.NtoB cap.ToT e f = refl
@@ -195,7 +213,8 @@ has_data false false perm.Branch e = refl
 has_data false false perm.None e = absurd cc
 has_data false false perm.Trunk e = absurd cc
 
-pub grant-first : {w : ℕ} (p : Profile) (c n : ℕ) (mail : Mail w) (s : State (List ℕ)) (e : End w) → IsEnd (asked_by mail s c) c s e → (due : IsGrantDue c n s) → gives_asked p (Wants due.whole due.g) due.k ≡ true
+pub grant-first : {w : ℕ} (p : Profile) (c n : ℕ) (mail : Mail w) (s : State (List ℕ)) (e : End w) → IsEnd (asked_by mail s c) c s e → (due : IsGrantDue c n s)
+    → gives_asked p (Wants due.whole due.g) due.k ≡ true
     → unfinished channel.D e.past ≡ []
     → broken_in_order p (beat_of (message.D (grant_message due.data_too due.k ((s.block n).source c) (s.block n).tracker (s.block n).truth)) 0) e.past ≡ None
 grant-first {w} p c n mail s e end due given whole =
@@ -213,13 +232,16 @@ grant-first {w} p c n mail s e end due given whole =
       admits = answers_acquire due.whole due.data_too fits.bare;
       size = refl;
     }) (same_block n) (fits_asked p due.whole due.g due.k fits.cap_is given)
-    (ap (λ (q : Perm). is_grant_without_data (grant_opcode due.data_too) && (is_acquire_block (acquire_opcode due.whole) && not (same_perm q perm.Branch))) (end.known.held_is n) ∙ has_data due.whole due.data_too ((s.block n).pair c).held fits.carried)
+    (ap (λ (q : Perm). is_grant_without_data (grant_opcode due.data_too) && (is_acquire_block (acquire_opcode due.whole) && not (same_perm q perm.Branch)))
+    (end.known.held_is n) ∙ has_data due.whole due.data_too ((s.block n).pair c).held fits.carried)
     (end.known.probes n) (end.known.sinks (s.block n).tracker ∙ ap (λ (b : List (Beat w)). rules.comes_in_grant (s.block n).tracker b) whole)
 
 -- ---- a ReleaseAck
 
-pub ack-first : {w : ℕ} (p : Profile) (c n : ℕ) (mail : Mail w) (s : State (List ℕ)) (e : End w) → IsEnd (asked_by mail s c) c s e → s.lets c ((s.block n).release_source c) ≡ Some n → unfinished channel.D e.past ≡ []
+pub ack-first : {w : ℕ} (p : Profile) (c n : ℕ) (mail : Mail w) (s : State (List ℕ)) (e : End w) → IsEnd (asked_by mail s c) c s e
+    → s.lets c ((s.block n).release_source c) ≡ Some n → unfinished channel.D e.past ≡ []
     → broken_in_order p (beat_of (release_ack ((s.block n).release_source c)) 0) e.past ≡ None
 ack-first {w} p c n mail s e end let_ whole =
     let source = (s.block n).release_source c in
-    ack-legal p (d_beat_of (ack_message source) 0) e.past whole (ap (rules.comes_in_release source) end.kept.c_whole) refl (end.opened.releases source ∙ ap is_some let_) (end.opened.sizes source n let_)
+    ack-legal p (d_beat_of (ack_message source) 0) e.past whole (ap (rules.comes_in_release source) end.kept.c_whole) refl
+    (end.opened.releases source ∙ ap is_some let_) (end.opened.sizes source n let_)

@@ -21,7 +21,8 @@ use Rattle.tl_world.specs.declared.event.Outcome.{Outcome}
 use Rattle.tl_world.specs.declared.event.Outcome.TheVariants as outcome
 use Rattle.tl_world.specs.Coherent.{started_at, started, IsCoherent}
 use Rattle.tl_world.specs.Log.{Log, after}
-use Rattle.tl_world.specs.Machine.{Machine, Open, Pool, Requests, Releases, same_pool, pool_of, with_open, with_memory, memory_after, after_reply, after_end, moved, performed, performed_op, performed_open}
+use Rattle.tl_world.specs.Machine.{Machine, Open, Pool, Requests, Releases, same_pool, pool_of, with_open, with_memory, memory_after, after_reply, after_end}
+use Rattle.tl_world.specs.Machine.{moved, performed, performed_op, performed_open}
 use Rattle.tl_world.specs.Phase.{perm_le}
 use Rattle.tl_world.specs.Protocol.{State, view}
 use Rattle.tl_world.specs.Remembered.{remembered, performing, accesses_answered}
@@ -68,9 +69,11 @@ same_there {w} client at n x m c pool source e = go (client == c) (same_pool at 
     go true false d f g h = refl
     go false b d f g h = refl
 
-reply_opened : {w : ℕ} (client : ℕ) (o : Op w) (r : Reply) (m : Machine w) (c : ℕ) (pool : Pool) (source : ℕ) → asked_at c pool source (after_reply client o r m) ≡ started_at (Ask client o) (outcome.Replied r) c pool source (asked_at c pool source m)
+reply_opened : {w : ℕ} (client : ℕ) (o : Op w) (r : Reply) (m : Machine w) (c : ℕ) (pool : Pool) (source : ℕ)
+    → asked_at c pool source (after_reply client o r m) ≡ started_at (Ask client o) (outcome.Replied r) c pool source (asked_at c pool source m)
 reply_opened client (op.Load address size) (reply.Started n) m c pool source = opened_with client Requests n (Some (record { asked = op.Load address size; answer = None })) m c pool source
-reply_opened client (op.Store address size value) (reply.Started n) m c pool source = opened_with client Requests n (Some (record { asked = op.Store address size value; answer = None })) m c pool source
+reply_opened client (op.Store address size value) (reply.Started n) m c pool source =
+    opened_with client Requests n (Some (record { asked = op.Store address size value; answer = None })) m c pool source
 reply_opened client (op.Acquire k g) (reply.Started n) m c pool source = opened_with client Requests n (Some (record { asked = op.Acquire k g; answer = None })) m c pool source
 reply_opened client (op.AcquireWhole k bytes) (reply.Started n) m c pool source = opened_with client Requests n (Some (record { asked = op.AcquireWhole k bytes; answer = None })) m c pool source
 reply_opened client (op.Release k p) (reply.Started n) m c pool source = opened_with client Releases n (Some (record { asked = op.Release k p; answer = None })) m c pool source
@@ -121,7 +124,8 @@ moved_opened (Deliver link ch) outcome.NoSuchClient m c pool source = refl
 
 -- ---- performing asks for nothing else
 
-op_opened : {w : ℕ} (client n : ℕ) (o : Open w) (m : Machine w) (c : ℕ) (pool : Pool) (source : ℕ) → m.opened client Requests n ≡ Some o → asked_at c pool source (unwrap_or (performed_open client n (Some o) m) m) ≡ asked_at c pool source m
+op_opened : {w : ℕ} (client n : ℕ) (o : Open w) (m : Machine w) (c : ℕ) (pool : Pool) (source : ℕ) → m.opened client Requests n ≡ Some o
+    → asked_at c pool source (unwrap_or (performed_open client n (Some o) m) m) ≡ asked_at c pool source m
 op_opened {w} client n o m c pool source e = go o.asked o.answer (ap (option_map (λ i. i.asked)) e)
   where
     go : (x : Op w) (r : Option memory.AccessResult) → asked_at client Requests n m ≡ Some x → asked_at c pool source (unwrap_or (performed_op client n x r m) m) ≡ asked_at c pool source m
@@ -152,7 +156,8 @@ pub opened-started : {w : ℕ} (config : Config) (log : Log w) (c : ℕ) (pool :
 unfolding remembered started
 opened-started config [] c pool source = refl
 opened-started {w} config (x ∷ log) c pool source =
-    performing_opened (accesses_answered (stepped config x.0 (after config log)).handed) (moved x.0 x.1 (remembered config log)) c pool source ∙ moved_opened x.0 x.1 (remembered config log) c pool source
+    performing_opened (accesses_answered (stepped config x.0 (after config log)).handed) (moved x.0 x.1 (remembered config log)) c pool source
+    ∙ moved_opened x.0 x.1 (remembered config log) c pool source
     ∙ ap (started_at x.0 x.1 c pool source) (opened-started config log c pool source)
 
 -- ---- coherent copies
@@ -173,14 +178,17 @@ none_is perm.Branch perm.Trunk e f = absurd cc
 none_is perm.Trunk perm.Branch e f = absurd cc
 none_is perm.Trunk perm.Trunk e f = absurd cc
 
-pub coherent-matched : {w : ℕ} (config : Config) (log : Log w) (mail : Mail w) (request : ℕ → MessageA w) (s : State (List ℕ)) → IsMatched config log mail request s (after config log) → IsCoherent (after config log) log (remembered config log)
+pub coherent-matched : {w : ℕ} (config : Config) (log : Log w) (mail : Mail w) (request : ℕ → MessageA w) (s : State (List ℕ))
+    → IsMatched config log mail request s (after config log) → IsCoherent (after config log) log (remembered config log)
 coherent-matched {w} config log mail request s h = record {
   one_writer = λ c d n differ writes.
-      let top = trunk_is ((s.block n).pair c).held ((s.block n).pair c).recorded (sym ((h.known c).held_is n) ∙ writes) (held_at_most ((s.block n).pair c) (view (s.block n).service c) ((h.invariant.blocks n).phases c)) in
+      let top = trunk_is ((s.block n).pair c).held ((s.block n).pair c).recorded (sym ((h.known c).held_is n) ∙ writes)
+      (held_at_most ((s.block n).pair c) (view (s.block n).service c) ((h.invariant.blocks n).phases c)) in
       let none = (h.invariant.blocks n).one_owner c d top (λ e. differ (sym e)) in
       (h.known d).held_is n ∙ none_is ((s.block n).pair d).held ((s.block n).pair d).recorded none (held_at_most ((s.block n).pair d) (view (s.block n).service d) ((h.invariant.blocks n).phases d));
   copies = λ c n bytes copy.
-      let some : same_perm ((s.block n).pair c).held perm.None ≡ false = held-some ((s.block n).pair c).held (sym (sym (ap is_some copy) ∙ (h.kept c).copies_held n ∙ ap holds ((h.known c).held_is n))) in
+      let some : same_perm ((s.block n).pair c).held perm.None ≡ false =
+      held-some ((s.block n).pair c).held (sym (sym (ap is_some copy) ∙ (h.kept c).copies_held n ∙ ap holds ((h.known c).held_is n))) in
       let same : (s.block n).truth ≡ bytes = sym ((h.invariant.blocks n).copies c some) ∙ some_is ((s.block n).copy c) bytes (sym (h.copies c n some) ∙ copy) in
       subst (λ (b : List ℕ). IsBlock (remembered config log).memory n b) same (h.beside.memory n);
   opened = λ c pool source. opened-started config log c pool source;

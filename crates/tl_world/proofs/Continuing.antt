@@ -7,8 +7,8 @@ use Rattle.tl_beat.specs.declared.beat.Beat.{Beat}
 use Rattle.tl_beat.specs.declared.beat.Beat.TheVariants as beat
 use Rattle.tl_beat.specs.declared.beat.BeatE.{BeatE}
 use Rattle.tl_beat.specs.declared.beat.Link.{Link}
-use Rattle.tl_beat.specs.declared.opcode.Channel.{Channel}
-use Rattle.tl_beat.specs.declared.opcode.Channel.TheVariants as channel
+use Rattle.tl_beat.specs.declared.channel.Channel.{Channel}
+use Rattle.tl_beat.specs.declared.channel.Channel.TheVariants as channel
 use Rattle.tl_burst.specs.declared.message.Message.{Message}
 use Rattle.tl_burst.specs.declared.message.Message.TheVariants as message
 use Rattle.tl_burst.specs.Messages.{channel_of}
@@ -62,7 +62,8 @@ performs-none : {w : ℕ} (l : List (ℕ × ℕ)) (m : Machine w) → l ≡ [] �
 unfolding Performs performing
 performs-none l m e = rw e refl
 
-still-none : {w : ℕ} (config : Config) (link : Link) (ch : Channel) (sys : System w) → is_moving (stepped config (Deliver link ch) sys).outcome ≡ false → accesses_answered (stepped config (Deliver link ch) sys).handed ≡ []
+still-none : {w : ℕ} (config : Config) (link : Link) (ch : Channel) (sys : System w) → is_moving (stepped config (Deliver link ch) sys).outcome ≡ false
+    → accesses_answered (stepped config (Deliver link ch) sys).handed ≡ []
 unfolding accesses_answered
 still-none config link ch sys still = rw ((unmoved config link ch sys still).handed) refl
 
@@ -71,7 +72,8 @@ unfolding accesses_answered
 ack-none config link x sys y e = rw (e, deed-ack config link y sys.manager) refl
 
 pub performs-delivered : {w : ℕ} (config : Config) (log : Log w) (link : Link) (ch : Channel) (h : Shadow w) → IsWidth w → IsMatched config log h.mail h.request h.state (after config log)
-    → Performs (accesses_answered (stepped config (Deliver link ch) (after config log)).handed) (moved (Deliver link ch) (stepped config (Deliver link ch) (after config log)).outcome (remembered config log))
+    → Performs (accesses_answered (stepped config (Deliver link ch) (after config log)).handed)
+    (moved (Deliver link ch) (stepped config (Deliver link ch) (after config log)).outcome (remembered config log))
     (remembered config ((Deliver link ch, (stepped config (Deliver link ch) (after config log)).outcome) ∷ log))
 unfolding remembered
 performs-delivered {w} config log link ch h width is = go (is_moving (stepped config (Deliver link ch) sys).outcome) refl
@@ -97,27 +99,38 @@ performs-delivered {w} config log link ch h width is = go (is_moving (stepped co
         same e f = rw e at f
 
     -- a client takes it
-    down : (at : Channel) (terms : Terms) (x : Beat w) (queue : List (Beat w)) → is_to_client at ≡ true → terms_at config c ≡ Some terms → sys.channels c at ≡ x ∷ queue → is_moving (stepped config (Deliver link at) sys).outcome ≡ true → Then at
+    down : (at : Channel) (terms : Terms) (x : Beat w) (queue : List (Beat w)) → is_to_client at ≡ true → terms_at config c ≡ Some terms
+        → sys.channels c at ≡ x ∷ queue → is_moving (stepped config (Deliver link at) sys).outcome ≡ true → Then at
     down at terms x queue theirs known beats moving =
         let t = client-moves config link at sys terms x queue known beats theirs moving in
-        let fit : IsFitAnswer config.blocks (Ok (t.verdict_is, t.message)) = subst (IsFitAnswer config.blocks) t.answer (fit-taken config.blocks x (sys.clients c) (head at x queue beats).inside (copy-long config log h.mail h.request h.state sys is c)) in
-        performs-none (accesses_answered (stepped config (Deliver link at) sys).handed) _ (ap (λ (s : Step w). accesses_answered s.handed) t.step_is ∙ fit-quiet config.blocks c t.verdict_is t.message fit)
+        let fit : IsFitAnswer config.blocks (Ok (t.verdict_is, t.message)) =
+        subst (IsFitAnswer config.blocks) t.answer (fit-taken config.blocks x (sys.clients c) (head at x queue beats).inside
+        (copy-long config log h.mail h.request h.state sys is c)) in
+        performs-none (accesses_answered (stepped config (Deliver link at) sys).handed) _
+        (ap (λ (s : Step w). accesses_answered s.handed) t.step_is ∙ fit-quiet config.blocks c t.verdict_is t.message fit)
 
     -- the manager takes it
-    up : (at : Channel) (terms : Terms) (x : Beat w) (queue : List (Beat w)) → is_to_client at ≡ false → terms_at config c ≡ Some terms → sys.channels c at ≡ x ∷ queue → is_moving (stepped config (Deliver link at) sys).outcome ≡ true
+    up : (at : Channel) (terms : Terms) (x : Beat w) (queue : List (Beat w)) → is_to_client at ≡ false → terms_at config c ≡ Some terms
+        → sys.channels c at ≡ x ∷ queue → is_moving (stepped config (Deliver link at) sys).outcome ≡ true
         → IsOnce (accesses_answered (deed config link x sys.manager).handed) h m → Then at
     up at terms x queue theirs known beats moving once =
         let t = manager-moves config link at sys terms x queue known beats theirs moving in
-        let same : accesses_answered (stepped config (Deliver link at) sys).handed ≡ accesses_answered (deed config link x sys.manager).handed = ap (λ (s : Step w). accesses_answered s.handed) t.step_is in
+        let same : accesses_answered (stepped config (Deliver link at) sys).handed ≡ accesses_answered (deed config link x sys.manager).handed =
+        ap (λ (s : Step w). accesses_answered s.handed) t.step_is in
         let still : moved (Deliver link at) (stepped config (Deliver link at) sys).outcome m ≡ m = ap (λ (s : Step w). moved (Deliver link at) s.outcome m) t.step_is in
-        subst (λ (l : List (ℕ × ℕ)). Performs l (moved (Deliver link at) (stepped config (Deliver link at) sys).outcome m) (performing l (moved (Deliver link at) (stepped config (Deliver link at) sys).outcome m))) (sym same)
-        (subst (λ (i : Machine w). Performs (accesses_answered (deed config link x sys.manager).handed) i (performing (accesses_answered (deed config link x sys.manager).handed) i)) (sym still) (once-performs (accesses_answered (deed config link x sys.manager).handed) h m once))
+        subst (λ (l : List (ℕ × ℕ)). Performs l (moved (Deliver link at) (stepped config (Deliver link at) sys).outcome m)
+        (performing l (moved (Deliver link at) (stepped config (Deliver link at) sys).outcome m))) (sym same)
+        (subst (λ (i : Machine w). Performs (accesses_answered (deed config link x sys.manager).handed) i
+        (performing (accesses_answered (deed config link x sys.manager).handed) i)) (sym still)
+        (once-performs (accesses_answered (deed config link x sys.manager).handed) h m once))
 
-    moves : (at : Channel) (terms : Terms) (beats : List (Beat w)) → terms_at config c ≡ Some terms → sys.channels c at ≡ beats → is_moving (stepped config (Deliver link at) sys).outcome ≡ true → Then at
+    moves : (at : Channel) (terms : Terms) (beats : List (Beat w)) → terms_at config c ≡ Some terms → sys.channels c at ≡ beats
+        → is_moving (stepped config (Deliver link at) sys).outcome ≡ true → Then at
     moves at terms [] known none moving = absurd (not_moving _ _ (stepped-empty config link at sys terms known none) moving refl)
     moves channel.A terms (x ∷ queue) known beats moving =
         let t = manager-moves config link channel.A sys terms x queue known beats refl moving in
-        up channel.A terms x queue refl known beats moving (subst (λ (s : Step w). IsOnce (accesses_answered s.handed) h m) t.step_is (once-delivered_a config log h sys c terms m width is known is.beside))
+        up channel.A terms x queue refl known beats moving
+        (subst (λ (s : Step w). IsOnce (accesses_answered s.handed) h m) t.step_is (once-delivered_a config log h sys c terms m width is known is.beside))
     moves channel.B terms (x ∷ queue) known beats moving = down channel.B terms x queue refl known beats moving
     moves channel.C terms (x ∷ queue) known beats moving = up channel.C terms x queue refl known beats moving (once-followed_c config log h sys c x queue m width is beats is.beside)
     moves channel.D terms (x ∷ queue) known beats moving = down channel.D terms x queue refl known beats moving

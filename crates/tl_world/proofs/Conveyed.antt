@@ -7,8 +7,8 @@ use Rattle.tl_beat.specs.Width.{IsWidth}
 use Rattle.tl_beat.specs.declared.beat.Beat.{Beat}
 use Rattle.tl_beat.specs.declared.beat.Beat.TheVariants as beat
 use Rattle.tl_beat.specs.declared.beat.Link.{Link}
-use Rattle.tl_beat.specs.declared.opcode.Channel.{Channel}
-use Rattle.tl_beat.specs.declared.opcode.Channel.TheVariants as channel
+use Rattle.tl_beat.specs.declared.channel.Channel.{Channel}
+use Rattle.tl_beat.specs.declared.channel.Channel.TheVariants as channel
 use Rattle.tl_burst.specs.declared.message.Message.{Message}
 use Rattle.tl_burst.specs.declared.message.Message.TheVariants as message
 use Rattle.tl_burst.specs.Burst.{beat_of, burst_of}
@@ -77,7 +77,8 @@ IsOurs None = ⊤
 IsOurs (Some m) = is_from_client (beat_of m 0) ≡ true
 
 -- the client's end is then with all beats of it
-says-passing : {w : ℕ} (c : ℕ) (m : Option (Message w)) (e : End w) (t : History w) (sys : System w) (p : ℕ → History w) (f : ℕ → History w) → IsOurs m → e.past ≡ sent_if_any m (p c) → ((d : ℕ) → (d ≡ c → ⊥) → p d ≡ (sys.clients d).past)
+says-passing : {w : ℕ} (c : ℕ) (m : Option (Message w)) (e : End w) (t : History w) (sys : System w) (p : ℕ → History w) (f : ℕ → History w) → IsOurs m
+    → e.past ≡ sent_if_any m (p c) → ((d : ℕ) → (d ≡ c → ⊥) → p d ≡ (sys.clients d).past)
     → ArePassing p (λ d. on_link d sys.manager.trace) sys.channels f → IsPassing (with_messages (handed_by c m) (with_client c e sys)) f
 unfolding with_messages
 says-passing {w} c None e t sys p f ours past others is =
@@ -87,7 +88,8 @@ says-passing {w} c None e t sys p f ours past others is =
       | inr other ↦ rw (ne_eqb d c other) (sym (others d other))
     ]) (λ d. refl) (λ d at. refl) (λ d. refl) is
 says-passing {w} c (Some m) e t sys p f ours past others is =
-    passing-same (said_at c m p) (λ d. on_link d sys.manager.trace) (λ d. ((with_client c e sys).clients d).past) (λ d. on_link d sys.manager.trace) (queued_at c m sys.channels) (queued_at c m sys.channels) f f
+    passing-same (said_at c m p) (λ d. on_link d sys.manager.trace) (λ d. ((with_client c e sys).clients d).past) (λ d. on_link d sys.manager.trace)
+    (queued_at c m sys.channels) (queued_at c m sys.channels) f f
     (λ d. elim (cases_eq d c) [
       | inl same ↦ rw (same, same_number c) past
       | inr other ↦ rw (ne_eqb d c other, ne_eqb c d (λ i. other (sym i))) (sym (others d other))
@@ -95,7 +97,8 @@ says-passing {w} c (Some m) e t sys p f ours past others is =
 
 -- ---- the manager hands out messages
 
-manages-passing : {w : ℕ} (config : Config) (handed : Handed w) (t : Trace w) (s : System w) (p : ℕ → History w) (f : ℕ → History w) → Each (IsHandable config) handed → ArePassing p (λ d. on_link d t) s.channels f
+manages-passing : {w : ℕ} (config : Config) (handed : Handed w) (t : Trace w) (s : System w) (p : ℕ → History w) (f : ℕ → History w)
+    → Each (IsHandable config) handed → ArePassing p (λ d. on_link d t) s.channels f
     → ArePassing p (λ d. on_link d (with_handed handed t)) (with_messages handed s).channels f
 unfolding with_messages with_handed
 manages-passing config [] t s p f each is = is
@@ -136,7 +139,8 @@ on_it (beat.E x) channel.E = refl
 -- ---- what is delivered
 
 -- with the beat that was moved
-pub flow_moved : {w : ℕ} (link : Link) (ch : Channel) (o : Outcome w) (x : Beat w) (log : Log w) (d : ℕ) → taken_on d (Deliver link ch) o ≡ (if link.0 == d then x ∷ [] else []) → flow d ((Deliver link ch, o) ∷ log) ≡ heard_at link.0 x (λ i. flow i log) d
+pub flow_moved : {w : ℕ} (link : Link) (ch : Channel) (o : Outcome w) (x : Beat w) (log : Log w) (d : ℕ)
+    → taken_on d (Deliver link ch) o ≡ (if link.0 == d then x ∷ [] else []) → flow d ((Deliver link ch, o) ∷ log) ≡ heard_at link.0 x (λ i. flow i log) d
 unfolding flow
 flow_moved {w} link ch o x log d is = ap (λ xs. xs ++ flow d log) is ∙ go (link.0 == d)
   where
@@ -145,7 +149,8 @@ flow_moved {w} link ch o x log d is = ap (λ xs. xs ++ flow d log) is ∙ go (li
     go false = refl
 
 -- the beat that a client takes
-pub taken_at : {w : ℕ} (link : Link) (ch : Channel) (x : Beat w) (v : Verdict) (d : ℕ) → is_moving (outcome_of x v) ≡ true → taken_on d (Deliver link ch) (outcome_of x v) ≡ (if link.0 == d then x ∷ [] else [])
+pub taken_at : {w : ℕ} (link : Link) (ch : Channel) (x : Beat w) (v : Verdict) (d : ℕ) → is_moving (outcome_of x v) ≡ true
+    → taken_on d (Deliver link ch) (outcome_of x v) ≡ (if link.0 == d then x ∷ [] else [])
 taken_at link ch x verdict.Taken d e = refl
 taken_at link ch x (verdict.Done source f) d e = refl
 taken_at link ch x verdict.Stalled d e = absurd cc
@@ -162,13 +167,16 @@ flow_still (Deliver link ch) (outcome.Done x source f) log d e = absurd cc
 
 -- ---- events
 
-still-passing : {w : ℕ} (config : Config) (log : Log w) (link : Link) (ch : Channel) → is_moving (stepped config (Deliver link ch) (after config log)).outcome ≡ false → IsPassing (after config log) (λ d. flow d log)
+still-passing : {w : ℕ} (config : Config) (log : Log w) (link : Link) (ch : Channel)
+    → is_moving (stepped config (Deliver link ch) (after config log)).outcome ≡ false → IsPassing (after config log) (λ d. flow d log)
     → IsPassing (stepped config (Deliver link ch) (after config log)).after (λ d. flow d ((Deliver link ch, (stepped config (Deliver link ch) (after config log)).outcome) ∷ log))
 still-passing {w} config log link ch still is =
     let same = unmoved config link ch (after config log) still in
-    passing-same _ _ _ _ _ _ _ _ same.pasts (λ d. ap (on_link d) same.trace) same.channels (λ d. flow_still (Deliver link ch) (stepped config (Deliver link ch) (after config log)).outcome log d still) is
+    passing-same _ _ _ _ _ _ _ _ same.pasts (λ d. ap (on_link d) same.trace) same.channels
+    (λ d. flow_still (Deliver link ch) (stepped config (Deliver link ch) (after config log)).outcome log d still) is
 
-asked-passing : {w : ℕ} (config : Config) (log : Log w) (c : ℕ) (o : Op w) (mail : _) (request : _) (s : _) → IsMatched config log mail request s (after config log) → IsTyped (Ask c o) → IsPassing (after config log) (λ d. flow d log)
+asked-passing : {w : ℕ} (config : Config) (log : Log w) (c : ℕ) (o : Op w) (mail : _) (request : _) (s : _)
+    → IsMatched config log mail request s (after config log) → IsTyped (Ask c o) → IsPassing (after config log) (λ d. flow d log)
     → IsPassing (stepped config (Ask c o) (after config log)).after (λ d. flow d ((Ask c o, (stepped config (Ask c o) (after config log)).outcome) ∷ log))
 unfolding flow
 asked-passing {w} config log c o mail request s matched typed is = go (terms_at config c) refl
@@ -184,13 +192,16 @@ asked-passing {w} config log c o mail request s matched typed is = go (terms_at 
     go (Some terms) known =
         let x = ask.asked terms o (sys.clients c) in
         subst (λ (i : Step w). IsPassing i.after f) (sym (stepped-asked config c o sys terms known))
-        (says-passing c x.message x.after (sys.clients c).past sys (λ d. (sys.clients d).past) f (ours x.message (fit-asked terms o (sys.clients c) typed (copy-long config log mail request s sys matched c))) (past-asked terms o (sys.clients c)) (λ d other. refl) is)
+        (says-passing c x.message x.after (sys.clients c).past sys (λ d. (sys.clients d).past) f
+        (ours x.message (fit-asked terms o (sys.clients c) typed (copy-long config log mail request s sys matched c)))
+        (past-asked terms o (sys.clients c)) (λ d other. refl) is)
       where
         ours : (m : Option (Message w)) → IsFitIfAny terms.blocks m → IsOurs m
         ours None fit = tt
         ours (Some m) fit = ours_from m fit.ours
 
-moved-passing : {w : ℕ} (config : Config) (log : Log w) (link : Link) (ch : Channel) (terms : Terms) (x : Beat w) (queue : List (Beat w)) → IsWidth w → AreTyped log → IsLog config log → terms_at config link.0 ≡ Some terms → (after config log).channels link.0 ch ≡ x ∷ queue
+moved-passing : {w : ℕ} (config : Config) (log : Log w) (link : Link) (ch : Channel) (terms : Terms) (x : Beat w) (queue : List (Beat w)) → IsWidth w
+    → AreTyped log → IsLog config log → terms_at config link.0 ≡ Some terms → (after config log).channels link.0 ch ≡ x ∷ queue
     → is_moving (stepped config (Deliver link ch) (after config log)).outcome ≡ true → IsPassing (after config log) (λ d. flow d log)
     → IsPassing (stepped config (Deliver link ch) (after config log)).after (λ d. flow d ((Deliver link ch, (stepped config (Deliver link ch) (after config log)).outcome) ∷ log))
 unfolding on_link
@@ -235,12 +246,14 @@ moved-passing {w} config log link ch terms x queue width typed logged known beat
                 passing-same _ _ _ _ _ _ (heard_at c x f) _ (λ d. refl) (λ d. refl) (λ d at. refl) (λ d. flow_moved link ch (outcome_of x v) x log d (taken_at link ch x v d moves))
                 (says-passing c m (offer.taken x (sys.clients c)).after (sys.clients c).past (with_channel c ch queue sys) (heard_at c x (λ d. (sys.clients d).past)) (heard_at c x f)
                 (ours v m answer)
-                (ap (λ (o : offer.Offered w). o.after.past) (sym t.takes) ∙ past-offered terms ch x (sys.clients c) ∙ ap (sent_if_any (client_after.handed (offer.offered terms ch x (sys.clients c)).answer)) t.heard
+                (ap (λ (o : offer.Offered w). o.after.past) (sym t.takes) ∙ past-offered terms ch x (sys.clients c)
+                ∙ ap (sent_if_any (client_after.handed (offer.offered terms ch x (sys.clients c)).answer)) t.heard
                 ∙ ap (λ a. sent_if_any (client_after.handed a) (x ∷ (sys.clients c).past)) (ap (λ (o : offer.Offered w). o.answer) t.takes ∙ answer) ∙ handed_is v m moves ∙ rw (same_number c) refl)
                 (λ d other. rw (ne_eqb c d (λ i. other (sym i))) refl)
                 (client-hears c ch x queue (λ d. (sys.clients d).past) (λ d. on_link d sys.manager.trace) sys.channels f up on_ch beats is))
               where
-                handed_is : (v : Verdict) (m : Option (Message w)) → is_moving (outcome_of x v) ≡ true → sent_if_any (client_after.handed (Ok (v, m))) (x ∷ (sys.clients c).past) ≡ sent_if_any m (x ∷ (sys.clients c).past)
+                handed_is : (v : Verdict) (m : Option (Message w)) → is_moving (outcome_of x v) ≡ true
+                    → sent_if_any (client_after.handed (Ok (v, m))) (x ∷ (sys.clients c).past) ≡ sent_if_any m (x ∷ (sys.clients c).past)
                 handed_is verdict.Taken m e = refl
                 handed_is (verdict.Done source fin) m e = refl
                 handed_is verdict.Stalled m e = absurd cc
@@ -248,17 +261,21 @@ moved-passing {w} config log link ch terms x queue width typed logged known beat
                 ours : (v : Verdict) (m : Option (Message w)) → (offer.taken x (sys.clients c)).answer ≡ Ok (v, m) → IsOurs m
                 ours v None e = tt
                 ours v (Some m) e =
-                    let fit : IsFitAnswer config.blocks (Ok (v, Some m)) = subst (IsFitAnswer config.blocks) e (fit-taken config.blocks x (sys.clients c) head.inside (copy-long config log (shadow config log).mail (shadow config log).request (shadow config log).state sys h c)) in
+                    let fit : IsFitAnswer config.blocks (Ok (v, Some m)) =
+                    subst (IsFitAnswer config.blocks) e (fit-taken config.blocks x (sys.clients c) head.inside
+                    (copy-long config log (shadow config log).mail (shadow config log).request (shadow config log).state sys h c)) in
                     ours_from m fit.ours
     go false down = by_manager (manager-moves config link ch sys terms x queue known beats down moving)
       where
         by_manager : IsTakenByManager config link ch x queue sys (stepped config (Deliver link ch) sys) → IsPassing (stepped config (Deliver link ch) sys).after f'
         by_manager t =
             subst (λ (y : Step w). IsPassing y.after (λ d. flow d ((Deliver link ch, y.outcome) ∷ log))) (sym t.step_is)
-            (passing-same (λ d. (sys.clients d).past) (λ d. on_link d e.trace) _ _ (with_messages handed now).channels (with_messages handed now).channels (heard_at c x f) _ (λ d. ap (λ (i : ℕ → End w). (i d).past) (clients-with_messages handed now))
+            (passing-same (λ d. (sys.clients d).past) (λ d. on_link d e.trace) _ _ (with_messages handed now).channels (with_messages handed now).channels
+            (heard_at c x f) _ (λ d. ap (λ (i : ℕ → End w). (i d).past) (clients-with_messages handed now))
             (λ d. ap (λ (i : manager_end.End w). on_link d i.trace) (manager-with_messages handed now)) (λ d at. refl) (λ d. flow_moved link ch (outcome.Moved x) x log d refl)
             (manages-passing config handed ((link, x) ∷ sys.manager.trace) now (λ d. (sys.clients d).past) (heard_at c x f) (deed_handable config link x sys.manager width head h.manager_kept.sound)
-            (passing-same _ _ _ _ _ _ _ _ (λ d. refl) (λ d. refl) (λ d at. refl) (λ d. refl) (manager-hears c ch x queue (λ d. (sys.clients d).past) (λ d. on_link d sys.manager.trace) sys.channels f down on_ch beats is))))
+            (passing-same _ _ _ _ _ _ _ _ (λ d. refl) (λ d. refl) (λ d at. refl) (λ d. refl)
+            (manager-hears c ch x queue (λ d. (sys.clients d).past) (λ d. on_link d sys.manager.trace) sys.channels f down on_ch beats is))))
           where
             handed : Handed w
             handed = (manager_deed.deed config link x sys.manager).handed

@@ -33,11 +33,14 @@ number-next {w} test event o log = go (test event o)
 pub counted-first : {w : ℕ} (config : Config) → AreCounted {w = w} config [] first_state
 counted-first config =
     let requests_none : open_requests config first_state ≡ 0 =
-    total-zero (clients_in config) (λ c. total (sources_in config c) (λ i. 0) + 0) (λ c few. let none : total (sources_in config c) (λ i. 0) ≡ 0 = total-zero (sources_in config c) (λ i. 0) (λ i lt. refl) in omega (arith, none)) in
-    let releases_none : open_releases config first_state ≡ 0 = total-zero (clients_in config) (λ c. total (sources_in config c) (λ i. 0)) (λ c few. total-zero (sources_in config c) (λ i. 0) (λ i lt. refl)) in
+    total-zero (clients_in config) (λ c. total (sources_in config c) (λ i. 0) + 0)
+    (λ c few. let none : total (sources_in config c) (λ i. 0) ≡ 0 = total-zero (sources_in config c) (λ i. 0) (λ i lt. refl) in omega (arith, none)) in
+    let releases_none : open_releases config first_state ≡ 0 =
+    total-zero (clients_in config) (λ c. total (sources_in config c) (λ i. 0)) (λ c few. total-zero (sources_in config c) (λ i. 0) (λ i lt. refl)) in
     record { requests_are = omega (arith, requests_none); releases_are = omega (arith, releases_none) }
 
-counted-balance : {w : ℕ} {X : Type 0} (config : Config) (log : Log w) (s s' : State X) (event : Event w) (o : Outcome w) → IsBalance config s s' (starts_request event o) (ends_request o) (starts_release event o) (ends_release o)
+counted-balance : {w : ℕ} {X : Type 0} (config : Config) (log : Log w) (s s' : State X) (event : Event w) (o : Outcome w)
+    → IsBalance config s s' (starts_request event o) (ends_request o) (starts_release event o) (ends_release o)
     → AreCounted config log s → AreCounted config ((event, o) ∷ log) s'
 counted-balance config log s s' event o is before = record {
   requests_are = omega (arith, is.requests, before.requests_are, number-next starts_request event o log, number-next (λ e p. ends_request p) event o log);
@@ -45,10 +48,12 @@ counted-balance config log s s' event o is before = record {
 }
 
 -- and every event keeps it
-pub counted-next : {w : ℕ} (config : Config) (log : Log w) (h : Shadow w) (event : Event w) → IsWidth w → IsMatched config log h.mail h.request h.state (after config log) → AreCounted config log h.state
+pub counted-next : {w : ℕ} (config : Config) (log : Log w) (h : Shadow w) (event : Event w) → IsWidth w
+    → IsMatched config log h.mail h.request h.state (after config log) → AreCounted config log h.state
     → AreCounted config ((event, (stepped config event (after config log)).outcome) ∷ log) (followed config event (after config log) h).state
 counted-next config log h event width matched before =
-    counted-balance config log h.state (followed config event (after config log) h).state event (stepped config event (after config log)).outcome (counted-followed config log h width matched event) before
+    counted-balance config log h.state (followed config event (after config log) h).state event (stepped config event (after config log)).outcome
+    (counted-followed config log h width matched event) before
 
 -- what is outstanding is what is open
 pub requests-open : {w : ℕ} {X : Type 0} (config : Config) (log : Log w) (s : State X) → AreCounted config log s → requests log ≡ open_requests config s
@@ -64,4 +69,5 @@ outstanding-open config log s is = omega (arith, requests-open config log s is, 
 
 -- and the load is that of what is open
 pub load-open : {w : ℕ} {X : Type 0} (config : Config) (log : Log w) (s : State X) → AreCounted config log s → load log ≡ (64 / w + 33) * open_requests config s + (64 / w + 1) * open_releases config s
-load-open {w} config log s is = ap (λ (n : ℕ). (64 / w + 33) * n + (64 / w + 1) * releases log) (requests-open config log s is) ∙ ap (λ (n : ℕ). (64 / w + 33) * open_requests config s + (64 / w + 1) * n) (releases-open config log s is)
+load-open {w} config log s is = ap (λ (n : ℕ). (64 / w + 33) * n + (64 / w + 1) * releases log) (requests-open config log s is)
+    ∙ ap (λ (n : ℕ). (64 / w + 33) * open_requests config s + (64 / w + 1) * n) (releases-open config log s is)

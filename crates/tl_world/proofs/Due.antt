@@ -37,7 +37,8 @@ pub record IsAnswerDue {w : ℕ} (c source : ℕ) (mail : Mail w) (s : State (Li
   pub from : answer.source ≡ source
   pub size : answer.size ≡ request.size
 
-pub answer-due : {w : ℕ} (caching : ℕ → Bool) (c source : ℕ) (rest : List Token) (mail : Mail w) (s : State (List ℕ)) → IsInvariant caching s → IsAnswered source (mail.request c source) (mail.answer c source) (s.uses c source)
+pub answer-due : {w : ℕ} (caching : ℕ → Bool) (c source : ℕ) (rest : List Token) (mail : Mail w) (s : State (List ℕ)) → IsInvariant caching s
+    → IsAnswered source (mail.request c source) (mail.answer c source) (s.uses c source)
     → (s.link c).d ≡ token Answer source ∷ rest → IsAnswerDue c source mail s
 answer-due {w} caching c source rest mail s inv answered first = go (mail.request c source) (mail.answer c source) refl refl (rw used at answered)
   where
@@ -102,7 +103,9 @@ wanting_is (Wants whole g) e = (whole, g, refl)
 -- the use of the source of an open Acquire
 pub acquire-used : (caching : ℕ → Bool) (c n : ℕ) (s : State (List ℕ)) → IsInvariant caching s → is_wanting ((s.block n).pair c).acquiring ≡ true → s.uses c ((s.block n).source c) ≡ Acquires n
 acquire-used caching c n s inv wanting =
-    acquires_of-is n (s.uses c ((s.block n).source c)) (inv.named.acquires c ((s.block n).source c) n ∙ and_from (is_wanting ((s.block n).pair c).acquiring) ((s.block n).source c == (s.block n).source c) wanting (same_number ((s.block n).source c)))
+    acquires_of-is n (s.uses c ((s.block n).source c))
+    (inv.named.acquires c ((s.block n).source c) n ∙ and_from (is_wanting ((s.block n).pair c).acquiring)
+    ((s.block n).source c == (s.block n).source c) wanting (same_number ((s.block n).source c)))
 
 -- how the client of a Grant sees the block
 pub own_view : (c : ℕ) (d : Bool) (k : Cap) (service : Service) → service ≡ GrantSent c d k → view service c ≡ Granting d k
@@ -160,8 +163,13 @@ acked_open Acked e = refl
 acked_open Kept e = absurd cc
 acked_open (Releasing r) e = absurd cc
 
-pub ack-due : (caching : ℕ → Bool) (c n : ℕ) (rest : List Token) (s : State (List ℕ)) → IsInvariant caching s → (s.link c).d ≡ token ReleaseAck n ∷ rest → s.lets c ((s.block n).release_source c) ≡ Some n
+pub ack-due : (caching : ℕ → Bool) (c n : ℕ) (rest : List Token) (s : State (List ℕ)) → IsInvariant caching s → (s.link c).d ≡ token ReleaseAck n ∷ rest
+    → s.lets c ((s.block n).release_source c) ≡ Some n
 ack-due caching c n rest s inv first =
-    let acked : is_acked ((s.block n).pair c).letting ≡ true = holds-first ReleaseAck (s.link c).d rest (token ReleaseAck n) (λ i. shown ReleaseAck c (s.block i)) first refl (inv.transfers c ReleaseAck refl) in
+    let acked : is_acked ((s.block n).pair c).letting ≡ true =
+    holds-first ReleaseAck (s.link c).d rest (token ReleaseAck n) (λ i. shown ReleaseAck c (s.block i)) first refl (inv.transfers c ReleaseAck refl) in
     let live : not (is_kept ((s.block n).pair c).letting) ≡ true = acked_open ((s.block n).pair c).letting acked in
-    is_of-is n (s.lets c ((s.block n).release_source c)) (inv.named.releases c ((s.block n).release_source c) n ∙ and_from (not (is_kept ((s.block n).pair c).letting)) ((s.block n).release_source c == (s.block n).release_source c) live (same_number ((s.block n).release_source c)))
+    is_of-is n (s.lets c ((s.block n).release_source c))
+    (inv.named.releases c ((s.block n).release_source c) n
+    ∙ and_from (not (is_kept ((s.block n).pair c).letting)) ((s.block n).release_source c == (s.block n).release_source c) live
+    (same_number ((s.block n).release_source c)))

@@ -6,8 +6,8 @@ use Rattle.tl_beat.specs.declared.beat.Beat.{Beat}
 use Rattle.tl_beat.specs.declared.beat.Beat.TheVariants as beat
 use Rattle.tl_beat.specs.declared.beat.BeatD.{BeatD}
 use Rattle.tl_beat.specs.declared.beat.Link.{Link}
-use Rattle.tl_beat.specs.declared.opcode.Channel.{Channel}
-use Rattle.tl_beat.specs.declared.opcode.Channel.TheVariants as channel
+use Rattle.tl_beat.specs.declared.channel.Channel.{Channel}
+use Rattle.tl_beat.specs.declared.channel.Channel.TheVariants as channel
 use Rattle.tl_burst.specs.declared.message.Message.{Message}
 use Rattle.tl_burst.specs.declared.message.Message.TheVariants as message
 use Rattle.tl_burst.specs.declared.message.MessageD.{MessageD}
@@ -67,7 +67,8 @@ done_moved : {w : ℕ} (x y : Beat w) (i : ℕ) (f : Finish) → outcome.Done x 
 done_moved x y i f e = absurd cc
 
 -- the response that is first on channel D
-response_of : {w : ℕ} (config : Config) (log : Log w) (h : Shadow w) (sys : System w) (c : ℕ) (k : Kind) (i : ℕ) (rest : List Token) → IsMatched config log h.mail h.request h.state sys → (h.state.link c).d ≡ token k i ∷ rest → is_on channel.D k ≡ true
+response_of : {w : ℕ} (config : Config) (log : Log w) (h : Shadow w) (sys : System w) (c : ℕ) (k : Kind) (i : ℕ) (rest : List Token)
+    → IsMatched config log h.mail h.request h.state sys → (h.state.link c).d ≡ token k i ∷ rest → is_on channel.D k ≡ true
     → (m : MessageD w) × (message_of_kind k h.mail h.state c i ≡ message.D m)
 unfolding rendered
 response_of config log h sys c Answer i rest is tokens own = let due = answer-due (is_caching config) c i rest h.mail h.state is.invariant (is.answered c i) tokens in (due.answer, due.answer_is)
@@ -80,8 +81,10 @@ response_of config log h sys c ProbeAck i rest is tokens own = absurd cc
 response_of config log h sys c Release i rest is tokens own = absurd cc
 response_of config log h sys c GrantAck i rest is tokens own = absurd cc
 
-ending_d : {w : ℕ} (config : Config) (log : Log w) (link : Link) (h : Shadow w) (terms : Terms) (y : Beat w) (queue : List (Beat w)) (x : Beat w) (source : ℕ) (f : Finish) → IsWidth w → IsMatched config log h.mail h.request h.state (after config log)
-    → terms_at config link.0 ≡ Some terms → (after config log).channels link.0 channel.D ≡ y ∷ queue → (stepped config (Deliver link channel.D) (after config log)).outcome ≡ outcome.Done x source f → IsEnding config log link channel.D h x source f
+ending_d : {w : ℕ} (config : Config) (log : Log w) (link : Link) (h : Shadow w) (terms : Terms) (y : Beat w) (queue : List (Beat w)) (x : Beat w) (source : ℕ)
+    (f : Finish) → IsWidth w → IsMatched config log h.mail h.request h.state (after config log)
+    → terms_at config link.0 ≡ Some terms → (after config log).channels link.0 channel.D ≡ y ∷ queue
+    → (stepped config (Deliver link channel.D) (after config log)).outcome ≡ outcome.Done x source f → IsEnding config log link channel.D h x source f
 ending_d {w} config log link h terms y queue x source f width is known beats done = go (completes y (unfinished channel.D e.past)) refl
   where
     sys : System w
@@ -113,7 +116,9 @@ ending_d {w} config log link h terms y queue x source f width is known beats don
 
     outcome_is : (v : Verdict) (n : Option (Message w)) → (offer.taken (beat.D z) e).answer ≡ Ok (v, n) → outcome.Done x source f ≡ outcome_of y v
     outcome_is v n answer =
-        sym done ∙ ap (λ (s : Step w). s.outcome) t.step_is ∙ ap (outcome_of y) (same_answers t.verdict_is v t.message n (offer.taken y e).answer t.answer (ap (λ (i : Beat w). (offer.taken i e).answer) y_is ∙ answer)).0
+        sym done ∙ ap (λ (s : Step w). s.outcome) t.step_is
+        ∙ ap (outcome_of y) (same_answers t.verdict_is v t.message n (offer.taken y e).answer t.answer
+        (ap (λ (i : Beat w). (offer.taken i e).answer) y_is ∙ answer)).0
 
     go : (b : Bool) → completes y (unfinished channel.D e.past) ≡ b → IsEnding config log link channel.D h x source f
     go false part =
@@ -136,28 +141,36 @@ ending_d {w} config log link h terms y queue x source f width is known beats don
           beat_is = y_is;
           source_is = i;
           finish_is = j;
-          follows = followed-moving config link channel.D sys h y queue moving beats ∙ ap (λ (b : Bool). if b then token_taken config (next_tracker sys) c (h.state.link c).d h else h) whole ∙ ap (λ (l : List Token). token_taken config (next_tracker sys) c l h) first.tokens;
+          follows = followed-moving config link channel.D sys h y queue moving beats
+              ∙ ap (λ (b : Bool). if b then token_taken config (next_tracker sys) c (h.state.link c).d h else h) whole
+              ∙ ap (λ (l : List Token). token_taken config (next_tracker sys) c l h) first.tokens;
         })
 
-pub ending : {w : ℕ} (config : Config) (log : Log w) (link : Link) (ch : Channel) (h : Shadow w) (x : Beat w) (source : ℕ) (f : Finish) → IsWidth w → IsMatched config log h.mail h.request h.state (after config log)
+pub ending : {w : ℕ} (config : Config) (log : Log w) (link : Link) (ch : Channel) (h : Shadow w) (x : Beat w) (source : ℕ) (f : Finish) → IsWidth w
+    → IsMatched config log h.mail h.request h.state (after config log)
     → (stepped config (Deliver link ch) (after config log)).outcome ≡ outcome.Done x source f → IsEnding config log link ch h x source f
 ending {w} config log link ch h x source f width is done = found (terms_at config link.0) refl
   where
     sys : System w
     sys = after config log
 
-    up : (at : Channel) (terms : Terms) (y : Beat w) (queue : List (Beat w)) → terms_at config link.0 ≡ Some terms → sys.channels link.0 at ≡ y ∷ queue → is_to_client at ≡ false → (stepped config (Deliver link at) sys).outcome ≡ outcome.Done x source f → ⊥
+    up : (at : Channel) (terms : Terms) (y : Beat w) (queue : List (Beat w)) → terms_at config link.0 ≡ Some terms → sys.channels link.0 at ≡ y ∷ queue
+        → is_to_client at ≡ false → (stepped config (Deliver link at) sys).outcome ≡ outcome.Done x source f → ⊥
     up at terms y queue known beats down o =
         let t = manager-moves config link at sys terms y queue known beats down (ap is_moving o) in
         done_moved x y source f (sym o ∙ ap (λ (s : Step w). s.outcome) t.step_is)
 
-    probe : (terms : Terms) (y : Beat w) (queue : List (Beat w)) → terms_at config link.0 ≡ Some terms → sys.channels link.0 channel.B ≡ y ∷ queue → (stepped config (Deliver link channel.B) sys).outcome ≡ outcome.Done x source f → ⊥
+    probe : (terms : Terms) (y : Beat w) (queue : List (Beat w)) → terms_at config link.0 ≡ Some terms → sys.channels link.0 channel.B ≡ y ∷ queue
+        → (stepped config (Deliver link channel.B) sys).outcome ≡ outcome.Done x source f → ⊥
     probe terms y queue known beats o =
         let p = delivered-b config log h.mail h.request h.state sys terms (next_tracker sys) link.0 y queue width is known beats in
         let t = client-moves config link channel.B sys terms y queue known beats refl (ap is_moving o) in
-        done_moved x y source f (sym o ∙ ap (λ (s : Step w). s.outcome) t.step_is ∙ ap (outcome_of y) (same_answers t.verdict_is verdict.Taken t.message _ (offer.taken y (sys.clients link.0)).answer t.answer (ap (λ (i : Beat w). (offer.taken i (sys.clients link.0)).answer) p.1.beat_is)).0)
+        done_moved x y source f (sym o ∙ ap (λ (s : Step w). s.outcome) t.step_is
+        ∙ ap (outcome_of y) (same_answers t.verdict_is verdict.Taken t.message _ (offer.taken y (sys.clients link.0)).answer t.answer
+        (ap (λ (i : Beat w). (offer.taken i (sys.clients link.0)).answer) p.1.beat_is)).0)
 
-    moves : (at : Channel) (terms : Terms) (beats : List (Beat w)) → terms_at config link.0 ≡ Some terms → sys.channels link.0 at ≡ beats → (stepped config (Deliver link at) sys).outcome ≡ outcome.Done x source f → IsEnding config log link at h x source f
+    moves : (at : Channel) (terms : Terms) (beats : List (Beat w)) → terms_at config link.0 ≡ Some terms → sys.channels link.0 at ≡ beats
+        → (stepped config (Deliver link at) sys).outcome ≡ outcome.Done x source f → IsEnding config log link at h x source f
     moves at terms [] known none o = absurd (not_moving _ _ (stepped-empty config link at sys terms known none) (ap is_moving o) refl)
     moves channel.A terms (y ∷ queue) known beats o = absurd (up channel.A terms y queue known beats refl o)
     moves channel.B terms (y ∷ queue) known beats o = absurd (probe terms y queue known beats o)

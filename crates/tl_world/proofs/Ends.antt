@@ -3,7 +3,7 @@ use Rattle.std.proofs.Common.{◌≡◌, ℕ, Bool, true, false, List, [], ◌�
 use Rattle.std.specs.Prelude.{◌==◌, if◌then◌else◌, Option, Some, None, Result, Ok, Err}
 use Rattle.std.proofs.lemmas.Bool.{eqb-true}
 use Rattle.tl_beat.specs.declared.beat.Beat.{Beat}
-use Rattle.tl_beat.specs.declared.opcode.Channel.{Channel}
+use Rattle.tl_beat.specs.declared.channel.Channel.{Channel}
 use Rattle.tl_burst.specs.declared.message.Message.{Message}
 use Rattle.tl_params.specs.declared.config.Config.{Config}
 use Rattle.tl_params.specs.declared.rule.Rule.{Rule}
@@ -41,8 +41,10 @@ module _ {w : ℕ} (config : Config) (P : ℕ → End w → Type 0) (keep : AreK
       → (c : ℕ) → P c ((judged r k ch x rest e s).after.clients c)
   judged-kept (Err rule) k ch x rest e s here all c = other_end k e s here all c
   judged-kept (Ok (verdict.Stalled, m)) k ch x rest e s here all c = all c
-  judged-kept (Ok (verdict.Taken, m)) k ch x rest e s here all c = rw (clients-with_messages (handed_by k m) (with_client k e (with_channel k ch rest s))) (other_end k e (with_channel k ch rest s) here all c)
-  judged-kept (Ok (verdict.Done source f, m)) k ch x rest e s here all c = rw (clients-with_messages (handed_by k m) (with_client k e (with_channel k ch rest s))) (other_end k e (with_channel k ch rest s) here all c)
+  judged-kept (Ok (verdict.Taken, m)) k ch x rest e s here all c = rw (clients-with_messages (handed_by k m) (with_client k e (with_channel k ch rest s)))
+      (other_end k e (with_channel k ch rest s) here all c)
+  judged-kept (Ok (verdict.Done source f, m)) k ch x rest e s here all c =
+      rw (clients-with_messages (handed_by k m) (with_client k e (with_channel k ch rest s))) (other_end k e (with_channel k ch rest s) here all c)
 
   managed-kept : (a : manager.Reception w × manager_end.End w) (k : ℕ) (ch : Channel) (x : Beat w) (rest : List (Beat w)) (s : System w) → ((c : ℕ) → P c (s.clients c))
       → (c : ℕ) → P c ((manager_took k ch x rest a s).after.clients c)
@@ -55,7 +57,9 @@ module _ {w : ℕ} (config : Config) (P : ℕ → End w → Type 0) (keep : AreK
   delivered-kept terms k ch [] s is all c = all c
   delivered-kept terms k ch (x ∷ rest) s is all c = go (is_to_client ch)
     where
-      go : (b : Bool) → P c ((if b then judged (offered terms ch x (s.clients k)).answer k ch x rest (offered terms ch x (s.clients k)).after s else manager_took k ch x rest (manager.offered config (record { 0 = k }) ch x s.manager) s).after.clients c)
+      go : (b : Bool) → P c ((if b then judged (offered terms ch x (s.clients k)).answer k ch x rest
+          (offered terms ch x (s.clients k)).after s else manager_took k ch x rest
+          (manager.offered config (record { 0 = k }) ch x s.manager) s).after.clients c)
       go true = judged-kept (offered terms ch x (s.clients k)).answer k ch x rest (offered terms ch x (s.clients k)).after s (keep.offered k terms ch x (s.clients k) is (all k)) all c
       go false = managed-kept (manager.offered config (record { 0 = k }) ch x s.manager) k ch x rest s all c
 
@@ -66,7 +70,8 @@ module _ {w : ℕ} (config : Config) (P : ℕ → End w → Type 0) (keep : AreK
       go : (x : Event w) (o : Option Terms) → terms_at config (client_of x) ≡ o → P c ((stepped_at config o x s).after.clients c)
       go x None is = all c
       go (Ask k op) (Some terms) is =
-          rw (clients-with_messages (handed_by k (asked terms op (s.clients k)).message) (with_client k (asked terms op (s.clients k)).after s)) (other_end k (asked terms op (s.clients k)).after s (keep.asked k terms op (s.clients k) is (all k)) all c)
+          rw (clients-with_messages (handed_by k (asked terms op (s.clients k)).message) (with_client k (asked terms op (s.clients k)).after s))
+          (other_end k (asked terms op (s.clients k)).after s (keep.asked k terms op (s.clients k) is (all k)) all c)
       go (Deliver link ch) (Some terms) is = delivered-kept terms link.0 ch (s.channels link.0 ch) s is all c
 
   pub ends-kept : (log : Log w) (c : ℕ) → P c ((after config log).clients c)

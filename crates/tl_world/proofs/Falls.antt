@@ -54,7 +54,8 @@ module _ {X : Type 0} (config : Config) (n : ℕ) (left left' : Left) (answer an
       → client_weight clients n left' answer' s' (sources_of (terms_at config c)) c + 1 ≤ client_weight clients n left answer s (sources_of (terms_at config c)) c
       → potential config n left' answer' s' + 1 ≤ potential config n left answer s
   falls c lt le less =
-      total-falls clients c 1 (λ d. client_weight clients n left answer s (sources_of (terms_at config d)) d) (λ d. client_weight clients n left' answer' s' (sources_of (terms_at config d)) d) lt (λ d h. le d) less
+      total-falls clients c 1 (λ d. client_weight clients n left answer s (sources_of (terms_at config d)) d)
+      (λ d. client_weight clients n left' answer' s' (sources_of (terms_at config d)) d) lt (λ d h. le d) less
 
   no-more-client : IsNoMore → (d : ℕ) → client_weight clients n left' answer' s' (sources_of (terms_at config d)) d ≤ client_weight clients n left answer s (sources_of (terms_at config d)) d
   no-more-client is d =
@@ -64,10 +65,12 @@ module _ {X : Type 0} (config : Config) (n : ℕ) (left left' : Left) (answer an
       omega (arith, uses, lets, acks)
 
   pub stays : IsNoMore → potential config n left' answer' s' ≤ potential config n left answer s
-  stays is = total-le clients (λ d. client_weight clients n left' answer' s' (sources_of (terms_at config d)) d) (λ d. client_weight clients n left answer s (sources_of (terms_at config d)) d) (λ d h. no-more-client is d)
+  stays is = total-le clients (λ d. client_weight clients n left' answer' s' (sources_of (terms_at config d)) d)
+      (λ d. client_weight clients n left answer s (sources_of (terms_at config d)) d) (λ d h. no-more-client is d)
 
   -- what is owed for one request falls
-  pub use-falls : (c i : ℕ) → c < clients → i < sources_of (terms_at config c) → IsNoMore → owed_use' c i + 1 ≤ owed_use c i → potential config n left' answer' s' + 1 ≤ potential config n left answer s
+  pub use-falls : (c i : ℕ) → c < clients → i < sources_of (terms_at config c) → IsNoMore → owed_use' c i + 1 ≤ owed_use c i
+      → potential config n left' answer' s' + 1 ≤ potential config n left answer s
   use-falls c i lt below is less =
       let uses = total-falls (sources_of (terms_at config c)) i 1 (owed_use c) (owed_use' c) below (λ j h. is.uses c j) less in
       let lets = total-le (sources_of (terms_at config c)) (owed_let' c) (owed_let c) (λ j h. is.lets c j) in
@@ -75,7 +78,8 @@ module _ {X : Type 0} (config : Config) (n : ℕ) (left left' : Left) (answer an
       falls c lt (no-more-client is) (omega (arith, uses, lets, acks))
 
   -- what is owed for one Release falls
-  pub let-falls : (c i : ℕ) → c < clients → i < sources_of (terms_at config c) → IsNoMore → owed_let' c i + 1 ≤ owed_let c i → potential config n left' answer' s' + 1 ≤ potential config n left answer s
+  pub let-falls : (c i : ℕ) → c < clients → i < sources_of (terms_at config c) → IsNoMore → owed_let' c i + 1 ≤ owed_let c i
+      → potential config n left' answer' s' + 1 ≤ potential config n left answer s
   let-falls c i lt below is less =
       let uses = total-le (sources_of (terms_at config c)) (owed_use' c) (owed_use c) (λ j h. is.uses c j) in
       let lets = total-falls (sources_of (terms_at config c)) i 1 (owed_let c) (owed_let' c) below (λ j h. is.lets c j) less in

@@ -3,7 +3,7 @@ use Rattle.std.proofs.Common.{◌≡◌, ℕ, ◌+◌, Bool, true, false, List, 
 use Rattle.std.specs.Prelude.{map}
 use Rattle.tl_beat.specs.Width.{IsWidth}
 use Rattle.tl_beat.specs.declared.beat.Beat.{Beat}
-use Rattle.tl_beat.specs.declared.opcode.Channel.{Channel}
+use Rattle.tl_beat.specs.declared.channel.Channel.{Channel}
 use Rattle.tl_burst.specs.declared.message.Message.{Message}
 use Rattle.tl_burst.specs.Messages.{unfinished}
 use Rattle.tl_burst.proofs.Splitting.{beats-positive}
@@ -28,7 +28,8 @@ pub record IsFirst {w : ℕ} (ch : Channel) (c : ℕ) (mail : Mail w) (s : State
   pub next : IsNext x (unfinished ch (receiver ch c sys)) (message_of_kind kind mail s c number) (map (message_of mail s c) rest) queue
 
 -- a channel has tokens of its own kinds
-pub own_kind : (caching : ℕ → Bool) (s : State (List ℕ)) (c : ℕ) (ch : Channel) (k : Kind) (n : ℕ) (rest : List Token) → IsInvariant caching s → tokens_on ch (s.link c) ≡ token k n ∷ rest → is_on ch k ≡ true
+pub own_kind : (caching : ℕ → Bool) (s : State (List ℕ)) (c : ℕ) (ch : Channel) (k : Kind) (n : ℕ) (rest : List Token) → IsInvariant caching s
+    → tokens_on ch (s.link c) ≡ token k n ∷ rest → is_on ch k ≡ true
 unfolding count
 own_kind caching s c ch k n rest inv tokens = go (is_on ch k) refl
   where
@@ -46,14 +47,16 @@ nothing_first x queue rest channel e h = let no : [] ≡ x ∷ queue = sym h.1 �
 same_carried : {w : ℕ} (rest : List (Beat w)) (ms ms' : List (Message w)) (q q' : List (Beat w)) → ms ≡ ms' → q ≡ q' → IsCarried rest ms q → IsCarried rest ms' q'
 same_carried rest ms ms' q q' e f h = rw (← e, ← f) h
 
-pub first-token : {w : ℕ} (caching : ℕ → Bool) (ch : Channel) (c : ℕ) (mail : Mail w) (s : State (List ℕ)) (sys : System w) (x : Beat w) (queue : List (Beat w)) → IsWidth w → IsInvariant caching s → AreCarried mail s sys
+pub first-token : {w : ℕ} (caching : ℕ → Bool) (ch : Channel) (c : ℕ) (mail : Mail w) (s : State (List ℕ)) (sys : System w) (x : Beat w) (queue : List (Beat w))
+    → IsWidth w → IsInvariant caching s → AreCarried mail s sys
     → sys.channels c ch ≡ x ∷ queue → IsFirst ch c mail s sys x queue
 first-token {w} caching ch c mail s sys x queue width inv carried beats = go (tokens_on ch (s.link c)) refl
   where
     go : (xs : List Token) → tokens_on ch (s.link c) ≡ xs → IsFirst ch c mail s sys x queue
     go [] e =
         absurd (nothing_first x queue (unfinished ch (receiver ch c sys)) (sys.channels c ch) beats
-        (same_carried (unfinished ch (receiver ch c sys)) (map (message_of mail s c) (tokens_on ch (s.link c))) [] (sys.channels c ch) (sys.channels c ch) (ap (map (message_of mail s c)) e) refl (carried c ch)))
+        (same_carried (unfinished ch (receiver ch c sys)) (map (message_of mail s c) (tokens_on ch (s.link c))) [] (sys.channels c ch) (sys.channels c ch)
+        (ap (map (message_of mail s c)) e) refl (carried c ch)))
     go (y ∷ ys) e = record {
       kind = y.kind;
       number = y.number;
@@ -61,5 +64,6 @@ first-token {w} caching ch c mail s sys x queue width inv carried beats = go (to
       tokens = e;
       own = own_kind caching s c ch y.kind y.number ys inv e;
       next = carried-next x (unfinished ch (receiver ch c sys)) (message_of_kind y.kind mail s c y.number) (map (message_of mail s c) ys) queue (λ m. beats-positive m width)
-          (same_carried (unfinished ch (receiver ch c sys)) (map (message_of mail s c) (tokens_on ch (s.link c))) (message_of mail s c y ∷ map (message_of mail s c) ys) (sys.channels c ch) (x ∷ queue) (ap (map (message_of mail s c)) e) beats (carried c ch));
+          (same_carried (unfinished ch (receiver ch c sys)) (map (message_of mail s c) (tokens_on ch (s.link c)))
+          (message_of mail s c y ∷ map (message_of mail s c) ys) (sys.channels c ch) (x ∷ queue) (ap (map (message_of mail s c)) e) beats (carried c ch));
     }

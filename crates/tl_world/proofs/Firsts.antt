@@ -6,8 +6,8 @@ use Rattle.tl_beat.specs.Width.{IsWidth}
 use Rattle.tl_beat.specs.declared.beat.Beat.{Beat}
 use Rattle.tl_beat.specs.declared.beat.Beat.TheVariants as beat
 use Rattle.tl_beat.specs.declared.beat.BeatB.{BeatB}
-use Rattle.tl_beat.specs.declared.opcode.Channel.{Channel}
-use Rattle.tl_beat.specs.declared.opcode.Channel.TheVariants as channel
+use Rattle.tl_beat.specs.declared.channel.Channel.{Channel}
+use Rattle.tl_beat.specs.declared.channel.Channel.TheVariants as channel
 use Rattle.tl_burst.specs.declared.message.Message.{Message}
 use Rattle.tl_burst.specs.Burst.{beat_of}
 use Rattle.tl_burst.specs.Messages.{channel_of, unfinished}
@@ -47,10 +47,12 @@ use Rattle.tl_world.proofs.Stalling.{IsFirst}
 
 -- ---- the channel of the first beat
 
-on_a : {w : ℕ} (config : Config) (log : Log w) (h : Shadow w) (sys : System w) (c : ℕ) (x : Beat w) (queue : List (Beat w)) → IsWidth w → IsMatched config log h.mail h.request h.state sys → sys.channels c channel.A ≡ x ∷ queue → channel_of x ≡ channel.A
+on_a : {w : ℕ} (config : Config) (log : Log w) (h : Shadow w) (sys : System w) (c : ℕ) (x : Beat w) (queue : List (Beat w)) → IsWidth w
+    → IsMatched config log h.mail h.request h.state sys → sys.channels c channel.A ≡ x ∷ queue → channel_of x ≡ channel.A
 on_a {w} config log h sys c x queue width is beats = let arrives = arrival-first config log h sys c x queue width is beats in ap (λ (y : Beat w). channel_of y) arrives.next.beat_is
 
-on_c : {w : ℕ} (config : Config) (log : Log w) (h : Shadow w) (sys : System w) (c : ℕ) (x : Beat w) (queue : List (Beat w)) → IsWidth w → IsMatched config log h.mail h.request h.state sys → sys.channels c channel.C ≡ x ∷ queue → channel_of x ≡ channel.C
+on_c : {w : ℕ} (config : Config) (log : Log w) (h : Shadow w) (sys : System w) (c : ℕ) (x : Beat w) (queue : List (Beat w)) → IsWidth w
+    → IsMatched config log h.mail h.request h.state sys → sys.channels c channel.C ≡ x ∷ queue → channel_of x ≡ channel.C
 unfolding rendered
 on_c {w} config log h sys c x queue width is beats =
     by-first_c (λ i. channel_of x ≡ channel.C) c h.mail h.state sys x queue (first-token (is_caching config) channel.C c h.mail h.state sys x queue width is.invariant is.carried beats)
@@ -61,13 +63,15 @@ on_c {w} config log h sys c x queue width is beats =
     let m = release-about (prune_told ((h.state.block n).pair c).letting) ((h.state.block n).release_source c) n (h.state.block n).truth width (is.sized n).truth in
     ap (λ (y : Beat w). channel_of y) (next.beat_is ∙ ap (λ (i : Message w). beat_of i next.k) m.1))
 
-on_e : {w : ℕ} (config : Config) (log : Log w) (h : Shadow w) (sys : System w) (c : ℕ) (x : Beat w) (queue : List (Beat w)) → IsWidth w → IsMatched config log h.mail h.request h.state sys → sys.channels c channel.E ≡ x ∷ queue → channel_of x ≡ channel.E
+on_e : {w : ℕ} (config : Config) (log : Log w) (h : Shadow w) (sys : System w) (c : ℕ) (x : Beat w) (queue : List (Beat w)) → IsWidth w
+    → IsMatched config log h.mail h.request h.state sys → sys.channels c channel.E ≡ x ∷ queue → channel_of x ≡ channel.E
 unfolding rendered
 on_e {w} config log h sys c x queue width is beats =
     by-first_e (λ i. channel_of x ≡ channel.E) c h.mail h.state sys x queue (first-token (is_caching config) channel.E c h.mail h.state sys x queue width is.invariant is.carried beats)
     (λ n rest tokens next. ap (λ (y : Beat w). channel_of y) next.beat_is)
 
-on_d : {w : ℕ} (config : Config) (log : Log w) (h : Shadow w) (sys : System w) (c : ℕ) (x : Beat w) (queue : List (Beat w)) → IsWidth w → IsMatched config log h.mail h.request h.state sys → sys.channels c channel.D ≡ x ∷ queue → channel_of x ≡ channel.D
+on_d : {w : ℕ} (config : Config) (log : Log w) (h : Shadow w) (sys : System w) (c : ℕ) (x : Beat w) (queue : List (Beat w)) → IsWidth w
+    → IsMatched config log h.mail h.request h.state sys → sys.channels c channel.D ≡ x ∷ queue → channel_of x ≡ channel.D
 unfolding rendered
 on_d {w} config log h sys c x queue width is beats = go first.kind first.number first.tokens first.own first.next
   where
@@ -113,7 +117,8 @@ taken_up {w} a b e is = subst (λ (o : Offered w). IsTakenUp o.answer) (sym e) i
 
 -- ---- each channel
 
-pub first-of : {w : ℕ} (config : Config) (log : Log w) (h : Shadow w) (c : ℕ) (terms : Terms) (ch : Channel) (x : Beat w) (queue : List (Beat w)) → IsWidth w → IsMatched config log h.mail h.request h.state (after config log)
+pub first-of : {w : ℕ} (config : Config) (log : Log w) (h : Shadow w) (c : ℕ) (terms : Terms) (ch : Channel) (x : Beat w) (queue : List (Beat w)) → IsWidth w
+    → IsMatched config log h.mail h.request h.state (after config log)
     → terms_at config c ≡ Some terms → (after config log).channels c ch ≡ x ∷ queue → IsFirst config terms c ch x (after config log)
 first-of {w} config log h c terms channel.A x queue width is at beats =
     let sys : System w = after config log in
@@ -123,11 +128,17 @@ first-of {w} config log h c terms channel.A x queue width is at beats =
     arrives : IsArrival config h (after config log) c x queue
     arrives = arrival-first config log h (after config log) c x queue width is beats
 
-    either : (b : Bool) → manager.must_wait config (record { 0 = c }) x (after config log).manager.trace ≡ b → IsTakenIn (manager.offered config (record { 0 = c }) channel.A x (after config log).manager)
+    either : (b : Bool) → manager.must_wait config (record { 0 = c }) x (after config log).manager.trace ≡ b
+        → IsTakenIn (manager.offered config (record { 0 = c }) channel.A x (after config log).manager)
     either true e = taken_in _ _ (request-stalled config log h (after config log) c x queue is beats arrives e) tt
     either false e = taken_in _ _ (request-taken config log h (after config log) c x queue width is beats arrives e) tt
 first-of {w} config log h c terms channel.B x queue width is at beats =
-    record { on = ap (λ (y : Beat w). channel_of y) probed.1.beat_is; taken = (λ e. either (is_kept ((h.state.block probed.0).pair c).letting) refl, λ e. absurd cc); probes = λ y e. is_one y (sym probed.1.beat_is ∙ e) }
+    record {
+      on = ap (λ (y : Beat w). channel_of y) probed.1.beat_is;
+      taken =
+          (λ e. either (is_kept ((h.state.block probed.0).pair c).letting) refl, λ e. absurd cc);
+      probes = λ y e. is_one y (sym probed.1.beat_is ∙ e);
+    }
   where
     sys : System w
     sys = after config log
@@ -136,7 +147,8 @@ first-of {w} config log h c terms channel.B x queue width is at beats =
     probed = delivered-b config log h.mail h.request h.state sys terms (next_tracker sys) c x queue width is at beats
 
     either : (b : Bool) → is_kept ((h.state.block probed.0).pair c).letting ≡ b → IsTakenUp (offered terms channel.B x (sys.clients c)).answer
-    either true e = taken_up (offered terms channel.B x (sys.clients c)) (taken x (sys.clients c)) (probed.1.takes e) (unrefused_up (taken x (sys.clients c)).answer (taken_unrefused x (sys.clients c)))
+    either true e = taken_up (offered terms channel.B x (sys.clients c)) (taken x (sys.clients c)) (probed.1.takes e)
+        (unrefused_up (taken x (sys.clients c)).answer (taken_unrefused x (sys.clients c)))
     either false e = taken_up (offered terms channel.B x (sys.clients c)) (silent verdict.Stalled (sys.clients c)) (probed.1.waits_for e) tt
 
     k : Cap
@@ -155,7 +167,11 @@ first-of {w} config log h c terms channel.D x queue width is at beats =
     let d = delivered-d config log h.mail h.request h.state sys terms (next_tracker sys) c x queue width is at beats in
     record {
       on = on;
-      taken = (λ e. taken_up (offered terms channel.D x (sys.clients c)) (taken x (sys.clients c)) d.takes (unrefused_up (taken x (sys.clients c)).answer (taken_unrefused x (sys.clients c))), λ e. absurd cc);
+      taken = (
+        λ e. taken_up (offered terms channel.D x (sys.clients c)) (taken x (sys.clients c)) d.takes
+            (unrefused_up (taken x (sys.clients c)).answer (taken_unrefused x (sys.clients c))),
+        λ e. absurd cc,
+      );
       probes = λ y e. not_probe x y channel.D on (λ f. absurd cc) e;
     }
 first-of {w} config log h c terms channel.E x queue width is at beats =

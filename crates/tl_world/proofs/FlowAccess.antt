@@ -5,8 +5,8 @@ use Rattle.std.specs.Prelude.{◌==◌, if◌then◌else◌, option_map}
 use Rattle.tl_beat.specs.declared.beat.Beat.{Beat}
 use Rattle.tl_beat.specs.declared.beat.Beat.TheVariants as beat
 use Rattle.tl_beat.specs.declared.beat.BeatA.{BeatA}
-use Rattle.tl_beat.specs.declared.opcode.Channel.{Channel}
-use Rattle.tl_beat.specs.declared.opcode.Channel.TheVariants as channel
+use Rattle.tl_beat.specs.declared.channel.Channel.{Channel}
+use Rattle.tl_beat.specs.declared.channel.Channel.TheVariants as channel
 use Rattle.tl_burst.specs.Messages.{History}
 use Rattle.tl_params.specs.declared.perm.Perm.{Perm}
 use Rattle.tl_rules.specs.Conformance.{comes_in_request, comes_in_grant}
@@ -35,7 +35,8 @@ unfolding grant_sink
 sunk-of n y t = refl
 
 -- the last request with the source of the beat, and with another one
-pub of_source : {w : ℕ} (i : ℕ) (y : BeatA w) (t : History w) (first : Bool) (o : Option (BeatA w)) → begins (beat.A y) t ≡ first → (y.source == i) ≡ true → (first ≡ true → o ≡ Some y) → (first ≡ false → request_of i t ≡ o) → request_of i (beat.A y ∷ t) ≡ o
+pub of_source : {w : ℕ} (i : ℕ) (y : BeatA w) (t : History w) (first : Bool) (o : Option (BeatA w)) → begins (beat.A y) t ≡ first → (y.source == i) ≡ true
+    → (first ≡ true → o ≡ Some y) → (first ≡ false → request_of i t ≡ o) → request_of i (beat.A y ∷ t) ≡ o
 unfolding request_of
 of_source i y t true o e f g before = rw (e, f) (sym (g refl))
 of_source i y t false o e f g before = rw e (before refl)
@@ -64,7 +65,8 @@ pub record IsAccess {w : ℕ} {X : Type 0} (c : ℕ) (y : BeatA w) (first last :
   pub lets : (i : ℕ) → s'.lets c i ≡ s.lets c i
   pub tracked : (i : ℕ) → s'.tracked i ≡ s.tracked i
 
-requested-rest : {w : ℕ} {X : Type 0} (c i : ℕ) (rest rest' : List (Beat w)) (u : Use) (s s' : State X) → ((m : ℕ) → s'.block m ≡ s.block m) → comes_in_request i rest' ≡ comes_in_request i rest → is_requested c i rest' u s' ≡ is_requested c i rest u s
+requested-rest : {w : ℕ} {X : Type 0} (c i : ℕ) (rest rest' : List (Beat w)) (u : Use) (s s' : State X) → ((m : ℕ) → s'.block m ≡ s.block m)
+    → comes_in_request i rest' ≡ comes_in_request i rest → is_requested c i rest' u s' ≡ is_requested c i rest u s
 requested-rest c i rest rest' Closed s s' same e = refl
 requested-rest c i rest rest' Asked s s' same e = e
 requested-rest c i rest rest' (InService m) s s' same e = refl
@@ -86,11 +88,15 @@ flowed-access {w} {X} c y first last asked rest rest' s s' t first_is last_is re
       release_sources = λ i. lets i ∙ sym (step_quiet first last (is_let_by c i (rest channel.C) (s.lets c i) s));
       released = λ i m e f. ap (option_map (λ z. block_at z.address)) (released-of i y t) ∙ before.released i m (sym (is.lets i) ∙ e) (before.release_sources i ∙ sym (lets i) ∙ f);
       sizes = λ i m e f. ap (option_map (λ z. z.size)) (released-of i y t) ∙ before.sizes i m (sym (is.lets i) ∙ e) (before.release_sources i ∙ sym (lets i) ∙ f);
-      releases = λ m. ap (λ (l : List (Beat w)). let_of c l (s'.block m)) (rests channel.C) ∙ ap (let_of c (rest channel.C)) (is.blocks m) ∙ sym (step_quiet first last (let_of c (rest channel.C) (s.block m)));
-      sinks = λ i. ap (λ (l : List (Beat w)). is_sunk c i l (s'.tracked i) s') (rests channel.D) ∙ ap (λ (o : Option ℕ). is_sunk c i (rest channel.D) o s') (is.tracked i) ∙ sinks i (s.tracked i) ∙ sym (step_quiet first last (is_sunk c i (rest channel.D) (s.tracked i) s));
+      releases = λ m. ap (λ (l : List (Beat w)). let_of c l (s'.block m)) (rests channel.C) ∙ ap (let_of c (rest channel.C)) (is.blocks m)
+          ∙ sym (step_quiet first last (let_of c (rest channel.C) (s.block m)));
+      sinks = λ i. ap (λ (l : List (Beat w)). is_sunk c i l (s'.tracked i) s') (rests channel.D)
+          ∙ ap (λ (o : Option ℕ). is_sunk c i (rest channel.D) o s') (is.tracked i) ∙ sinks i (s.tracked i)
+          ∙ sym (step_quiet first last (is_sunk c i (rest channel.D) (s.tracked i) s));
       grants = λ m. grants m ∙ sym (step_quiet first last (granted_by c m asked (rest channel.D) (s.block m)));
       probes = λ m. ap (λ (z : Block X). is_answered (z.pair c).probing) (is.blocks m) ∙ sym (step_quiet first last (is_answered ((s.block m).pair c).probing));
-      probed = λ m e. probed-of m y t ∙ before.probed m (sym (ap (λ (z : Block X). is_answered (z.pair c).probing) (is.blocks m)) ∙ e) ∙ sym (ap (λ (z : Block X). Some (probe_beat m (cap_waited z.service))) (is.blocks m));
+      probed = λ m e. probed-of m y t ∙ before.probed m (sym (ap (λ (z : Block X). is_answered (z.pair c).probing) (is.blocks m)) ∙ e)
+          ∙ sym (ap (λ (z : Block X). Some (probe_beat m (cap_waited z.service))) (is.blocks m));
       sunk = λ m e. sunk-of m y t ∙ before.sunk m (before.grants m ∙ sym (grants m) ∙ e) ∙ ap (λ (z : Block X). Some z.tracker) (sym (is.blocks m));
     }) before
   where
@@ -111,9 +117,11 @@ flowed-access {w} {X} c y first last asked rest rest' s s' t first_is last_is re
     same : (i : ℕ) → (y.source == i) ≡ false → is_requested c i (rest' channel.A) (s'.uses c i) s' ≡ is_requested c i (rest channel.A) (s.uses c i) s
     same i e =
         use_at i false e ∙ ap (λ (u : Use). is_requested c i (rest' channel.A) u s') (off last (s.uses c i) Replied)
-        ∙ requested-rest c i (rest channel.A) (rest' channel.A) (s.uses c i) s s' is.blocks (is.comes i ∙ and_right (not last) (y.source == i) e ∙ sym (is.came i ∙ and_right (not first) (y.source == i) e))
+        ∙ requested-rest c i (rest channel.A) (rest' channel.A) (s.uses c i) s s' is.blocks
+        (is.comes i ∙ and_right (not last) (y.source == i) e ∙ sym (is.came i ∙ and_right (not first) (y.source == i) e))
 
-    requests : (i : ℕ) (here : Bool) → (y.source == i) ≡ here → is_requested c i (rest' channel.A) (s'.uses c i) s' ≡ step first last (y.source == i) false (is_requested c i (rest channel.A) (s.uses c i) s)
+    requests : (i : ℕ) (here : Bool) → (y.source == i) ≡ here
+        → is_requested c i (rest' channel.A) (s'.uses c i) s' ≡ step first last (y.source == i) false (is_requested c i (rest channel.A) (s.uses c i) s)
     requests i true e = use_at i true e ∙ now i last refl e ∙ sym (begun first last (y.source == i) (is_requested c i (rest channel.A) (s.uses c i) s) e (was i e))
     requests i false e = same i e ∙ sym (unbegun first last (y.source == i) (is_requested c i (rest channel.A) (s.uses c i) s) e)
 

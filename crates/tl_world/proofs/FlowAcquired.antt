@@ -5,8 +5,8 @@ use Rattle.std.proofs.lemmas.Bool.{ne_eqb, and_right, and_from}
 use Rattle.tl_beat.specs.declared.beat.Beat.{Beat}
 use Rattle.tl_beat.specs.declared.beat.Beat.TheVariants as beat
 use Rattle.tl_beat.specs.declared.beat.BeatA.{BeatA}
-use Rattle.tl_beat.specs.declared.opcode.Channel.{Channel}
-use Rattle.tl_beat.specs.declared.opcode.Channel.TheVariants as channel
+use Rattle.tl_beat.specs.declared.channel.Channel.{Channel}
+use Rattle.tl_beat.specs.declared.channel.Channel.TheVariants as channel
 use Rattle.tl_burst.specs.Messages.{History}
 use Rattle.tl_rules.specs.Conformance.{comes_in_request}
 use Rattle.tl_rules.specs.History.{begins, ends, block_at, is_acquire, request_of, probe_of, grant_sink}
@@ -67,7 +67,8 @@ flowed-acquire {w} {X} c n y asked asked' rest rest' s s' t first_is last_is res
       acquires = each-block (λ m z. acquired_by c z ≡ step true true (is_acquire y.opcode && (block_at y.address == m)) false (acquired_by c (s.block m))) n s s' is.elsewhere
           (and_from (is_wanting (new.pair c).acquiring) (not (is_unserved (view new.service c))) is.wants (ap not is.served)
           ∙ sym (whole_opened (is_acquire y.opcode && (block_at y.address == n)) (acquired_by c b) (and_from (is_acquire y.opcode) (block_at y.address == n) is.acquire (rw is.at (same_number n)))))
-          (λ m ne. sym (whole_unopened (is_acquire y.opcode && (block_at y.address == m)) (acquired_by c (s.block m)) (and_right (is_acquire y.opcode) (block_at y.address == m) (rw is.at (ne_eqb n m (λ e. ne (sym e)))))));
+          (λ m ne. sym (whole_unopened (is_acquire y.opcode && (block_at y.address == m)) (acquired_by c (s.block m))
+          (and_right (is_acquire y.opcode) (block_at y.address == m) (rw is.at (ne_eqb n m (λ e. ne (sym e)))))));
       release_sources = lets;
       released = λ i m e f. ap (option_map (λ z. block_at z.address)) (released-of i y t) ∙ before.released i m (sym (is.lets i) ∙ e) (before.release_sources i ∙ sym (lets i) ∙ f);
       sizes = λ i m e f. ap (option_map (λ z. z.size)) (released-of i y t) ∙ before.sizes i m (sym (is.lets i) ∙ e) (before.release_sources i ∙ sym (lets i) ∙ f);
@@ -93,7 +94,8 @@ flowed-acquire {w} {X} c n y asked asked' rest rest' s s' t first_is last_is res
         ap (λ (u : Use). is_requested c i (rest' channel.A) u s') (is.uses i)
         ∙ requested-apart c i n (rest channel.A) (rest' channel.A) (s.uses c i) s s' is.elsewhere (is.comes i ∙ sym (is.came i)) (is.no_use i e)
 
-    requests : (i : ℕ) (here : Bool) → (y.source == i) ≡ here → is_requested c i (rest' channel.A) (s'.uses c i) s' ≡ step true true (y.source == i) false (is_requested c i (rest channel.A) (s.uses c i) s)
+    requests : (i : ℕ) (here : Bool) → (y.source == i) ≡ here
+        → is_requested c i (rest' channel.A) (s'.uses c i) s' ≡ step true true (y.source == i) false (is_requested c i (rest channel.A) (s.uses c i) s)
     requests i true e = now i e ∙ sym (whole_opened (y.source == i) (is_requested c i (rest channel.A) (s.uses c i) s) e)
     requests i false e = same i e ∙ sym (whole_unopened (y.source == i) (is_requested c i (rest channel.A) (s.uses c i) s) e)
 

@@ -6,8 +6,8 @@ use Rattle.tl_beat.specs.declared.beat.Beat.{Beat}
 use Rattle.tl_beat.specs.declared.beat.Beat.TheVariants as beat
 use Rattle.tl_beat.specs.declared.beat.BeatA.{BeatA}
 use Rattle.tl_beat.specs.declared.beat.BeatE.{BeatE}
-use Rattle.tl_beat.specs.declared.opcode.Channel.{Channel}
-use Rattle.tl_beat.specs.declared.opcode.Channel.TheVariants as channel
+use Rattle.tl_beat.specs.declared.channel.Channel.{Channel}
+use Rattle.tl_beat.specs.declared.channel.Channel.TheVariants as channel
 use Rattle.tl_burst.specs.Messages.{History, on, grown}
 use Rattle.tl_params.specs.declared.param.Cap.{Cap}
 use Rattle.tl_rules.specs.Conformance.{comes_in_grant}
@@ -53,8 +53,10 @@ other_sink : (i j : ℕ) (o : Option ℕ) → o ≡ Some j → (j ≡ i → ⊥)
 other_sink i j o e ne = rw e (ne_eqb j i ne)
 
 pub flowed-grant_ack : {w : ℕ} {X : Type 0} (c n : ℕ) (toks : List Token) (y : BeatE) (asked asked' : ℕ → Option (BeatA w)) (rest rest' : Channel → List (Beat w)) (s : State X) (t : History w)
-    → begins (beat.E y) t ≡ true → ends (beat.E y) t ≡ true → AreRests (beat.E y) rest rest' → ((i : ℕ) → asked' i ≡ asked i) → y.sink ≡ (s.block n).tracker → view (s.block n).service c ≡ Acknowledging
-    → AreNamed s → is_busy (s.block n).service ≡ true → ((m : ℕ) → is_acknowledging (view (s.block m).service c) ≡ true → is_busy (s.block m).service ≡ true) → ((m : ℕ) → is_granting (view (s.block m).service c) ≡ true → is_busy (s.block m).service ≡ true)
+    → begins (beat.E y) t ≡ true → ends (beat.E y) t ≡ true → AreRests (beat.E y) rest rest' → ((i : ℕ) → asked' i ≡ asked i) → y.sink ≡ (s.block n).tracker
+    → view (s.block n).service c ≡ Acknowledging
+    → AreNamed s → is_busy (s.block n).service ≡ true → ((m : ℕ) → is_acknowledging (view (s.block m).service c) ≡ true → is_busy (s.block m).service ≡ true)
+    → ((m : ℕ) → is_granting (view (s.block m).service c) ≡ true → is_busy (s.block m).service ≡ true)
     → IsComing asked (rest channel.D) c s → ((m : ℕ) → comes_granting m asked' (rest channel.D) ≡ comes_granting m asked (rest channel.D))
     → IsFlowed asked rest c s t → IsFlowed asked' rest' c (grant_ack_taken c n toks s) (beat.E y ∷ t)
 flowed-grant_ack {w} {X} c n toks y asked asked' rest rest' s t first last rests asks sink seen named busy busy_a busy_g coming comes before =
@@ -122,7 +124,8 @@ flowed-grant_ack {w} {X} c n toks y asked asked' rest rest' s t first last rests
 
     -- blocks in service have trackers of their own
     apart : (m : ℕ) → is_busy (s.block m).service ≡ true → (m ≡ n → ⊥) → (s.block m).tracker ≡ b.tracker → ⊥
-    apart m also ne same = ne (is_same (s.tracked b.tracker) (named.trackers b.tracker n ∙ rw (busy, same_number b.tracker) refl) (named.trackers b.tracker m ∙ rw (also, same, same_number b.tracker) refl))
+    apart m also ne same = ne (is_same (s.tracked b.tracker) (named.trackers b.tracker n ∙ rw (busy, same_number b.tracker) refl)
+        (named.trackers b.tracker m ∙ rw (also, same, same_number b.tracker) refl))
       where
         is_same : (o : Option ℕ) → is_of n o ≡ true → is_of m o ≡ true → m ≡ n
         is_same None f g = absurd cc
@@ -150,8 +153,10 @@ flowed-grant_ack {w} {X} c n toks y asked asked' rest rest' s t first last rests
 
     grants : (m : ℕ) → granted_by c m asked' (rest' channel.D) (s'.block m) ≡ step true true false (is_sink y.sink (grant_sink m t)) (granted_by c m asked (rest channel.D) (s.block m))
     grants = set-each (λ m z. granted_by c m asked' (rest' channel.D) z ≡ step true true false (is_sink y.sink (grant_sink m t)) (granted_by c m asked (rest channel.D) (s.block m))) n new s.block
-        (grants_rest n ∙ none_comes ∙ sym (closes_it (granted_by c n asked (rest channel.D) b) (is_sink y.sink (grant_sink n t)) (rw sink (same_sink b.tracker (grant_sink n t) (before.sunk n (before.grants n ∙ acks_here))))))
-        (λ m ne. ap (λ (z : Bool). is_acknowledging (view (s.block m).service c) || z) (grants_rest m) ∙ sym (leaves_it (granted_by c m asked (rest channel.D) (s.block m)) (is_sink y.sink (grant_sink m t)) (other_closed m ne)))
+        (grants_rest n ∙ none_comes ∙ sym (closes_it (granted_by c n asked (rest channel.D) b) (is_sink y.sink (grant_sink n t))
+        (rw sink (same_sink b.tracker (grant_sink n t) (before.sunk n (before.grants n ∙ acks_here))))))
+        (λ m ne. ap (λ (z : Bool). is_acknowledging (view (s.block m).service c) || z) (grants_rest m)
+        ∙ sym (leaves_it (granted_by c m asked (rest channel.D) (s.block m)) (is_sink y.sink (grant_sink m t)) (other_closed m ne)))
 
     tracked : (m : ℕ) → granted_by c m asked' (rest' channel.D) (s'.block m) ≡ true → grant_sink m t ≡ Some (s'.block m).tracker
     tracked = set-each (λ m z. granted_by c m asked' (rest' channel.D) z ≡ true → grant_sink m t ≡ Some z.tracker) n new s.block
@@ -169,7 +174,8 @@ flowed-grant_ack {w} {X} c n toks y asked asked' rest rest' s t first last rests
             is_sunk_with z = is_acknowledging (view z.service c) || (is_granting (view z.service c) && comes_in_grant i (rest channel.D))
 
         go : (i ≡ b.tracker) ⊎ (i ≡ b.tracker → ⊥) → is_sunk c i (rest channel.D) (s'.tracked i) s' ≡ step true true false (y.sink == i) (is_sunk c i (rest channel.D) (s.tracked i) s)
-        go (inl same) = ap (λ (o : Option ℕ). is_sunk c i (rest channel.D) o s') (ap (set b.tracker None s.tracked) same ∙ set-same b.tracker None s.tracked) ∙ sym (closes_it (is_sunk c i (rest channel.D) (s.tracked i) s) (y.sink == i) (rw (sink, same) (same_number b.tracker)))
+        go (inl same) = ap (λ (o : Option ℕ). is_sunk c i (rest channel.D) o s') (ap (set b.tracker None s.tracked) same ∙ set-same b.tracker None s.tracked)
+            ∙ sym (closes_it (is_sunk c i (rest channel.D) (s.tracked i) s) (y.sink == i) (rw (sink, same) (same_number b.tracker)))
         go (inr other) =
             ap (λ (o : Option ℕ). is_sunk c i (rest channel.D) o s') (set-other b.tracker i None s.tracked other)
             ∙ others (s.tracked i) (named.trackers i n ∙ rw (busy, ne_eqb i b.tracker other) refl)

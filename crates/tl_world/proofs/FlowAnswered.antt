@@ -7,8 +7,8 @@ use Rattle.tl_beat.specs.declared.beat.Beat.TheVariants as beat
 use Rattle.tl_beat.specs.declared.beat.BeatA.{BeatA}
 use Rattle.tl_beat.specs.declared.beat.BeatC.{BeatC}
 use Rattle.tl_beat.specs.declared.beat.BeatD.{BeatD}
-use Rattle.tl_beat.specs.declared.opcode.Channel.{Channel}
-use Rattle.tl_beat.specs.declared.opcode.Channel.TheVariants as channel
+use Rattle.tl_beat.specs.declared.channel.Channel.{Channel}
+use Rattle.tl_beat.specs.declared.channel.Channel.TheVariants as channel
 use Rattle.tl_burst.specs.Messages.{History}
 use Rattle.tl_params.specs.declared.key.Key.TheVariants.{ReleaseSource}
 use Rattle.tl_params.specs.declared.perm.Perm.{Perm}
@@ -89,18 +89,22 @@ flowed-answer {w} {X} c y first last asked asked' rest rest' s s' t first_is las
       release_sources = λ i. lets i ∙ sym (unclosed first last (is_release_ack y.opcode) (y.source == i) (is_let_by c i (rest channel.C) (s.lets c i) s) is.ack);
       released = λ i m e f. ap (option_map (λ z. block_at z.address)) (release_of-d i y t) ∙ before.released i m (sym (is.lets i) ∙ e) (before.release_sources i ∙ sym (lets i) ∙ f);
       sizes = λ i m e f. ap (option_map (λ z. z.size)) (release_of-d i y t) ∙ before.sizes i m (sym (is.lets i) ∙ e) (before.release_sources i ∙ sym (lets i) ∙ f);
-      releases = λ m. ap (λ (l : List (Beat w)). let_of c l (s'.block m)) (rests channel.C) ∙ ap (let_of c (rest channel.C)) (is.blocks m) ∙ sym (unclosed first last (is_release_ack y.opcode) (releases m (release_of y.source t)) (let_of c (rest channel.C) (s.block m)) is.ack);
-      sinks = λ i. ap (λ (o : Option ℕ). is_sunk c i (rest' channel.D) o s') (is.tracked i) ∙ sinks i (s.tracked i) ∙ sym (unopened first last (is_grant y.opcode) (y.sink == i) (is_sunk c i (rest channel.D) (s.tracked i) s) is.grant);
+      releases = λ m. ap (λ (l : List (Beat w)). let_of c l (s'.block m)) (rests channel.C) ∙ ap (let_of c (rest channel.C)) (is.blocks m)
+          ∙ sym (unclosed first last (is_release_ack y.opcode) (releases m (release_of y.source t)) (let_of c (rest channel.C) (s.block m)) is.ack);
+      sinks = λ i. ap (λ (o : Option ℕ). is_sunk c i (rest' channel.D) o s') (is.tracked i) ∙ sinks i (s.tracked i)
+          ∙ sym (unopened first last (is_grant y.opcode) (y.sink == i) (is_sunk c i (rest channel.D) (s.tracked i) s) is.grant);
       grants = λ m. grants m ∙ sym (unopened first last (is_grant y.opcode) (asks_for m (request_of y.source t)) (granted_by c m asked (rest channel.D) (s.block m)) is.grant);
       probes = λ m. ap (λ (z : Block X). is_answered (z.pair c).probing) (is.blocks m) ∙ sym (step_quiet first last (is_answered ((s.block m).pair c).probing));
-      probed = λ m e. probed-of m y t ∙ before.probed m (sym (ap (λ (z : Block X). is_answered (z.pair c).probing) (is.blocks m)) ∙ e) ∙ sym (ap (λ (z : Block X). Some (probe_beat m (cap_waited z.service))) (is.blocks m));
+      probed = λ m e. probed-of m y t ∙ before.probed m (sym (ap (λ (z : Block X). is_answered (z.pair c).probing) (is.blocks m)) ∙ e)
+          ∙ sym (ap (λ (z : Block X). Some (probe_beat m (cap_waited z.service))) (is.blocks m));
       sunk = λ m e. sunk-of m y t is.grant ∙ before.sunk m (before.grants m ∙ sym (grants m) ∙ e) ∙ ap (λ (z : Block X). Some z.tracker) (sym (is.blocks m));
     }) before
   where
     same_requested : (i : ℕ) (u : Use) → is_requested c i (rest channel.A) u s' ≡ is_requested c i (rest channel.A) u s
     same_requested i u = requested-blocks c i (rest channel.A) u s s' (λ m. ap (λ (z : Block X). is_unserved (view z.service c)) (is.blocks m))
 
-    requests : (i : ℕ) (z here : Bool) → is_requested c i (rest channel.A) (if z && here then Closed else s.uses c i) s' ≡ step first z false (not false && here) (is_requested c i (rest channel.A) (s.uses c i) s)
+    requests : (i : ℕ) (z here : Bool) → is_requested c i (rest channel.A) (if z && here then Closed else s.uses c i) s' ≡ step first z false
+        (not false && here) (is_requested c i (rest channel.A) (s.uses c i) s)
     requests i true true = sym (closes_last first true (is_requested c i (rest channel.A) (s.uses c i) s))
     requests i false true = same_requested i (s.uses c i) ∙ sym (closes_last first false (is_requested c i (rest channel.A) (s.uses c i) s))
     requests i true false = same_requested i (s.uses c i) ∙ sym (step_quiet first true (is_requested c i (rest channel.A) (s.uses c i) s))
@@ -113,7 +117,8 @@ flowed-answer {w} {X} c y first last asked asked' rest rest' s s' t first_is las
     asked_still i e true f = absurd (let g : false ≡ true = sym (use_at i ∙ ap (λ (z : Bool). is_requested c i (rest channel.A) (if z then Closed else s.uses c i) s') f) ∙ e in cc)
     asked_still i e false f =
         request_of-d i y t
-        ∙ before.asked_is i (before.requests i ∙ sym (same_requested i (s.uses c i)) ∙ sym (use_at i ∙ ap (λ (z : Bool). is_requested c i (rest channel.A) (if z then Closed else s.uses c i) s') f) ∙ e)
+        ∙ before.asked_is i (before.requests i ∙ sym (same_requested i (s.uses c i))
+        ∙ sym (use_at i ∙ ap (λ (z : Bool). is_requested c i (rest channel.A) (if z then Closed else s.uses c i) s') f) ∙ e)
         ∙ sym (is.asked_is i f)
 
     lets : (i : ℕ) → is_let_by c i (rest' channel.C) (s'.lets c i) s' ≡ is_let_by c i (rest channel.C) (s.lets c i) s
@@ -163,14 +168,16 @@ of_releases n m None e = absurd cc
 of_releases n m (Some x) e = let f : block_at x.address ≡ n = cc in ap (λ (z : ℕ). z == m) f
 
 pub flowed-let_go : {w : ℕ} {X : Type 0} (c n : ℕ) (y : BeatD w) (asked asked' : ℕ → Option (BeatA w)) (rest rest' : Channel → List (Beat w)) (s s' : State X) (t : History w)
-    → begins (beat.D y) t ≡ true → ends (beat.D y) t ≡ true → AreRests (beat.D y) rest rest' → ((i m : ℕ) → is_of m (s.lets c i) ≡ releases_with c i (s.block m)) → IsLetGo c n y asked asked' rest rest' s s'
+    → begins (beat.D y) t ≡ true → ends (beat.D y) t ≡ true → AreRests (beat.D y) rest rest'
+    → ((i m : ℕ) → is_of m (s.lets c i) ≡ releases_with c i (s.block m)) → IsLetGo c n y asked asked' rest rest' s s'
     → IsFlowed asked rest c s t → IsFlowed asked' rest' c s' (beat.D y ∷ t)
 flowed-let_go {w} {X} c n y asked asked' rest rest' s s' t first_is last_is rests named is before =
     flowed-next (beat.D y) true true asked asked' rest rest' c s s' t (record {
       first_is = first_is;
       last_is = last_is;
       rests = rests;
-      held_is = λ m. part-block (held_by c) n s s' is.elsewhere is.held_is m ∙ sym (unsaid true (is_grant y.opcode) (asks_for m (request_of y.source t)) (capped y.param) (held_by c (s.block m)) is.grant);
+      held_is = λ m. part-block (held_by c) n s s' is.elsewhere is.held_is m
+          ∙ sym (unsaid true (is_grant y.opcode) (asks_for m (request_of y.source t)) (capped y.param) (held_by c (s.block m)) is.grant);
       requests = λ i. requests i ∙ sym (ap (λ (z : Bool). step true true false (not z && (y.source == i)) (is_requested c i (rest channel.A) (s.uses c i) s)) is.ack);
       asked_is = λ i e. request_of-d i y t ∙ before.asked_is i (before.requests i ∙ sym (requests i) ∙ e) ∙ sym (is.asked_is i);
       acquires = λ m. acquires m ∙ sym (unclosed true true (is_grant y.opcode) (asks_for m (request_of y.source t)) (acquired_by c (s.block m)) is.grant);
@@ -178,10 +185,12 @@ flowed-let_go {w} {X} c n y asked asked' rest rest' s s' t first_is last_is rest
       released = λ i m e f. ap (option_map (λ z. block_at z.address)) (release_of-d i y t) ∙ before.released i m (is_another i m e (y.source == i) refl).1 (still_pending i m e f);
       sizes = λ i m e f. ap (option_map (λ z. z.size)) (release_of-d i y t) ∙ before.sizes i m (is_another i m e (y.source == i) refl).1 (still_pending i m e f);
       releases = λ m. ap (λ (l : List (Beat w)). let_of c l (s'.block m)) (rests channel.C) ∙ releases_at m;
-      sinks = λ i. ap (λ (o : Option ℕ). is_sunk c i (rest' channel.D) o s') (is.tracked i) ∙ sinks i (s.tracked i) ∙ sym (unopened true true (is_grant y.opcode) (y.sink == i) (is_sunk c i (rest channel.D) (s.tracked i) s) is.grant);
+      sinks = λ i. ap (λ (o : Option ℕ). is_sunk c i (rest' channel.D) o s') (is.tracked i) ∙ sinks i (s.tracked i)
+          ∙ sym (unopened true true (is_grant y.opcode) (y.sink == i) (is_sunk c i (rest channel.D) (s.tracked i) s) is.grant);
       grants = λ m. grants m ∙ sym (unopened true true (is_grant y.opcode) (asks_for m (request_of y.source t)) (granted_by c m asked (rest channel.D) (s.block m)) is.grant);
       probes = answered;
-      probed = λ m e. probed-of m y t ∙ before.probed m (sym (answered m) ∙ e) ∙ sym (ap (λ k. Some (probe_beat m k)) (part-block (λ (z : Block X). cap_waited z.service) n s s' is.elsewhere (ap cap_waited is.service) m));
+      probed = λ m e. probed-of m y t ∙ before.probed m (sym (answered m) ∙ e)
+          ∙ sym (ap (λ k. Some (probe_beat m k)) (part-block (λ (z : Block X). cap_waited z.service) n s s' is.elsewhere (ap cap_waited is.service) m));
       sunk = λ m e. sunk-of m y t is.grant ∙ before.sunk m (before.grants m ∙ sym (grants m) ∙ e) ∙ ap Some (sym (part-block (λ (z : Block X). z.tracker) n s s' is.elsewhere is.tracker m));
     }) before
   where
@@ -198,17 +207,22 @@ flowed-let_go {w} {X} c n y asked asked' rest rest' s s' t first_is last_is rest
     names m = of_releases n m (release_of y.source t) (before.released y.source n of_block was_let)
 
     releases_at : (m : ℕ) → let_of c (rest channel.C) (s'.block m) ≡ step true true false (is_release_ack y.opcode && releases m (release_of y.source t)) (let_of c (rest channel.C) (s.block m))
-    releases_at = each-block (λ m z. let_of c (rest channel.C) z ≡ step true true false (is_release_ack y.opcode && releases m (release_of y.source t)) (let_of c (rest channel.C) (s.block m))) n s s' is.elsewhere
-        (ap (is_let ((s'.block n).release_source c) (rest channel.C)) is.letting_is ∙ sym (closed (is_release_ack y.opcode) (releases n (release_of y.source t)) (let_of c (rest channel.C) b) is.ack (names n ∙ same_number n)))
+    releases_at = each-block (λ m z. let_of c (rest channel.C) z ≡ step true true false (is_release_ack y.opcode && releases m (release_of y.source t))
+        (let_of c (rest channel.C) (s.block m))) n s s' is.elsewhere
+        (ap (is_let ((s'.block n).release_source c) (rest channel.C)) is.letting_is
+        ∙ sym (closed (is_release_ack y.opcode) (releases n (release_of y.source t)) (let_of c (rest channel.C) b) is.ack (names n ∙ same_number n)))
         (λ m ne. sym (unclosed_by (is_release_ack y.opcode) (releases m (release_of y.source t)) (let_of c (rest channel.C) (s.block m)) (names m ∙ ne_eqb n m (λ e. ne (sym e)))))
 
     requests : (i : ℕ) → is_requested c i (rest' channel.A) (s'.uses c i) s' ≡ is_requested c i (rest channel.A) (s.uses c i) s
     requests i =
         ap (λ (l : List (Beat w)). is_requested c i l (s'.uses c i) s') (rests channel.A) ∙ ap (λ (u : Use). is_requested c i (rest channel.A) u s') (is.uses i)
-        ∙ requested-blocks c i (rest channel.A) (s.uses c i) s s' (part-block (λ (z : Block X). is_unserved (view z.service c)) n s s' is.elsewhere (ap (λ (q : Service). is_unserved (view q c)) is.service))
+        ∙ requested-blocks c i (rest channel.A) (s.uses c i) s s'
+        (part-block (λ (z : Block X). is_unserved (view z.service c)) n s s' is.elsewhere (ap (λ (q : Service). is_unserved (view q c)) is.service))
 
     acquires : (m : ℕ) → acquired_by c (s'.block m) ≡ acquired_by c (s.block m)
-    acquires = part-block (acquired_by c) n s s' is.elsewhere (ap (λ (l : Acquiring). is_wanting l && not (is_unserved (view (s'.block n).service c))) is.acquiring ∙ ap (λ (q : Service). is_wanting (b.pair c).acquiring && not (is_unserved (view q c))) is.service)
+    acquires = part-block (acquired_by c) n s s' is.elsewhere
+        (ap (λ (l : Acquiring). is_wanting l && not (is_unserved (view (s'.block n).service c))) is.acquiring
+        ∙ ap (λ (q : Service). is_wanting (b.pair c).acquiring && not (is_unserved (view q c))) is.service)
 
     answered : (m : ℕ) → is_answered ((s'.block m).pair c).probing ≡ is_answered ((s.block m).pair c).probing
     answered = part-block (λ (z : Block X). is_answered (z.pair c).probing) n s s' is.elsewhere (ap is_answered is.probing)
@@ -234,9 +248,11 @@ flowed-let_go {w} {X} c n y asked asked' rest rest' s s' t first_is last_is rest
 
     rest_same : (i : ℕ) (o : Option ℕ) → s.lets c i ≡ o → (y.source == i) ≡ false → is_let_by c i (rest' channel.C) o s' ≡ is_let_by c i (rest channel.C) o s
     rest_same i None e f = refl
-    rest_same i (Some m) e f = ap (λ (l : List (Beat w)). is_let i l ((s'.block m).pair c).letting) (rests channel.C) ∙ ap (λ (z : Block X). is_let i (rest channel.C) (z.pair c).letting) (is.elsewhere m (other_source i m e f))
+    rest_same i (Some m) e f = ap (λ (l : List (Beat w)). is_let i l ((s'.block m).pair c).letting) (rests channel.C)
+        ∙ ap (λ (z : Block X). is_let i (rest channel.C) (z.pair c).letting) (is.elsewhere m (other_source i m e f))
 
-    lets : (i : ℕ) (z : Bool) → (y.source == i) ≡ z → is_let_by c i (rest' channel.C) (s'.lets c i) s' ≡ step true true false (is_release_ack y.opcode && (y.source == i)) (is_let_by c i (rest channel.C) (s.lets c i) s)
+    lets : (i : ℕ) (z : Bool) → (y.source == i) ≡ z → is_let_by c i (rest' channel.C) (s'.lets c i) s' ≡ step true true false
+        (is_release_ack y.opcode && (y.source == i)) (is_let_by c i (rest channel.C) (s.lets c i) s)
     lets i true e =
         ap (λ (o : Option ℕ). is_let_by c i (rest' channel.C) o s') (is.lets i ∙ ap (λ (z : Bool). if z then None else s.lets c i) e)
         ∙ sym (closed (is_release_ack y.opcode) (y.source == i) (is_let_by c i (rest channel.C) (s.lets c i) s) is.ack e)
@@ -249,4 +265,6 @@ flowed-let_go {w} {X} c n y asked asked' rest rest' s s' t first_is last_is rest
     is_another i m e false f = (f, sym (is.lets i ∙ ap (λ (z : Bool). if z then None else s.lets c i) f) ∙ e)
 
     still_pending : (i m : ℕ) → s'.lets c i ≡ Some m → is_let_by c i (rest' channel.C) (s'.lets c i) s' ≡ true → pending (ReleaseSource i) t ≡ true
-    still_pending i m e f = before.release_sources i ∙ sym (unclosed_by (is_release_ack y.opcode) (y.source == i) (is_let_by c i (rest channel.C) (s.lets c i) s) (is_another i m e (y.source == i) refl).0) ∙ sym (lets i (y.source == i) refl) ∙ f
+    still_pending i m e f = before.release_sources i ∙ sym
+        (unclosed_by (is_release_ack y.opcode) (y.source == i) (is_let_by c i (rest channel.C) (s.lets c i) s) (is_another i m e (y.source == i) refl).0)
+        ∙ sym (lets i (y.source == i) refl) ∙ f

@@ -3,8 +3,8 @@ use Rattle.std.proofs.Common.{◌≡◌, ℕ, Bool, true, false, not, ◌&&◌, 
 use Rattle.tl_beat.specs.declared.beat.Beat.{Beat}
 use Rattle.tl_beat.specs.declared.beat.Beat.TheVariants as beat
 use Rattle.tl_beat.specs.declared.beat.BeatA.{BeatA}
-use Rattle.tl_beat.specs.declared.opcode.Channel.{Channel}
-use Rattle.tl_beat.specs.declared.opcode.Channel.TheVariants as channel
+use Rattle.tl_beat.specs.declared.channel.Channel.{Channel}
+use Rattle.tl_beat.specs.declared.channel.Channel.TheVariants as channel
 use Rattle.tl_burst.specs.Messages.{History}
 use Rattle.tl_rules.specs.History.{is_grant, asks_for}
 use Rattle.tl_world.specs.Flowed.{IsFlowed, is_requested, is_let, is_let_by, is_sunk}
@@ -51,19 +51,23 @@ heard_requested c i rest Closed s e = absurd cc
 heard_requested c i rest Asked s e = absurd cc
 heard_requested c i rest (Acquires n) s e = absurd cc
 
-pub requested-blocks : {w : ℕ} {X : Type 0} (c i : ℕ) (rest : List (Beat w)) (u : Use) (s s' : State X) → ((n : ℕ) → is_unserved (view (s'.block n).service c) ≡ is_unserved (view (s.block n).service c)) → is_requested c i rest u s' ≡ is_requested c i rest u s
+pub requested-blocks : {w : ℕ} {X : Type 0} (c i : ℕ) (rest : List (Beat w)) (u : Use) (s s' : State X)
+    → ((n : ℕ) → is_unserved (view (s'.block n).service c) ≡ is_unserved (view (s.block n).service c))
+    → is_requested c i rest u s' ≡ is_requested c i rest u s
 requested-blocks c i rest Closed s s' h = refl
 requested-blocks c i rest Asked s s' h = refl
 requested-blocks c i rest (InService n) s s' h = refl
 requested-blocks c i rest Replied s s' h = refl
 requested-blocks c i rest (Acquires n) s s' h = ap not (h n)
 
-requested-same : {w : ℕ} {X : Type 0} (c i : ℕ) (rest : List (Beat w)) (s s' : State X) → ((n : ℕ) → is_unserved (view (s'.block n).service c) ≡ is_unserved (view (s.block n).service c)) → IsSameUse (s.uses c i) (s'.uses c i)
+requested-same : {w : ℕ} {X : Type 0} (c i : ℕ) (rest : List (Beat w)) (s s' : State X)
+    → ((n : ℕ) → is_unserved (view (s'.block n).service c) ≡ is_unserved (view (s.block n).service c)) → IsSameUse (s.uses c i) (s'.uses c i)
     → is_requested c i rest (s'.uses c i) s' ≡ is_requested c i rest (s.uses c i) s
 requested-same c i rest s s' h (inl same) = ap (λ (u : Use). is_requested c i rest u s') same ∙ requested-blocks c i rest (s.uses c i) s s' h
 requested-same c i rest s s' h (inr both) = heard_requested c i rest (s'.uses c i) s' both.1 ∙ sym (heard_requested c i rest (s.uses c i) s both.0)
 
-pub let_by-same : {w : ℕ} {X : Type 0} (c i : ℕ) (rest : List (Beat w)) (o : Option ℕ) (s s' : State X) → ((n : ℕ) → ((s'.block n).pair c).letting ≡ ((s.block n).pair c).letting) → is_let_by c i rest o s' ≡ is_let_by c i rest o s
+pub let_by-same : {w : ℕ} {X : Type 0} (c i : ℕ) (rest : List (Beat w)) (o : Option ℕ) (s s' : State X)
+    → ((n : ℕ) → ((s'.block n).pair c).letting ≡ ((s.block n).pair c).letting) → is_let_by c i rest o s' ≡ is_let_by c i rest o s
 let_by-same c i rest None s s' h = refl
 let_by-same c i rest (Some n) s s' h = ap (is_let i rest) (h n)
 
@@ -94,7 +98,8 @@ either_is true b g e f h = absurd cc
 either_is false true g e f h = let p : g ≡ true = f refl in let q : true ≡ false = sym p ∙ h in cc
 either_is false false g e f h = absurd cc
 
-pub flowed-aside : {w : ℕ} {X : Type 0} (asked asked' : ℕ → Option (BeatA w)) (rest : Channel → List (Beat w)) (d : ℕ) (s s' : State X) (t : History w) → IsAside asked asked' rest d s s' → IsFlowed asked rest d s t → IsFlowed asked' rest d s' t
+pub flowed-aside : {w : ℕ} {X : Type 0} (asked asked' : ℕ → Option (BeatA w)) (rest : Channel → List (Beat w)) (d : ℕ) (s s' : State X) (t : History w)
+    → IsAside asked asked' rest d s s' → IsFlowed asked rest d s t → IsFlowed asked' rest d s' t
 flowed-aside {w} {X} asked asked' rest d s s' t is = flowed-untouched asked asked' rest d s s' t (record {
   held_is = λ n. (is.blocks n).held;
   requests = λ i. requested-same d i (rest channel.A) s s' (λ n. (is.blocks n).unserved) (is.uses i);
@@ -102,7 +107,8 @@ flowed-aside {w} {X} asked asked' rest d s s' t is = flowed-untouched asked aske
   acquires = λ n. both_same (is.blocks n).wanting (is.blocks n).unserved;
   release_sources = λ i. ap (λ (o : Option ℕ). is_let_by d i (rest channel.C) o s') (is.lets i) ∙ let_by-same d i (rest channel.C) (s.lets d i) s s' (λ n. (is.blocks n).letting);
   lets = λ i n e f. sym (is.lets i) ∙ f;
-  releases = λ n. ap (λ (i : ℕ). is_let i (rest channel.C) ((s'.block n).pair d).letting) (is.blocks n).source ∙ ap (λ (l : Letting). is_let ((s.block n).release_source d) (rest channel.C) l) (is.blocks n).letting;
+  releases = λ n. ap (λ (i : ℕ). is_let i (rest channel.C) ((s'.block n).pair d).letting) (is.blocks n).source
+      ∙ ap (λ (l : Letting). is_let ((s.block n).release_source d) (rest channel.C) l) (is.blocks n).letting;
   sinks = is.sinks;
   grants = λ n. either_same (is.blocks n).acknowledging (comes-same n asked asked' (rest channel.D) is.asked_is);
   probes = λ n. (is.blocks n).answered;
@@ -116,12 +122,15 @@ flowed-aside {w} {X} asked asked' rest d s s' t is = flowed-untouched asked aske
     either_same : {a b a' b' : Bool} → a' ≡ a → b' ≡ b → (a' || b') ≡ (a || b)
     either_same e f = rw (e, f) refl
 
-    tracked : (n : ℕ) → granted_by d n asked (rest channel.D) (s.block n) ≡ true → ((s'.block n).tracker ≡ (s.block n).tracker) ⊎ ((is_acknowledging (view (s.block n).service d) || is_granting (view (s.block n).service d)) ≡ false) → (s'.block n).tracker ≡ (s.block n).tracker
+    tracked : (n : ℕ) → granted_by d n asked (rest channel.D) (s.block n) ≡ true → ((s'.block n).tracker ≡ (s.block n).tracker)
+        ⊎ ((is_acknowledging (view (s.block n).service d) || is_granting (view (s.block n).service d)) ≡ false) → (s'.block n).tracker ≡ (s.block n).tracker
     tracked n e (inl same) = same
-    tracked n e (inr none) = absurd (either_is (is_acknowledging (view (s.block n).service d)) (comes_granting n asked (rest channel.D)) (is_granting (view (s.block n).service d)) e (is.coming n) none)
+    tracked n e (inr none) = absurd (either_is (is_acknowledging (view (s.block n).service d)) (comes_granting n asked (rest channel.D))
+        (is_granting (view (s.block n).service d)) e (is.coming n) none)
 
 -- where the same requests are given in another way, nothing changes
-pub flowed-asks : {w : ℕ} {X : Type 0} (asked asked' : ℕ → Option (BeatA w)) (rest : Channel → List (Beat w)) (d : ℕ) (s : State X) (t : History w) → ((i : ℕ) → asked' i ≡ asked i) → IsFlowed asked rest d s t → IsFlowed asked' rest d s t
+pub flowed-asks : {w : ℕ} {X : Type 0} (asked asked' : ℕ → Option (BeatA w)) (rest : Channel → List (Beat w)) (d : ℕ) (s : State X) (t : History w)
+    → ((i : ℕ) → asked' i ≡ asked i) → IsFlowed asked rest d s t → IsFlowed asked' rest d s t
 flowed-asks asked asked' rest d s t asks = flowed-untouched asked asked' rest d s s t (record {
   held_is = λ n. refl;
   requests = λ i. refl;

@@ -4,7 +4,7 @@ use Rattle.std.specs.Prelude.{◌==◌}
 use Rattle.std.proofs.lemmas.Bool.{cases_eq, ne_eqb}
 use Rattle.tl_beat.specs.Width.{IsWidth}
 use Rattle.tl_beat.specs.declared.beat.BeatA.{BeatA}
-use Rattle.tl_beat.specs.declared.opcode.Channel.TheVariants as channel
+use Rattle.tl_beat.specs.declared.channel.Channel.TheVariants as channel
 use Rattle.tl_burst.specs.declared.message.Message.TheVariants as message
 use Rattle.tl_burst.specs.declared.message.MessageA.{MessageA}
 use Rattle.tl_burst.specs.Messages.{History}
@@ -63,7 +63,8 @@ acquires_not u n e f = let g : Closed ≡ Acquires n = sym e ∙ f in cc
 module _ {w : ℕ} (config : Config) (log : Log w) (h : Shadow w) (sys : System w) (c : ℕ) (width : IsWidth w) (is : IsMatched config log h.mail h.request h.state sys) where
   -- what is delivered on client d's link is as it was
   abbrev pub IsAskedOn : ℕ → History w → Op w → Reply → Type 0
-  IsAskedOn d t o r = IsAskable (is_caching config) c o r h → IsFlowed (asked_by h.mail h.state d) (unfinished_at sys d) d h.state t → IsFlowed (asked_by (asked c o r h).mail (asked c o r h).state d) (unfinished_at sys d) d (asked c o r h).state t
+  IsAskedOn d t o r = IsAskable (is_caching config) c o r h → IsFlowed (asked_by h.mail h.state d) (unfinished_at sys d) d h.state t
+      → IsFlowed (asked_by (asked c o r h).mail (asked c o r h).state d) (unfinished_at sys d) d (asked c o r h).state t
 
   asked-nothing : (d : ℕ) (t : History w) (o : Op w) (r : Reply) → IsPlain o r → IsAskedOn d t o r
   asked-nothing d t o r plain may before = subst (λ (x : Shadow w). IsFlowed (asked_by x.mail x.state d) (unfinished_at sys d) d x.state t) (sym (plain c h).0) before
@@ -75,15 +76,20 @@ module _ {w : ℕ} (config : Config) (log : Log w) (h : Shadow w) (sys : System 
       let n = block_at address in
       let bytes = copy_stored address size value ((h.state.block n).copy c) in
       let asks : (i : ℕ) → asked_by h.mail (block_stored c n bytes h.state) c i ≡ asked_by h.mail h.state c i =
-      λ i. asks-same c i h.mail h.mail h.state (block_stored c n bytes h.state) refl (inl refl) (λ j used. set-part (λ b. (b.pair c).acquiring) n _ h.state.block refl j) (λ j used. set-part (λ b. b.source c) n _ h.state.block refl j) in
+      λ i. asks-same c i h.mail h.mail h.state (block_stored c n bytes h.state) refl (inl refl)
+      (λ j used. set-part (λ b. (b.pair c).acquiring) n _ h.state.block refl j) (λ j used. set-part (λ b. b.source c) n _ h.state.block refl j) in
       flowed-aside (asked_by h.mail h.state c) (asked_by h.mail (block_stored c n bytes h.state) c) (unfinished_at sys c) c h.state (block_stored c n bytes h.state) t
-      (left-block_stored c (asked_by h.mail h.state c) (asked_by h.mail (block_stored c n bytes h.state) c) (unfinished_at sys c) h.state asks (coming-granting config log h.mail h.request h.state sys c is) c n bytes)
+      (left-block_stored c (asked_by h.mail h.state c) (asked_by h.mail (block_stored c n bytes h.state) c) (unfinished_at sys c) h.state asks
+      (coming-granting config log h.mail h.request h.state sys c is) c n bytes)
 
   own-acquire : (t : History w) (n source : ℕ) (whole : Bool) (g : Grow) (bytes : List ℕ) → h.state.uses c source ≡ Closed → ((h.state.block n).pair c).acquiring ≡ Calm
-      → IsFlowed (asked_by h.mail h.state c) (unfinished_at sys c) c h.state t → IsFlowed (asked_by h.mail (acquire_asked c n source whole g bytes h.state) c) (unfinished_at sys c) c (acquire_asked c n source whole g bytes h.state) t
+      → IsFlowed (asked_by h.mail h.state c) (unfinished_at sys c) c h.state t
+      → IsFlowed (asked_by h.mail (acquire_asked c n source whole g bytes h.state) c) (unfinished_at sys c) c
+      (acquire_asked c n source whole g bytes h.state) t
   own-acquire t n source whole g bytes closed calm =
       flowed-untouched before after (unfinished_at sys c) c h.state (acquire_asked c n source whole g bytes h.state) t
-      (untouched-acquire_asked c n source whole g bytes before after (unfinished_at sys c) h.state closed calm (unserved_calm ((h.state.block n).pair c) (view (h.state.block n).service c) ((is.invariant.blocks n).phases c) calm) asks
+      (untouched-acquire_asked c n source whole g bytes before after (unfinished_at sys c) h.state closed calm
+      (unserved_calm ((h.state.block n).pair c) (view (h.state.block n).service c) ((is.invariant.blocks n).phases c) calm) asks
       (λ m. coming-asked config log h.mail h.request h.state sys c m before after is (λ i k used. asks i (λ e. acquires_not (h.state.uses c i) k (ap (h.state.uses c) e ∙ closed) used))))
     where
       before : ℕ → Option (BeatA w)
@@ -93,13 +99,16 @@ module _ {w : ℕ} (config : Config) (log : Log w) (h : Shadow w) (sys : System 
       after = asked_by h.mail (acquire_asked c n source whole g bytes h.state) c
 
       asks : (i : ℕ) → (i ≡ source → ⊥) → after i ≡ before i
-      asks i ne = let other : (source == i) ≡ false = ne_eqb source i (λ e. ne (sym e)) in asks_acquire c n source i whole g bytes h.mail h.state is.invariant.named (ap is_wanting calm) ∙ rw other refl
+      asks i ne = let other : (source == i) ≡ false = ne_eqb source i
+          (λ e. ne (sym e)) in asks_acquire c n source i whole g bytes h.mail h.state is.invariant.named (ap is_wanting calm) ∙ rw other refl
 
   own-release : (t : History w) (n source : ℕ) (r : Prune) → IsAskedOn c t (op.Release n r) (reply.Started source)
   own-release t n source r may =
       flowed-untouched before after (unfinished_at sys c) c h.state (release_asked c n source r h.state) t
       (untouched-release_asked c n source r before after (unfinished_at sys c) h.state may.1 (coming-free config log h.mail h.request h.state sys c source width is may.1) may.3
-      (λ i. is.invariant.named.releases c i n ∙ rw may.3 refl) (unserved_ungranted (view (h.state.block n).service c) (unserved_calm ((h.state.block n).pair c) (view (h.state.block n).service c) ((is.invariant.blocks n).phases c) may.2)) asks)
+      (λ i. is.invariant.named.releases c i n ∙ rw may.3 refl)
+      (unserved_ungranted (view (h.state.block n).service c)
+      (unserved_calm ((h.state.block n).pair c) (view (h.state.block n).service c) ((is.invariant.blocks n).phases c) may.2)) asks)
     where
       before : ℕ → Option (BeatA w)
       before = asked_by h.mail h.state c
@@ -112,13 +121,15 @@ module _ {w : ℕ} (config : Config) (log : Log w) (h : Shadow w) (sys : System 
 
       asks : (i : ℕ) → after i ≡ before i
       asks i = asks-same c i h.mail h.mail h.state (release_asked c n source r h.state) refl (inl refl)
-          (λ j used. set-part (λ (b : Block (List ℕ)). (b.pair c).acquiring) n new h.state.block (ap (λ (p : Pair). p.acquiring) (set-same c (after_release r ((h.state.block n).pair c)) (h.state.block n).pair)) j)
+          (λ j used. set-part (λ (b : Block (List ℕ)). (b.pair c).acquiring) n new h.state.block
+          (ap (λ (p : Pair). p.acquiring) (set-same c (after_release r ((h.state.block n).pair c)) (h.state.block n).pair)) j)
           (λ j used. set-part (λ (b : Block (List ℕ)). b.source c) n new h.state.block refl j)
 
   own-access : (t : History w) (m : MessageA w) (source : ℕ) → IsAskedOn c t (op.Access (message.A m)) (reply.Started source)
   own-access t m source closed =
       flowed-untouched before after (unfinished_at sys c) c h.state (access_asked c source h.state) t
-      (untouched-access_asked c source before after (unfinished_at sys c) h.state closed (not-coming_a config log h.mail h.request h.state sys c source is (ap (λ (u : Use). waits_on_a c u h.state) closed)) asks
+      (untouched-access_asked c source before after (unfinished_at sys c) h.state closed
+      (not-coming_a config log h.mail h.request h.state sys c source is (ap (λ (u : Use). waits_on_a c u h.state) closed)) asks
       (λ k. coming-asked config log h.mail h.request h.state sys c k before after is (λ i n used. asks i (λ e. acquires_not (h.state.uses c i) n (ap (h.state.uses c) e ∙ closed) used))))
     where
       mail' : Mail w
@@ -131,7 +142,8 @@ module _ {w : ℕ} (config : Config) (log : Log w) (h : Shadow w) (sys : System 
       after = asked_by mail' (access_asked c source h.state) c
 
       asks : (i : ℕ) → (i ≡ source → ⊥) → after i ≡ before i
-      asks i ne = asks-same c i h.mail mail' h.state (access_asked c source h.state) (set_at-else c source i (access source m) h.mail.request ne c) (inl (set_at-else c source i Asked h.state.uses ne c)) (λ n used. refl) (λ n used. refl)
+      asks i ne = asks-same c i h.mail mail' h.state (access_asked c source h.state) (set_at-else c source i (access source m) h.mail.request ne c)
+          (inl (set_at-else c source i Asked h.state.uses ne c)) (λ n used. refl) (λ n used. refl)
 
   asked-own : (t : History w) (o : Op w) (r : Reply) → IsReply o r → IsAskedOn c t o r
   asked-own t o r may_be =
@@ -142,11 +154,19 @@ module _ {w : ℕ} (config : Config) (log : Log w) (h : Shadow w) (sys : System 
 
   asked-other : (d : ℕ) (t : History w) (o : Op w) (r : Reply) → (d ≡ c → ⊥) → IsReply o r → IsAskedOn d t o r
   asked-other d t o r ne may_be = reply-cases (IsAskedOn d t) o r may_be
-      (λ address size value may. left (op.Store address size value) reply.Stored (λ asks. left-block_stored d before (after (op.Store address size value) reply.Stored) (unfinished_at sys d) h.state asks coming c (block_at address) (copy_stored address size value ((h.state.block (block_at address)).copy c))))
-      (λ n g source may. left (op.Acquire n g) (reply.Started source) (λ asks. left-acquire_asked d before (after (op.Acquire n g) (reply.Started source)) (unfinished_at sys d) h.state asks coming c n source false g ((h.state.block n).waiting c) ne))
-      (λ n bytes source may. left (op.AcquireWhole n bytes) (reply.Started source) (λ asks. left-acquire_asked d before (after (op.AcquireWhole n bytes) (reply.Started source)) (unfinished_at sys d) h.state asks coming c n source true (whole_grow ((h.state.block n).pair c).held) bytes ne))
-      (λ n p source may. left (op.Release n p) (reply.Started source) (λ asks. left-release_asked d before (after (op.Release n p) (reply.Started source)) (unfinished_at sys d) h.state asks coming c n source p ne))
-      (λ m source may. left (op.Access (message.A m)) (reply.Started source) (λ asks. left-access_asked d before (after (op.Access (message.A m)) (reply.Started source)) (unfinished_at sys d) h.state asks coming c source ne))
+      (λ address size value may. left (op.Store address size value) reply.Stored
+      (λ asks. left-block_stored d before (after (op.Store address size value) reply.Stored) (unfinished_at sys d) h.state asks coming c
+      (block_at address) (copy_stored address size value ((h.state.block (block_at address)).copy c))))
+      (λ n g source may. left (op.Acquire n g) (reply.Started source)
+      (λ asks. left-acquire_asked d before (after (op.Acquire n g) (reply.Started source)) (unfinished_at sys d) h.state asks coming c n source false g
+      ((h.state.block n).waiting c) ne))
+      (λ n bytes source may. left (op.AcquireWhole n bytes) (reply.Started source)
+      (λ asks. left-acquire_asked d before (after (op.AcquireWhole n bytes) (reply.Started source))
+      (unfinished_at sys d) h.state asks coming c n source true (whole_grow ((h.state.block n).pair c).held) bytes ne))
+      (λ n p source may. left (op.Release n p) (reply.Started source)
+      (λ asks. left-release_asked d before (after (op.Release n p) (reply.Started source)) (unfinished_at sys d) h.state asks coming c n source p ne))
+      (λ m source may. left (op.Access (message.A m)) (reply.Started source)
+      (λ asks. left-access_asked d before (after (op.Access (message.A m)) (reply.Started source)) (unfinished_at sys d) h.state asks coming c source ne))
       (asked-nothing d t)
     where
       before : ℕ → Option (BeatA w)

@@ -19,7 +19,8 @@ use Rattle.tl_world.proofs.Tokens.{same_number, set_at-same}
 use Rattle.tl_world.proofs.ProbeDelivered.{first_beat}
 
 -- a test of what was delivered, which no beats pass, and all beginnings of the message alike
-pub came-so : {w : ℕ} (f : List (Beat w) → Bool) (m : Message w) (x : Beat w) (rest : List (Beat w)) (ms : List (Message w)) (queue : List (Beat w)) (v : Bool) → IsNext x rest m ms queue → f [] ≡ false → ((j : ℕ) → f (begun m (suc j)) ≡ v)
+pub came-so : {w : ℕ} (f : List (Beat w) → Bool) (m : Message w) (x : Beat w) (rest : List (Beat w)) (ms : List (Message w)) (queue : List (Beat w)) (v : Bool)
+    → IsNext x rest m ms queue → f [] ≡ false → ((j : ℕ) → f (begun m (suc j)) ≡ v)
     → f rest ≡ (not (is_empty rest) && v)
 came-so {w} f m x rest ms queue v next none some = rw next.rest_is (go next.k)
   where
@@ -43,7 +44,8 @@ first-zero {w} m x rest ms queue next e = go next.k (sym (ap is_empty next.rest_
     go (suc j) f = absurd cc
 
 -- a message of one beat
-pub one-beat : {w : ℕ} (m : Message w) (x : Beat w) (rest : List (Beat w)) (ms : List (Message w)) (queue : List (Beat w)) → (next : IsNext x rest m ms queue) → beats_of m ≡ 1 → (next.k ≡ 0) × (rest ≡ []) × (completes x rest ≡ true)
+pub one-beat : {w : ℕ} (m : Message w) (x : Beat w) (rest : List (Beat w)) (ms : List (Message w)) (queue : List (Beat w)) → (next : IsNext x rest m ms queue)
+    → beats_of m ≡ 1 → (next.k ≡ 0) × (rest ≡ []) × (completes x rest ≡ true)
 one-beat m x rest ms queue next one =
     let zeroth : next.k ≡ 0 = first_beat next.k (beats_of m) next.within one in
     (zeroth, next.rest_is ∙ ap (begun m) zeroth, next.completes_is ∙ rw (zeroth, one) refl)

@@ -8,7 +8,7 @@ use Rattle.tl_beat.specs.declared.beat.Beat.TheVariants as beat
 use Rattle.tl_beat.specs.declared.beat.BeatA.{BeatA}
 use Rattle.tl_beat.specs.declared.beat.BeatC.{BeatC}
 use Rattle.tl_beat.specs.declared.beat.BeatD.{BeatD}
-use Rattle.tl_beat.specs.declared.opcode.Channel.TheVariants as channel
+use Rattle.tl_beat.specs.declared.channel.Channel.TheVariants as channel
 use Rattle.tl_burst.specs.declared.message.Message.{Message}
 use Rattle.tl_burst.specs.declared.message.Message.TheVariants as message
 use Rattle.tl_burst.specs.declared.message.MessageA.{MessageA}
@@ -52,14 +52,16 @@ IsGrantAlone {w} c s m = (y : MessageD w) × (m ≡ message.D y) × (is_grant y.
 never_grant : {A : Type 0} (b : Bool) → b ≡ false → b ≡ true → A
 never_grant b e f = absurd (let no : false ≡ true = sym e ∙ f in cc)
 
-alone_answer : {w : ℕ} (config : Config) (log : Log w) (mail : Mail w) (request : ℕ → MessageA w) (s : State (List ℕ)) (sys : System w) (c i : ℕ) (rest : List Token) → IsMatched config log mail request s sys → (s.link c).d ≡ token Answer i ∷ rest
+alone_answer : {w : ℕ} (config : Config) (log : Log w) (mail : Mail w) (request : ℕ → MessageA w) (s : State (List ℕ)) (sys : System w) (c i : ℕ)
+    (rest : List Token) → IsMatched config log mail request s sys → (s.link c).d ≡ token Answer i ∷ rest
     → IsGrantAlone c s (mail.answer c i)
 unfolding IsGrantAlone
 alone_answer config log mail request s sys c i rest h first =
     let due = answer-due (is_caching config) c i rest mail s h.invariant (h.answered c i) first in
     (due.answer, due.answer_is, never_grant (is_grant due.answer.opcode) (access_kind due.answer.opcode due.answers_access).0)
 
-alone_grant : {w : ℕ} (config : Config) (log : Log w) (mail : Mail w) (request : ℕ → MessageA w) (s : State (List ℕ)) (sys : System w) (c n : ℕ) (rest : List Token) → IsMatched config log mail request s sys → (s.link c).d ≡ token Grant n ∷ rest
+alone_grant : {w : ℕ} (config : Config) (log : Log w) (mail : Mail w) (request : ℕ → MessageA w) (s : State (List ℕ)) (sys : System w) (c n : ℕ)
+    (rest : List Token) → IsMatched config log mail request s sys → (s.link c).d ≡ token Grant n ∷ rest
     → IsGrantAlone {w = w} c s (rendered Grant c n (s.block n))
 unfolding IsGrantAlone
 alone_grant config log mail request s sys c n rest h first =
@@ -70,7 +72,8 @@ alone_ack : (w : ℕ) (s : State (List ℕ)) (c n : ℕ) → IsGrantAlone {w = w
 unfolding IsGrantAlone rendered
 alone_ack w s c n = (ack_message ((s.block n).release_source c), refl, λ e. absurd cc)
 
-begun_alone : {w : ℕ} (c : ℕ) (s : State (List ℕ)) (m : Message w) (k : ℕ) (x : BeatD w) (more : List (Beat w)) → IsGrantAlone c s m → beat.D x ∷ more ≡ begun m k → is_grant x.opcode ≡ true → IsOfGrant c s x
+begun_alone : {w : ℕ} (c : ℕ) (s : State (List ℕ)) (m : Message w) (k : ℕ) (x : BeatD w) (more : List (Beat w)) → IsGrantAlone c s m
+    → beat.D x ∷ more ≡ begun m k → is_grant x.opcode ≡ true → IsOfGrant c s x
 unfolding IsGrantAlone
 begun_alone {w} c s m k x more is e grants = go k (e ∙ ap (λ (y : Message w). begun y k) is.1)
   where
@@ -86,7 +89,8 @@ begun_alone {w} c s m k x more is e grants = go k (e ∙ ap (λ (y : Message w).
         told source sink (n, due, of_source, of_sink) = (n, due, source ∙ of_source, sink ∙ of_sink)
 
 -- a Grant that was delivered in part is due
-half-granted : {w : ℕ} (config : Config) (log : Log w) (mail : Mail w) (request : ℕ → MessageA w) (s : State (List ℕ)) (sys : System w) (c : ℕ) (x : BeatD w) (more : List (Beat w)) → IsMatched config log mail request s sys
+half-granted : {w : ℕ} (config : Config) (log : Log w) (mail : Mail w) (request : ℕ → MessageA w) (s : State (List ℕ)) (sys : System w) (c : ℕ) (x : BeatD w)
+    (more : List (Beat w)) → IsMatched config log mail request s sys
     → unfinished channel.D (sys.clients c).past ≡ beat.D x ∷ more → is_grant x.opcode ≡ true → IsOfGrant c s x
 half-granted {w} config log mail request s sys c x more h is grants = go (s.link c).d refl (h.carried c channel.D)
   where
@@ -106,7 +110,8 @@ half-granted {w} config log mail request s sys c x more h is grants = go (s.link
 
     go : (xs : List Token) → (s.link c).d ≡ xs → IsCarried rest_now (map (message_of mail s c) (s.link c).d) (sys.channels c channel.D) → IsOfGrant c s x
     go [] first carried =
-        let none : IsCarried rest_now [] (sys.channels c channel.D) = subst (λ (ms : List (Message w)). IsCarried rest_now ms (sys.channels c channel.D)) (ap (map (message_of mail s c)) first) carried in
+        let none : IsCarried rest_now [] (sys.channels c channel.D) = subst (λ (ms : List (Message w)). IsCarried rest_now ms (sys.channels c channel.D))
+        (ap (map (message_of mail s c)) first) carried in
         absurd (let no : [] ≡ beat.D x ∷ more = sym none.0 ∙ is in cc)
     go (y ∷ ys) first carried =
         let some : IsCarried rest_now (message_of mail s c y ∷ map (message_of mail s c) ys) (sys.channels c channel.D) =
@@ -130,7 +135,8 @@ coming-sink {w} config log mail request s sys c i h = go (unfinished channel.D (
         (of.0, of.1, ap s.tracked same ∙ tracker-of of.0 s h.invariant.named (rw of.1.service refl))
 
 -- a Grant of a block that was delivered in part is due
-pub coming-granting : {w : ℕ} (config : Config) (log : Log w) (mail : Mail w) (request : ℕ → MessageA w) (s : State (List ℕ)) (sys : System w) (c : ℕ) → IsMatched config log mail request s sys → IsComing (asked_by mail s c) (unfinished channel.D (sys.clients c).past) c s
+pub coming-granting : {w : ℕ} (config : Config) (log : Log w) (mail : Mail w) (request : ℕ → MessageA w) (s : State (List ℕ)) (sys : System w) (c : ℕ)
+    → IsMatched config log mail request s sys → IsComing (asked_by mail s c) (unfinished channel.D (sys.clients c).past) c s
 coming-granting {w} config log mail request s sys c h n = go (unfinished channel.D (sys.clients c).past) refl
   where
     go : (beats : List (Beat w)) → unfinished channel.D (sys.clients c).past ≡ beats → comes_granting n (asked_by mail s c) beats ≡ true → is_granting (view (s.block n).service c) ≡ true
@@ -142,13 +148,16 @@ coming-granting {w} config log mail request s sys c h n = go (unfinished channel
     go (beat.D x ∷ more) e f =
         let of = half-granted config log mail request s sys c x more h e (and_left (is_grant x.opcode) (asks_for n (asked_by mail s c x.source)) f) in
         let asks = asks-acquire c ((s.block of.0).source c) of.0 ((s.block of.0).source c) of.1.whole of.1.g mail s of.1.used of.1.wants refl in
-        let here : (block_at (64 * of.0) == n) ≡ true = sym (ap (λ (i : ℕ). asks_for n (asked_by mail s c i)) of.2 ∙ ap (asks_for n) asks) ∙ and_right (is_grant x.opcode) (asks_for n (asked_by mail s c x.source)) f in
+        let here : (block_at (64 * of.0) == n) ≡ true = sym (ap (λ (i : ℕ). asks_for n (asked_by mail s c i)) of.2 ∙ ap (asks_for n) asks)
+        ∙ and_right (is_grant x.opcode) (asks_for n (asked_by mail s c x.source)) f in
         let same : of.0 ≡ n = sym (same_block of.0) ∙ eqb-true (block_at (64 * of.0)) n here in
         ap (λ (i : ℕ). is_granting (view (s.block i).service c)) (sym same) ∙ ap is_granting (own_view c of.1.data_too of.1.k (s.block of.0).service of.1.service)
 
 -- requests that are asked with other first beats, but for sources that are open, change nothing of it
-pub coming-asked : {w : ℕ} (config : Config) (log : Log w) (mail : Mail w) (request : ℕ → MessageA w) (s : State (List ℕ)) (sys : System w) (c m : ℕ) (asked asked' : ℕ → Option (BeatA w)) → IsMatched config log mail request s sys
-    → ((i n : ℕ) → s.uses c i ≡ Acquires n → asked' i ≡ asked i) → comes_granting m asked' (unfinished channel.D (sys.clients c).past) ≡ comes_granting m asked (unfinished channel.D (sys.clients c).past)
+pub coming-asked : {w : ℕ} (config : Config) (log : Log w) (mail : Mail w) (request : ℕ → MessageA w) (s : State (List ℕ)) (sys : System w) (c m : ℕ)
+    (asked asked' : ℕ → Option (BeatA w)) → IsMatched config log mail request s sys
+    → ((i n : ℕ) → s.uses c i ≡ Acquires n → asked' i ≡ asked i)
+    → comes_granting m asked' (unfinished channel.D (sys.clients c).past) ≡ comes_granting m asked (unfinished channel.D (sys.clients c).past)
 coming-asked {w} config log mail request s sys c m asked asked' h same = go (unfinished channel.D (sys.clients c).past) refl
   where
     go : (beats : List (Beat w)) → unfinished channel.D (sys.clients c).past ≡ beats → comes_granting m asked' beats ≡ comes_granting m asked beats
@@ -169,15 +178,18 @@ coming-asked {w} config log mail request s sys c m asked asked' h same = go (unf
 
 -- a beat of this message, if it is one of a Release, has the source of one that isn't answered
 IsReleaseAlone : {w : ℕ} → ℕ → State (List ℕ) → Message w → Type 0
-IsReleaseAlone {w} c s m = (y : MessageC w) × (m ≡ message.C y) × (is_release y.opcode ≡ true → (n : ℕ) × (is_releasing ((s.block n).pair c).letting ≡ true) × (y.source ≡ (s.block n).release_source c))
+IsReleaseAlone {w} c s m = (y : MessageC w) × (m ≡ message.C y)
+    × (is_release y.opcode ≡ true → (n : ℕ) × (is_releasing ((s.block n).pair c).letting ≡ true) × (y.source ≡ (s.block n).release_source c))
 
-alone_report : {w : ℕ} (c n : ℕ) (s : State (List ℕ)) (width : IsWidth w) (config : Config) (log : Log w) (mail : Mail w) (request : ℕ → MessageA w) (sys : System w) → IsMatched config log mail request s sys → IsReleaseAlone {w = w} c s (rendered ProbeAck c n (s.block n))
+alone_report : {w : ℕ} (c n : ℕ) (s : State (List ℕ)) (width : IsWidth w) (config : Config) (log : Log w) (mail : Mail w) (request : ℕ → MessageA w)
+    (sys : System w) → IsMatched config log mail request s sys → IsReleaseAlone {w = w} c s (rendered ProbeAck c n (s.block n))
 unfolding IsReleaseAlone rendered
 alone_report c n s width config log mail request sys h =
     let about = report-about (report_told ((s.block n).pair c).probing) n (s.block n).truth width (h.sized n).truth in
     (about.0, about.1, never_grant (is_release about.0.opcode) about.2.releases)
 
-alone_release : {w : ℕ} (c n : ℕ) (s : State (List ℕ)) (width : IsWidth w) (config : Config) (log : Log w) (mail : Mail w) (request : ℕ → MessageA w) (sys : System w) → IsMatched config log mail request s sys → is_releasing ((s.block n).pair c).letting ≡ true
+alone_release : {w : ℕ} (c n : ℕ) (s : State (List ℕ)) (width : IsWidth w) (config : Config) (log : Log w) (mail : Mail w) (request : ℕ → MessageA w)
+    (sys : System w) → IsMatched config log mail request s sys → is_releasing ((s.block n).pair c).letting ≡ true
     → IsReleaseAlone {w = w} c s (rendered Release c n (s.block n))
 unfolding IsReleaseAlone rendered
 alone_release c n s width config log mail request sys h shows =
@@ -200,8 +212,10 @@ begun_release {w} c s m k x more is e releases = go k (e ∙ ap (λ (y : Message
             → (n : ℕ) × (is_releasing ((s.block n).pair c).letting ≡ true) × (x.source ≡ (s.block n).release_source c)
         told source (n, releasing, of_source) = (n, releasing, source ∙ of_source)
 
-half-released : {w : ℕ} (config : Config) (log : Log w) (mail : Mail w) (request : ℕ → MessageA w) (s : State (List ℕ)) (sys : System w) (c : ℕ) (x : BeatC w) (more : List (Beat w)) → IsWidth w → IsMatched config log mail request s sys
-    → unfinished channel.C (on_link c sys.manager.trace) ≡ beat.C x ∷ more → is_release x.opcode ≡ true → (n : ℕ) × (is_releasing ((s.block n).pair c).letting ≡ true) × (x.source ≡ (s.block n).release_source c)
+half-released : {w : ℕ} (config : Config) (log : Log w) (mail : Mail w) (request : ℕ → MessageA w) (s : State (List ℕ)) (sys : System w) (c : ℕ) (x : BeatC w)
+    (more : List (Beat w)) → IsWidth w → IsMatched config log mail request s sys
+    → unfinished channel.C (on_link c sys.manager.trace) ≡ beat.C x ∷ more → is_release x.opcode ≡ true → (n : ℕ)
+    × (is_releasing ((s.block n).pair c).letting ≡ true) × (x.source ≡ (s.block n).release_source c)
 half-released {w} config log mail request s sys c x more width h is releases = go (s.link c).c refl (h.carried c channel.C)
   where
     Here : Type 0
@@ -212,7 +226,8 @@ half-released {w} config log mail request s sys c x more width h is releases = g
 
     each : (k : Kind) (i : ℕ) (rest : List Token) → (s.link c).c ≡ token k i ∷ rest → is_on channel.C k ≡ true → IsReleaseAlone c s (message_of_kind k mail s c i)
     each ProbeAck i rest first own = alone_report c i s width config log mail request sys h
-    each Release i rest first own = alone_release c i s width config log mail request sys h (holds-first Release (s.link c).c rest (token Release i) (λ j. shown Release c (s.block j)) first refl (h.invariant.transfers c Release refl))
+    each Release i rest first own = alone_release c i s width config log mail request sys h
+        (holds-first Release (s.link c).c rest (token Release i) (λ j. shown Release c (s.block j)) first refl (h.invariant.transfers c Release refl))
     each Request i rest first own = absurd cc
     each Acquire i rest first own = absurd cc
     each Probe i rest first own = absurd cc
@@ -223,15 +238,18 @@ half-released {w} config log mail request s sys c x more width h is releases = g
 
     go : (xs : List Token) → (s.link c).c ≡ xs → IsCarried rest_now (map (message_of mail s c) (s.link c).c) (sys.channels c channel.C) → Here
     go [] first carried =
-        let none : IsCarried rest_now [] (sys.channels c channel.C) = subst (λ (ms : List (Message w)). IsCarried rest_now ms (sys.channels c channel.C)) (ap (map (message_of mail s c)) first) carried in
+        let none : IsCarried rest_now [] (sys.channels c channel.C) = subst (λ (ms : List (Message w)). IsCarried rest_now ms (sys.channels c channel.C))
+        (ap (map (message_of mail s c)) first) carried in
         absurd (let no : [] ≡ beat.C x ∷ more = sym none.0 ∙ is in cc)
     go (y ∷ ys) first carried =
         let some : IsCarried rest_now (message_of mail s c y ∷ map (message_of mail s c) ys) (sys.channels c channel.C) =
         subst (λ (ms : List (Message w)). IsCarried rest_now ms (sys.channels c channel.C)) (ap (map (message_of mail s c)) first) carried in
-        begun_release c s (message_of mail s c y) some.0 x more (each y.kind y.number ys first (own_kind (is_caching config) s c channel.C y.kind y.number ys h.invariant first)) (sym is ∙ some.2) releases
+        begun_release c s (message_of mail s c y) some.0 x more
+        (each y.kind y.number ys first (own_kind (is_caching config) s c channel.C y.kind y.number ys h.invariant first)) (sym is ∙ some.2) releases
 
 -- no Release is half delivered with a source that is free
-pub coming-free : {w : ℕ} (config : Config) (log : Log w) (mail : Mail w) (request : ℕ → MessageA w) (s : State (List ℕ)) (sys : System w) (c source : ℕ) → IsWidth w → IsMatched config log mail request s sys → s.lets c source ≡ None
+pub coming-free : {w : ℕ} (config : Config) (log : Log w) (mail : Mail w) (request : ℕ → MessageA w) (s : State (List ℕ)) (sys : System w) (c source : ℕ)
+    → IsWidth w → IsMatched config log mail request s sys → s.lets c source ≡ None
     → comes_in_release source (unfinished channel.C (on_link c sys.manager.trace)) ≡ false
 coming-free {w} config log mail request s sys c source width h free = go (unfinished channel.C (on_link c sys.manager.trace)) refl
   where

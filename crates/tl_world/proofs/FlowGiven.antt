@@ -5,8 +5,8 @@ use Rattle.std.proofs.lemmas.Bool.{ne_eqb, eqb-true, and_right as with_false}
 use Rattle.tl_beat.specs.declared.beat.Beat.{Beat}
 use Rattle.tl_beat.specs.declared.beat.Beat.TheVariants as beat
 use Rattle.tl_beat.specs.declared.beat.BeatA.{BeatA}
-use Rattle.tl_beat.specs.declared.opcode.Channel.{Channel}
-use Rattle.tl_beat.specs.declared.opcode.Channel.TheVariants as channel
+use Rattle.tl_beat.specs.declared.channel.Channel.{Channel}
+use Rattle.tl_beat.specs.declared.channel.Channel.TheVariants as channel
 use Rattle.tl_burst.specs.declared.message.Message.{Message}
 use Rattle.tl_burst.specs.declared.message.Message.TheVariants as message
 use Rattle.tl_burst.specs.declared.message.MessageD.{MessageD}
@@ -58,7 +58,9 @@ apart_numbers i j e same = let no : (j == j) ≡ false = rw same at e in let yes
 swapped : (i j : ℕ) → (j == i) ≡ false → (i == j) ≡ false
 swapped i j e = ne_eqb i j (apart_numbers i j e)
 
-module _ {w : ℕ} (config : Config) (log : Log w) (h : Shadow w) (sys : System w) (c : ℕ) (is : IsMatched config log h.mail h.request h.state sys) (t : History w) (flowed : IsFlowed (asked_by h.mail h.state c) (unfinished_at sys c) c h.state t) (rest' : Channel → List (Beat w)) (toks : List Token) where
+module _ {w : ℕ} (config : Config) (log : Log w) (h : Shadow w) (sys : System w) (c : ℕ) (is : IsMatched config log h.mail h.request h.state sys)
+    (t : History w) (flowed : IsFlowed (asked_by h.mail h.state c) (unfinished_at sys c) c h.state t) (rest' : Channel → List (Beat w))
+    (toks : List Token) where
   abbrev s : State (List ℕ)
   s = h.state
 
@@ -67,7 +69,9 @@ module _ {w : ℕ} (config : Config) (log : Log w) (h : Shadow w) (sys : System 
 
   -- ---- a beat of channel D
 
-  module _ (m : MessageD w) (x : Beat w) (ms : List (Message w)) (queue : List (Beat w)) (next : IsNext x (unfinished_at sys c channel.D) (message.D m) ms queue) (rests : AreRests x (unfinished_at sys c) rest') (b : Bool) (last : completes x (unfinished_at sys c channel.D) ≡ b) where
+  module _ (m : MessageD w) (x : Beat w) (ms : List (Message w)) (queue : List (Beat w))
+      (next : IsNext x (unfinished_at sys c channel.D) (message.D m) ms queue) (rests : AreRests x (unfinished_at sys c) rest') (b : Bool)
+      (last : completes x (unfinished_at sys c channel.D) ≡ b) where
     rests_y : AreRests (beat.D (d_beat_of m next.k)) (unfinished_at sys c) rest'
     rests_y = subst (λ (z : Beat w). AreRests z (unfinished_at sys c) rest') next.beat_is rests
 
@@ -88,11 +92,13 @@ module _ {w : ℕ} (config : Config) (log : Log w) (h : Shadow w) (sys : System 
 
     -- and of a Grant of block j
     granted : (j : ℕ) → comes_granting j before (unfinished_at sys c channel.D) ≡ (not (is_empty (unfinished_at sys c channel.D)) && (is_grant m.opcode && asks_for j (before m.source)))
-    granted j = came-so (comes_granting j before) (message.D m) (beat.D (d_beat_of m next.k)) (unfinished_at sys c channel.D) ms queue (is_grant m.opcode && asks_for j (before m.source)) next_y refl (λ i. refl)
+    granted j = came-so (comes_granting j before) (message.D m) (beat.D (d_beat_of m next.k)) (unfinished_at sys c channel.D) ms queue
+        (is_grant m.opcode && asks_for j (before m.source)) next_y refl (λ i. refl)
 
     grants : (asked' : ℕ → Option (BeatA w)) (j : ℕ) → comes_granting j asked' (rest' channel.D) ≡ (not b && (is_grant m.opcode && asks_for j (asked' m.source)))
     grants asked' j =
-        ap (comes_granting j asked') (rests_y channel.D) ∙ comes-so (comes_granting j asked') (beat.D (d_beat_of m next.k)) (unfinished_at sys c channel.D) (is_grant m.opcode && asks_for j (asked' m.source)) refl refl
+        ap (comes_granting j asked') (rests_y channel.D) ∙ comes-so (comes_granting j asked') (beat.D (d_beat_of m next.k)) (unfinished_at sys c channel.D)
+        (is_grant m.opcode && asks_for j (asked' m.source)) refl refl
         ∙ ap (λ (z : Bool). not z && (is_grant m.opcode && asks_for j (asked' m.source))) last_y
 
     begins_y : is_empty (unfinished channel.D t) ≡ is_empty (unfinished_at sys c channel.D)
@@ -108,7 +114,8 @@ module _ {w : ℕ} (config : Config) (log : Log w) (h : Shadow w) (sys : System 
 
     none_granted : is_grant m.opcode ≡ false → (asked' : ℕ → Option (BeatA w)) (j : ℕ) → comes_granting j asked' (rest' channel.D) ≡ comes_granting j before (unfinished_at sys c channel.D)
     none_granted e asked' j = grants asked' j ∙ with_false (not b) (is_grant m.opcode && asks_for j (asked' m.source)) (first_false (is_grant m.opcode) (asks_for j (asked' m.source)) e)
-        ∙ sym (granted j ∙ with_false (not (is_empty (unfinished_at sys c channel.D))) (is_grant m.opcode && asks_for j (before m.source)) (first_false (is_grant m.opcode) (asks_for j (before m.source)) e))
+        ∙ sym (granted j ∙ with_false (not (is_empty (unfinished_at sys c channel.D))) (is_grant m.opcode && asks_for j (before m.source))
+        (first_false (is_grant m.opcode) (asks_for j (before m.source)) e))
 
   -- ---- an answer
 
@@ -120,14 +127,18 @@ module _ {w : ℕ} (config : Config) (log : Log w) (h : Shadow w) (sys : System 
   answer_uses source false i j e = refl
 
   answer_asks : (source : ℕ) (b : Bool) (i j : ℕ) → j ≡ source → (b && (j == i)) ≡ false → asked_by h.mail (answered_if source b) c i ≡ before i
-  answer_asks source true i j e f = asks-same c i h.mail h.mail s (answer_taken c source toks s) refl (inl (set_at-else c source i Closed s.uses (apart_numbers i source (sym (ap (λ (k : ℕ). k == i) e) ∙ f)) c)) (λ n used. refl) (λ n used. refl)
+  answer_asks source true i j e f = asks-same c i h.mail h.mail s (answer_taken c source toks s) refl
+      (inl (set_at-else c source i Closed s.uses (apart_numbers i source (sym (ap (λ (k : ℕ). k == i) e) ∙ f)) c)) (λ n used. refl) (λ n used. refl)
   answer_asks source false i j e f = refl
 
-  pub own-answer : (source : ℕ) → (s.link c).d ≡ token Answer source ∷ toks → (x : Beat w) (ms : List (Message w)) (queue : List (Beat w)) → IsNext x (unfinished_at sys c channel.D) (h.mail.answer c source) ms queue → AreRests x (unfinished_at sys c) rest'
+  pub own-answer : (source : ℕ) → (s.link c).d ≡ token Answer source ∷ toks → (x : Beat w) (ms : List (Message w)) (queue : List (Beat w))
+      → IsNext x (unfinished_at sys c channel.D) (h.mail.answer c source) ms queue → AreRests x (unfinished_at sys c) rest'
       → (b : Bool) → completes x (unfinished_at sys c channel.D) ≡ b → IsFlowed (asked_by h.mail (answered_if source b) c) rest' c (answered_if source b) (x ∷ t)
   own-answer source tokens x ms queue next rests b last =
       subst (λ (z : Beat w). IsFlowed (asked_by h.mail (answered_if source b) c) rest' c (answered_if source b) (z ∷ t)) (sym here.beat_is)
-      (flowed-answer c (d_beat_of due.answer here.k) (is_empty (unfinished_at sys c channel.D)) b before (asked_by h.mail (answered_if source b) c) (unfinished_at sys c) rest' s (answered_if source b) t (begins_y due.answer x ms queue here rests b last) (ends_y due.answer x ms queue here rests b last)
+      (flowed-answer c (d_beat_of due.answer here.k) (is_empty (unfinished_at sys c channel.D)) b before (asked_by h.mail (answered_if source b) c)
+      (unfinished_at sys c) rest' s (answered_if source b) t (begins_y due.answer x ms queue here rests b last)
+      (ends_y due.answer x ms queue here rests b last)
       (rests_y due.answer x ms queue here rests b last) (record {
         grant = kind.0;
         ack = kind.1;
@@ -163,16 +174,20 @@ module _ {w : ℕ} (config : Config) (log : Log w) (h : Shadow w) (sys : System 
 
   -- ---- a ReleaseAck
 
-  pub own-release_ack : (n : ℕ) → (s.link c).d ≡ token ReleaseAck n ∷ toks → (x : Beat w) (ms : List (Message w)) (queue : List (Beat w)) → IsNext x (unfinished_at sys c channel.D) (rendered ReleaseAck c n (s.block n)) ms queue → AreRests x (unfinished_at sys c) rest'
+  pub own-release_ack : (n : ℕ) → (s.link c).d ≡ token ReleaseAck n ∷ toks → (x : Beat w) (ms : List (Message w)) (queue : List (Beat w))
+      → IsNext x (unfinished_at sys c channel.D) (rendered ReleaseAck c n (s.block n)) ms queue → AreRests x (unfinished_at sys c) rest'
       → (asked' : ℕ → Option (BeatA w)) → ((i : ℕ) → asked' i ≡ before i) → IsFlowed asked' rest' c (release_ack_taken c n toks s) (x ∷ t)
   own-release_ack n tokens x ms queue next rests asked' asks =
       subst (λ (z : Beat w). IsFlowed asked' rest' c (release_ack_taken c n toks s) (z ∷ t)) (sym here.beat_is)
-      (flowed-let_go c n (d_beat_of m here.k) before asked' (unfinished_at sys c) rest' s (release_ack_taken c n toks s) t (begins_y m x ms queue here rests true one.2 ∙ ap is_empty one.1) (ends_y m x ms queue here rests true one.2) (rests_y m x ms queue here rests true one.2)
+      (flowed-let_go c n (d_beat_of m here.k) before asked' (unfinished_at sys c) rest' s (release_ack_taken c n toks s) t
+      (begins_y m x ms queue here rests true one.2 ∙ ap is_empty one.1) (ends_y m x ms queue here rests true one.2)
+      (rests_y m x ms queue here rests true one.2)
       (λ i k. is.invariant.named.releases c i k) (record {
         grant = refl;
         ack = refl;
         source = refl;
-        letting = acked-is ((s.block n).pair c).letting (holds-first ReleaseAck (s.link c).d toks (token ReleaseAck n) (λ i. shown ReleaseAck c (s.block i)) tokens refl (is.invariant.transfers c ReleaseAck refl));
+        letting = acked-is ((s.block n).pair c).letting (holds-first ReleaseAck (s.link c).d toks (token ReleaseAck n)
+            (λ i. shown ReleaseAck c (s.block i)) tokens refl (is.invariant.transfers c ReleaseAck refl));
         comes = none_came m x ms queue here rests true one.2 refl;
         grants = none_granted m x ms queue here rests true one.2 refl asked';
         asked_is = asks;
@@ -223,11 +238,14 @@ module _ {w : ℕ} (config : Config) (log : Log w) (h : Shadow w) (sys : System 
           let no : acquires_of n (Acquires n) ≡ false = sym (ap (acquires_of n) (used ∙ ap Acquires same)) ∙ unused-else c n i s is.invariant.named e in
           let yes : true ≡ false = sym (same_number n) ∙ no in cc
 
-  pub own-grant : (n : ℕ) → (s.link c).d ≡ token Grant n ∷ toks → (due : IsGrantDue c n s) → (whole : Bool) → (x : Beat w) (ms : List (Message w)) (queue : List (Beat w)) → IsNext x (unfinished_at sys c channel.D) (rendered Grant c n (s.block n)) ms queue → AreRests x (unfinished_at sys c) rest'
+  pub own-grant : (n : ℕ) → (s.link c).d ≡ token Grant n ∷ toks → (due : IsGrantDue c n s) → (whole : Bool)
+      → (x : Beat w) (ms : List (Message w)) (queue : List (Beat w)) → IsNext x (unfinished_at sys c channel.D) (rendered Grant c n (s.block n)) ms queue
+      → AreRests x (unfinished_at sys c) rest'
       → (b : Bool) → completes x (unfinished_at sys c channel.D) ≡ b → IsFlowed (asked_by h.mail (granted_if n whole due.data_too due.k b) c) rest' c (granted_if n whole due.data_too due.k b) (x ∷ t)
   own-grant n tokens due whole x ms queue next rests b last =
       subst (λ (z : Beat w). IsFlowed (asked_by h.mail (s_if b) c) rest' c (s_if b) (z ∷ t)) (sym here.beat_is)
-      (flowed-grant c n due.data_too due.k (d_beat_of m here.k) (is_empty (unfinished_at sys c channel.D)) b before (asked_by h.mail (s_if b) c) (unfinished_at sys c) rest' s (s_if b) t (begins_y m x ms queue here rests b last) (ends_y m x ms queue here rests b last)
+      (flowed-grant c n due.data_too due.k (d_beat_of m here.k) (is_empty (unfinished_at sys c channel.D)) b before (asked_by h.mail (s_if b) c)
+      (unfinished_at sys c) rest' s (s_if b) t (begins_y m x ms queue here rests b last) (ends_y m x ms queue here rests b last)
       (rests_y m x ms queue here rests b last) (record {
         grant = grants-so due.data_too;
         ack = not_ack due.data_too;
@@ -243,9 +261,11 @@ module _ {w : ℕ} (config : Config) (log : Log w) (h : Shadow w) (sys : System 
         asks = asks;
         came = λ i. came m x ms queue here rests b last i ∙ ap (λ (z : Bool). not (is_empty (unfinished_at sys c channel.D)) && (z && ((s.block n).tracker == i))) (grants-so due.data_too);
         comes = λ i. comes m x ms queue here rests b last i ∙ ap (λ (z : Bool). not b && (z && ((s.block n).tracker == i))) (grants-so due.data_too);
-        granted = λ j. granted m x ms queue here rests b last j ∙ ap (λ (z : Bool). not (is_empty (unfinished_at sys c channel.D)) && (z && asks_for j (before ((s.block n).source c)))) (grants-so due.data_too)
+        granted = λ j. granted m x ms queue here rests b last j
+            ∙ ap (λ (z : Bool). not (is_empty (unfinished_at sys c channel.D)) && (z && asks_for j (before ((s.block n).source c)))) (grants-so due.data_too)
             ∙ ap (λ (z : Bool). not (is_empty (unfinished_at sys c channel.D)) && z) (asks j);
-        grants = λ j. grants m x ms queue here rests b last (asked_by h.mail (s_if b) c) j ∙ ap (λ (z : Bool). not b && (z && asks_for j (asked_by h.mail (s_if b) c ((s.block n).source c)))) (grants-so due.data_too) ∙ asks_now b j;
+        grants = λ j. grants m x ms queue here rests b last (asked_by h.mail (s_if b) c) j
+            ∙ ap (λ (z : Bool). not b && (z && asks_for j (asked_by h.mail (s_if b) c ((s.block n).source c)))) (grants-so due.data_too) ∙ asks_now b j;
         asked_is = grant_asks n whole due.data_too due.k b;
         elsewhere = elsewhere b;
         uses = uses b;
@@ -280,7 +300,9 @@ module _ {w : ℕ} (config : Config) (log : Log w) (h : Shadow w) (sys : System 
 
       even : ((s.block n).pair c).recorded ≡ cap_right due.k
       even = sym (same_perms ((s.block n).pair c).recorded (cap_right due.k)
-          (and_right (is_kept ((s.block n).pair c).letting) _ (and_right (is_quiet ((s.block n).pair c).probing) _ (granting_alone due.data_too due.k ((s.block n).pair c) (view (s.block n).service c) ((is.invariant.blocks n).phases c) seen))))
+          (and_right (is_kept ((s.block n).pair c).letting) _
+          (and_right (is_quiet ((s.block n).pair c).probing) _
+          (granting_alone due.data_too due.k ((s.block n).pair c) (view (s.block n).service c) ((is.invariant.blocks n).phases c) seen))))
 
       asks : (j : ℕ) → asks_for j (before ((s.block n).source c)) ≡ (n == j)
       asks j = ap (asks_for j) (asks-acquire c ((s.block n).source c) n ((s.block n).source c) due.whole due.g h.mail s due.used due.wants refl) ∙ ap (λ (i : ℕ). i == j) (same_block n)

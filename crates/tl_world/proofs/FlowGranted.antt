@@ -6,8 +6,8 @@ use Rattle.tl_beat.specs.declared.beat.Beat.{Beat}
 use Rattle.tl_beat.specs.declared.beat.Beat.TheVariants as beat
 use Rattle.tl_beat.specs.declared.beat.BeatA.{BeatA}
 use Rattle.tl_beat.specs.declared.beat.BeatD.{BeatD}
-use Rattle.tl_beat.specs.declared.opcode.Channel.{Channel}
-use Rattle.tl_beat.specs.declared.opcode.Channel.TheVariants as channel
+use Rattle.tl_beat.specs.declared.channel.Channel.{Channel}
+use Rattle.tl_beat.specs.declared.channel.Channel.TheVariants as channel
 use Rattle.tl_burst.specs.Messages.{History}
 use Rattle.tl_params.specs.declared.key.Key.TheVariants.{RequestSource}
 use Rattle.tl_params.specs.declared.param.Cap.{Cap}
@@ -37,7 +37,8 @@ seen_after true d k = Acknowledging
 seen_after false d k = Granting d k
 
 -- a beat of the Grant of block n to client c
-pub record IsGranting {w : ℕ} {X : Type 0} (c n : ℕ) (d : Bool) (k : Cap) (y : BeatD w) (first last : Bool) (asked asked' : ℕ → Option (BeatA w)) (rest rest' : Channel → List (Beat w)) (s s' : State X) : Type 0 where
+pub record IsGranting {w : ℕ} {X : Type 0} (c n : ℕ) (d : Bool) (k : Cap) (y : BeatD w) (first last : Bool) (asked asked' : ℕ → Option (BeatA w))
+    (rest rest' : Channel → List (Beat w)) (s s' : State X) : Type 0 where
   pub grant : is_grant y.opcode ≡ true
   pub ack : is_release_ack y.opcode ≡ false
   pub sink : y.sink ≡ (s.block n).tracker
@@ -97,7 +98,9 @@ pub unbegun : (first last g p : Bool) → g ≡ false → step first last g fals
 unbegun first last g p e = rw e (step_quiet first last p)
 
 -- the sink of the last Grant of the block of the beat, and of another one
-of_block : {w : ℕ} (m : ℕ) (y : BeatD w) (t : History w) (first : Bool) (v : ℕ) → begins (beat.D y) t ≡ first → (is_grant y.opcode && asks_for m (request_of y.source t)) ≡ true → y.sink ≡ v → (first ≡ false → grant_sink m t ≡ Some v) → grant_sink m (beat.D y ∷ t) ≡ Some v
+of_block : {w : ℕ} (m : ℕ) (y : BeatD w) (t : History w) (first : Bool) (v : ℕ) → begins (beat.D y) t ≡ first
+    → (is_grant y.opcode && asks_for m (request_of y.source t)) ≡ true → y.sink ≡ v → (first ≡ false → grant_sink m t ≡ Some v)
+    → grant_sink m (beat.D y ∷ t) ≡ Some v
 unfolding grant_sink
 of_block m y t true v e f g before = rw (e, f) (ap Some g)
 of_block m y t false v e f g before = rw e (before refl)
@@ -111,7 +114,8 @@ of_other {w} m y t e = go (begins (beat.D y) t) (is_grant y.opcode && asks_for m
     go false q f = refl
 
 -- a use that isn't of the block in which the states differ
-pub requested-apart : {w : ℕ} {X : Type 0} (c i n : ℕ) (rest rest' : List (Beat w)) (u : Use) (s s' : State X) → AreElsewhere n s s' → comes_in_request i rest' ≡ comes_in_request i rest → acquires_of n u ≡ false → is_requested c i rest' u s' ≡ is_requested c i rest u s
+pub requested-apart : {w : ℕ} {X : Type 0} (c i n : ℕ) (rest rest' : List (Beat w)) (u : Use) (s s' : State X) → AreElsewhere n s s'
+    → comes_in_request i rest' ≡ comes_in_request i rest → acquires_of n u ≡ false → is_requested c i rest' u s' ≡ is_requested c i rest u s
 requested-apart c i n rest rest' Closed s s' same comes e = refl
 requested-apart c i n rest rest' Asked s s' same comes e = comes
 requested-apart c i n rest rest' (InService m) s s' same comes e = refl
@@ -135,7 +139,8 @@ now_sunk : (last d : Bool) (k : Cap) (v : View) (a : Bool) → v ≡ seen_after 
 now_sunk true d k v a e f = rw e refl
 now_sunk false d k v a e f = rw (f, e) refl
 
-pub flowed-grant : {w : ℕ} {X : Type 0} (c n : ℕ) (d : Bool) (k : Cap) (y : BeatD w) (first last : Bool) (asked asked' : ℕ → Option (BeatA w)) (rest rest' : Channel → List (Beat w)) (s s' : State X) (t : History w)
+pub flowed-grant : {w : ℕ} {X : Type 0} (c n : ℕ) (d : Bool) (k : Cap) (y : BeatD w) (first last : Bool) (asked asked' : ℕ → Option (BeatA w))
+    (rest rest' : Channel → List (Beat w)) (s s' : State X) (t : History w)
     → begins (beat.D y) t ≡ first → ends (beat.D y) t ≡ last → AreRests (beat.D y) rest rest' → IsGranting c n d k y first last asked asked' rest rest' s s'
     → IsFlowed asked rest c s t → IsFlowed asked' rest' c s' (beat.D y ∷ t)
 flowed-grant {w} {X} c n d k y first last asked asked' rest rest' s s' t first_is last_is rests is before =
@@ -143,26 +148,34 @@ flowed-grant {w} {X} c n d k y first last asked asked' rest rest' s s' t first_i
       first_is = first_is;
       last_is = last_is;
       rests = rests;
-      held_is = each-block (λ m z. held_by c z ≡ (if last then unwrap_or (if is_grant y.opcode && asks_for m (request_of y.source t) then Some (capped y.param) else None) (held_by c (s.block m)) else held_by c (s.block m))) n s s' is.elsewhere
+      held_is = each-block (λ m z. held_by c z ≡ (if last then unwrap_or
+          (if is_grant y.opcode && asks_for m (request_of y.source t) then Some (capped y.param) else None) (held_by c (s.block m)) else held_by c
+          (s.block m))) n s s' is.elsewhere
           (is.held_is ∙ ap (λ (q : Perm). if last then q else held_by c b) (sym is.says) ∙ sym (said last (grants_at n) (capped y.param) (held_by c b) (names n ∙ same_number n)))
           (λ m ne. sym (unsaid last (grants_at m) (capped y.param) (held_by c (s.block m)) (apart m ne)));
       requests = λ i. use_at i ∙ requests i last (y.source == i) refl refl;
       asked_is = λ i e. asked_still i e (last && (y.source == i)) refl;
       acquires = each-block (λ m z. acquired_by c z ≡ step first last false (is_grant y.opcode && asks_for m (request_of y.source t)) (acquired_by c (s.block m))) n s s' is.elsewhere
-          (now_acquired last d k (view new.service c) (is_wanting (new.pair c).acquiring) is.seen_is is.wants_is ∙ sym (ended first last (grants_at n) (acquired_by c b) (names n ∙ same_number n) (rw (is.wants, is.seen) refl)))
+          (now_acquired last d k (view new.service c) (is_wanting (new.pair c).acquiring) is.seen_is is.wants_is
+          ∙ sym (ended first last (grants_at n) (acquired_by c b) (names n ∙ same_number n) (rw (is.wants, is.seen) refl)))
           (λ m ne. sym (unended first last (grants_at m) (acquired_by c (s.block m)) (apart m ne)));
       release_sources = λ i. lets i ∙ sym (unclosed first last (is_release_ack y.opcode) (y.source == i) (is_let_by c i (rest channel.C) (s.lets c i) s) is.ack);
       released = λ i m e f. ap (option_map (λ z. block_at z.address)) (release_of-d i y t) ∙ before.released i m (sym (is.lets i) ∙ e) (before.release_sources i ∙ sym (lets i) ∙ f);
       sizes = λ i m e f. ap (option_map (λ z. z.size)) (release_of-d i y t) ∙ before.sizes i m (sym (is.lets i) ∙ e) (before.release_sources i ∙ sym (lets i) ∙ f);
-      releases = λ m. ap (λ (l : List (Beat w)). let_of c l (s'.block m)) (rests channel.C) ∙ let_same m ∙ sym (unclosed first last (is_release_ack y.opcode) (releases m (release_of y.source t)) (let_of c (rest channel.C) (s.block m)) is.ack);
+      releases = λ m. ap (λ (l : List (Beat w)). let_of c l (s'.block m)) (rests channel.C) ∙ let_same m
+          ∙ sym (unclosed first last (is_release_ack y.opcode) (releases m (release_of y.source t)) (let_of c (rest channel.C) (s.block m)) is.ack);
       sinks = λ i. ap (λ (o : Option ℕ). is_sunk c i (rest' channel.D) o s') (is.tracked i) ∙ sinks i (y.sink == i) (s.tracked i) refl refl;
-      grants = each-block (λ m z. granted_by c m asked' (rest' channel.D) z ≡ step first last (is_grant y.opcode && asks_for m (request_of y.source t)) false (granted_by c m asked (rest channel.D) (s.block m))) n s s' is.elsewhere
-          (now_granted last d k (view new.service c) (comes_granting n asked' (rest' channel.D)) is.seen_is (is.grants n ∙ with_true (not last) (n == n) (same_number n)) ∙ sym (begun first last (grants_at n) (granted_by c n asked (rest channel.D) b) (names n ∙ same_number n) granted_then))
+      grants = each-block (λ m z. granted_by c m asked' (rest' channel.D) z ≡ step first last (is_grant y.opcode && asks_for m (request_of y.source t)) false
+          (granted_by c m asked (rest channel.D) (s.block m))) n s s' is.elsewhere
+          (now_granted last d k (view new.service c) (comes_granting n asked' (rest' channel.D)) is.seen_is
+          (is.grants n ∙ with_true (not last) (n == n) (same_number n))
+          ∙ sym (begun first last (grants_at n) (granted_by c n asked (rest channel.D) b) (names n ∙ same_number n) granted_then))
           (λ m ne. grants_other m ne ∙ sym (unbegun first last (grants_at m) (granted_by c m asked (rest channel.D) (s.block m)) (apart m ne)));
       probes = λ m. answered m ∙ sym (step_quiet first last (is_answered ((s.block m).pair c).probing));
       probed = λ m e. probed-of m y t ∙ probed m e;
       sunk = each-block (λ m z. granted_by c m asked' (rest' channel.D) z ≡ true → grant_sink m (beat.D y ∷ t) ≡ Some z.tracker) n s s' is.elsewhere
-          (λ e. of_block n y t first new.tracker first_is (names n ∙ same_number n) (is.sink ∙ sym is.tracker) (λ f. before.sunk n (before.grants n ∙ granted_then ∙ ap not f) ∙ ap Some (sym is.tracker)))
+          (λ e. of_block n y t first new.tracker first_is (names n ∙ same_number n) (is.sink ∙ sym is.tracker)
+          (λ f. before.sunk n (before.grants n ∙ granted_then ∙ ap not f) ∙ ap Some (sym is.tracker)))
           (λ m ne e. of_other m y t (apart m ne) ∙ before.sunk m (before.grants m ∙ sym (grants_other m ne) ∙ e));
     }) before
   where
@@ -179,7 +192,8 @@ flowed-grant {w} {X} c n d k y first last asked asked' rest rest' s s' t first_i
     was_requested i e = ap (λ (u : Use). is_requested c i (rest channel.A) u s) (is.use_is i e) ∙ ap (λ (v : View). not (is_unserved v)) is.seen
 
     names : (m : ℕ) → (is_grant y.opcode && asks_for m (request_of y.source t)) ≡ (n == m)
-    names m = ap (λ (z : Bool). z && asks_for m (request_of y.source t)) is.grant ∙ ap (asks_for m) (before.asked_is y.source (before.requests y.source ∙ was_requested y.source (same_number y.source))) ∙ is.asks m
+    names m = ap (λ (z : Bool). z && asks_for m (request_of y.source t)) is.grant
+        ∙ ap (asks_for m) (before.asked_is y.source (before.requests y.source ∙ was_requested y.source (same_number y.source))) ∙ is.asks m
 
     apart : (m : ℕ) → (m ≡ n → ⊥) → (is_grant y.opcode && asks_for m (request_of y.source t)) ≡ false
     apart m ne = names m ∙ ne_eqb n m (λ e. ne (sym e))
@@ -195,13 +209,17 @@ flowed-grant {w} {X} c n d k y first last asked asked' rest rest' s s' t first_i
     use_at : (i : ℕ) → is_requested c i (rest' channel.A) (s'.uses c i) s' ≡ is_requested c i (rest channel.A) (if last && (y.source == i) then Closed else s.uses c i) s'
     use_at i = ap (λ (l : List (Beat w)). is_requested c i l (s'.uses c i) s') (rests channel.A) ∙ ap (λ (u : Use). is_requested c i (rest channel.A) u s') (is.uses i)
 
-    requests : (i : ℕ) (z here : Bool) → last ≡ z → (y.source == i) ≡ here → is_requested c i (rest channel.A) (if z && here then Closed else s.uses c i) s' ≡ step first last false (not (is_release_ack y.opcode) && (y.source == i)) (is_requested c i (rest channel.A) (s.uses c i) s)
+    requests : (i : ℕ) (z here : Bool) → last ≡ z → (y.source == i) ≡ here
+        → is_requested c i (rest channel.A) (if z && here then Closed else s.uses c i) s' ≡ step first last false
+        (not (is_release_ack y.opcode) && (y.source == i)) (is_requested c i (rest channel.A) (s.uses c i) s)
     requests i true true e f = ap not (sym e) ∙ sym (closed first last (is_release_ack y.opcode) (y.source == i) (is_requested c i (rest channel.A) (s.uses c i) s) is.ack f (was_requested i f))
     requests i false true e f =
         ap (λ (u : Use). is_requested c i (rest channel.A) u s') (is.use_is i f) ∙ now_requested last d k (view new.service c) is.seen_is e ∙ ap not (sym e)
         ∙ sym (closed first last (is_release_ack y.opcode) (y.source == i) (is_requested c i (rest channel.A) (s.uses c i) s) is.ack f (was_requested i f))
-    requests i true false e f = requested-apart c i n (rest channel.A) (rest channel.A) (s.uses c i) s s' is.elsewhere refl (is.no_use i f) ∙ sym (unclosed_by first last (not (is_release_ack y.opcode)) (y.source == i) (is_requested c i (rest channel.A) (s.uses c i) s) f)
-    requests i false false e f = requested-apart c i n (rest channel.A) (rest channel.A) (s.uses c i) s s' is.elsewhere refl (is.no_use i f) ∙ sym (unclosed_by first last (not (is_release_ack y.opcode)) (y.source == i) (is_requested c i (rest channel.A) (s.uses c i) s) f)
+    requests i true false e f = requested-apart c i n (rest channel.A) (rest channel.A) (s.uses c i) s s' is.elsewhere refl (is.no_use i f)
+        ∙ sym (unclosed_by first last (not (is_release_ack y.opcode)) (y.source == i) (is_requested c i (rest channel.A) (s.uses c i) s) f)
+    requests i false false e f = requested-apart c i n (rest channel.A) (rest channel.A) (s.uses c i) s s' is.elsewhere refl (is.no_use i f)
+        ∙ sym (unclosed_by first last (not (is_release_ack y.opcode)) (y.source == i) (is_requested c i (rest channel.A) (s.uses c i) s) f)
 
     was_pending : (i : ℕ) → is_requested c i (rest channel.A) (s.uses c i) s' ≡ true → (here : Bool) → (y.source == i) ≡ here → pending (RequestSource i) t ≡ true
     was_pending i e true f = before.requests i ∙ was_requested i f
@@ -222,20 +240,26 @@ flowed-grant {w} {X} c n d k y first last asked asked' rest rest' s s' t first_i
     let_same : (m : ℕ) → let_of c (rest channel.C) (s'.block m) ≡ let_of c (rest channel.C) (s.block m)
     let_same = part-block (let_of c (rest channel.C)) n s s' is.elsewhere (rw (is.release_source, is.letting_is) refl)
 
-    sinks : (i : ℕ) (z : Bool) (o : Option ℕ) → (y.sink == i) ≡ z → s.tracked i ≡ o → is_sunk c i (rest' channel.D) o s' ≡ step first last (is_grant y.opcode && (y.sink == i)) false (is_sunk c i (rest channel.D) o s)
+    sinks : (i : ℕ) (z : Bool) (o : Option ℕ) → (y.sink == i) ≡ z → s.tracked i ≡ o
+        → is_sunk c i (rest' channel.D) o s' ≡ step first last (is_grant y.opcode && (y.sink == i)) false (is_sunk c i (rest channel.D) o s)
     sinks i true o e f =
-        ap (λ (p : Option ℕ). is_sunk c i (rest' channel.D) p s') at_n ∙ now_sunk last d k (view new.service c) (comes_in_grant i (rest' channel.D)) is.seen_is (is.comes i ∙ with_true (not last) (y.sink == i) e)
+        ap (λ (p : Option ℕ). is_sunk c i (rest' channel.D) p s') at_n
+        ∙ now_sunk last d k (view new.service c) (comes_in_grant i (rest' channel.D)) is.seen_is (is.comes i ∙ with_true (not last) (y.sink == i) e)
         ∙ sym (opened first last (is_grant y.opcode) (y.sink == i) (is_sunk c i (rest channel.D) o s) is.grant e then_sunk)
       where
         at_n : o ≡ Some n
         at_n = sym f ∙ is.tracks i e
 
         then_sunk : is_sunk c i (rest channel.D) o s ≡ not first
-        then_sunk = ap (λ (p : Option ℕ). is_sunk c i (rest channel.D) p s) at_n ∙ ap (λ (v : View). is_acknowledging v || (is_granting v && comes_in_grant i (rest channel.D))) is.seen ∙ is.came i ∙ with_true (not first) (y.sink == i) e
+        then_sunk = ap (λ (p : Option ℕ). is_sunk c i (rest channel.D) p s) at_n
+            ∙ ap (λ (v : View). is_acknowledging v || (is_granting v && comes_in_grant i (rest channel.D))) is.seen ∙ is.came i
+            ∙ with_true (not first) (y.sink == i) e
     sinks i false None e f = sym (unbegun first last (is_grant y.opcode && (y.sink == i)) false (and_right (is_grant y.opcode) (y.sink == i) e))
     sinks i false (Some m) e f =
-        ap (λ (z : Block X). is_acknowledging (view z.service c) || (is_granting (view z.service c) && comes_in_grant i (rest' channel.D))) (is.elsewhere m (λ g. let h : (n == n) ≡ false = sym (rw (f, g) refl) ∙ is.tracks_not i e in let j : true ≡ false = sym (same_number n) ∙ h in cc))
-        ∙ ap (λ (z : Bool). is_acknowledging (view (s.block m).service c) || (is_granting (view (s.block m).service c) && z)) (is.comes i ∙ and_right (not last) (y.sink == i) e ∙ sym (is.came i ∙ and_right (not first) (y.sink == i) e))
+        ap (λ (z : Block X). is_acknowledging (view z.service c) || (is_granting (view z.service c) && comes_in_grant i (rest' channel.D)))
+        (is.elsewhere m (λ g. let h : (n == n) ≡ false = sym (rw (f, g) refl) ∙ is.tracks_not i e in let j : true ≡ false = sym (same_number n) ∙ h in cc))
+        ∙ ap (λ (z : Bool). is_acknowledging (view (s.block m).service c) || (is_granting (view (s.block m).service c) && z))
+        (is.comes i ∙ and_right (not last) (y.sink == i) e ∙ sym (is.came i ∙ and_right (not first) (y.sink == i) e))
         ∙ sym (unbegun first last (is_grant y.opcode && (y.sink == i)) (is_sunk c i (rest channel.D) (Some m) s) (and_right (is_grant y.opcode) (y.sink == i) e))
 
     answered : (m : ℕ) → is_answered ((s'.block m).pair c).probing ≡ is_answered ((s.block m).pair c).probing

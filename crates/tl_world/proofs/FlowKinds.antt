@@ -6,8 +6,8 @@ use Rattle.std.proofs.lemmas.Bool.{ne_eqb}
 use Rattle.std.proofs.lemmas.Option.{same_Some}
 use Rattle.tl_beat.specs.declared.beat.Beat.{Beat}
 use Rattle.tl_beat.specs.declared.beat.BeatA.{BeatA}
-use Rattle.tl_beat.specs.declared.opcode.Channel.{Channel}
-use Rattle.tl_beat.specs.declared.opcode.Channel.TheVariants as channel
+use Rattle.tl_beat.specs.declared.channel.Channel.{Channel}
+use Rattle.tl_beat.specs.declared.channel.Channel.TheVariants as channel
 use Rattle.tl_burst.specs.declared.message.Message.{Message}
 use Rattle.tl_burst.specs.declared.message.Message.TheVariants as message
 use Rattle.tl_burst.specs.declared.message.MessageA.{MessageA}
@@ -19,12 +19,14 @@ use Rattle.tl_rules.specs.Conformance.{comes_in_grant}
 use Rattle.tl_rules.specs.History.{block_at}
 use Rattle.tl_manager.specs.Holders.{cap_probed}
 use Rattle.tl_world.specs.Flowed.{IsFlowed}
-use Rattle.tl_world.specs.Follow.{Shadow, with_state, some_below, performs, probes_some, access_taken, request_taken, is_unheld, gift, acquire_taken, granted_after, last_taken, ack_taken, is_whole, taken_by_client, kind_taken}
+use Rattle.tl_world.specs.Follow.{Shadow, with_state, some_below, performs, probes_some, access_taken, request_taken, is_unheld, gift, acquire_taken}
+use Rattle.tl_world.specs.Follow.{granted_after, last_taken, ack_taken, is_whole, taken_by_client, kind_taken}
 use Rattle.tl_world.specs.Invariant.{cap_asked}
 use Rattle.tl_world.specs.Log.{Log}
 use Rattle.tl_world.specs.Phase.{Own, Granting, Acknowledging, GrantedOther, Answered, Acquiring, Calm, Wants, is_calm, is_quiet, is_kept}
 use Rattle.tl_world.specs.PhaseSteps.{is_granted_data, after_report}
-use Rattle.tl_world.specs.Protocol.{Service, Free, Waits, GrantSent, GrantTaken, Block, State, token, on, shown, view, is_answered, is_probed, acquire_served, acquire_granted, report_taken, report_grants}
+use Rattle.tl_world.specs.Protocol.{Service, Free, Waits, GrantSent, GrantTaken, Block, State, token, on, shown, view, is_answered, is_probed, acquire_served}
+use Rattle.tl_world.specs.Protocol.{acquire_granted, report_taken, report_grants}
 use Rattle.tl_world.specs.Render.{cap_sent, report_told, prune_told}
 use Rattle.tl_world.specs.System.{System}
 use Rattle.tl_world.specs.Token.{Kind, Request, Acquire, Probe, ProbeAck, Release, Answer, Grant, ReleaseAck, GrantAck, Token, set}
@@ -33,7 +35,9 @@ use Rattle.tl_world.proofs.AsideAll.{Leaves, is_for_manager, leaves-at_manager, 
 use Rattle.tl_world.proofs.Choices.{plain-past}
 use Rattle.tl_world.proofs.Due.{IsGrantDue, grant-due}
 use Rattle.tl_world.proofs.Facts.{quiet_at_rest, own_alone, own_wants, answered_other, is_other}
-use Rattle.tl_world.proofs.FlowApart.{replied, left-replied, left-served, left-acquire_granted, left-probe_taken, left-report_taken, left-release_taken, left-answer_taken, left-grant_taken, left-release_ack_taken, left-grant_ack_taken, left-access_answered, left-access_served, left-report_answers, left-report_grants}
+use Rattle.tl_world.proofs.FlowApart.{replied, left-replied, left-served, left-acquire_granted, left-probe_taken, left-report_taken, left-release_taken}
+use Rattle.tl_world.proofs.FlowApart.{left-answer_taken, left-grant_taken, left-release_ack_taken, left-grant_ack_taken, left-access_answered}
+use Rattle.tl_world.proofs.FlowApart.{left-access_served, left-report_answers, left-report_grants}
 use Rattle.tl_world.proofs.FlowAside.{is_heard, IsComing, flowed-aside, flowed-asks}
 use Rattle.tl_world.proofs.FlowAsking.{asks-left}
 use Rattle.tl_world.proofs.FlowBeats.{same_perms}
@@ -69,7 +73,8 @@ module _ {w : ℕ} (config : Config) (log : Log w) (h : Shadow w) (sys : System 
 
     -- ---- an access
 
-    pub settled-request : (source : ℕ) (m : MessageA w) (toks : List Token) → (s.block (block_at m.address)).service ≡ Free → s.tracked tracker ≡ None → Leaves d h (request_taken (length config.clients.items) c source (message.A m) tracker toks h)
+    pub settled-request : (source : ℕ) (m : MessageA w) (toks : List Token) → (s.block (block_at m.address)).service ≡ Free → s.tracked tracker ≡ None
+        → Leaves d h (request_taken (length config.clients.items) c source (message.A m) tracker toks h)
         → IsFlowed before rest d (replied c source s) t → FlowedAs (request_taken (length config.clients.items) c source (message.A m) tracker toks h)
     settled-request source m toks free unused left flowed =
         go (probes_some (length config.clients.items) c false (cap_probed m.opcode m.param) (s.block n).pair) (cap_probed m.opcode m.param) left
@@ -94,15 +99,18 @@ module _ {w : ℕ} (config : Config) (log : Log w) (h : Shadow w) (sys : System 
 
     -- ---- a ProbeAck
 
-    pub settled-report : (n : ℕ) (toks : List Token) → (s.link c).c ≡ token ProbeAck n ∷ toks → Leaves d h (ack_taken (length config.clients.items) config.profile c n (report_told ((s.block n).pair c).probing) toks h)
-        → IsFlowed before rest d (report_taken c n (report_told ((s.block n).pair c).probing) toks s) t → FlowedAs (ack_taken (length config.clients.items) config.profile c n (report_told ((s.block n).pair c).probing) toks h)
+    pub settled-report : (n : ℕ) (toks : List Token) → (s.link c).c ≡ token ProbeAck n ∷ toks
+        → Leaves d h (ack_taken (length config.clients.items) config.profile c n (report_told ((s.block n).pair c).probing) toks h)
+        → IsFlowed before rest d (report_taken c n (report_told ((s.block n).pair c).probing) toks s) t
+        → FlowedAs (ack_taken (length config.clients.items) config.profile c n (report_told ((s.block n).pair c).probing) toks h)
     settled-report n toks tokens left flowed = others (some_below (length config.clients.items) (λ i. not (i == c) && not (is_quiet ((s.block n).pair i).probing))) refl left
       where
         r : Report
         r = report_told ((s.block n).pair c).probing
 
         answered : ((s.block n).pair c).probing ≡ Answered r
-        answered = answered-is ((s.block n).pair c).probing (holds-first ProbeAck (s.link c).c toks (token ProbeAck n) (λ i. shown ProbeAck c (s.block i)) tokens refl (is.invariant.transfers c ProbeAck refl))
+        answered = answered-is ((s.block n).pair c).probing
+            (holds-first ProbeAck (s.link c).c toks (token ProbeAck n) (λ i. shown ProbeAck c (s.block i)) tokens refl (is.invariant.transfers c ProbeAck refl))
 
         seen : is_other (view (s.block n).service c) ≡ true
         seen = answered_other r ((s.block n).pair c) (view (s.block n).service c) ((is.invariant.blocks n).phases c) answered
@@ -125,7 +133,8 @@ module _ {w : ℕ} (config : Config) (log : Log w) (h : Shadow w) (sys : System 
                 let here : of.0 ≡ n = same_Some of.0 n (sym of.2 ∙ tracks) in
                 absurd (let no : GrantSent d of.1.data_too of.1.k ≡ Waits q true source k = sym of.1.service ∙ ap (λ (j : ℕ). (s.block j).service) here ∙ waits in cc)
 
-        granted : (q source : ℕ) (k : Cap) → (s.block n).service ≡ Waits q true source k → ((i : ℕ) → (i ≡ c → ⊥) → is_quiet ((s.block n).pair i).probing ≡ true) → (a : Acquiring) → not (is_calm a) ≡ true
+        granted : (q source : ℕ) (k : Cap) → (s.block n).service ≡ Waits q true source k
+            → ((i : ℕ) → (i ≡ c → ⊥) → is_quiet ((s.block n).pair i).probing ≡ true) → (a : Acquiring) → not (is_calm a) ≡ true
             → Leaves d h (granted_after (length config.clients.items) config.profile c q n r a toks h) → FlowedAs (granted_after (length config.clients.items) config.profile c q n r a toks h)
         granted q source k waits quiet Calm wants l = absurd cc
         granted q source k waits quiet (Wants whole g) wants l =
@@ -133,7 +142,8 @@ module _ {w : ℕ} (config : Config) (log : Log w) (h : Shadow w) (sys : System 
             let j = gift config.profile whole g (is_unheld (length config.clients.items) (set c (after_report r ((s.block n).pair c)) (s.block n).pair)) in
             let after = report_grants c q n r x j toks s in
             flowed-aside before (asked_by h.mail after d) rest d (report_taken c n r toks s) after t
-            (left-report_grants d before (asked_by h.mail after d) rest s (asks-left d h (with_state after h) l) coming c n r toks q source k j x waits (unanswered quiet) apart even (none_comes q source k waits)) flowed
+            (left-report_grants d before (asked_by h.mail after d) rest s (asks-left d h (with_state after h) l) coming c n r toks q source k j x waits
+            (unanswered quiet) apart even (none_comes q source k waits)) flowed
           where
             own : view (s.block n).service q ≡ Own
             own = rw (waits, same_number q) refl
@@ -143,19 +153,26 @@ module _ {w : ℕ} (config : Config) (log : Log w) (h : Shadow w) (sys : System 
 
             even : ((s.block n).pair q).held ≡ ((s.block n).pair q).recorded
             even = same_perms ((s.block n).pair q).recorded ((s.block n).pair q).held
-                (and_right (is_kept ((s.block n).pair q).letting) _ (and_right (is_quiet ((s.block n).pair q).probing) _ (own_alone ((s.block n).pair q) (view (s.block n).service q) ((is.invariant.blocks n).phases q) own)))
+                (and_right (is_kept ((s.block n).pair q).letting) _
+                (and_right (is_quiet ((s.block n).pair q).probing) _
+                (own_alone ((s.block n).pair q) (view (s.block n).service q) ((is.invariant.blocks n).phases q) own)))
 
-        last : ((i : ℕ) → (i ≡ c → ⊥) → is_quiet ((s.block n).pair i).probing ≡ true) → (service : Service) → (s.block n).service ≡ service → Leaves d h (last_taken (length config.clients.items) config.profile c n r service toks h)
+        last : ((i : ℕ) → (i ≡ c → ⊥) → is_quiet ((s.block n).pair i).probing ≡ true) → (service : Service) → (s.block n).service ≡ service
+            → Leaves d h (last_taken (length config.clients.items) config.profile c n r service toks h)
             → FlowedAs (last_taken (length config.clients.items) config.profile c n r service toks h)
         last quiet Free e l = absurd (let no : false ≡ true = rw e at seen in cc)
-        last quiet (GrantSent q x k) e l = absurd (let one : is_other (view (GrantSent q x k) c) ≡ true = rw e at seen in let none = not-other (c == q) (Granting x k) GrantedOther refl refl in let no : false ≡ true = sym none ∙ one in cc)
-        last quiet (GrantTaken q) e l = absurd (let one : is_other (view (GrantTaken q) c) ≡ true = rw e at seen in let none = not-other (c == q) Acknowledging GrantedOther refl refl in let no : false ≡ true = sym none ∙ one in cc)
+        last quiet (GrantSent q x k) e l = absurd (let one : is_other (view (GrantSent q x k) c) ≡ true = rw e at seen in let none =
+            not-other (c == q) (Granting x k) GrantedOther refl refl
+            in let no : false ≡ true = sym none ∙ one in cc)
+        last quiet (GrantTaken q) e l = absurd (let one : is_other (view (GrantTaken q) c) ≡ true = rw e at seen in let none =
+            not-other (c == q) Acknowledging GrantedOther refl refl in let no : false ≡ true = sym none ∙ one in cc)
         last quiet (Waits q true source k) e l =
             granted q source k e quiet ((s.block n).pair q).acquiring (own_wants ((s.block n).pair q) (view (s.block n).service q) ((is.invariant.blocks n).phases q) (rw (e, same_number q) refl)) l
         last quiet (Waits q false source k) e l =
             let after = last_taken (length config.clients.items) config.profile c n r (Waits q false source k) toks h in
             flowed-aside before (asked_by after.mail after.state d) rest d (report_taken c n r toks s) after.state t
-            (left-report_answers d before (asked_by after.mail after.state d) rest s (asks-left d h after l) coming c n r toks q source k (performs (h.request n)) e (unanswered quiet) (tracker-of n s is.invariant.named (rw e refl))
+            (left-report_answers d before (asked_by after.mail after.state d) rest s (asks-left d h after l) coming c n r toks q source k
+            (performs (h.request n)) e (unanswered quiet) (tracker-of n s is.invariant.named (rw e refl))
             (ap is_heard (serving-use (is_caching config) s n q source k is.invariant e))) flowed
 
         others : (x : Bool) → some_below (length config.clients.items) (λ i. not (i == c) && not (is_quiet ((s.block n).pair i).probing)) ≡ x
@@ -177,7 +194,9 @@ module _ {w : ℕ} (config : Config) (log : Log w) (h : Shadow w) (sys : System 
     comes : IsComing (asked_by h.mail h.state d) (unfinished_at sys d channel.D) d h.state
     comes = coming-granting config log h.mail h.request h.state sys d is
 
-    other_request : (source : ℕ) (m : Message w) (toks : List Token) → IsReady tracker c Request source h → m ≡ h.mail.request c source → Leaves d h (request_taken (length config.clients.items) c source m tracker toks h) → FlowsAs h → FlowsAs (request_taken (length config.clients.items) c source m tracker toks h)
+    other_request : (source : ℕ) (m : Message w) (toks : List Token) → IsReady tracker c Request source h → m ≡ h.mail.request c source
+        → Leaves d h (request_taken (length config.clients.items) c source m tracker toks h) → FlowsAs h
+        → FlowsAs (request_taken (length config.clients.items) c source m tracker toks h)
     other_request source (message.B m) toks ready e l flowed = flowed
     other_request source (message.C m) toks ready e l flowed = flowed
     other_request source (message.D m) toks ready e l flowed = flowed
@@ -189,7 +208,8 @@ module _ {w : ℕ} (config : Config) (log : Log w) (h : Shadow w) (sys : System 
         same : m ≡ ready.0
         same = let both : message.A m ≡ message.A ready.0 = e ∙ ready.1 in cc
 
-    other_acquire : (n : ℕ) (a : Acquiring) (toks : List Token) → (s.block n).service ≡ Free → s.tracked tracker ≡ None → Leaves d h (acquire_taken (length config.clients.items) config.profile c n a tracker toks h) → FlowsAs h
+    other_acquire : (n : ℕ) (a : Acquiring) (toks : List Token) → (s.block n).service ≡ Free → s.tracked tracker ≡ None
+        → Leaves d h (acquire_taken (length config.clients.items) config.profile c n a tracker toks h) → FlowsAs h
         → FlowsAs (acquire_taken (length config.clients.items) config.profile c n a tracker toks h)
     other_acquire n Calm toks free unused l flowed = flowed
     other_acquire n (Wants whole g) toks free unused l flowed = go (some_below (length config.clients.items) (λ i. is_probed c true (cap_asked (Wants whole g)) (b.pair i).recorded i)) l
@@ -206,24 +226,29 @@ module _ {w : ℕ} (config : Config) (log : Log w) (h : Shadow w) (sys : System 
         go : (x : Bool) → Leaves d h (with_state (if x then served else granted) h) → FlowsAs (with_state (if x then served else granted) h)
         go true i =
             flowed-aside then_asked (asked_by h.mail served d) (unfinished_at sys d) d s served t
-            (left-served d then_asked (asked_by h.mail served d) (unfinished_at sys d) s (asks-left d h (with_state served h) i) comes c n (b.source c) tracker true (cap_asked (Wants whole g)) served (λ m. refl) (ne_eqb d c ne) free (free_quiet n free d)
+            (left-served d then_asked (asked_by h.mail served d) (unfinished_at sys d) s (asks-left d h (with_state served h) i) comes c n
+            (b.source c) tracker true (cap_asked (Wants whole g)) served (λ m. refl) (ne_eqb d c ne) free (free_quiet n free d)
             (λ j. inl refl) (λ j. refl) unused (λ j. refl)) flowed
         go false i =
             flowed-aside then_asked (asked_by h.mail granted d) (unfinished_at sys d) d s granted t
-            (left-acquire_granted d then_asked (asked_by h.mail granted d) (unfinished_at sys d) s (asks-left d h (with_state granted h) i) comes c n tracker (is_granted_data whole g (b.pair c).recorded) (gift config.profile whole g (is_unheld (length config.clients.items) b.pair)) toks ne free
+            (left-acquire_granted d then_asked (asked_by h.mail granted d) (unfinished_at sys d) s (asks-left d h (with_state granted h) i) comes c n tracker
+            (is_granted_data whole g (b.pair c).recorded) (gift config.profile whole g (is_unheld (length config.clients.items) b.pair)) toks ne free
             (quiet_unanswered (b.pair d).probing (free_quiet n free d)) unused) flowed
 
-    other_grant : (n : ℕ) (toks : List Token) (due : IsGrantDue c n s) (service : Service) → service ≡ GrantSent c due.data_too due.k → Leaves d h (taken_by_client c n service toks h) → FlowsAs h → FlowsAs (taken_by_client c n service toks h)
+    other_grant : (n : ℕ) (toks : List Token) (due : IsGrantDue c n s) (service : Service) → service ≡ GrantSent c due.data_too due.k
+        → Leaves d h (taken_by_client c n service toks h) → FlowsAs h → FlowsAs (taken_by_client c n service toks h)
     other_grant n toks due service e l flowed = subst (λ (q : Service). FlowsAs (taken_by_client c n q toks h)) (sym e) (go (subst (λ (q : Service). Leaves d h (taken_by_client c n q toks h)) e l))
       where
         go : Leaves d h (taken_by_client c n (GrantSent c due.data_too due.k) toks h) → FlowsAs (taken_by_client c n (GrantSent c due.data_too due.k) toks h)
         go i =
             let after = taken_by_client c n (GrantSent c due.data_too due.k) toks h in
             flowed-aside then_asked (asked_by after.mail after.state d) (unfinished_at sys d) d s after.state t
-            (left-grant_taken d then_asked (asked_by after.mail after.state d) (unfinished_at sys d) s (asks-left d h after i) comes c n (is_whole ((s.block n).pair c).acquiring) due.data_too due.k toks ne due.service) flowed
+            (left-grant_taken d then_asked (asked_by after.mail after.state d) (unfinished_at sys d) s (asks-left d h after i) comes c n
+            (is_whole ((s.block n).pair c).acquiring) due.data_too due.k toks ne due.service) flowed
 
     -- a message of client c's link that is taken
-    by_kind : (k : Kind) (i : ℕ) (toks : List Token) → on k (s.link c) ≡ token k i ∷ toks → IsReady tracker c k i h → Leaves d h (kind_taken config tracker c k i toks h) → FlowsAs h → FlowsAs (kind_taken config tracker c k i toks h)
+    by_kind : (k : Kind) (i : ℕ) (toks : List Token) → on k (s.link c) ≡ token k i ∷ toks → IsReady tracker c k i h
+        → Leaves d h (kind_taken config tracker c k i toks h) → FlowsAs h → FlowsAs (kind_taken config tracker c k i toks h)
     by_kind Request source toks first ready l flowed = other_request source (h.mail.request c source) toks ready refl l flowed
     by_kind Acquire n toks first ready l flowed = other_acquire n ((s.block n).pair c).acquiring toks ready.0 ready.1 l flowed
     by_kind Probe n toks first ready l flowed =
@@ -251,9 +276,12 @@ module _ {w : ℕ} (config : Config) (log : Log w) (h : Shadow w) (sys : System 
         (left-release_ack_taken d then_asked (asked_by after.mail after.state d) (unfinished_at sys d) s (asks-left d h after l) comes c n toks ne) flowed
     by_kind GrantAck n toks first ready l flowed =
         let after = kind_taken config tracker c GrantAck n toks h in
-        let taken = acknowledging-is (s.block n).service c (holds-first GrantAck (s.link c).e toks (token GrantAck n) (λ i. shown GrantAck c (s.block i)) first refl (is.invariant.transfers c GrantAck refl)) in
+        let taken = acknowledging-is (s.block n).service c
+        (holds-first GrantAck (s.link c).e toks (token GrantAck n) (λ i. shown GrantAck c (s.block i)) first refl
+        (is.invariant.transfers c GrantAck refl)) in
         flowed-aside then_asked (asked_by after.mail after.state d) (unfinished_at sys d) d s after.state t
-        (left-grant_ack_taken d then_asked (asked_by after.mail after.state d) (unfinished_at sys d) s (asks-left d h after l) comes c n toks ne taken (tracker-of n s is.invariant.named (rw taken refl))) flowed
+        (left-grant_ack_taken d then_asked (asked_by after.mail after.state d) (unfinished_at sys d) s (asks-left d h after l) comes c n toks ne taken
+        (tracker-of n s is.invariant.named (rw taken refl))) flowed
 
     pub other-kind : (k : Kind) (i : ℕ) (toks : List Token) → on k (s.link c) ≡ token k i ∷ toks → IsReady tracker c k i h → FlowsAs h → FlowsAs (kind_taken config tracker c k i toks h)
     other-kind k i toks first ready = by_kind k i toks first ready (left (is_for_manager k) refl)

@@ -3,8 +3,8 @@ use Rattle.std.proofs.Common.{◌≡◌, ℕ, true, false, List, [], ◌∷◌, 
 use Rattle.std.specs.Prelude.{map}
 use Rattle.tl_beat.specs.Width.{IsWidth}
 use Rattle.tl_beat.specs.declared.beat.Beat.{Beat}
-use Rattle.tl_beat.specs.declared.opcode.Channel.{Channel}
-use Rattle.tl_beat.specs.declared.opcode.Channel.TheVariants as channel
+use Rattle.tl_beat.specs.declared.channel.Channel.{Channel}
+use Rattle.tl_beat.specs.declared.channel.Channel.TheVariants as channel
 use Rattle.tl_burst.specs.declared.message.Message.{Message}
 use Rattle.tl_burst.specs.declared.message.Message.TheVariants as message
 use Rattle.tl_burst.specs.declared.message.MessageA.{MessageA}
@@ -26,7 +26,8 @@ use Rattle.tl_manager.specs.Offer.{level_of}
 use Rattle.tl_world.specs.Flow.{flow}
 use Rattle.tl_world.specs.Log.{Log}
 use Rattle.tl_world.specs.Matched.{receiver}
-use Rattle.tl_world.specs.Phase.{View, Idle, Own, Other, Granting, Acknowledging, GrantedOther, Probing, Quiet, Sent, Answered, Letting, Kept, Releasing, Acked, Acquiring, Calm, Wants, ok, same_report, is_kept, is_quiet}
+use Rattle.tl_world.specs.Phase.{View, Idle, Own, Other, Granting, Acknowledging, GrantedOther, Probing, Quiet, Sent, Answered, Letting, Kept, Releasing, Acked}
+use Rattle.tl_world.specs.Phase.{Acquiring, Calm, Wants, ok, same_report, is_kept, is_quiet}
 use Rattle.tl_world.specs.Protocol.{Block, State, token, shown, view, is_granting, is_acknowledging, is_answered, is_acked, is_sent, is_on}
 use Rattle.tl_world.specs.Render.{Mail, message_of, message_of_kind, rendered, prune_told, report_told}
 use Rattle.tl_world.specs.Sources.{cap_waited}
@@ -46,15 +47,18 @@ use Rattle.tl_world.proofs.Tokens.{same_number, holds-first}
 use Rattle.tl_world.proofs.BothParts.{is_of-is, answered-is, releasing-is}
 
 -- the next beat of a message whose first breaks no rule of order
-pub next-flows : {w : ℕ} (l : Level) (p : Profile) (m : Message w) (x : Beat w) (rest : List (Beat w)) (ms : List (Message w)) (queue : List (Beat w)) (t : History w) → illegal l (channel_of x) x ≡ None → IsNext x rest m ms queue → unfinished (channel_in m) t ≡ rest
+pub next-flows : {w : ℕ} (l : Level) (p : Profile) (m : Message w) (x : Beat w) (rest : List (Beat w)) (ms : List (Message w)) (queue : List (Beat w))
+    (t : History w) → illegal l (channel_of x) x ≡ None → IsNext x rest m ms queue → unfinished (channel_in m) t ≡ rest
     → (rest ≡ [] → broken_in_order p (beat_of m 0) t ≡ None) → broken_after l p x t ≡ None
 next-flows {w} l p m x rest ms queue t lawful next is first =
     ap (λ (y : Beat w). broken_after l p y t) next.beat_is
     ∙ beat-flows l p m next.k t (sym (ap (λ (y : Beat w). illegal l (channel_of y) y) next.beat_is) ∙ lawful) (is ∙ next.rest_is) (λ e. first (sym is ∙ e))
 
-pub lawful-beat : {w : ℕ} (config : Config) (log : Log w) (mail : Mail w) (request : ℕ → MessageA w) (s : State (List ℕ)) (sys : System w) (c : ℕ) (ch : Channel) (l : Level) (x : Beat w) (queue : List (Beat w)) → IsMatched config log mail request s sys
+pub lawful-beat : {w : ℕ} (config : Config) (log : Log w) (mail : Mail w) (request : ℕ → MessageA w) (s : State (List ℕ)) (sys : System w) (c : ℕ)
+    (ch : Channel) (l : Level) (x : Beat w) (queue : List (Beat w)) → IsMatched config log mail request s sys
     → sys.channels c ch ≡ x ∷ queue → level_of config c ≡ Some l → illegal l (channel_of x) x ≡ None
-lawful-beat {w} config log mail request s sys c ch l x queue is beats level = sym (ap (λ (o : Option Level). illegal_at o x) level) ∙ (sound-beat config log mail request s sys c ch x queue is beats).lawful
+lawful-beat {w} config log mail request s sys c ch l x queue is beats level = sym (ap (λ (o : Option Level). illegal_at o x) level)
+    ∙ (sound-beat config log mail request s sys c ch x queue is beats).lawful
 
 -- ---- channel C
 
@@ -67,13 +71,16 @@ other_ungranted Acknowledging e = refl
 other_ungranted GrantedOther e = refl
 other_ungranted (Granting d k) e = absurd cc
 
-report-lawful : {w : ℕ} (config : Config) (log : Log w) (mail : Mail w) (request : ℕ → MessageA w) (s : State (List ℕ)) (sys : System w) (c n : ℕ) (toks : List Token) (l : Level) (x : Beat w) (ms : List (Message w)) (queue : List (Beat w)) → IsWidth w
-    → IsMatched config log mail request s sys → AreFlowed log mail s sys → illegal l (channel_of x) x ≡ None → (s.link c).c ≡ token ProbeAck n ∷ toks → IsNext x (unfinished channel.C (on_link c sys.manager.trace)) (rendered ProbeAck c n (s.block n)) ms queue
+report-lawful : {w : ℕ} (config : Config) (log : Log w) (mail : Mail w) (request : ℕ → MessageA w) (s : State (List ℕ)) (sys : System w) (c n : ℕ)
+    (toks : List Token) (l : Level) (x : Beat w) (ms : List (Message w)) (queue : List (Beat w)) → IsWidth w
+    → IsMatched config log mail request s sys → AreFlowed log mail s sys → illegal l (channel_of x) x ≡ None → (s.link c).c ≡ token ProbeAck n ∷ toks
+    → IsNext x (unfinished channel.C (on_link c sys.manager.trace)) (rendered ProbeAck c n (s.block n)) ms queue
     → broken_after l config.profile x (flow c log) ≡ None
 unfolding rendered
 report-lawful {w} config log mail request s sys c n toks l x ms queue width is flowed lawful tokens next =
     next-flows l config.profile (message.C m) x rest ms queue (flow c log) lawful (subst (λ (i : Message w). IsNext x rest i ms queue) about.1 next) ((flowed c).rest_is channel.C)
-    (λ none. report-flows config.profile c n (cap_waited b.service) r (c_beat_of m 0) (asked_by mail s c) (λ ch. unfinished ch (receiver ch c sys)) s (flow c log) (flowed c) none about.2.reports about.2.releases about.2.block about.2.param_is
+    (λ none. report-flows config.profile c n (cap_waited b.service) r (c_beat_of m 0) (asked_by mail s c) (λ ch. unfinished ch (receiver ch c sys)) s
+    (flow c log) (flowed c) none about.2.reports about.2.releases about.2.block about.2.param_is
     answered refl (unacked (b.pair c).letting refl) (other_ungranted (view b.service c) (answered_other r (b.pair c) (view b.service c) ok_is answered)) told)
   where
     b : Block (List ℕ)
@@ -107,13 +114,16 @@ report-lawful {w} config log mail request s sys c n toks l x ms queue width is f
     unacked (Releasing q) f = refl
     unacked Acked f = absurd (let first = report_first r (b.pair c) (view b.service c) ok_is answered in let no : false ≡ true = rw f at first in cc)
 
-release-lawful : {w : ℕ} (config : Config) (log : Log w) (mail : Mail w) (request : ℕ → MessageA w) (s : State (List ℕ)) (sys : System w) (c n : ℕ) (toks : List Token) (l : Level) (x : Beat w) (ms : List (Message w)) (queue : List (Beat w)) → IsWidth w
-    → IsMatched config log mail request s sys → AreFlowed log mail s sys → illegal l (channel_of x) x ≡ None → (s.link c).c ≡ token Release n ∷ toks → IsNext x (unfinished channel.C (on_link c sys.manager.trace)) (rendered Release c n (s.block n)) ms queue
+release-lawful : {w : ℕ} (config : Config) (log : Log w) (mail : Mail w) (request : ℕ → MessageA w) (s : State (List ℕ)) (sys : System w) (c n : ℕ)
+    (toks : List Token) (l : Level) (x : Beat w) (ms : List (Message w)) (queue : List (Beat w)) → IsWidth w
+    → IsMatched config log mail request s sys → AreFlowed log mail s sys → illegal l (channel_of x) x ≡ None → (s.link c).c ≡ token Release n ∷ toks
+    → IsNext x (unfinished channel.C (on_link c sys.manager.trace)) (rendered Release c n (s.block n)) ms queue
     → broken_after l config.profile x (flow c log) ≡ None
 unfolding rendered
 release-lawful {w} config log mail request s sys c n toks l x ms queue width is flowed lawful tokens next =
     next-flows l config.profile (message.C m) x rest ms queue (flow c log) lawful (subst (λ (i : Message w). IsNext x rest i ms queue) about.1 next) ((flowed c).rest_is channel.C)
-    (λ none. release-flows config.profile c n r (c_beat_of m 0) (asked_by mail s c) (λ ch. unfinished ch (receiver ch c sys)) s (flow c log) (flowed c) none about.2.releases about.2.block about.2.param_is
+    (λ none. release-flows config.profile c n r (c_beat_of m 0) (asked_by mail s c) (λ ch. unfinished ch (receiver ch c sys)) s (flow c log)
+    (flowed c) none about.2.releases about.2.block about.2.param_is
     (ap (s.lets c) about.3 ∙ used) releasing (calm (b.pair c).acquiring refl) (ungranted (view b.service c) refl) fits)
   where
     b : Block (List ℕ)
@@ -158,7 +168,8 @@ release-lawful {w} config log mail request s sys c n toks l x ms queue width is 
     fits : same_perm (prune_left r) (b.pair c).recorded ≡ true
     fits = release_begins r (b.pair c) (view b.service c) ok_is releasing (unanswered (is_caching config) c n toks s is.invariant tokens)
 
-pub flows-c : {w : ℕ} (config : Config) (log : Log w) (mail : Mail w) (request : ℕ → MessageA w) (s : State (List ℕ)) (sys : System w) (c : ℕ) (l : Level) (x : Beat w) (queue : List (Beat w)) → IsWidth w → IsMatched config log mail request s sys → AreFlowed log mail s sys
+pub flows-c : {w : ℕ} (config : Config) (log : Log w) (mail : Mail w) (request : ℕ → MessageA w) (s : State (List ℕ)) (sys : System w) (c : ℕ) (l : Level)
+    (x : Beat w) (queue : List (Beat w)) → IsWidth w → IsMatched config log mail request s sys → AreFlowed log mail s sys
     → sys.channels c channel.C ≡ x ∷ queue → level_of config c ≡ Some l → broken_after l config.profile x (flow c log) ≡ None
 flows-c {w} config log mail request s sys c l x queue width is flowed beats level =
     by-first_c (λ i. broken_after l config.profile x (flow c log) ≡ None) c mail s sys x queue (first-token (is_caching config) channel.C c mail s sys x queue width is.invariant is.carried beats)
@@ -176,13 +187,16 @@ unanswered_yet Quiet e = absurd cc
 unanswered_yet (Answered r) e = absurd cc
 
 -- a Probe on its way hasn't been answered, and is of another's service
-probe-lawful : {w : ℕ} (config : Config) (log : Log w) (mail : Mail w) (request : ℕ → MessageA w) (s : State (List ℕ)) (sys : System w) (c n : ℕ) (toks : List Token) (l : Level) (x : Beat w) (ms : List (Message w)) (queue : List (Beat w))
-    → IsMatched config log mail request s sys → AreFlowed log mail s sys → illegal l (channel_of x) x ≡ None → (s.link c).b ≡ token Probe n ∷ toks → is_acknowledging (view (s.block n).service c) ≡ false → IsNext x (unfinished channel.B (sys.clients c).past) (rendered Probe c n (s.block n)) ms queue
+probe-lawful : {w : ℕ} (config : Config) (log : Log w) (mail : Mail w) (request : ℕ → MessageA w) (s : State (List ℕ)) (sys : System w) (c n : ℕ)
+    (toks : List Token) (l : Level) (x : Beat w) (ms : List (Message w)) (queue : List (Beat w))
+    → IsMatched config log mail request s sys → AreFlowed log mail s sys → illegal l (channel_of x) x ≡ None → (s.link c).b ≡ token Probe n ∷ toks
+    → is_acknowledging (view (s.block n).service c) ≡ false → IsNext x (unfinished channel.B (sys.clients c).past) (rendered Probe c n (s.block n)) ms queue
     → broken_after l config.profile x (flow c log) ≡ None
 unfolding rendered
 probe-lawful {w} config log mail request s sys c n toks l x ms queue is flowed lawful tokens unacknowledged next =
     next-flows l config.profile (rendered Probe c n b) x (unfinished channel.B (sys.clients c).past) ms queue (flow c log) lawful next ((flowed c).rest_is channel.B)
-    (λ none. probe-flows config.profile c n _ (asked_by mail s c) (λ ch. unfinished ch (receiver ch c sys)) s (flow c log) (flowed c) none (same_block n) (unanswered_yet (b.pair c).probing shows) unacknowledged
+    (λ none. probe-flows config.profile c n _ (asked_by mail s c) (λ ch. unfinished ch (receiver ch c sys)) s (flow c log) (flowed c) none (same_block n)
+    (unanswered_yet (b.pair c).probing shows) unacknowledged
     (not_coming config log mail request s sys c n is shows))
   where
     b : Block (List ℕ)
@@ -191,7 +205,8 @@ probe-lawful {w} config log mail request s sys c n toks l x ms queue is flowed l
     shows : is_sent (b.pair c).probing ≡ true
     shows = holds-first Probe (s.link c).b toks (token Probe n) (λ i. shown Probe c (s.block i)) tokens refl (is.invariant.transfers c Probe refl)
 
-pub flows-b : {w : ℕ} (config : Config) (log : Log w) (mail : Mail w) (request : ℕ → MessageA w) (s : State (List ℕ)) (sys : System w) (c : ℕ) (l : Level) (x : Beat w) (queue : List (Beat w)) → IsWidth w → IsMatched config log mail request s sys → AreFlowed log mail s sys
+pub flows-b : {w : ℕ} (config : Config) (log : Log w) (mail : Mail w) (request : ℕ → MessageA w) (s : State (List ℕ)) (sys : System w) (c : ℕ) (l : Level)
+    (x : Beat w) (queue : List (Beat w)) → IsWidth w → IsMatched config log mail request s sys → AreFlowed log mail s sys
     → sys.channels c channel.B ≡ x ∷ queue → level_of config c ≡ Some l → broken_after l config.profile x (flow c log) ≡ None
 flows-b {w} config log mail request s sys c l x queue width is flowed beats level = go first.kind first.number first.tokens first.own first.next
   where
@@ -212,11 +227,14 @@ flows-b {w} config log mail request s sys c l x queue width is flowed beats leve
     unacknowledged n shows (Granting d k) f = refl
     unacknowledged n shows GrantedOther f = refl
 
-    go : (k : Kind) (i : ℕ) → (s.link c).b ≡ token k i ∷ first.rest → is_on channel.B k ≡ true → IsNext x (unfinished channel.B (sys.clients c).past) (message_of_kind k mail s c i) (map (message_of mail s c) first.rest) queue
+    go : (k : Kind) (i : ℕ) → (s.link c).b ≡ token k i ∷ first.rest → is_on channel.B k ≡ true
+        → IsNext x (unfinished channel.B (sys.clients c).past) (message_of_kind k mail s c i) (map (message_of mail s c) first.rest) queue
         → broken_after l config.profile x (flow c log) ≡ None
     go Probe i tokens own next =
-        probe-lawful config log mail request s sys c i first.rest l x (map (message_of mail s c) first.rest) queue is flowed (lawful-beat config log mail request s sys c channel.B l x queue is beats level) tokens
-        (unacknowledged i (holds-first Probe (s.link c).b first.rest (token Probe i) (λ j. shown Probe c (s.block j)) tokens refl (is.invariant.transfers c Probe refl)) (view (s.block i).service c) refl) next
+        probe-lawful config log mail request s sys c i first.rest l x (map (message_of mail s c) first.rest) queue is flowed
+        (lawful-beat config log mail request s sys c channel.B l x queue is beats level) tokens
+        (unacknowledged i (holds-first Probe (s.link c).b first.rest (token Probe i) (λ j. shown Probe c (s.block j)) tokens refl
+        (is.invariant.transfers c Probe refl)) (view (s.block i).service c) refl) next
     go Request i tokens own next = absurd cc
     go Acquire i tokens own next = absurd cc
     go ProbeAck i tokens own next = absurd cc

@@ -8,8 +8,8 @@ use Rattle.tl_beat.specs.declared.beat.BeatA.{BeatA}
 use Rattle.tl_beat.specs.declared.beat.BeatB.{BeatB}
 use Rattle.tl_beat.specs.declared.beat.BeatC.{BeatC}
 use Rattle.tl_beat.specs.declared.beat.BeatE.{BeatE}
-use Rattle.tl_beat.specs.declared.opcode.Channel.{Channel}
-use Rattle.tl_beat.specs.declared.opcode.Channel.TheVariants as channel
+use Rattle.tl_beat.specs.declared.channel.Channel.{Channel}
+use Rattle.tl_beat.specs.declared.channel.Channel.TheVariants as channel
 use Rattle.tl_beat.specs.First.{first_if}
 use Rattle.tl_burst.specs.declared.message.Message.{Message}
 use Rattle.tl_burst.specs.Burst.{beat_of, begun}
@@ -36,12 +36,14 @@ use Rattle.tl_world.specs.Sources.{cap_waited}
 use Rattle.tl_world.proofs.Orders.{report-legal, acquire-legal}
 
 -- who isn't granted the block holds what is recorded, as far as was delivered
-held_as : {w : ℕ} {X : Type 0} (c n : ℕ) (asked : ℕ → Option (BeatA w)) (rest : Channel → List (Beat w)) (s : State X) (t : History w) → IsFlowed asked rest c s t → is_granting (view (s.block n).service c) ≡ false → held n t ≡ ((s.block n).pair c).recorded
+held_as : {w : ℕ} {X : Type 0} (c n : ℕ) (asked : ℕ → Option (BeatA w)) (rest : Channel → List (Beat w)) (s : State X) (t : History w)
+    → IsFlowed asked rest c s t → is_granting (view (s.block n).service c) ≡ false → held n t ≡ ((s.block n).pair c).recorded
 held_as c n asked rest s t flowed none = flowed.held_is n ∙ ap (λ (g : Bool). if g then ((s.block n).pair c).held else ((s.block n).pair c).recorded) none
 
 -- ---- channel A
 
-pub request-flows : {w : ℕ} {X : Type 0} (p : Profile) (c : ℕ) (x : BeatA w) (asked : ℕ → Option (BeatA w)) (rest : Channel → List (Beat w)) (s : State X) (t : History w) → IsFlowed asked rest c s t → rest channel.A ≡ [] → is_acquire x.opcode ≡ false → s.uses c x.source ≡ Asked
+pub request-flows : {w : ℕ} {X : Type 0} (p : Profile) (c : ℕ) (x : BeatA w) (asked : ℕ → Option (BeatA w)) (rest : Channel → List (Beat w)) (s : State X)
+    (t : History w) → IsFlowed asked rest c s t → rest channel.A ≡ [] → is_acquire x.opcode ≡ false → s.uses c x.source ≡ Asked
     → broken_in_order p (beat.A x) t ≡ None
 unfolding broken_order
 request-flows {w} p c x asked rest s t flowed whole plain used =
@@ -49,7 +51,8 @@ request-flows {w} p c x asked rest s t flowed whole plain used =
     let free : pending (key.RequestSource x.source) t ≡ false = flowed.requests x.source ∙ ap (λ (u : Use). is_requested c x.source (rest channel.A) u s) used ∙ ap (comes_in_request x.source) whole in
     rw (none, plain, free) refl
 
-pub acquire-flows : {w : ℕ} {X : Type 0} (p : Profile) (c n : ℕ) (x : BeatA w) (asked : ℕ → Option (BeatA w)) (rest : Channel → List (Beat w)) (s : State X) (t : History w) → IsFlowed asked rest c s t → rest channel.A ≡ [] → is_acquire x.opcode ≡ true → block_at x.address ≡ n
+pub acquire-flows : {w : ℕ} {X : Type 0} (p : Profile) (c n : ℕ) (x : BeatA w) (asked : ℕ → Option (BeatA w)) (rest : Channel → List (Beat w)) (s : State X)
+    (t : History w) → IsFlowed asked rest c s t → rest channel.A ≡ [] → is_acquire x.opcode ≡ true → block_at x.address ≡ n
     → s.uses c x.source ≡ Acquires n → view (s.block n).service c ≡ Idle → ((s.block n).pair c).letting ≡ Kept → grows_from x.param ((s.block n).pair c).recorded ≡ true
     → broken_in_order p (beat.A x) t ≡ None
 acquire-flows {w} p c n x asked rest s t flowed whole acquires block used idle kept grows =
@@ -65,7 +68,8 @@ unprobed : (probes a b : Bool) → a ≡ false → b ≡ false → first_if (pro
 unprobed true a b e f = rw (e, f) refl
 unprobed false a b e f = refl
 
-pub probe-flows : {w : ℕ} {X : Type 0} (p : Profile) (c n : ℕ) (x : BeatB w) (asked : ℕ → Option (BeatA w)) (rest : Channel → List (Beat w)) (s : State X) (t : History w) → IsFlowed asked rest c s t → rest channel.B ≡ [] → block_at x.address ≡ n
+pub probe-flows : {w : ℕ} {X : Type 0} (p : Profile) (c n : ℕ) (x : BeatB w) (asked : ℕ → Option (BeatA w)) (rest : Channel → List (Beat w)) (s : State X)
+    (t : History w) → IsFlowed asked rest c s t → rest channel.B ≡ [] → block_at x.address ≡ n
     → is_answered ((s.block n).pair c).probing ≡ false → is_acknowledging (view (s.block n).service c) ≡ false → comes_granting n asked (rest channel.D) ≡ false
     → broken_in_order p (beat.B x) t ≡ None
 unfolding broken_order
@@ -82,9 +86,11 @@ unlet source rest Kept e f = refl
 unlet source rest (Releasing r) e f = ap (comes_in_release source) e
 unlet source rest Acked e f = absurd cc
 
-pub report-flows : {w : ℕ} {X : Type 0} (p : Profile) (c n : ℕ) (k : Cap) (r : Report) (x : BeatC w) (asked : ℕ → Option (BeatA w)) (rest : Channel → List (Beat w)) (s : State X) (t : History w) → IsFlowed asked rest c s t → rest channel.C ≡ []
+pub report-flows : {w : ℕ} {X : Type 0} (p : Profile) (c n : ℕ) (k : Cap) (r : Report) (x : BeatC w) (asked : ℕ → Option (BeatA w))
+    (rest : Channel → List (Beat w)) (s : State X) (t : History w) → IsFlowed asked rest c s t → rest channel.C ≡ []
     → is_probe_ack x.opcode ≡ true → is_release x.opcode ≡ false → block_at x.address ≡ n → x.param ≡ report_code r
-    → ((s.block n).pair c).probing ≡ Answered r → cap_waited (s.block n).service ≡ k → is_acked ((s.block n).pair c).letting ≡ false → is_granting (view (s.block n).service c) ≡ false → r ≡ report_at k ((s.block n).pair c).recorded
+    → ((s.block n).pair c).probing ≡ Answered r → cap_waited (s.block n).service ≡ k → is_acked ((s.block n).pair c).letting ≡ false
+    → is_granting (view (s.block n).service c) ≡ false → r ≡ report_at k ((s.block n).pair c).recorded
     → broken_in_order p (beat.C x) t ≡ None
 report-flows {w} p c n k r x asked rest s t flowed whole acks other block param answered waited unacked ungranted told =
     let answers : is_answered ((s.block n).pair c).probing ≡ true = ap is_answered answered in
@@ -100,9 +106,11 @@ prune_again prune.BtoN = refl
 releases : (taken acquires again prunes : Bool) → taken ≡ false → acquires ≡ false → again ≡ false → prunes ≡ true → first_if taken H1 (first_if (acquires || (again || not prunes)) H13 None) ≡ None
 releases taken acquires again prunes e f g h = rw (e, f, g, h) refl
 
-pub release-flows : {w : ℕ} {X : Type 0} (p : Profile) (c n : ℕ) (r : Prune) (x : BeatC w) (asked : ℕ → Option (BeatA w)) (rest : Channel → List (Beat w)) (s : State X) (t : History w) → IsFlowed asked rest c s t → rest channel.C ≡ []
+pub release-flows : {w : ℕ} {X : Type 0} (p : Profile) (c n : ℕ) (r : Prune) (x : BeatC w) (asked : ℕ → Option (BeatA w)) (rest : Channel → List (Beat w))
+    (s : State X) (t : History w) → IsFlowed asked rest c s t → rest channel.C ≡ []
     → is_release x.opcode ≡ true → block_at x.address ≡ n → x.param ≡ prune_code r → s.lets c x.source ≡ Some n
-    → ((s.block n).pair c).letting ≡ Releasing r → ((s.block n).pair c).acquiring ≡ Calm → is_granting (view (s.block n).service c) ≡ false → same_perm (prune_left r) ((s.block n).pair c).recorded ≡ true
+    → ((s.block n).pair c).letting ≡ Releasing r → ((s.block n).pair c).acquiring ≡ Calm → is_granting (view (s.block n).service c) ≡ false
+    → same_perm (prune_left r) ((s.block n).pair c).recorded ≡ true
     → broken_in_order p (beat.C x) t ≡ None
 unfolding broken_order
 release-flows {w} p c n r x asked rest s t flowed whole is block param used lets calm ungranted left =
@@ -112,18 +120,21 @@ release-flows {w} p c n r x asked rest s t flowed whole is block param used lets
     let once : pending (key.AcquireOf n) t ≡ false = flowed.acquires n ∙ ap (λ (a : Acquiring). is_wanting a && not (is_unserved (view (s.block n).service c))) calm in
     let again : pending (key.ReleaseOf n) t ≡ false = flowed.releases n ∙ unlet ((s.block n).release_source c) (rest channel.C) ((s.block n).pair c).letting whole (ap is_acked lets) in
     let prunes : prunes_from (prune_of x.param) (held n t) ≡ true = rw (param, prune_again r, held_as c n asked rest s t flowed ungranted) left in
-    rw (none, is, block) (releases (pending (key.ReleaseSource x.source) t) (pending (key.AcquireOf n) t) (pending (key.ReleaseOf n) t) (prunes_from (prune_of x.param) (held n t)) free once again prunes)
+    rw (none, is, block) (releases (pending (key.ReleaseSource x.source) t) (pending (key.AcquireOf n) t) (pending (key.ReleaseOf n) t)
+    (prunes_from (prune_of x.param) (held n t)) free once again prunes)
 
 -- ---- channel E
 
-pub grant_ack-flows : {w : ℕ} {X : Type 0} (p : Profile) (c n : ℕ) (x : BeatE) (asked : ℕ → Option (BeatA w)) (rest : Channel → List (Beat w)) (s : State X) (t : History w) → IsFlowed asked rest c s t → rest channel.E ≡ []
+pub grant_ack-flows : {w : ℕ} {X : Type 0} (p : Profile) (c n : ℕ) (x : BeatE) (asked : ℕ → Option (BeatA w)) (rest : Channel → List (Beat w)) (s : State X)
+    (t : History w) → IsFlowed asked rest c s t → rest channel.E ≡ []
     → s.tracked x.sink ≡ Some n → is_acknowledging (view (s.block n).service c) ≡ true → comes_in_grant x.sink (rest channel.D) ≡ false
     → broken_in_order p (beat.E x) t ≡ None
 unfolding broken_order
 grant_ack-flows {w} p c n x asked rest s t flowed whole tracked acknowledging none_comes =
     let none : unfinished channel.E t ≡ [] = flowed.rest_is channel.E ∙ whole in
     let sunk : pending (key.GrantSink x.sink) t ≡ true =
-    flowed.sinks x.sink ∙ ap (λ (o : Option ℕ). is_sunk c x.sink (rest channel.D) o s) tracked ∙ ap (λ (b : Bool). b || (is_granting (view (s.block n).service c) && comes_in_grant x.sink (rest channel.D))) acknowledging in
+    flowed.sinks x.sink ∙ ap (λ (o : Option ℕ). is_sunk c x.sink (rest channel.D) o s) tracked
+    ∙ ap (λ (b : Bool). b || (is_granting (view (s.block n).service c) && comes_in_grant x.sink (rest channel.D))) acknowledging in
     let apart : comes_in_grant x.sink (unfinished channel.D t) ≡ false = ap (comes_in_grant x.sink) (flowed.rest_is channel.D) ∙ none_comes in
     rw (none, sunk, apart) refl
 

@@ -8,7 +8,9 @@ use Rattle.tl_params.specs.declared.param.Prune.{Prune}
 use Rattle.tl_params.specs.declared.param.Report.{Report}
 use Rattle.tl_world.specs.Phase.{Pair, View, Idle, Own, Other, Granting, Acknowledging, GrantedOther, Probing, Sent, is_quiet}
 use Rattle.tl_world.specs.PhaseSteps.{after_acquire, after_release, is_above, after_served, after_grant_sent, after_probe, after_report, after_release_taken, after_grant, after_release_ack}
-use Rattle.tl_world.specs.Protocol.{Service, Free, Waits, GrantSent, GrantTaken, Block, view, is_granting, is_acknowledging, is_answered, is_wanting, is_unserved, acquiring_block, releasing_block, stored_block, performed_block, granted_at_once, served_block, served_pair, probed_block, reported_block, ended_block, granted_block, let_block, taken_block, let_go_block, freed_block}
+use Rattle.tl_world.specs.Protocol.{Service, Free, Waits, GrantSent, GrantTaken, Block, view, is_granting, is_acknowledging, is_answered, is_wanting}
+use Rattle.tl_world.specs.Protocol.{is_unserved, acquiring_block, releasing_block, stored_block, performed_block, granted_at_once, served_block, served_pair}
+use Rattle.tl_world.specs.Protocol.{probed_block, reported_block, ended_block, granted_block, let_block, taken_block, let_go_block, freed_block}
 use Rattle.tl_world.specs.Sources.{cap_waited}
 use Rattle.tl_world.specs.Token.{set}
 use Rattle.tl_world.proofs.FlowAside.{IsSameBlock}
@@ -24,7 +26,8 @@ pub record IsSameView (v v' : View) : Type 0 where
 same-view : (v : View) → IsSameView v v
 same-view v = record { granting = refl; unserved = refl; acknowledging = refl }
 
-others-same : {X : Type 0} (d : ℕ) (b b' : Block X) → b'.pair d ≡ b.pair d → b'.release_source d ≡ b.release_source d → (b'.tracker ≡ b.tracker) ⊎ ((is_acknowledging (view b.service d) || is_granting (view b.service d)) ≡ false)
+others-same : {X : Type 0} (d : ℕ) (b b' : Block X) → b'.pair d ≡ b.pair d → b'.release_source d ≡ b.release_source d → (b'.tracker ≡ b.tracker)
+    ⊎ ((is_acknowledging (view b.service d) || is_granting (view b.service d)) ≡ false)
     → IsSameView (view b.service d) (view b'.service d) → (is_answered (b.pair d).probing ≡ true → cap_waited b'.service ≡ cap_waited b.service) → IsSameBlock d b b'
 others-same {X} d b b' pair source tracker sees cap = record {
   held = ap (λ (p : Pair). if is_granting (view b'.service d) then p.held else p.recorded) pair ∙ ap (λ (g : Bool). if g then (b.pair d).held else (b.pair d).recorded) sees.granting;
@@ -102,7 +105,8 @@ pub same-performed : {X : Type 0} (d : ℕ) (f : X → X) (b : Block X) → IsSa
 same-performed d f b = others-same d b (performed_block f b) refl refl (inl refl) (same-view (view b.service d)) (λ e. refl)
 
 -- one who is probed, or spared, as a block that was at rest is served
-pub same-served : {X : Type 0} (d r source tracker : ℕ) (own : Bool) (k : Cap) (b : Block X) → (own && (d == r)) ≡ false → b.service ≡ Free → is_quiet (b.pair d).probing ≡ true → IsSameBlock d b (served_block r own source tracker k b)
+pub same-served : {X : Type 0} (d r source tracker : ℕ) (own : Bool) (k : Cap) (b : Block X) → (own && (d == r)) ≡ false → b.service ≡ Free
+    → is_quiet (b.pair d).probing ≡ true → IsSameBlock d b (served_block r own source tracker k b)
 same-served {X} d r source tracker own k b other free quiet = record {
   held = ap (λ (p : Pair). if is_granting (view (Waits r own source k) d) then p.held else p.recorded) pair ∙ ap (λ (g : Bool). if g then (b.pair d).held else (b.pair d).recorded) sees.granting;
   wanting = ap (λ (p : Pair). is_wanting p.acquiring) pair;
@@ -128,7 +132,8 @@ same-served {X} d r source tracker own k b other free quiet = record {
     nor_now true p e = refl
     nor_now false p e = quiet_unanswered p e
 
-pub same-granted_at_once : {X : Type 0} (d r tracker : ℕ) (x : Bool) (k : Cap) (b : Block X) → (d ≡ r → ⊥) → b.service ≡ Free → is_answered (b.pair d).probing ≡ false → IsSameBlock d b (granted_at_once r tracker x k b)
+pub same-granted_at_once : {X : Type 0} (d r tracker : ℕ) (x : Bool) (k : Cap) (b : Block X) → (d ≡ r → ⊥) → b.service ≡ Free
+    → is_answered (b.pair d).probing ≡ false → IsSameBlock d b (granted_at_once r tracker x k b)
 same-granted_at_once {X} d r tracker x k b ne free quiet =
     let before : is_outside (view b.service d) ≡ true = ap (λ (q : Service). is_outside (view q d)) free in
     others-same d b (granted_at_once r tracker x k b) (set-other r d (after_grant_sent k (b.pair r)) b.pair ne) refl (inr (not_in (view b.service d) before))
@@ -141,20 +146,27 @@ pub same-reported : {X : Type 0} (d c : ℕ) (r : Report) (b : Block X) → (d �
 same-reported d c r b ne = others-same d b (reported_block c r b) (set-other c d (after_report r (b.pair c)) b.pair ne) refl (inl refl) (same-view (view b.service d)) (λ e. refl)
 
 -- the last ProbeAck, where nobody has anything of a Probe any more
-pub same-settled : {X : Type 0} (d c q source : ℕ) (r : Report) (k : Cap) (f : X → X) (b : Block X) → b.service ≡ Waits q false source k → is_answered ((reported_block c r b).pair d).probing ≡ false → IsSameBlock d (reported_block c r b) (ended_block c r f b)
+pub same-settled : {X : Type 0} (d c q source : ℕ) (r : Report) (k : Cap) (f : X → X) (b : Block X) → b.service ≡ Waits q false source k
+    → is_answered ((reported_block c r b).pair d).probing ≡ false → IsSameBlock d (reported_block c r b) (ended_block c r f b)
 same-settled {X} d c q source r k f b waits quiet =
     others-same d (reported_block c r b) (ended_block c r f b) refl refl (inl refl)
-    (outside-same (view b.service d) (view Free d) (ap (λ (i : Service). is_outside (view i d)) waits ∙ outside-waits d q source false k refl) refl) (λ e. absurd (let g : false ≡ true = sym quiet ∙ e in cc))
+    (outside-same (view b.service d) (view Free d) (ap (λ (i : Service). is_outside (view i d)) waits ∙ outside-waits d q source false k refl) refl)
+    (λ e. absurd (let g : false ≡ true = sym quiet ∙ e in cc))
 
-pub same-granted : {X : Type 0} (d c q source : ℕ) (r : Report) (j k : Cap) (x : Bool) (b : Block X) → (d ≡ q → ⊥) → b.service ≡ Waits q true source j → is_answered ((reported_block c r b).pair d).probing ≡ false → IsSameBlock d (reported_block c r b) (granted_block c q r x k b)
+pub same-granted : {X : Type 0} (d c q source : ℕ) (r : Report) (j k : Cap) (x : Bool) (b : Block X) → (d ≡ q → ⊥) → b.service ≡ Waits q true source j
+    → is_answered ((reported_block c r b).pair d).probing ≡ false → IsSameBlock d (reported_block c r b) (granted_block c q r x k b)
 same-granted {X} d c q source r j k x b other waits quiet =
     others-same d (reported_block c r b) (granted_block c q r x k b) (set-other q d (after_grant_sent k (b.pair q)) (set c (after_report r (b.pair c)) b.pair) other) refl (inl refl)
-    (outside-same (view b.service d) (view (GrantSent q x k) d) (ap (λ (i : Service). is_outside (view i d)) waits ∙ outside-waits d q source true j (ne_eqb d q other)) (outside-sent d q x k other)) (λ e. absurd (let g : false ≡ true = sym quiet ∙ e in cc))
+    (outside-same (view b.service d) (view (GrantSent q x k) d)
+    (ap (λ (i : Service). is_outside (view i d)) waits ∙ outside-waits d q source true j (ne_eqb d q other)) (outside-sent d q x k other))
+    (λ e. absurd (let g : false ≡ true = sym quiet ∙ e in cc))
 
 -- who asked for the block had as much of it as was recorded
-pub same-given : {X : Type 0} (c q source : ℕ) (r : Report) (j k : Cap) (x : Bool) (b : Block X) → (q ≡ c → ⊥) → b.service ≡ Waits q true source j → (b.pair q).held ≡ (b.pair q).recorded → is_answered (b.pair q).probing ≡ false → IsSameBlock q (reported_block c r b) (granted_block c q r x k b)
+pub same-given : {X : Type 0} (c q source : ℕ) (r : Report) (j k : Cap) (x : Bool) (b : Block X) → (q ≡ c → ⊥) → b.service ≡ Waits q true source j
+    → (b.pair q).held ≡ (b.pair q).recorded → is_answered (b.pair q).probing ≡ false → IsSameBlock q (reported_block c r b) (granted_block c q r x k b)
 same-given {X} c q source r j k x b other waits even quiet = record {
-  held = ap (λ (v : View). if is_granting v then (new.pair q).held else (new.pair q).recorded) now ∙ ap (λ (p : Pair). p.held) pair ∙ even ∙ sym (ap (λ (v : View). if is_granting v then (old.pair q).held else (old.pair q).recorded) then_ ∙ ap (λ (p : Pair). p.recorded) same);
+  held = ap (λ (v : View). if is_granting v then (new.pair q).held else (new.pair q).recorded) now ∙ ap (λ (p : Pair). p.held) pair ∙ even
+      ∙ sym (ap (λ (v : View). if is_granting v then (old.pair q).held else (old.pair q).recorded) then_ ∙ ap (λ (p : Pair). p.recorded) same);
   wanting = ap (λ (p : Pair). is_wanting p.acquiring) pair ∙ sym (ap (λ (p : Pair). is_wanting p.acquiring) same);
   unserved = ap is_unserved now ∙ sym (ap is_unserved then_);
   letting = ap (λ (p : Pair). p.letting) pair ∙ sym (ap (λ (p : Pair). p.letting) same);
@@ -202,11 +214,13 @@ same-freed {X} d c b ne taken =
 -- ---- what another client is asked for
 
 pub same-acquiring : {X : Type 0} (d c source : ℕ) (whole : Bool) (g : Grow) (bytes : X) (b : Block X) → (d ≡ c → ⊥) → IsSameBlock d b (acquiring_block c source whole g bytes b)
-same-acquiring d c source whole g bytes b ne = others-same d b (acquiring_block c source whole g bytes b) (set-other c d (after_acquire whole g (b.pair c)) b.pair ne) refl (inl refl) (same-view (view b.service d)) (λ e. refl)
+same-acquiring d c source whole g bytes b ne = others-same d b (acquiring_block c source whole g bytes b)
+    (set-other c d (after_acquire whole g (b.pair c)) b.pair ne) refl (inl refl) (same-view (view b.service d)) (λ e. refl)
 
 pub same-releasing : {X : Type 0} (d c source : ℕ) (r : Prune) (b : Block X) → (d ≡ c → ⊥) → IsSameBlock d b (releasing_block c source r b)
 same-releasing d c source r b ne =
-    others-same d b (releasing_block c source r b) (set-other c d (after_release r (b.pair c)) b.pair ne) (set-other c d source b.release_source ne) (inl refl) (same-view (view b.service d)) (λ e. refl)
+    others-same d b (releasing_block c source r b) (set-other c d (after_release r (b.pair c)) b.pair ne) (set-other c d source b.release_source ne) (inl refl)
+    (same-view (view b.service d)) (λ e. refl)
 
 pub same-stored : {X : Type 0} (d c : ℕ) (bytes : X) (b : Block X) → IsSameBlock d b (stored_block c bytes b)
 same-stored d c bytes b = others-same d b (stored_block c bytes b) refl refl (inl refl) (same-view (view b.service d)) (λ e. refl)

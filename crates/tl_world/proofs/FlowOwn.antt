@@ -3,8 +3,8 @@ use Rattle.std.proofs.Common.{◌≡◌, subst, ℕ, Bool, true, false, List, []
 use Rattle.std.specs.Prelude.{if◌then◌else◌}
 use Rattle.tl_beat.specs.Width.{IsWidth}
 use Rattle.tl_beat.specs.declared.beat.Beat.{Beat}
-use Rattle.tl_beat.specs.declared.opcode.Channel.{Channel}
-use Rattle.tl_beat.specs.declared.opcode.Channel.TheVariants as channel
+use Rattle.tl_beat.specs.declared.channel.Channel.{Channel}
+use Rattle.tl_beat.specs.declared.channel.Channel.TheVariants as channel
 use Rattle.tl_burst.specs.declared.message.Message.{Message}
 use Rattle.tl_burst.specs.declared.message.Message.TheVariants as message
 use Rattle.tl_burst.specs.declared.message.MessageA.{MessageA}
@@ -22,7 +22,8 @@ use Rattle.tl_world.specs.Invariant.{cap_asked}
 use Rattle.tl_world.specs.Log.{Log}
 use Rattle.tl_world.specs.Phase.{Pair, Acquiring, Wants}
 use Rattle.tl_world.specs.PhaseSteps.{after_probe, after_release_ack, is_granted_data}
-use Rattle.tl_world.specs.Protocol.{Service, Block, State, token, tokens_on, is_on, is_probed, probed_block, probe_taken, let_go_block, release_ack_taken, release_taken, acquire_served, acquire_granted}
+use Rattle.tl_world.specs.Protocol.{Service, Block, State, token, tokens_on, is_on, is_probed, probed_block, probe_taken, let_go_block, release_ack_taken}
+use Rattle.tl_world.specs.Protocol.{release_taken, acquire_served, acquire_granted}
 use Rattle.tl_world.specs.Render.{cap_sent, prune_told, rendered, message_of_kind}
 use Rattle.tl_world.specs.System.{System}
 use Rattle.tl_world.specs.Token.{Kind, Request, Acquire, Probe, ProbeAck, Release, Answer, Grant, ReleaseAck, GrantAck, Token}
@@ -48,7 +49,9 @@ use Rattle.tl_world.proofs.RequestsTaken.{acquire_wanted}
 use Rattle.tl_world.proofs.Tokens.{set-same, set-part}
 use Rattle.tl_world.proofs.Popped.{unfinished_at}
 
-module _ {w : ℕ} (config : Config) (log : Log w) (h : Shadow w) (sys : System w) (c : ℕ) (width : IsWidth w) (is : IsMatched config log h.mail h.request h.state sys) (tracker : ℕ) (t : History w) (flowed : IsFlowed (asked_by h.mail h.state c) (unfinished_at sys c) c h.state t) (rest' : Channel → List (Beat w)) where
+module _ {w : ℕ} (config : Config) (log : Log w) (h : Shadow w) (sys : System w) (c : ℕ) (width : IsWidth w)
+    (is : IsMatched config log h.mail h.request h.state sys) (tracker : ℕ) (t : History w)
+    (flowed : IsFlowed (asked_by h.mail h.state c) (unfinished_at sys c) c h.state t) (rest' : Channel → List (Beat w)) where
   abbrev s : State (List ℕ)
   s = h.state
 
@@ -60,7 +63,8 @@ module _ {w : ℕ} (config : Config) (log : Log w) (h : Shadow w) (sys : System 
     -- after the beat, which was the last of its message or not
     abbrev Goes : Channel → Kind → Type 0
     Goes ch k =
-        tokens_on ch (h.state.link c) ≡ token k i ∷ toks → IsNext x (unfinished_at sys c ch) (message_of_kind k h.mail h.state c i) ms queue → (b : Bool) → completes x (unfinished_at sys c ch) ≡ b → (b ≡ true → IsReady tracker c k i h)
+        tokens_on ch (h.state.link c) ≡ token k i ∷ toks → IsNext x (unfinished_at sys c ch) (message_of_kind k h.mail h.state c i) ms queue → (b : Bool)
+        → completes x (unfinished_at sys c ch) ≡ b → (b ≡ true → IsReady tracker c k i h)
         → FlowsWith x (if b then kind_taken config tracker c k i toks h else h)
 
     contrary : {A : Type 0} (b : Bool) → b ≡ true → b ≡ false → A
@@ -68,7 +72,8 @@ module _ {w : ℕ} (config : Config) (log : Log w) (h : Shadow w) (sys : System 
 
     -- what of channel D's first message was delivered stays
     d_same : (m : Message w) (k : ℕ) → x ≡ beat_of m k → on channel.D (beat_of m k) ≡ false → rest' channel.D ≡ unfinished_at sys c channel.D
-    d_same m k e off = rests channel.D ∙ ap (λ (z : Beat w). if on channel.D z then grown x (unfinished_at sys c channel.D) else unfinished_at sys c channel.D) e ∙ ap (λ (b : Bool). if b then grown x (unfinished_at sys c channel.D) else unfinished_at sys c channel.D) off
+    d_same m k e off = rests channel.D ∙ ap (λ (z : Beat w). if on channel.D z then grown x (unfinished_at sys c channel.D) else unfinished_at sys c channel.D)
+        e ∙ ap (λ (b : Bool). if b then grown x (unfinished_at sys c channel.D) else unfinished_at sys c channel.D) off
 
     -- ---- channel A
 
@@ -87,9 +92,11 @@ module _ {w : ℕ} (config : Config) (log : Log w) (h : Shadow w) (sys : System 
             let told = r refl in
             let same : told.0 ≡ asked.request = (let both : message.A told.0 ≡ message.A asked.request = sym told.1 ∙ asked.is_it in cc) in
             let left : Leaves c h (request_taken (length config.clients.items) c i (message.A asked.request) tracker toks h) =
-            subst (λ (m : Message w). Leaves c h (request_taken (length config.clients.items) c i m tracker toks h)) asked.is_it (leaves-at_manager (is_caching config) config tracker c Request i toks h c refl is.invariant tokens) in
+            subst (λ (m : Message w). Leaves c h (request_taken (length config.clients.items) c i m tracker toks h)) asked.is_it
+            (leaves-at_manager (is_caching config) config tracker c Request i toks h c refl is.invariant tokens) in
             subst (λ (m : Message w). FlowsWith x (request_taken (length config.clients.items) c i m tracker toks h)) (sym asked.is_it)
-            (settled-request config log h sys c is tracker c rest' (d_same (message.A asked.request) here.k here.beat_is refl) (x ∷ t) i asked.request toks (ap (λ (m : MessageA w). (s.block (block_at m.address)).service) (sym same) ∙ told.3) told.4 left
+            (settled-request config log h sys c is tracker c rest' (d_same (message.A asked.request) here.k here.beat_is refl) (x ∷ t) i asked.request toks
+            (ap (λ (m : MessageA w). (s.block (block_at m.address)).service) (sym same) ∙ told.3) told.4 left
             (own-access config log h sys c is t flowed rest' i asked x ms queue here rests true e))
 
     goes-acquire : Goes channel.A Acquire
@@ -107,27 +114,33 @@ module _ {w : ℕ} (config : Config) (log : Log w) (h : Shadow w) (sys : System 
         one : completes x (unfinished_at sys c channel.A) ≡ true
         one = (one-beat (message.A m) x (unfinished_at sys c channel.A) ms queue here (acquisition_beats w wanted.whole wanted.grow ((s.block i).source c) i)).2
 
-        taken : IsReady tracker c Acquire i h → Leaves c h (acquire_taken (length config.clients.items) config.profile c i (Wants wanted.whole wanted.grow) tracker toks h) → FlowsWith x (acquire_taken (length config.clients.items) config.profile c i (Wants wanted.whole wanted.grow) tracker toks h)
+        taken : IsReady tracker c Acquire i h → Leaves c h
+            (acquire_taken (length config.clients.items) config.profile c i (Wants wanted.whole wanted.grow) tracker toks h)
+            → FlowsWith x (acquire_taken (length config.clients.items) config.profile c i (Wants wanted.whole wanted.grow) tracker toks h)
         taken r = either (some_below (length config.clients.items) (λ d. is_probed c true (cap_asked (Wants wanted.whole wanted.grow)) ((s.block i).pair d).recorded d))
           where
             served : State (List ℕ)
             served = acquire_served c i ((s.block i).source c) tracker (cap_asked (Wants wanted.whole wanted.grow)) toks s
 
             granted : State (List ℕ)
-            granted = acquire_granted c i tracker (is_granted_data wanted.whole wanted.grow ((s.block i).pair c).recorded) (gift config.profile wanted.whole wanted.grow (is_unheld (length config.clients.items) (s.block i).pair)) toks s
+            granted = acquire_granted c i tracker (is_granted_data wanted.whole wanted.grow ((s.block i).pair c).recorded)
+                (gift config.profile wanted.whole wanted.grow (is_unheld (length config.clients.items) (s.block i).pair)) toks s
 
             either : (z : Bool) → Leaves c h (with_state (if z then served else granted) h) → FlowsWith x (with_state (if z then served else granted) h)
             either true l =
-                own-acquire_served config log h sys c is t flowed rest' i wanted r.0 tracker r.1 (asked_by h.mail served c) (asks-left c h (with_state served h) l) (cap_asked (Wants wanted.whole wanted.grow)) toks x ms queue here rests
+                own-acquire_served config log h sys c is t flowed rest' i wanted r.0 tracker r.1 (asked_by h.mail served c)
+                (asks-left c h (with_state served h) l) (cap_asked (Wants wanted.whole wanted.grow)) toks x ms queue here rests
             either false l =
-                own-acquire_granted config log h sys c is t flowed rest' i wanted r.0 tracker r.1 (asked_by h.mail granted c) (asks-left c h (with_state granted h) l) (is_granted_data wanted.whole wanted.grow ((s.block i).pair c).recorded)
+                own-acquire_granted config log h sys c is t flowed rest' i wanted r.0 tracker r.1 (asked_by h.mail granted c)
+                (asks-left c h (with_state granted h) l) (is_granted_data wanted.whole wanted.grow ((s.block i).pair c).recorded)
                 (gift config.profile wanted.whole wanted.grow (is_unheld (length config.clients.items) (s.block i).pair)) toks x ms queue here rests
 
         go : (z : Bool) → completes x (unfinished_at sys c channel.A) ≡ z → (z ≡ true → IsReady tracker c Acquire i h) → FlowsWith x (if z then kind_taken config tracker c Acquire i toks h else h)
         go false e r = contrary (completes x (unfinished_at sys c channel.A)) one e
         go true e r =
             subst (λ (a : Acquiring). FlowsWith x (acquire_taken (length config.clients.items) config.profile c i a tracker toks h)) (sym wanted.wants)
-            (taken (r refl) (subst (λ (a : Acquiring). Leaves c h (acquire_taken (length config.clients.items) config.profile c i a tracker toks h)) wanted.wants (leaves-at_manager (is_caching config) config tracker c Acquire i toks h c refl is.invariant tokens)))
+            (taken (r refl) (subst (λ (a : Acquiring). Leaves c h (acquire_taken (length config.clients.items) config.profile c i a tracker toks h))
+            wanted.wants (leaves-at_manager (is_caching config) config tracker c Acquire i toks h c refl is.invariant tokens)))
 
     -- ---- channel B
 
@@ -166,7 +179,8 @@ module _ {w : ℕ} (config : Config) (log : Log w) (h : Shadow w) (sys : System 
         go : (z : Bool) → completes x (unfinished_at sys c channel.C) ≡ z → FlowsWith x (if z then kind_taken config tracker c ProbeAck i toks h else h)
         go false e = own-report config log h sys c width is t flowed rest' i toks tokens x ms queue next rests false e
         go true e =
-            settled-report config log h sys c is tracker c rest' (d_same (message.C about.0) here.k here.beat_is refl) (x ∷ t) i toks tokens (leaves-at_manager (is_caching config) config tracker c ProbeAck i toks h c refl is.invariant tokens)
+            settled-report config log h sys c is tracker c rest' (d_same (message.C about.0) here.k here.beat_is refl) (x ∷ t) i toks tokens
+            (leaves-at_manager (is_caching config) config tracker c ProbeAck i toks h c refl is.invariant tokens)
             (own-report config log h sys c width is t flowed rest' i toks tokens x ms queue next rests true e)
 
     goes-release : Goes channel.C Release
@@ -178,7 +192,8 @@ module _ {w : ℕ} (config : Config) (log : Log w) (h : Shadow w) (sys : System 
         go : (z : Bool) → completes x (unfinished_at sys c channel.C) ≡ z → FlowsWith x (if z then kind_taken config tracker c Release i toks h else h)
         go false e = own-release config log h sys c width is t flowed rest' i toks tokens x ms queue next rests false e
         go true e =
-            flowed-asks (asked_by h.mail s c) (asked_by h.mail after c) rest' c after (x ∷ t) (asks-left c h (with_state after h) (leaves-at_manager (is_caching config) config tracker c Release i toks h c refl is.invariant tokens))
+            flowed-asks (asked_by h.mail s c) (asked_by h.mail after c) rest' c after (x ∷ t)
+            (asks-left c h (with_state after h) (leaves-at_manager (is_caching config) config tracker c Release i toks h c refl is.invariant tokens))
             (own-release config log h sys c width is t flowed rest' i toks tokens x ms queue next rests true e)
 
     -- ---- channel D
@@ -199,7 +214,8 @@ module _ {w : ℕ} (config : Config) (log : Log w) (h : Shadow w) (sys : System 
         go : (z : Bool) → completes x (unfinished_at sys c channel.D) ≡ z → FlowsWith x (if z then kind_taken config tracker c Grant i toks h else h)
         go false e = own-grant config log h sys c is t flowed rest' toks i tokens due (is_whole ((s.block i).pair c).acquiring) x ms queue next rests false e
         go true e =
-            subst (λ (q : Service). FlowsWith x (taken_by_client c i q toks h)) (sym due.service) (own-grant config log h sys c is t flowed rest' toks i tokens due (is_whole ((s.block i).pair c).acquiring) x ms queue next rests true e)
+            subst (λ (q : Service). FlowsWith x (taken_by_client c i q toks h)) (sym due.service)
+            (own-grant config log h sys c is t flowed rest' toks i tokens due (is_whole ((s.block i).pair c).acquiring) x ms queue next rests true e)
 
     goes-release_ack : Goes channel.D ReleaseAck
     goes-release_ack tokens next b last ready = go b last
@@ -228,7 +244,8 @@ module _ {w : ℕ} (config : Config) (log : Log w) (h : Shadow w) (sys : System 
         m = record { sink = (s.block i).tracker }
 
         one : completes x (unfinished_at sys c channel.E) ≡ true
-        one = (one-beat (message.E m) x (unfinished_at sys c channel.E) ms queue (subst (λ (z : Message w). IsNext x (unfinished_at sys c channel.E) z ms queue) (ack_rendered c i (s.block i)) next) refl).2
+        one = (one-beat (message.E m) x (unfinished_at sys c channel.E) ms queue
+            (subst (λ (z : Message w). IsNext x (unfinished_at sys c channel.E) z ms queue) (ack_rendered c i (s.block i)) next) refl).2
 
         go : (z : Bool) → completes x (unfinished_at sys c channel.E) ≡ z → FlowsWith x (if z then kind_taken config tracker c GrantAck i toks h else h)
         go false e = contrary (completes x (unfinished_at sys c channel.E)) one e

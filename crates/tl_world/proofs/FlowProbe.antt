@@ -6,8 +6,8 @@ use Rattle.tl_beat.specs.declared.beat.Beat.{Beat}
 use Rattle.tl_beat.specs.declared.beat.Beat.TheVariants as beat
 use Rattle.tl_beat.specs.declared.beat.BeatA.{BeatA}
 use Rattle.tl_beat.specs.declared.beat.BeatB.{BeatB}
-use Rattle.tl_beat.specs.declared.opcode.Channel.{Channel}
-use Rattle.tl_beat.specs.declared.opcode.Channel.TheVariants as channel
+use Rattle.tl_beat.specs.declared.channel.Channel.{Channel}
+use Rattle.tl_beat.specs.declared.channel.Channel.TheVariants as channel
 use Rattle.tl_burst.specs.Messages.{History}
 use Rattle.tl_params.specs.declared.param.Cap.{Cap}
 use Rattle.tl_rules.specs.Conformance.{comes_in_grant}
@@ -56,11 +56,13 @@ flowed-probe {w} {X} c n k toks asked asked' rest rest' s t first last rests ask
           ∙ sym (ap (λ (v : View). if is_granting v then (b.pair c).held else (b.pair c).recorded) seen));
       requests = requests;
       asked_is = λ i e. request_of-b i y t ∙ before.asked_is i (before.requests i ∙ sym (requests i) ∙ e) ∙ sym (asks i);
-      acquires = set-part (acquired_by c) n new s.block (ap (λ (z : Bool). z && not (is_unserved (view b.service c))) (part_of (λ (p : Pair). is_wanting p.acquiring) c (after_probe k (b.pair c)) b.pair refl));
+      acquires = set-part (acquired_by c) n new s.block (ap (λ (z : Bool). z && not (is_unserved (view b.service c)))
+          (part_of (λ (p : Pair). is_wanting p.acquiring) c (after_probe k (b.pair c)) b.pair refl));
       release_sources = lets;
       released = λ i m e f. ap (option_map (λ z. block_at z.address)) (released-of i y t) ∙ before.released i m e (before.release_sources i ∙ sym (lets i) ∙ f);
       sizes = λ i m e f. ap (option_map (λ z. z.size)) (released-of i y t) ∙ before.sizes i m e (before.release_sources i ∙ sym (lets i) ∙ f);
-      releases = λ m. ap (λ (r : List (Beat w)). let_of c r (s'.block m)) (rests channel.C) ∙ set-part (let_of c (rest channel.C)) n new s.block (ap (is_let (b.release_source c) (rest channel.C)) letting_same) m;
+      releases = λ m. ap (λ (r : List (Beat w)). let_of c r (s'.block m)) (rests channel.C)
+          ∙ set-part (let_of c (rest channel.C)) n new s.block (ap (is_let (b.release_source c) (rest channel.C)) letting_same) m;
       sinks = λ i. ap (λ (r : List (Beat w)). is_sunk c i r (s.tracked i) s') (rests channel.D) ∙ sunk_same i (s.tracked i);
       grants = grants;
       probes = set-each (λ m z. is_answered (z.pair c).probing ≡ step true true (block_at (64 * n) == m) false (is_answered ((s.block m).pair c).probing)) n new s.block
@@ -100,7 +102,8 @@ flowed-probe {w} {X} c n k toks asked asked' rest rest' s t first last rests ask
 
     sunk_same : (i : ℕ) (o : Option ℕ) → is_sunk c i (rest channel.D) o s' ≡ is_sunk c i (rest channel.D) o s
     sunk_same i None = refl
-    sunk_same i (Some m) = ap (λ (q : Service). is_acknowledging (view q c) || (is_granting (view q c) && comes_in_grant i (rest channel.D))) (set-part (λ (z : Block X). z.service) n new s.block refl m)
+    sunk_same i (Some m) = ap (λ (q : Service). is_acknowledging (view q c) || (is_granting (view q c) && comes_in_grant i (rest channel.D)))
+        (set-part (λ (z : Block X). z.service) n new s.block refl m)
 
     grants : (m : ℕ) → granted_by c m asked' (rest' channel.D) (s'.block m) ≡ granted_by c m asked (rest channel.D) (s.block m)
     grants m =

@@ -4,8 +4,8 @@ use Rattle.std.specs.Prelude.{◌==◌, if◌then◌else◌}
 use Rattle.tl_beat.specs.declared.beat.Beat.{Beat}
 use Rattle.tl_beat.specs.declared.beat.Beat.TheVariants as beat
 use Rattle.tl_beat.specs.declared.beat.BeatA.{BeatA}
-use Rattle.tl_beat.specs.declared.opcode.Channel.{Channel}
-use Rattle.tl_beat.specs.declared.opcode.Channel.TheVariants as channel
+use Rattle.tl_beat.specs.declared.channel.Channel.{Channel}
+use Rattle.tl_beat.specs.declared.channel.Channel.TheVariants as channel
 use Rattle.tl_burst.specs.declared.message.Message.{Message}
 use Rattle.tl_burst.specs.Messages.{History}
 use Rattle.tl_burst.specs.Part.{is_empty, completes}
@@ -79,7 +79,9 @@ waited_as k (GrantTaken r) c e = absurd (go (c == r) e)
     go true f = cc
     go false f = cc
 
-module _ {w : ℕ} (config : Config) (log : Log w) (h : Shadow w) (sys : System w) (c : ℕ) (is : IsMatched config log h.mail h.request h.state sys) (t : History w) (flowed : IsFlowed (asked_by h.mail h.state c) (unfinished_at sys c) c h.state t) (rest' : Channel → List (Beat w)) (toks : List Token) where
+module _ {w : ℕ} (config : Config) (log : Log w) (h : Shadow w) (sys : System w) (c : ℕ) (is : IsMatched config log h.mail h.request h.state sys)
+    (t : History w) (flowed : IsFlowed (asked_by h.mail h.state c) (unfinished_at sys c) c h.state t) (rest' : Channel → List (Beat w))
+    (toks : List Token) where
   abbrev s : State (List ℕ)
   s = h.state
 
@@ -88,11 +90,14 @@ module _ {w : ℕ} (config : Config) (log : Log w) (h : Shadow w) (sys : System 
 
   -- ---- a Probe
 
-  pub own-probe : (n : ℕ) → (s.link c).b ≡ token Probe n ∷ toks → (x : Beat w) (ms : List (Message w)) (queue : List (Beat w)) → IsNext x (unfinished_at sys c channel.B) (rendered Probe c n (s.block n)) ms queue → AreRests x (unfinished_at sys c) rest'
+  pub own-probe : (n : ℕ) → (s.link c).b ≡ token Probe n ∷ toks → (x : Beat w) (ms : List (Message w)) (queue : List (Beat w))
+      → IsNext x (unfinished_at sys c channel.B) (rendered Probe c n (s.block n)) ms queue → AreRests x (unfinished_at sys c) rest'
       → (asked' : ℕ → Option (BeatA w)) → ((i : ℕ) → asked' i ≡ before i) → IsFlowed asked' rest' c (probe_taken c n (cap_sent ((s.block n).pair c).probing) toks s) (x ∷ t)
   own-probe n tokens x ms queue next rests asked' asks =
       subst (λ (z : Beat w). IsFlowed asked' rest' c (probe_taken c n k toks s) (z ∷ t)) (sym x_is)
-      (flowed-probe c n k toks before asked' (unfinished_at sys c) rest' s t (ap is_empty (flowed.rest_is channel.B ∙ whole)) (ap (completes {w = w} (beat.B (probe_beat n k))) (flowed.rest_is channel.B ∙ whole)) (subst (λ (z : Beat w). AreRests z (unfinished_at sys c) rest') x_is rests) asks
+      (flowed-probe c n k toks before asked' (unfinished_at sys c) rest' s t (ap is_empty (flowed.rest_is channel.B ∙ whole))
+      (ap (completes {w = w} (beat.B (probe_beat n k))) (flowed.rest_is channel.B ∙ whole))
+      (subst (λ (z : Beat w). AreRests z (unfinished_at sys c) rest') x_is rests) asks
       (same_block n) seen (waited_as k (s.block n).service c seen) (λ m. comes-same m before asked' (unfinished_at sys c channel.D) asks) flowed)
     where
       k : Cap

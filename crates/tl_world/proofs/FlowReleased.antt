@@ -6,8 +6,8 @@ use Rattle.tl_beat.specs.declared.beat.Beat.{Beat}
 use Rattle.tl_beat.specs.declared.beat.Beat.TheVariants as beat
 use Rattle.tl_beat.specs.declared.beat.BeatA.{BeatA}
 use Rattle.tl_beat.specs.declared.beat.BeatC.{BeatC}
-use Rattle.tl_beat.specs.declared.opcode.Channel.{Channel}
-use Rattle.tl_beat.specs.declared.opcode.Channel.TheVariants as channel
+use Rattle.tl_beat.specs.declared.channel.Channel.{Channel}
+use Rattle.tl_beat.specs.declared.channel.Channel.TheVariants as channel
 use Rattle.tl_burst.specs.Messages.{History}
 use Rattle.tl_params.specs.declared.key.Key.TheVariants.{ReleaseSource}
 use Rattle.tl_params.specs.declared.param.Prune.{Prune}
@@ -110,7 +110,8 @@ let_other i rest rest' (Releasing r) h = h refl
 let_other i rest rest' Acked h = refl
 
 -- the last Release with the source of the beat, and with another one
-of_source : {w : ℕ} {A : Type 0} (part : BeatC w → A) (v : A) (i : ℕ) (y : BeatC w) (t : History w) (first : Bool) → begins (beat.C y) t ≡ first → is_release y.opcode ≡ true → (y.source == i) ≡ true → part y ≡ v
+of_source : {w : ℕ} {A : Type 0} (part : BeatC w → A) (v : A) (i : ℕ) (y : BeatC w) (t : History w) (first : Bool) → begins (beat.C y) t ≡ first
+    → is_release y.opcode ≡ true → (y.source == i) ≡ true → part y ≡ v
     → (first ≡ false → option_map part (release_of i t) ≡ Some v) → option_map part (release_of i (beat.C y ∷ t)) ≡ Some v
 unfolding release_of
 of_source part v i y t true e f g h before = rw (e, f, g) (ap Some h)
@@ -130,15 +131,19 @@ both_some n m None e f = absurd cc
 both_some n m (Some i) e f = let g : Some n ≡ Some m = sym e ∙ f in cc
 
 pub flowed-release : {w : ℕ} {X : Type 0} (c n : ℕ) (r : Prune) (y : BeatC w) (first last : Bool) (asked : ℕ → Option (BeatA w)) (rest rest' : Channel → List (Beat w)) (s s' : State X) (t : History w)
-    → begins (beat.C y) t ≡ first → ends (beat.C y) t ≡ last → AreRests (beat.C y) rest rest' → ((i m : ℕ) → is_of m (s.lets c i) ≡ releases_with c i (s.block m)) → IsReleased c n r y first last rest rest' s s'
+    → begins (beat.C y) t ≡ first → ends (beat.C y) t ≡ last → AreRests (beat.C y) rest rest'
+    → ((i m : ℕ) → is_of m (s.lets c i) ≡ releases_with c i (s.block m)) → IsReleased c n r y first last rest rest' s s'
     → IsFlowed asked rest c s t → IsFlowed asked rest' c s' (beat.C y ∷ t)
 flowed-release {w} {X} c n r y first last asked rest rest' s s' t first_is last_is rests named is before =
     flowed-next (beat.C y) first last asked asked rest rest' c s s' t (record {
       first_is = first_is;
       last_is = last_is;
       rests = rests;
-      held_is = each-block (λ m z. held_by c z ≡ (if last then unwrap_or (if (is_probe_ack y.opcode || is_release y.opcode) && (block_at y.address == m) then Some (reported y.param) else None) (held_by c (s.block m)) else held_by c (s.block m))) n s s' is.elsewhere
-          (is.held_is ∙ ap (λ (q : Perm). if last then q else held_by c b) (sym is.says) ∙ sym (said last (is_probe_ack y.opcode) (is_release y.opcode) (block_at y.address == n) (reported y.param) (held_by c b) is.release here_at))
+      held_is = each-block (λ m z. held_by c z ≡ (if last then unwrap_or
+          (if (is_probe_ack y.opcode || is_release y.opcode) && (block_at y.address == m) then Some (reported y.param) else None)
+          (held_by c (s.block m)) else held_by c (s.block m))) n s s' is.elsewhere
+          (is.held_is ∙ ap (λ (q : Perm). if last then q else held_by c b) (sym is.says)
+          ∙ sym (said last (is_probe_ack y.opcode) (is_release y.opcode) (block_at y.address == n) (reported y.param) (held_by c b) is.release here_at))
           (λ m ne. sym (unsaid_any last (is_probe_ack y.opcode) (is_release y.opcode) (block_at y.address == m) (reported y.param) (held_by c (s.block m)) (apart m ne)));
       requests = λ i. requests i ∙ sym (step_quiet first last (is_requested c i (rest channel.A) (s.uses c i) s));
       asked_is = λ i e. request_of-c i y t ∙ before.asked_is i (before.requests i ∙ sym (requests i) ∙ e);
@@ -147,13 +152,16 @@ flowed-release {w} {X} c n r y first last asked rest rest' s s' t first_is last_
       released = λ i m e f. released i m (sym (is.lets i) ∙ e) f (cases_eq i y.source);
       sizes = λ i m e f. sizes i m (sym (is.lets i) ∙ e) f (cases_eq i y.source);
       releases = each-block (λ m z. let_of c (rest' channel.C) z ≡ step first last (is_release y.opcode && (block_at y.address == m)) false (let_of c (rest channel.C) (s.block m))) n s s' is.elsewhere
-          (let_now (new.release_source c) last r (rest' channel.C) (new.pair c).letting is.letting_is (is.comes (new.release_source c) ∙ with_true (not last) (y.source == new.release_source c) (rw (is.release_source, is.source) (same_number (b.release_source c))))
+          (let_now (new.release_source c) last r (rest' channel.C) (new.pair c).letting is.letting_is
+          (is.comes (new.release_source c) ∙ with_true (not last) (y.source == new.release_source c)
+          (rw (is.release_source, is.source) (same_number (b.release_source c))))
           ∙ sym (opened first last (is_release y.opcode) (block_at y.address == n) (let_of c (rest channel.C) b) is.release here_at then_here))
           (λ m ne. let_rest m ne ∙ sym (unopened first last (is_release y.opcode) (block_at y.address == m) (let_of c (rest channel.C) (s.block m)) (apart m ne)));
       sinks = λ i. sinks i ∙ sym (step_quiet first last (is_sunk c i (rest channel.D) (s.tracked i) s));
       grants = λ m. grants m ∙ sym (step_quiet first last (granted_by c m asked (rest channel.D) (s.block m)));
       probes = λ m. answered m ∙ sym (not_closed m);
-      probed = λ m e. probe_of-c m y t ∙ before.probed m (sym (answered m) ∙ e) ∙ sym (ap (λ k. Some (probe_beat m k)) (part-block (λ (z : Block X). cap_waited z.service) n s s' is.elsewhere (ap cap_waited is.service) m));
+      probed = λ m e. probe_of-c m y t ∙ before.probed m (sym (answered m) ∙ e)
+          ∙ sym (ap (λ k. Some (probe_beat m k)) (part-block (λ (z : Block X). cap_waited z.service) n s s' is.elsewhere (ap cap_waited is.service) m));
       sunk = λ m e. sunk-of m y t ∙ before.sunk m (before.grants m ∙ sym (grants m) ∙ e) ∙ ap Some (sym (part-block (λ (z : Block X). z.tracker) n s s' is.elsewhere is.tracker m));
     }) before
   where
@@ -170,7 +178,8 @@ flowed-release {w} {X} c n r y first last asked rest rest' s s' t first_is last_
     apart m ne = rw is.at (ne_eqb n m (λ e. ne (sym e)))
 
     then_here : let_of c (rest channel.C) b ≡ not first
-    then_here = let_then (b.release_source c) first r (rest channel.C) (b.pair c).letting is.letting (is.came (b.release_source c) ∙ with_true (not first) (y.source == b.release_source c) (rw is.source (same_number (b.release_source c))))
+    then_here = let_then (b.release_source c) first r (rest channel.C) (b.pair c).letting is.letting
+        (is.came (b.release_source c) ∙ with_true (not first) (y.source == b.release_source c) (rw is.source (same_number (b.release_source c))))
 
     -- the source is that of the block's Release, and of no other
     of_block : (i : ℕ) → i ≡ y.source → s.lets c i ≡ Some n
@@ -190,15 +199,19 @@ flowed-release {w} {X} c n r y first last asked rest rest' s s' t first_is last_
 
     let_rest : (m : ℕ) → (m ≡ n → ⊥) → let_of c (rest' channel.C) (s.block m) ≡ let_of c (rest channel.C) (s.block m)
     let_rest m ne =
-        let_other ((s.block m).release_source c) (rest channel.C) (rest' channel.C) ((s.block m).pair c).letting (λ begun. comes_other ((s.block m).release_source c) (open_other m ne ((s.block m).release_source c) refl begun))
+        let_other ((s.block m).release_source c) (rest channel.C) (rest' channel.C) ((s.block m).pair c).letting
+        (λ begun. comes_other ((s.block m).release_source c) (open_other m ne ((s.block m).release_source c) refl begun))
 
     requests : (i : ℕ) → is_requested c i (rest' channel.A) (s'.uses c i) s' ≡ is_requested c i (rest channel.A) (s.uses c i) s
     requests i =
         ap (λ (l : List (Beat w)). is_requested c i l (s'.uses c i) s') (rests channel.A) ∙ ap (λ u. is_requested c i (rest channel.A) u s') (is.uses i)
-        ∙ requested-blocks c i (rest channel.A) (s.uses c i) s s' (part-block (λ (z : Block X). is_unserved (view z.service c)) n s s' is.elsewhere (ap (λ (q : Service). is_unserved (view q c)) is.service))
+        ∙ requested-blocks c i (rest channel.A) (s.uses c i) s s'
+        (part-block (λ (z : Block X). is_unserved (view z.service c)) n s s' is.elsewhere (ap (λ (q : Service). is_unserved (view q c)) is.service))
 
     acquires : (m : ℕ) → acquired_by c (s'.block m) ≡ acquired_by c (s.block m)
-    acquires = part-block (acquired_by c) n s s' is.elsewhere (ap (λ (l : Acquiring). is_wanting l && not (is_unserved (view new.service c))) is.acquiring ∙ ap (λ (q : Service). is_wanting (b.pair c).acquiring && not (is_unserved (view q c))) is.service)
+    acquires = part-block (acquired_by c) n s s' is.elsewhere
+        (ap (λ (l : Acquiring). is_wanting l && not (is_unserved (view new.service c))) is.acquiring
+        ∙ ap (λ (q : Service). is_wanting (b.pair c).acquiring && not (is_unserved (view q c))) is.service)
 
     answered : (m : ℕ) → is_answered ((s'.block m).pair c).probing ≡ is_answered ((s.block m).pair c).probing
     answered = part-block (λ (z : Block X). is_answered (z.pair c).probing) n s s' is.elsewhere (ap is_answered is.probing)
@@ -211,24 +224,29 @@ flowed-release {w} {X} c n r y first last asked rest rest' s s' t first_is last_
       where
         same : (o : Option ℕ) → is_sunk c i (rest channel.D) o s' ≡ is_sunk c i (rest channel.D) o s
         same None = refl
-        same (Some m) = ap (λ (q : Service). is_acknowledging (view q c) || (is_granting (view q c) && comes_in_grant i (rest channel.D))) (part-block (λ (z : Block X). z.service) n s s' is.elsewhere is.service m)
+        same (Some m) = ap (λ (q : Service). is_acknowledging (view q c) || (is_granting (view q c) && comes_in_grant i (rest channel.D)))
+            (part-block (λ (z : Block X). z.service) n s s' is.elsewhere is.service m)
 
     grants : (m : ℕ) → granted_by c m asked (rest' channel.D) (s'.block m) ≡ granted_by c m asked (rest channel.D) (s.block m)
-    grants m = ap (λ (l : List (Beat w)). granted_by c m asked l (s'.block m)) (rests channel.D) ∙ part-block (granted_by c m asked (rest channel.D)) n s s' is.elsewhere (ap (λ (q : Service). is_acknowledging (view q c) || comes_granting m asked (rest channel.D)) is.service) m
+    grants m = ap (λ (l : List (Beat w)). granted_by c m asked l (s'.block m)) (rests channel.D)
+        ∙ part-block (granted_by c m asked (rest channel.D)) n s s' is.elsewhere
+        (ap (λ (q : Service). is_acknowledging (view q c) || comes_granting m asked (rest channel.D)) is.service) m
 
     then_by : (i : ℕ) (o : Option ℕ) → s.lets c i ≡ o → i ≡ y.source → is_let_by c i (rest channel.C) o s ≡ not first
     then_by i o e same =
         ap (λ p. is_let_by c i (rest channel.C) p s) (sym e ∙ of_block i same)
         ∙ let_then i first r (rest channel.C) (b.pair c).letting is.letting (is.came i ∙ with_true (not first) (y.source == i) (rw same (same_number y.source)))
 
-    lets_with : (i : ℕ) (o : Option ℕ) → s.lets c i ≡ o → (i ≡ y.source) ⊎ (i ≡ y.source → ⊥) → is_let_by c i (rest' channel.C) o s' ≡ step first last (is_release y.opcode && (y.source == i)) false (is_let_by c i (rest channel.C) o s)
+    lets_with : (i : ℕ) (o : Option ℕ) → s.lets c i ≡ o → (i ≡ y.source) ⊎ (i ≡ y.source → ⊥)
+        → is_let_by c i (rest' channel.C) o s' ≡ step first last (is_release y.opcode && (y.source == i)) false (is_let_by c i (rest channel.C) o s)
     lets_with i o e (inl same) =
         ap (λ p. is_let_by c i (rest' channel.C) p s') (sym e ∙ of_block i same)
         ∙ let_now i last r (rest' channel.C) (new.pair c).letting is.letting_is (is.comes i ∙ with_true (not last) (y.source == i) (rw same (same_number y.source)))
         ∙ sym (opened first last (is_release y.opcode) (y.source == i) (is_let_by c i (rest channel.C) o s) is.release (rw same (same_number y.source)) (then_by i o e same))
     lets_with i None e (inr ne) = sym (unopened first last (is_release y.opcode) (y.source == i) false (another i ne))
     lets_with i (Some m) e (inr ne) =
-        ap (λ (z : Block X). is_let i (rest' channel.C) (z.pair c).letting) (is.elsewhere m (λ f. let g : (n == n) ≡ false = sym (rw (e, f) refl) ∙ of_no_block i ne in let h : true ≡ false = sym (same_number n) ∙ g in cc))
+        ap (λ (z : Block X). is_let i (rest' channel.C) (z.pair c).letting)
+        (is.elsewhere m (λ f. let g : (n == n) ≡ false = sym (rw (e, f) refl) ∙ of_no_block i ne in let h : true ≡ false = sym (same_number n) ∙ g in cc))
         ∙ let_other i (rest channel.C) (rest' channel.C) ((s.block m).pair c).letting (λ begun. comes_other i ne)
         ∙ sym (unopened first last (is_release y.opcode) (y.source == i) (is_let i (rest channel.C) ((s.block m).pair c).letting) (another i ne))
 
@@ -241,11 +259,14 @@ flowed-release {w} {X} c n r y first last asked rest rest' s s' t first_is last_
     still_pending : (i : ℕ) → (i ≡ y.source → ⊥) → is_let_by c i (rest' channel.C) (s'.lets c i) s' ≡ true → pending (ReleaseSource i) t ≡ true
     still_pending i ne f = before.release_sources i ∙ sym (unopened first last (is_release y.opcode) (y.source == i) (is_let_by c i (rest channel.C) (s.lets c i) s) (another i ne)) ∙ sym (lets i) ∙ f
 
-    released : (i m : ℕ) → s.lets c i ≡ Some m → is_let_by c i (rest' channel.C) (s'.lets c i) s' ≡ true → (i ≡ y.source) ⊎ (i ≡ y.source → ⊥) → option_map (λ z. block_at z.address) (release_of i (beat.C y ∷ t)) ≡ Some m
+    released : (i m : ℕ) → s.lets c i ≡ Some m → is_let_by c i (rest' channel.C) (s'.lets c i) s' ≡ true → (i ≡ y.source) ⊎ (i ≡ y.source → ⊥)
+        → option_map (λ z. block_at z.address) (release_of i (beat.C y ∷ t)) ≡ Some m
     released i m e f (inl same) =
-        of_source (λ z. block_at z.address) m i y t first first_is is.release (rw same (same_number y.source)) (is.at ∙ both_some n m (s.lets c i) (of_block i same) e) (λ g. before.released i m e (was_pending i same g))
+        of_source (λ z. block_at z.address) m i y t first first_is is.release (rw same (same_number y.source))
+        (is.at ∙ both_some n m (s.lets c i) (of_block i same) e) (λ g. before.released i m e (was_pending i same g))
     released i m e f (inr ne) = ap (option_map (λ z. block_at z.address)) (of_other i y t (another i ne)) ∙ before.released i m e (still_pending i ne f)
 
-    sizes : (i m : ℕ) → s.lets c i ≡ Some m → is_let_by c i (rest' channel.C) (s'.lets c i) s' ≡ true → (i ≡ y.source) ⊎ (i ≡ y.source → ⊥) → option_map (λ z. z.size) (release_of i (beat.C y ∷ t)) ≡ Some 6
+    sizes : (i m : ℕ) → s.lets c i ≡ Some m → is_let_by c i (rest' channel.C) (s'.lets c i) s' ≡ true → (i ≡ y.source) ⊎ (i ≡ y.source → ⊥)
+        → option_map (λ z. z.size) (release_of i (beat.C y ∷ t)) ≡ Some 6
     sizes i m e f (inl same) = of_source (λ z. z.size) 6 i y t first first_is is.release (rw same (same_number y.source)) is.size (λ g. before.sizes i m e (was_pending i same g))
     sizes i m e f (inr ne) = ap (option_map (λ z. z.size)) (of_other i y t (another i ne)) ∙ before.sizes i m e (still_pending i ne f)

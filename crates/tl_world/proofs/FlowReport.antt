@@ -5,8 +5,8 @@ use Rattle.tl_beat.specs.declared.beat.Beat.{Beat}
 use Rattle.tl_beat.specs.declared.beat.Beat.TheVariants as beat
 use Rattle.tl_beat.specs.declared.beat.BeatA.{BeatA}
 use Rattle.tl_beat.specs.declared.beat.BeatC.{BeatC}
-use Rattle.tl_beat.specs.declared.opcode.Channel.{Channel}
-use Rattle.tl_beat.specs.declared.opcode.Channel.TheVariants as channel
+use Rattle.tl_beat.specs.declared.channel.Channel.{Channel}
+use Rattle.tl_beat.specs.declared.channel.Channel.TheVariants as channel
 use Rattle.tl_burst.specs.Messages.{History}
 use Rattle.tl_rules.specs.Conformance.{comes_in_release}
 use Rattle.tl_rules.specs.History.{begins, ends, block_at, is_probe_ack, is_release, release_of, grant_sink}
@@ -34,7 +34,8 @@ let_rest i rest rest' Kept e = refl
 let_rest i rest rest' (Releasing r) e = e
 let_rest i rest rest' Acked e = refl
 
-pub let_by_rest : {w : ℕ} {X : Type 0} (c i : ℕ) (rest rest' : List (Beat w)) (o : Option ℕ) (s : State X) → comes_in_release i rest' ≡ comes_in_release i rest → is_let_by c i rest' o s ≡ is_let_by c i rest o s
+pub let_by_rest : {w : ℕ} {X : Type 0} (c i : ℕ) (rest rest' : List (Beat w)) (o : Option ℕ) (s : State X) → comes_in_release i rest' ≡ comes_in_release i rest
+    → is_let_by c i rest' o s ≡ is_let_by c i rest o s
 let_by_rest c i rest rest' None s e = refl
 let_by_rest c i rest rest' (Some n) s e = let_rest i rest rest' ((s.block n).pair c).letting e
 
@@ -47,7 +48,8 @@ unclosed false q p = refl
 
 -- a beat that isn't the last: nothing but what of the ProbeAck was delivered changes
 pub flowed-report_part : {w : ℕ} {X : Type 0} (c : ℕ) (y : BeatC w) (first : Bool) (asked : ℕ → Option (BeatA w)) (rest rest' : Channel → List (Beat w)) (s : State X) (t : History w)
-    → begins (beat.C y) t ≡ first → ends (beat.C y) t ≡ false → AreRests (beat.C y) rest rest' → is_release y.opcode ≡ false → ((i : ℕ) → comes_in_release i (rest' channel.C) ≡ comes_in_release i (rest channel.C))
+    → begins (beat.C y) t ≡ first → ends (beat.C y) t ≡ false → AreRests (beat.C y) rest rest' → is_release y.opcode ≡ false
+    → ((i : ℕ) → comes_in_release i (rest' channel.C) ≡ comes_in_release i (rest channel.C))
     → IsFlowed asked rest c s t → IsFlowed asked rest' c s (beat.C y ∷ t)
 flowed-report_part {w} {X} c y first asked rest rest' s t first_is last_is rests other comes before =
     flowed-next (beat.C y) first false asked asked rest rest' c s s t (record {
@@ -61,7 +63,9 @@ flowed-report_part {w} {X} c y first asked rest rest' s t first_is last_is rests
       release_sources = λ i. lets i ∙ sym (unopened first false (is_release y.opcode) (y.source == i) (is_let_by c i (rest channel.C) (s.lets c i) s) other);
       released = λ i m e f. ap (option_map (λ z. block_at z.address)) (released-of i y t other) ∙ before.released i m e (before.release_sources i ∙ sym (lets i) ∙ f);
       sizes = λ i m e f. ap (option_map (λ z. z.size)) (released-of i y t other) ∙ before.sizes i m e (before.release_sources i ∙ sym (lets i) ∙ f);
-      releases = λ n. let_rest ((s.block n).release_source c) (rest channel.C) (rest' channel.C) ((s.block n).pair c).letting (comes ((s.block n).release_source c)) ∙ sym (unopened first false (is_release y.opcode) (block_at y.address == n) (let_of c (rest channel.C) (s.block n)) other);
+      releases = λ n. let_rest ((s.block n).release_source c) (rest channel.C) (rest' channel.C) ((s.block n).pair c).letting
+          (comes ((s.block n).release_source c)) ∙ sym (unopened first false (is_release y.opcode) (block_at y.address == n)
+          (let_of c (rest channel.C) (s.block n)) other);
       sinks = λ i. ap (λ (r : List (Beat w)). is_sunk c i r (s.tracked i) s) (rests channel.D) ∙ sym (step_quiet first false (is_sunk c i (rest channel.D) (s.tracked i) s));
       grants = λ n. grants n ∙ sym (step_quiet first false (granted_by c n asked (rest channel.D) (s.block n)));
       probes = λ n. sym (unclosed first (is_probe_ack y.opcode && (block_at y.address == n)) (is_answered ((s.block n).pair c).probing));

@@ -6,8 +6,8 @@ use Rattle.tl_beat.specs.declared.beat.Beat.{Beat}
 use Rattle.tl_beat.specs.declared.beat.Beat.TheVariants as beat
 use Rattle.tl_beat.specs.declared.beat.BeatA.{BeatA}
 use Rattle.tl_beat.specs.declared.beat.BeatC.{BeatC}
-use Rattle.tl_beat.specs.declared.opcode.Channel.{Channel}
-use Rattle.tl_beat.specs.declared.opcode.Channel.TheVariants as channel
+use Rattle.tl_beat.specs.declared.channel.Channel.{Channel}
+use Rattle.tl_beat.specs.declared.channel.Channel.TheVariants as channel
 use Rattle.tl_burst.specs.Messages.{History}
 use Rattle.tl_params.specs.declared.param.Report.{Report}
 use Rattle.tl_params.specs.declared.perm.Perm.{Perm}
@@ -48,8 +48,10 @@ unsaid false true here q p e = rw e refl
 unsaid false false here q p e = refl
 
 -- the state in which nothing but the report is taken
-pub flowed-report : {w : ℕ} {X : Type 0} (c n : ℕ) (r : Report) (toks : List Token) (y : BeatC w) (first : Bool) (asked : ℕ → Option (BeatA w)) (rest rest' : Channel → List (Beat w)) (s : State X) (t : History w)
-    → begins (beat.C y) t ≡ first → ends (beat.C y) t ≡ true → AreRests (beat.C y) rest rest' → is_probe_ack y.opcode ≡ true → is_release y.opcode ≡ false → ((i : ℕ) → comes_in_release i (rest' channel.C) ≡ comes_in_release i (rest channel.C))
+pub flowed-report : {w : ℕ} {X : Type 0} (c n : ℕ) (r : Report) (toks : List Token) (y : BeatC w) (first : Bool) (asked : ℕ → Option (BeatA w))
+    (rest rest' : Channel → List (Beat w)) (s : State X) (t : History w)
+    → begins (beat.C y) t ≡ first → ends (beat.C y) t ≡ true → AreRests (beat.C y) rest rest' → is_probe_ack y.opcode ≡ true → is_release y.opcode ≡ false
+    → ((i : ℕ) → comes_in_release i (rest' channel.C) ≡ comes_in_release i (rest channel.C))
     → block_at y.address ≡ n → reported y.param ≡ report_right r → is_granting (view (s.block n).service c) ≡ false
     → IsFlowed asked rest c s t → IsFlowed asked rest' c (report_taken c n r toks s) (beat.C y ∷ t)
 flowed-report {w} {X} c n r toks y first asked rest rest' s t first_is last_is rests ack other comes at says alone before =
@@ -57,8 +59,12 @@ flowed-report {w} {X} c n r toks y first asked rest rest' s t first_is last_is r
       first_is = first_is;
       last_is = last_is;
       rests = rests;
-      held_is = set-each (λ m z. held_by c z ≡ unwrap_or (if (is_probe_ack y.opcode || is_release y.opcode) && (block_at y.address == m) then Some (reported y.param) else None) (held_by c (s.block m))) n new s.block
-          (ap (λ (g : Bool). if g then (new.pair c).held else (new.pair c).recorded) alone ∙ recorded ∙ sym says ∙ sym (said (is_probe_ack y.opcode) (is_release y.opcode) (block_at y.address == n) (reported y.param) (held_by c b) ack (rw at (same_number n))))
+      held_is = set-each (λ m z. held_by c z ≡ unwrap_or
+          (if (is_probe_ack y.opcode || is_release y.opcode) && (block_at y.address == m) then Some (reported y.param) else None) (held_by c (s.block m))) n
+          new s.block
+          (ap (λ (g : Bool). if g then (new.pair c).held else (new.pair c).recorded) alone ∙ recorded ∙ sym says
+          ∙ sym (said (is_probe_ack y.opcode) (is_release y.opcode) (block_at y.address == n) (reported y.param) (held_by c b) ack
+          (rw at (same_number n))))
           (λ m ne. sym (unsaid (is_probe_ack y.opcode) (is_release y.opcode) (block_at y.address == m) (reported y.param) (held_by c (s.block m)) (apart m ne)));
       requests = λ i. requests i ∙ sym (step_quiet first true (is_requested c i (rest channel.A) (s.uses c i) s));
       asked_is = λ i e. request_of-c i y t ∙ before.asked_is i (before.requests i ∙ sym (requests i) ∙ e);
@@ -67,7 +73,8 @@ flowed-report {w} {X} c n r toks y first asked rest rest' s t first_is last_is r
       released = λ i m e f. ap (option_map (λ z. block_at z.address)) (released-of i y t other) ∙ before.released i m e (before.release_sources i ∙ sym (lets i) ∙ f);
       sizes = λ i m e f. ap (option_map (λ z. z.size)) (released-of i y t other) ∙ before.sizes i m e (before.release_sources i ∙ sym (lets i) ∙ f);
       releases = λ m. releases m ∙ sym (unopened first true (is_release y.opcode) (block_at y.address == m) (let_of c (rest channel.C) (s.block m)) other);
-      sinks = λ i. ap (λ (l : List (Beat w)). is_sunk c i l (s.tracked i) s') (rests channel.D) ∙ sunk_same i (s.tracked i) ∙ sym (step_quiet first true (is_sunk c i (rest channel.D) (s.tracked i) s));
+      sinks = λ i. ap (λ (l : List (Beat w)). is_sunk c i l (s.tracked i) s') (rests channel.D) ∙ sunk_same i (s.tracked i)
+          ∙ sym (step_quiet first true (is_sunk c i (rest channel.D) (s.tracked i) s));
       grants = λ m. grants m ∙ sym (step_quiet first true (granted_by c m asked (rest channel.D) (s.block m)));
       probes = set-each (λ m z. is_answered (z.pair c).probing ≡ step first true false (is_probe_ack y.opcode && (block_at y.address == m)) (is_answered ((s.block m).pair c).probing)) n new s.block
           (quiet ∙ sym (closed first (is_probe_ack y.opcode) (block_at y.address == n) (is_answered (b.pair c).probing) ack (rw at (same_number n))))
@@ -103,7 +110,8 @@ flowed-report {w} {X} c n r toks y first asked rest rest' s t first_is last_is r
         ∙ requested-blocks c i (rest channel.A) (s.uses c i) s s' (set-part (λ (z : Block X). is_unserved (view z.service c)) n new s.block refl)
 
     acquires : (m : ℕ) → acquired_by c (s'.block m) ≡ acquired_by c (s.block m)
-    acquires = set-part (acquired_by c) n new s.block (ap (λ (z : Bool). z && not (is_unserved (view b.service c))) (part_of (λ (p : Pair). is_wanting p.acquiring) c (after_report r (b.pair c)) b.pair refl))
+    acquires = set-part (acquired_by c) n new s.block (ap (λ (z : Bool). z && not (is_unserved (view b.service c)))
+        (part_of (λ (p : Pair). is_wanting p.acquiring) c (after_report r (b.pair c)) b.pair refl))
 
     lets : (i : ℕ) → is_let_by c i (rest' channel.C) (s'.lets c i) s' ≡ is_let_by c i (rest channel.C) (s.lets c i) s
     lets i =
@@ -117,7 +125,8 @@ flowed-report {w} {X} c n r toks y first asked rest rest' s t first_is last_is r
 
     sunk_same : (i : ℕ) (o : Option ℕ) → is_sunk c i (rest channel.D) o s' ≡ is_sunk c i (rest channel.D) o s
     sunk_same i None = refl
-    sunk_same i (Some m) = ap (λ (q : Service). is_acknowledging (view q c) || (is_granting (view q c) && comes_in_grant i (rest channel.D))) (set-part (λ (z : Block X). z.service) n new s.block refl m)
+    sunk_same i (Some m) = ap (λ (q : Service). is_acknowledging (view q c) || (is_granting (view q c) && comes_in_grant i (rest channel.D)))
+        (set-part (λ (z : Block X). z.service) n new s.block refl m)
 
     grants : (m : ℕ) → granted_by c m asked (rest' channel.D) (s'.block m) ≡ granted_by c m asked (rest channel.D) (s.block m)
     grants m = ap (λ (l : List (Beat w)). granted_by c m asked l (s'.block m)) (rests channel.D) ∙ set-part (granted_by c m asked (rest channel.D)) n new s.block refl m

@@ -7,8 +7,8 @@ use Rattle.std.proofs.lemmas.Option.{same_Some}
 use Rattle.tl_beat.specs.declared.beat.Beat.{Beat}
 use Rattle.tl_beat.specs.declared.beat.Beat.TheVariants as beat
 use Rattle.tl_beat.specs.declared.beat.BeatA.{BeatA}
-use Rattle.tl_beat.specs.declared.opcode.Channel.{Channel}
-use Rattle.tl_beat.specs.declared.opcode.Channel.TheVariants as channel
+use Rattle.tl_beat.specs.declared.channel.Channel.{Channel}
+use Rattle.tl_beat.specs.declared.channel.Channel.TheVariants as channel
 use Rattle.tl_burst.specs.declared.message.Message.{Message}
 use Rattle.tl_burst.specs.declared.message.Message.TheVariants as message
 use Rattle.tl_burst.specs.Burst.{a_beat_of}
@@ -23,7 +23,8 @@ use Rattle.tl_world.specs.Follow.{Shadow}
 use Rattle.tl_world.specs.Log.{Log}
 use Rattle.tl_world.specs.Phase.{Pair, View, Own, Granting, is_quiet, is_kept}
 use Rattle.tl_world.specs.PhaseSteps.{after_grant_sent}
-use Rattle.tl_world.specs.Protocol.{Service, Free, GrantSent, Block, State, Replied, view, is_granting, is_acknowledging, is_answered, is_unserved, is_wanting, served_block, acquire_served, granted_at_once, acquire_granted}
+use Rattle.tl_world.specs.Protocol.{Service, Free, GrantSent, Block, State, Replied, view, is_granting, is_acknowledging, is_answered, is_unserved, is_wanting}
+use Rattle.tl_world.specs.Protocol.{served_block, acquire_served, granted_at_once, acquire_granted}
 use Rattle.tl_world.specs.System.{System}
 use Rattle.tl_world.specs.Token.{Token, set}
 use Rattle.tl_world.specs.Whole.{IsMatched, asked_by}
@@ -48,24 +49,29 @@ use Rattle.tl_world.proofs.BothParts.{quiet_unanswered}
 use Rattle.tl_world.proofs.Codes.{acquires-so}
 use Rattle.tl_world.proofs.Popped.{unfinished_at}
 
-module _ {w : ℕ} (config : Config) (log : Log w) (h : Shadow w) (sys : System w) (c : ℕ) (is : IsMatched config log h.mail h.request h.state sys) (t : History w) (flowed : IsFlowed (asked_by h.mail h.state c) (unfinished_at sys c) c h.state t) (rest' : Channel → List (Beat w)) where
+module _ {w : ℕ} (config : Config) (log : Log w) (h : Shadow w) (sys : System w) (c : ℕ) (is : IsMatched config log h.mail h.request h.state sys)
+    (t : History w) (flowed : IsFlowed (asked_by h.mail h.state c) (unfinished_at sys c) c h.state t) (rest' : Channel → List (Beat w)) where
   -- ---- an access
 
   -- the state in which the access is answered, with the last beat
   abbrev pub replied_if : ℕ → Bool → State (List ℕ)
   replied_if source b = if b then replied c source h.state else h.state
 
-  access_of : (source : ℕ) (asked : IsAsked config c source h.mail h.state) (k : ℕ) (ms : List (Message w)) (queue : List (Beat w)) → IsNext (beat.A (a_beat_of asked.request k)) (unfinished_at sys c channel.A) (message.A asked.request) ms queue
+  access_of : (source : ℕ) (asked : IsAsked config c source h.mail h.state) (k : ℕ) (ms : List (Message w)) (queue : List (Beat w))
+      → IsNext (beat.A (a_beat_of asked.request k)) (unfinished_at sys c channel.A) (message.A asked.request) ms queue
       → AreRests (beat.A (a_beat_of asked.request k)) (unfinished_at sys c) rest' → (b : Bool) → completes (beat.A (a_beat_of asked.request k)) (unfinished_at sys c channel.A) ≡ b
       → (is_empty (unfinished_at sys c channel.A) ≡ true → k ≡ 0)
       → IsAccess c (a_beat_of asked.request k) (is_empty (unfinished_at sys c channel.A)) b (asked_by h.mail h.state c) (unfinished_at sys c) rest' h.state (replied_if source b)
   access_of source asked k ms queue next rests b last zeroth = record {
     access = asked.access;
     use_is = λ i e. ap (h.state.uses c) (sym (eqb-true asked.request.source i e) ∙ asked.source_is) ∙ asked.used;
-    asked_is = λ i e first. ap (asked_by h.mail h.state c) (sym (eqb-true asked.request.source i e) ∙ asked.source_is) ∙ asks-access c source asked.request h.mail h.state (ap is_access asked.used) asked.is_it
+    asked_is = λ i e first. ap (asked_by h.mail h.state c) (sym (eqb-true asked.request.source i e) ∙ asked.source_is)
+        ∙ asks-access c source asked.request h.mail h.state (ap is_access asked.used) asked.is_it
         ∙ ap (λ (j : ℕ). Some (a_beat_of asked.request j)) (sym (zeroth first));
     came = λ i. came-so (comes_in_request i) (message.A asked.request) y (unfinished_at sys c channel.A) ms queue (asked.request.source == i) next refl (λ j. refl);
-    comes = λ i. ap (comes_in_request i) (rests channel.A) ∙ comes-so (comes_in_request i) y (unfinished_at sys c channel.A) (asked.request.source == i) refl refl ∙ ap (λ (z : Bool). not z && (asked.request.source == i)) last;
+    comes = λ i. ap (comes_in_request i) (rests channel.A)
+        ∙ comes-so (comes_in_request i) y (unfinished_at sys c channel.A) (asked.request.source == i) refl refl
+        ∙ ap (λ (z : Bool). not z && (asked.request.source == i)) last;
     blocks = λ m. blocks b m;
     uses = λ i. uses b i;
     lets = λ i. lets b i;
@@ -91,7 +97,8 @@ module _ {w : ℕ} (config : Config) (log : Log w) (h : Shadow w) (sys : System 
       tracked true i = refl
       tracked false i = refl
 
-  pub own-access : (source : ℕ) (asked : IsAsked config c source h.mail h.state) (x : Beat w) (ms : List (Message w)) (queue : List (Beat w)) → IsNext x (unfinished_at sys c channel.A) (message.A asked.request) ms queue → AreRests x (unfinished_at sys c) rest'
+  pub own-access : (source : ℕ) (asked : IsAsked config c source h.mail h.state) (x : Beat w) (ms : List (Message w)) (queue : List (Beat w))
+      → IsNext x (unfinished_at sys c channel.A) (message.A asked.request) ms queue → AreRests x (unfinished_at sys c) rest'
       → (b : Bool) → completes x (unfinished_at sys c channel.A) ≡ b → IsFlowed (asked_by h.mail h.state c) rest' c (replied_if source b) (x ∷ t)
   own-access source asked x ms queue next rests b last =
       subst (λ (z : Beat w). IsFlowed (asked_by h.mail h.state c) rest' c (replied_if source b) (z ∷ t)) (sym next.beat_is)
@@ -108,7 +115,8 @@ module _ {w : ℕ} (config : Config) (log : Log w) (h : Shadow w) (sys : System 
 
   -- ---- an Acquire
 
-  module _ (n : ℕ) (wanted : IsWanted w c n h.state) (free : (h.state.block n).service ≡ Free) (tracker : ℕ) (unused : h.state.tracked tracker ≡ None) (asked' : ℕ → Option (BeatA w)) (asks : (i : ℕ) → asked' i ≡ asked_by h.mail h.state c i) where
+  module _ (n : ℕ) (wanted : IsWanted w c n h.state) (free : (h.state.block n).service ≡ Free) (tracker : ℕ) (unused : h.state.tracked tracker ≡ None)
+      (asked' : ℕ → Option (BeatA w)) (asks : (i : ℕ) → asked' i ≡ asked_by h.mail h.state c i) where
     abbrev s : State (List ℕ)
     s = h.state
 
@@ -117,10 +125,15 @@ module _ {w : ℕ} (config : Config) (log : Log w) (h : Shadow w) (sys : System 
         (asked_alone wanted.whole wanted.grow ((s.block n).pair c) (view (s.block n).service c) ((is.invariant.blocks n).phases c) (rw free refl) wanted.wants)
 
     quiet : is_answered ((s.block n).pair c).probing ≡ false
-    quiet = quiet_unanswered ((s.block n).pair c).probing (and_left (is_quiet ((s.block n).pair c).probing) (is_kept ((s.block n).pair c).letting) (and_left (is_quiet ((s.block n).pair c).probing && is_kept ((s.block n).pair c).letting) (same_perm ((s.block n).pair c).recorded ((s.block n).pair c).held) settled))
+    quiet = quiet_unanswered ((s.block n).pair c).probing
+        (and_left (is_quiet ((s.block n).pair c).probing) (is_kept ((s.block n).pair c).letting)
+        (and_left (is_quiet ((s.block n).pair c).probing && is_kept ((s.block n).pair c).letting)
+        (same_perm ((s.block n).pair c).recorded ((s.block n).pair c).held) settled))
 
     even : ((s.block n).pair c).held ≡ ((s.block n).pair c).recorded
-    even = same_perms ((s.block n).pair c).recorded ((s.block n).pair c).held (and_right (is_quiet ((s.block n).pair c).probing && is_kept ((s.block n).pair c).letting) (same_perm ((s.block n).pair c).recorded ((s.block n).pair c).held) settled)
+    even = same_perms ((s.block n).pair c).recorded ((s.block n).pair c).held
+        (and_right (is_quiet ((s.block n).pair c).probing && is_kept ((s.block n).pair c).letting)
+        (same_perm ((s.block n).pair c).recorded ((s.block n).pair c).held) settled)
 
     -- the block afterwards
     record IsTakenUp (new : Block (List ℕ)) : Type 0 where
@@ -132,21 +145,28 @@ module _ {w : ℕ} (config : Config) (log : Log w) (h : Shadow w) (sys : System 
       serves : is_unserved (view new.service c) ≡ false
       waits_so : is_acknowledging (view new.service c) ≡ false
 
-    acquired : (new : Block (List ℕ)) (s' : State (List ℕ)) → ((m : ℕ) → s'.block m ≡ set n new s.block m) → ((i : ℕ) → s'.uses c i ≡ s.uses c i) → ((i : ℕ) → s'.lets c i ≡ s.lets c i) → ((i : ℕ) → s'.tracked i ≡ set tracker (Some n) s.tracked i) → IsTakenUp new
-        → (x : Beat w) (ms : List (Message w)) (queue : List (Beat w)) → IsNext x (unfinished_at sys c channel.A) (message.A (acquire_wanted c n s wanted)) ms queue → AreRests x (unfinished_at sys c) rest' → IsFlowed asked' rest' c s' (x ∷ t)
+    acquired : (new : Block (List ℕ)) (s' : State (List ℕ)) → ((m : ℕ) → s'.block m ≡ set n new s.block m) → ((i : ℕ) → s'.uses c i ≡ s.uses c i)
+        → ((i : ℕ) → s'.lets c i ≡ s.lets c i) → ((i : ℕ) → s'.tracked i ≡ set tracker (Some n) s.tracked i) → IsTakenUp new
+        → (x : Beat w) (ms : List (Message w)) (queue : List (Beat w))
+        → IsNext x (unfinished_at sys c channel.A) (message.A (acquire_wanted c n s wanted)) ms queue → AreRests x (unfinished_at sys c) rest'
+        → IsFlowed asked' rest' c s' (x ∷ t)
     acquired new s' changed uses lets tracked taken x ms queue next rests =
         subst (λ (z : Beat w). IsFlowed asked' rest' c s' (z ∷ t)) (sym x_is)
-        (flowed-acquire c n y (asked_by h.mail s c) asked' (unfinished_at sys c) rest' s s' t (ap is_empty (flowed.rest_is channel.A ∙ one.1)) (ap (completes (beat.A y)) (flowed.rest_is channel.A) ∙ last_y) rests_y (record {
+        (flowed-acquire c n y (asked_by h.mail s c) asked' (unfinished_at sys c) rest' s s' t (ap is_empty (flowed.rest_is channel.A ∙ one.1))
+        (ap (completes (beat.A y)) (flowed.rest_is channel.A) ∙ last_y) rests_y (record {
           acquire = acquires-so wanted.whole;
           at = same_block n;
           use_is = λ i e. ap (s.uses c) (sym (eqb-true ((s.block n).source c) i e)) ∙ wanted.used;
           no_use = λ i e. unused-else c n i s is.invariant.named e;
-          asks = λ i e. ap (asked_by h.mail s c) (sym (eqb-true ((s.block n).source c) i e)) ∙ asks-acquire c ((s.block n).source c) n ((s.block n).source c) wanted.whole wanted.grow h.mail s wanted.used wanted.wants refl;
+          asks = λ i e. ap (asked_by h.mail s c) (sym (eqb-true ((s.block n).source c) i e))
+              ∙ asks-acquire c ((s.block n).source c) n ((s.block n).source c) wanted.whole wanted.grow h.mail s wanted.used wanted.wants refl;
           idle = rw free refl;
           quiet = quiet;
           coming = coming-granting config log h.mail h.request s sys c is;
           came = λ i. ap (comes_in_request i) one.1;
-          comes = λ i. ap (comes_in_request i) (rests_y channel.A) ∙ comes-so (comes_in_request i) (beat.A y) (unfinished_at sys c channel.A) ((s.block n).source c == i) refl refl ∙ ap (λ (z : Bool). not z && ((s.block n).source c == i)) last_y;
+          comes = λ i. ap (comes_in_request i) (rests_y channel.A)
+              ∙ comes-so (comes_in_request i) (beat.A y) (unfinished_at sys c channel.A) ((s.block n).source c == i) refl refl
+              ∙ ap (λ (z : Bool). not z && ((s.block n).source c == i)) last_y;
           asked_is = asks;
           elsewhere = λ m ne. changed m ∙ set-other n m new s.block ne;
           uses = uses;
@@ -205,7 +225,8 @@ module _ {w : ℕ} (config : Config) (log : Log w) (h : Shadow w) (sys : System 
     held_free = ap (λ (q : Service). if is_granting (view q c) then ((s.block n).pair c).held else ((s.block n).pair c).recorded) free
 
     -- it waits for ProbeAcks
-    pub own-acquire_served : (k : Cap) (toks : List Token) (x : Beat w) (ms : List (Message w)) (queue : List (Beat w)) → IsNext x (unfinished_at sys c channel.A) (message.A (acquire_wanted c n s wanted)) ms queue → AreRests x (unfinished_at sys c) rest'
+    pub own-acquire_served : (k : Cap) (toks : List Token) (x : Beat w) (ms : List (Message w)) (queue : List (Beat w))
+        → IsNext x (unfinished_at sys c channel.A) (message.A (acquire_wanted c n s wanted)) ms queue → AreRests x (unfinished_at sys c) rest'
         → IsFlowed asked' rest' c (acquire_served c n ((s.block n).source c) tracker k toks s) (x ∷ t)
     own-acquire_served k toks = acquired new (acquire_served c n ((s.block n).source c) tracker k toks s) (λ m. refl) (λ i. refl) (λ i. refl) (λ i. refl) (record {
       pair_acquiring = ap (λ (p : Pair). p.acquiring) pair;
@@ -227,7 +248,8 @@ module _ {w : ℕ} (config : Config) (log : Log w) (h : Shadow w) (sys : System 
         seen = rw (same_number c) refl
 
     -- it is granted at once
-    pub own-acquire_granted : (d : Bool) (k : Cap) (toks : List Token) (x : Beat w) (ms : List (Message w)) (queue : List (Beat w)) → IsNext x (unfinished_at sys c channel.A) (message.A (acquire_wanted c n s wanted)) ms queue → AreRests x (unfinished_at sys c) rest'
+    pub own-acquire_granted : (d : Bool) (k : Cap) (toks : List Token) (x : Beat w) (ms : List (Message w)) (queue : List (Beat w))
+        → IsNext x (unfinished_at sys c channel.A) (message.A (acquire_wanted c n s wanted)) ms queue → AreRests x (unfinished_at sys c) rest'
         → IsFlowed asked' rest' c (acquire_granted c n tracker d k toks s) (x ∷ t)
     own-acquire_granted d k toks = acquired new (acquire_granted c n tracker d k toks s) (λ m. refl) (λ i. refl) (λ i. refl) (λ i. refl) (record {
       pair_acquiring = ap (λ (p : Pair). p.acquiring) pair;

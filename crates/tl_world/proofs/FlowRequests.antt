@@ -4,7 +4,7 @@ use Rattle.std.specs.Prelude.{map, nat_le}
 use Rattle.tl_beat.specs.Width.{IsWidth}
 use Rattle.tl_beat.specs.declared.beat.Beat.{Beat}
 use Rattle.tl_beat.specs.declared.beat.Beat.TheVariants as beat
-use Rattle.tl_beat.specs.declared.opcode.Channel.TheVariants as channel
+use Rattle.tl_beat.specs.declared.channel.Channel.TheVariants as channel
 use Rattle.tl_burst.specs.declared.message.Message.{Message}
 use Rattle.tl_burst.specs.declared.message.Message.TheVariants as message
 use Rattle.tl_burst.specs.declared.message.MessageA.{MessageA}
@@ -42,24 +42,31 @@ use Rattle.tl_world.proofs.RequestsTaken.{acquire_wanted}
 use Rattle.tl_world.proofs.BothParts.{kept-is}
 use Rattle.tl_world.proofs.Codes.{acquires-so}
 
-access-lawful : {w : ℕ} (config : Config) (log : Log w) (mail : Mail w) (request : ℕ → MessageA w) (s : State (List ℕ)) (sys : System w) (c source : ℕ) (l : Level) (x : Beat w) (ms : List (Message w)) (queue : List (Beat w))
-    → IsMatched config log mail request s sys → AreFlowed log mail s sys → illegal l (channel_of x) x ≡ None → IsAsked config c source mail s → IsNext x (unfinished channel.A (on_link c sys.manager.trace)) (mail.request c source) ms queue
+access-lawful : {w : ℕ} (config : Config) (log : Log w) (mail : Mail w) (request : ℕ → MessageA w) (s : State (List ℕ)) (sys : System w) (c source : ℕ)
+    (l : Level) (x : Beat w) (ms : List (Message w)) (queue : List (Beat w))
+    → IsMatched config log mail request s sys → AreFlowed log mail s sys → illegal l (channel_of x) x ≡ None → IsAsked config c source mail s
+    → IsNext x (unfinished channel.A (on_link c sys.manager.trace)) (mail.request c source) ms queue
     → broken_after l config.profile x (flow c log) ≡ None
 access-lawful {w} config log mail request s sys c source l x ms queue is flowed lawful asked next =
     next-flows l config.profile (message.A asked.request) x rest ms queue (flow c log) lawful (subst (λ (i : Message w). IsNext x rest i ms queue) asked.is_it next) ((flowed c).rest_is channel.A)
-    (λ none. request-flows config.profile c (a_beat_of asked.request 0) (asked_by mail s c) (λ ch. unfinished ch (receiver ch c sys)) s (flow c log) (flowed c) none asked.access (ap (s.uses c) asked.source_is ∙ asked.used))
+    (λ none. request-flows config.profile c (a_beat_of asked.request 0) (asked_by mail s c) (λ ch. unfinished ch (receiver ch c sys)) s (flow c log)
+    (flowed c) none asked.access (ap (s.uses c) asked.source_is ∙ asked.used))
   where
     rest : List (Beat w)
     rest = unfinished channel.A (on_link c sys.manager.trace)
 
-acquire-lawful : {w : ℕ} (config : Config) (log : Log w) (mail : Mail w) (request : ℕ → MessageA w) (s : State (List ℕ)) (sys : System w) (c n : ℕ) (l : Level) (x : Beat w) (ms : List (Message w)) (queue : List (Beat w))
-    → IsMatched config log mail request s sys → AreFlowed log mail s sys → illegal l (channel_of x) x ≡ None → (wanted : IsWanted w c n s) → IsNext x (unfinished channel.A (on_link c sys.manager.trace)) (message.A (acquire_wanted c n s wanted)) ms queue
+acquire-lawful : {w : ℕ} (config : Config) (log : Log w) (mail : Mail w) (request : ℕ → MessageA w) (s : State (List ℕ)) (sys : System w) (c n : ℕ) (l : Level)
+    (x : Beat w) (ms : List (Message w)) (queue : List (Beat w))
+    → IsMatched config log mail request s sys → AreFlowed log mail s sys → illegal l (channel_of x) x ≡ None → (wanted : IsWanted w c n s)
+    → IsNext x (unfinished channel.A (on_link c sys.manager.trace)) (message.A (acquire_wanted c n s wanted)) ms queue
     → must_wait config (record { 0 = c }) x sys.manager.trace ≡ false → broken_after l config.profile x (flow c log) ≡ None
 acquire-lawful {w} config log mail request s sys c n l x ms queue is flowed lawful wanted next moves =
     next-flows l config.profile (message.A m) x (unfinished channel.A (on_link c sys.manager.trace)) ms queue (flow c log) lawful next ((flowed c).rest_is channel.A)
-    (λ none. acquire-flows config.profile c n (a_beat_of m 0) (asked_by mail s c) (λ ch. unfinished ch (receiver ch c sys)) s (flow c log) (flowed c) none (acquires-so wanted.whole) (same_block n) wanted.used idle
+    (λ none. acquire-flows config.profile c n (a_beat_of m 0) (asked_by mail s c) (λ ch. unfinished ch (receiver ch c sys)) s (flow c log) (flowed c) none
+    (acquires-so wanted.whole) (same_block n) wanted.used idle
     (kept-is p.letting (and_right (is_quiet p.probing) (is_kept p.letting) (and_left (is_quiet p.probing && is_kept p.letting) (same_perm p.recorded p.held) settled)))
-    (grows wanted.grow p.recorded p.held wanted.whole (acquire_fits wanted.whole wanted.grow p (view (s.block n).service c) well wanted.wants) (and_right (is_quiet p.probing && is_kept p.letting) (same_perm p.recorded p.held) settled)))
+    (grows wanted.grow p.recorded p.held wanted.whole (acquire_fits wanted.whole wanted.grow p (view (s.block n).service c) well wanted.wants)
+    (and_right (is_quiet p.probing && is_kept p.letting) (same_perm p.recorded p.held) settled)))
   where
     m : MessageA w
     m = acquire_wanted c n s wanted
@@ -74,8 +81,11 @@ acquire-lawful {w} config log mail request s sys c n l x ms queue is flowed lawf
     free =
         let one = acquisition_beats w wanted.whole wanted.grow ((s.block n).source c) n in
         let moves_so : must_wait config (record { 0 = c }) (beat.A (a_beat_of m next.k)) sys.manager.trace ≡ false = rw next.beat_is at moves in
-        let ended : ends (beat.A (a_beat_of m next.k)) (on_link c sys.manager.trace) ≡ true = ends-burst c next.k m sys.manager next.rest_is ∙ is_last next.k (beats_of (message.A m)) (omega (arith, next.within, one)) in
-        let free_at = unserved-free request s sys.manager.trace (block_at m.address) is.managed (or_parts (is_in_service (block_at m.address) (services sys.manager.trace)) (nat_le config.trackers (length (services sys.manager.trace))) (rw ended at moves_so)).0 in
+        let ended : ends (beat.A (a_beat_of m next.k)) (on_link c sys.manager.trace) ≡ true = ends-burst c next.k m sys.manager next.rest_is
+        ∙ is_last next.k (beats_of (message.A m)) (omega (arith, next.within, one)) in
+        let free_at = unserved-free request s sys.manager.trace (block_at m.address) is.managed
+        (or_parts (is_in_service (block_at m.address) (services sys.manager.trace)) (nat_le config.trackers (length (services sys.manager.trace)))
+        (rw ended at moves_so)).0 in
         ap (λ i. (s.block i).service) (sym (same_block n)) ∙ free_at
 
     idle : view (s.block n).service c ≡ Idle
@@ -84,7 +94,8 @@ acquire-lawful {w} config log mail request s sys c n l x ms queue is flowed lawf
     settled : ((is_quiet p.probing && is_kept p.letting) && same_perm p.recorded p.held) ≡ true
     settled = first_three (is_quiet p.probing) (is_kept p.letting) (same_perm p.recorded p.held) _ (asked_alone wanted.whole wanted.grow p (view (s.block n).service c) well idle wanted.wants)
 
-pub flows-a : {w : ℕ} (config : Config) (log : Log w) (mail : Mail w) (request : ℕ → MessageA w) (s : State (List ℕ)) (sys : System w) (c : ℕ) (l : Level) (x : Beat w) (queue : List (Beat w)) → IsWidth w → IsMatched config log mail request s sys → AreFlowed log mail s sys
+pub flows-a : {w : ℕ} (config : Config) (log : Log w) (mail : Mail w) (request : ℕ → MessageA w) (s : State (List ℕ)) (sys : System w) (c : ℕ) (l : Level)
+    (x : Beat w) (queue : List (Beat w)) → IsWidth w → IsMatched config log mail request s sys → AreFlowed log mail s sys
     → sys.channels c channel.A ≡ x ∷ queue → level_of config c ≡ Some l → must_wait config (record { 0 = c }) x sys.manager.trace ≡ false → broken_after l config.profile x (flow c log) ≡ None
 flows-a {w} config log mail request s sys c l x queue width is flowed beats level moves = go first.kind first.number first.tokens first.own first.next
   where
@@ -97,11 +108,14 @@ flows-a {w} config log mail request s sys c l x queue width is flowed beats leve
     lawful : illegal l (channel_of x) x ≡ None
     lawful = lawful-beat config log mail request s sys c channel.A l x queue is beats level
 
-    go : (k : Kind) (i : ℕ) → (s.link c).a ≡ token k i ∷ first.rest → is_on channel.A k ≡ true → IsNext x rest (message_of_kind k mail s c i) (map (message_of mail s c) first.rest) queue → broken_after l config.profile x (flow c log) ≡ None
-    go Request i tokens own next = access-lawful config log mail request s sys c i l x (map (message_of mail s c) first.rest) queue is flowed lawful (asked-first config log mail request s sys c i first.rest is tokens) next
+    go : (k : Kind) (i : ℕ) → (s.link c).a ≡ token k i ∷ first.rest → is_on channel.A k ≡ true
+        → IsNext x rest (message_of_kind k mail s c i) (map (message_of mail s c) first.rest) queue → broken_after l config.profile x (flow c log) ≡ None
+    go Request i tokens own next = access-lawful config log mail request s sys c i l x (map (message_of mail s c) first.rest) queue is flowed lawful
+        (asked-first config log mail request s sys c i first.rest is tokens) next
     go Acquire i tokens own next =
         let wanted = wanted-first config log mail request s sys c i first.rest is tokens in
-        acquire-lawful config log mail request s sys c i l x (map (message_of mail s c) first.rest) queue is flowed lawful wanted (subst (λ (j : Message w). IsNext x rest j (map (message_of mail s c) first.rest) queue) wanted.renders next) moves
+        acquire-lawful config log mail request s sys c i l x (map (message_of mail s c) first.rest) queue is flowed lawful wanted
+        (subst (λ (j : Message w). IsNext x rest j (map (message_of mail s c) first.rest) queue) wanted.renders next) moves
     go Probe i tokens own next = absurd cc
     go ProbeAck i tokens own next = absurd cc
     go Release i tokens own next = absurd cc

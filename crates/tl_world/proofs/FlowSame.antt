@@ -2,8 +2,8 @@
 use Rattle.std.proofs.Common.{◌≡◌, ℕ, true, Option, Some, sym, ◌∙◌, ap, List}
 use Rattle.tl_beat.specs.declared.beat.Beat.{Beat}
 use Rattle.tl_beat.specs.declared.beat.BeatA.{BeatA}
-use Rattle.tl_beat.specs.declared.opcode.Channel.{Channel}
-use Rattle.tl_beat.specs.declared.opcode.Channel.TheVariants as channel
+use Rattle.tl_beat.specs.declared.channel.Channel.{Channel}
+use Rattle.tl_beat.specs.declared.channel.Channel.TheVariants as channel
 use Rattle.tl_burst.specs.Messages.{History}
 use Rattle.tl_world.specs.Flowed.{IsFlowed, is_requested, is_let_by, is_sunk}
 use Rattle.tl_world.specs.Protocol.{State, is_answered}
@@ -26,7 +26,8 @@ pub record IsUntouched {w : ℕ} {X : Type 0} (asked asked' : ℕ → Option (Be
   pub caps : (n : ℕ) → is_answered ((s.block n).pair c).probing ≡ true → cap_waited (s'.block n).service ≡ cap_waited (s.block n).service
   pub trackers : (n : ℕ) → granted_by c n asked (rest channel.D) (s.block n) ≡ true → (s'.block n).tracker ≡ (s.block n).tracker
 
-pub flowed-untouched : {w : ℕ} {X : Type 0} (asked asked' : ℕ → Option (BeatA w)) (rest : Channel → List (Beat w)) (c : ℕ) (s s' : State X) (t : History w) → IsUntouched asked asked' rest c s s' → IsFlowed asked rest c s t → IsFlowed asked' rest c s' t
+pub flowed-untouched : {w : ℕ} {X : Type 0} (asked asked' : ℕ → Option (BeatA w)) (rest : Channel → List (Beat w)) (c : ℕ) (s s' : State X) (t : History w)
+    → IsUntouched asked asked' rest c s s' → IsFlowed asked rest c s t → IsFlowed asked' rest c s' t
 flowed-untouched asked asked' rest c s s' t is before = record {
   rest_is = before.rest_is;
   held_is = λ n. before.held_is n ∙ sym (is.held_is n);
@@ -45,7 +46,8 @@ flowed-untouched asked asked' rest c s s' t is before = record {
 }
 
 -- and what each channel's receiver has of the first message is given in another way
-pub flowed-rests : {w : ℕ} {X : Type 0} (asked : ℕ → Option (BeatA w)) (rest rest' : Channel → List (Beat w)) (c : ℕ) (s : State X) (t : History w) → ((ch : Channel) → rest' ch ≡ rest ch) → IsFlowed asked rest c s t → IsFlowed asked rest' c s t
+pub flowed-rests : {w : ℕ} {X : Type 0} (asked : ℕ → Option (BeatA w)) (rest rest' : Channel → List (Beat w)) (c : ℕ) (s : State X) (t : History w)
+    → ((ch : Channel) → rest' ch ≡ rest ch) → IsFlowed asked rest c s t → IsFlowed asked rest' c s t
 flowed-rests {w} asked rest rest' c s t same before = record {
   rest_is = λ ch. before.rest_is ch ∙ sym (same ch);
   held_is = before.held_is;

@@ -16,7 +16,8 @@ abbrev pub sunk_in : {w : ℕ} {X : Type 0} → ℕ → ℕ → List (Beat w) �
 sunk_in c sink rest b = is_acknowledging (view b.service c) || (is_granting (view b.service c) && comes_in_grant sink rest)
 
 -- each block is as before
-pub sunk-as : {w : ℕ} {X : Type 0} (c i : ℕ) (rest : List (Beat w)) (o : Option ℕ) (s s' : State X) → ((n : ℕ) → sunk_in c i rest (s'.block n) ≡ sunk_in c i rest (s.block n)) → is_sunk c i rest o s' ≡ is_sunk c i rest o s
+pub sunk-as : {w : ℕ} {X : Type 0} (c i : ℕ) (rest : List (Beat w)) (o : Option ℕ) (s s' : State X)
+    → ((n : ℕ) → sunk_in c i rest (s'.block n) ≡ sunk_in c i rest (s.block n)) → is_sunk c i rest o s' ≡ is_sunk c i rest o s
 sunk-as c i rest None s s' same = refl
 sunk-as c i rest (Some n) s s' same = same n
 
@@ -42,13 +43,15 @@ sunk-elsewhere {w} {X} c i n rest o o' s s' same (inl e) before now = ap (λ (p 
     ]
 
 -- a tracker that gets block n, or loses it
-pub tracked-new : (n tracker : ℕ) (tracked : ℕ → Option ℕ) → tracked tracker ≡ None → (i : ℕ) → (set tracker (Some n) tracked i ≡ tracked i) ⊎ (IsWithin n (tracked i) × IsWithin n (set tracker (Some n) tracked i))
+pub tracked-new : (n tracker : ℕ) (tracked : ℕ → Option ℕ) → tracked tracker ≡ None → (i : ℕ) → (set tracker (Some n) tracked i ≡ tracked i)
+    ⊎ (IsWithin n (tracked i) × IsWithin n (set tracker (Some n) tracked i))
 tracked-new n tracker tracked free i = elim (cases_eq i tracker) [
   | inl same ↦ inr (inl (ap tracked same ∙ free), inr (ap (set tracker (Some n) tracked) same ∙ set-same tracker (Some n) tracked))
   | inr other ↦ inl (set-other tracker i (Some n) tracked other)
 ]
 
-pub tracked-free : (n tracker : ℕ) (tracked : ℕ → Option ℕ) → tracked tracker ≡ Some n → (i : ℕ) → (set tracker None tracked i ≡ tracked i) ⊎ (IsWithin n (tracked i) × IsWithin n (set tracker None tracked i))
+pub tracked-free : (n tracker : ℕ) (tracked : ℕ → Option ℕ) → tracked tracker ≡ Some n → (i : ℕ) → (set tracker None tracked i ≡ tracked i)
+    ⊎ (IsWithin n (tracked i) × IsWithin n (set tracker None tracked i))
 tracked-free n tracker tracked used i = elim (cases_eq i tracker) [
   | inl same ↦ inr (inr (ap tracked same ∙ used), inl (ap (set tracker None tracked) same ∙ set-same tracker None tracked))
   | inr other ↦ inl (set-other tracker i None tracked other)

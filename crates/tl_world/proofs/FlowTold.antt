@@ -7,8 +7,8 @@ use Rattle.tl_beat.specs.declared.beat.Beat.{Beat}
 use Rattle.tl_beat.specs.declared.beat.Beat.TheVariants as beat
 use Rattle.tl_beat.specs.declared.beat.BeatA.{BeatA}
 use Rattle.tl_beat.specs.declared.beat.BeatE.{BeatE}
-use Rattle.tl_beat.specs.declared.opcode.Channel.{Channel}
-use Rattle.tl_beat.specs.declared.opcode.Channel.TheVariants as channel
+use Rattle.tl_beat.specs.declared.channel.Channel.{Channel}
+use Rattle.tl_beat.specs.declared.channel.Channel.TheVariants as channel
 use Rattle.tl_burst.specs.declared.message.Message.{Message}
 use Rattle.tl_burst.specs.declared.message.Message.TheVariants as message
 use Rattle.tl_burst.specs.declared.message.MessageC.{MessageC}
@@ -30,7 +30,8 @@ use Rattle.tl_world.specs.Invariant.{is_busy}
 use Rattle.tl_world.specs.Log.{Log}
 use Rattle.tl_world.specs.Phase.{Pair, View, Idle, Own, Other, Granting, Acknowledging, GrantedOther, Releasing, is_quiet, is_kept, ok}
 use Rattle.tl_world.specs.PhaseSteps.{after_release_taken}
-use Rattle.tl_world.specs.Protocol.{Service, Free, Waits, GrantSent, GrantTaken, Block, State, token, shown, view, is_granting, is_acknowledging, let_block, release_taken, report_taken, grant_ack_taken}
+use Rattle.tl_world.specs.Protocol.{Service, Free, Waits, GrantSent, GrantTaken, Block, State, token, shown, view, is_granting, is_acknowledging, let_block}
+use Rattle.tl_world.specs.Protocol.{release_taken, report_taken, grant_ack_taken}
 use Rattle.tl_world.specs.Render.{rendered, prune_told, report_told}
 use Rattle.tl_world.specs.System.{System}
 use Rattle.tl_world.specs.Token.{ProbeAck, Release, GrantAck, Token}
@@ -63,7 +64,8 @@ size_of (message.C m) = m.size
 size_of m = 0
 
 pub report_rendered : {w : ℕ} (c n : ℕ) (b : Block (List ℕ)) → IsWidth w → IsLong b
-    → (m : MessageC w) × (rendered ProbeAck c n b ≡ message.C m) × IsAbout true n (report_code (report_told (b.pair c).probing)) (same_perm (report_left (report_told (b.pair c).probing)) perm.Trunk) b.truth m
+    → (m : MessageC w) × (rendered ProbeAck c n b ≡ message.C m)
+    × IsAbout true n (report_code (report_told (b.pair c).probing)) (same_perm (report_left (report_told (b.pair c).probing)) perm.Trunk) b.truth m
 unfolding rendered
 report_rendered c n b width long = report-about (report_told (b.pair c).probing) n b.truth width long
 
@@ -74,7 +76,9 @@ release_size prune.TtoN source n truth m e = sym (ap size_of e)
 release_size prune.BtoN source n truth m e = sym (ap size_of e)
 
 release_rendered : {w : ℕ} (c n : ℕ) (b : Block (List ℕ)) → IsWidth w → IsLong b
-    → (m : MessageC w) × (rendered Release c n b ≡ message.C m) × IsAbout false n (prune_code (prune_told (b.pair c).letting)) (same_perm (prune_left (prune_told (b.pair c).letting)) perm.Trunk) b.truth m × (m.source ≡ b.release_source c) × (m.size ≡ 6)
+    → (m : MessageC w) × (rendered Release c n b ≡ message.C m)
+    × IsAbout false n (prune_code (prune_told (b.pair c).letting)) (same_perm (prune_left (prune_told (b.pair c).letting)) perm.Trunk) b.truth m
+    × (m.source ≡ b.release_source c) × (m.size ≡ 6)
 unfolding rendered
 release_rendered c n b width long =
     let r = prune_told (b.pair c).letting in
@@ -104,7 +108,9 @@ pub ack_rendered : {w : ℕ} (c n : ℕ) (b : Block (List ℕ)) → rendered {w 
 unfolding rendered
 ack_rendered c n b = refl
 
-module _ {w : ℕ} (config : Config) (log : Log w) (h : Shadow w) (sys : System w) (c : ℕ) (width : IsWidth w) (is : IsMatched config log h.mail h.request h.state sys) (t : History w) (flowed : IsFlowed (asked_by h.mail h.state c) (unfinished_at sys c) c h.state t) (rest' : Channel → List (Beat w)) (n : ℕ) (toks : List Token) where
+module _ {w : ℕ} (config : Config) (log : Log w) (h : Shadow w) (sys : System w) (c : ℕ) (width : IsWidth w)
+    (is : IsMatched config log h.mail h.request h.state sys) (t : History w) (flowed : IsFlowed (asked_by h.mail h.state c) (unfinished_at sys c) c h.state t)
+    (rest' : Channel → List (Beat w)) (n : ℕ) (toks : List Token) where
   abbrev s : State (List ℕ)
   s = h.state
 
@@ -118,7 +124,9 @@ module _ {w : ℕ} (config : Config) (log : Log w) (h : Shadow w) (sys : System 
   well = (is.invariant.blocks n).phases c
 
   -- the beat of a message of channel C
-  module _ (m : MessageC w) (x : Beat w) (ms : List (Message w)) (queue : List (Beat w)) (next : IsNext x (unfinished_at sys c channel.C) (message.C m) ms queue) (rests : AreRests x (unfinished_at sys c) rest') (b : Bool) (last : completes x (unfinished_at sys c channel.C) ≡ b) where
+  module _ (m : MessageC w) (x : Beat w) (ms : List (Message w)) (queue : List (Beat w))
+      (next : IsNext x (unfinished_at sys c channel.C) (message.C m) ms queue) (rests : AreRests x (unfinished_at sys c) rest') (b : Bool)
+      (last : completes x (unfinished_at sys c channel.C) ≡ b) where
     rests_y : AreRests (beat.C (c_beat_of m next.k)) (unfinished_at sys c) rest'
     rests_y = subst (λ (z : Beat w). AreRests z (unfinished_at sys c) rest') next.beat_is rests
 
@@ -142,7 +150,8 @@ module _ {w : ℕ} (config : Config) (log : Log w) (h : Shadow w) (sys : System 
   abbrev reported_if : Report → Bool → State (List ℕ)
   reported_if r b = if b then report_taken c n r toks h.state else h.state
 
-  pub own-report : (s.link c).c ≡ token ProbeAck n ∷ toks → (x : Beat w) (ms : List (Message w)) (queue : List (Beat w)) → IsNext x (unfinished_at sys c channel.C) (rendered ProbeAck c n (s.block n)) ms queue → AreRests x (unfinished_at sys c) rest'
+  pub own-report : (s.link c).c ≡ token ProbeAck n ∷ toks → (x : Beat w) (ms : List (Message w)) (queue : List (Beat w))
+      → IsNext x (unfinished_at sys c channel.C) (rendered ProbeAck c n (s.block n)) ms queue → AreRests x (unfinished_at sys c) rest'
       → (b : Bool) → completes x (unfinished_at sys c channel.C) ≡ b → IsFlowed before rest' c (if b then report_taken c n (report_told ((s.block n).pair c).probing) toks s else s) (x ∷ t)
   own-report tokens x ms queue next rests b last = subst (λ (z : Beat w). IsFlowed before rest' c (reported_if r b) (z ∷ t)) (sym here.beat_is) (go b last)
     where
@@ -161,20 +170,25 @@ module _ {w : ℕ} (config : Config) (log : Log w) (h : Shadow w) (sys : System 
       alone : is_granting (view (s.block n).service c) ≡ false
       alone =
           other_ungranted (view (s.block n).service c)
-          (answered_other r ((s.block n).pair c) (view (s.block n).service c) well (answered-is ((s.block n).pair c).probing (holds-first ProbeAck (s.link c).c toks (token ProbeAck n) (λ i. shown ProbeAck c (s.block i)) tokens refl (is.invariant.transfers c ProbeAck refl))))
+          (answered_other r ((s.block n).pair c) (view (s.block n).service c) well
+          (answered-is ((s.block n).pair c).probing (holds-first ProbeAck (s.link c).c toks (token ProbeAck n)
+          (λ i. shown ProbeAck c (s.block i)) tokens refl (is.invariant.transfers c ProbeAck refl))))
 
       same : (z : Bool) → completes x (unfinished_at sys c channel.C) ≡ z → (i : ℕ) → comes_in_release i (rest' channel.C) ≡ comes_in_release i (unfinished_at sys c channel.C)
       same z e i =
           comes m x ms queue here rests z e i ∙ with_false (not z) (is_release m.opcode && (m.source == i)) (first_false (is_release m.opcode) (m.source == i) about.2.releases)
-          ∙ sym (came m x ms queue here rests z e i ∙ with_false (not (is_empty (unfinished_at sys c channel.C))) (is_release m.opcode && (m.source == i)) (first_false (is_release m.opcode) (m.source == i) about.2.releases))
+          ∙ sym (came m x ms queue here rests z e i ∙ with_false (not (is_empty (unfinished_at sys c channel.C))) (is_release m.opcode && (m.source == i))
+          (first_false (is_release m.opcode) (m.source == i) about.2.releases))
 
       go : (z : Bool) → completes x (unfinished_at sys c channel.C) ≡ z → IsFlowed before rest' c (reported_if r z) (beat.C (c_beat_of m here.k) ∷ t)
       go false e =
           flowed-report_part c (c_beat_of m here.k) (is_empty (unfinished_at sys c channel.C)) before (unfinished_at sys c) rest' s t (ap is_empty (flowed.rest_is channel.C))
-          (ap (completes (beat.C (c_beat_of m here.k))) (flowed.rest_is channel.C) ∙ last_y m x ms queue here rests false e) (rests_y m x ms queue here rests false e) about.2.releases (same false e) flowed
+          (ap (completes (beat.C (c_beat_of m here.k))) (flowed.rest_is channel.C) ∙ last_y m x ms queue here rests false e)
+          (rests_y m x ms queue here rests false e) about.2.releases (same false e) flowed
       go true e =
           flowed-report c n r toks (c_beat_of m here.k) (is_empty (unfinished_at sys c channel.C)) before (unfinished_at sys c) rest' s t (ap is_empty (flowed.rest_is channel.C))
-          (ap (completes (beat.C (c_beat_of m here.k))) (flowed.rest_is channel.C) ∙ last_y m x ms queue here rests true e) (rests_y m x ms queue here rests true e) about.2.reports about.2.releases (same true e) about.2.block
+          (ap (completes (beat.C (c_beat_of m here.k))) (flowed.rest_is channel.C) ∙ last_y m x ms queue here rests true e)
+          (rests_y m x ms queue here rests true e) about.2.reports about.2.releases (same true e) about.2.block
           (ap reported about.2.param_is ∙ reported-report r) alone flowed
 
   -- ---- a Release
@@ -182,12 +196,14 @@ module _ {w : ℕ} (config : Config) (log : Log w) (h : Shadow w) (sys : System 
   abbrev released_if : Prune → Bool → State (List ℕ)
   released_if r b = if b then release_taken c n r toks h.state else h.state
 
-  pub own-release : (s.link c).c ≡ token Release n ∷ toks → (x : Beat w) (ms : List (Message w)) (queue : List (Beat w)) → IsNext x (unfinished_at sys c channel.C) (rendered Release c n (s.block n)) ms queue → AreRests x (unfinished_at sys c) rest'
+  pub own-release : (s.link c).c ≡ token Release n ∷ toks → (x : Beat w) (ms : List (Message w)) (queue : List (Beat w))
+      → IsNext x (unfinished_at sys c channel.C) (rendered Release c n (s.block n)) ms queue → AreRests x (unfinished_at sys c) rest'
       → (b : Bool) → completes x (unfinished_at sys c channel.C) ≡ b → IsFlowed before rest' c (if b then release_taken c n (prune_told ((s.block n).pair c).letting) toks s else s) (x ∷ t)
   own-release tokens x ms queue next rests b last =
       subst (λ (z : Beat w). IsFlowed before rest' c (released_if r b) (z ∷ t)) (sym here.beat_is)
       (flowed-release c n r (c_beat_of m here.k) (is_empty (unfinished_at sys c channel.C)) b before (unfinished_at sys c) rest' s (released_if r b) t (ap is_empty (flowed.rest_is channel.C))
-      (ap (completes (beat.C (c_beat_of m here.k))) (flowed.rest_is channel.C) ∙ last_y m x ms queue here rests b last) (rests_y m x ms queue here rests b last) (λ i k. is.invariant.named.releases c i k) (record {
+      (ap (completes (beat.C (c_beat_of m here.k))) (flowed.rest_is channel.C) ∙ last_y m x ms queue here rests b last) (rests_y m x ms queue here rests b last)
+      (λ i k. is.invariant.named.releases c i k) (record {
         release = about.2.releases;
         ack = about.2.reports;
         source = about.3;
@@ -213,7 +229,9 @@ module _ {w : ℕ} (config : Config) (log : Log w) (h : Shadow w) (sys : System 
       r : Prune
       r = prune_told ((s.block n).pair c).letting
 
-      about : (m : MessageC w) × (rendered Release c n (s.block n) ≡ message.C m) × IsAbout false n (prune_code r) (same_perm (prune_left r) perm.Trunk) (s.block n).truth m × (m.source ≡ (s.block n).release_source c) × (m.size ≡ 6)
+      about : (m : MessageC w) × (rendered Release c n (s.block n) ≡ message.C m)
+          × IsAbout false n (prune_code r) (same_perm (prune_left r) perm.Trunk) (s.block n).truth m × (m.source ≡ (s.block n).release_source c)
+          × (m.size ≡ 6)
       about = release_rendered c n (s.block n) width (is.sized n).truth
 
       m : MessageC w
@@ -223,7 +241,8 @@ module _ {w : ℕ} (config : Config) (log : Log w) (h : Shadow w) (sys : System 
       here = subst (λ (i : Message w). IsNext x (unfinished_at sys c channel.C) i ms queue) about.1 next
 
       releasing : ((s.block n).pair c).letting ≡ Releasing r
-      releasing = releasing-is ((s.block n).pair c).letting (holds-first Release (s.link c).c toks (token Release n) (λ i. shown Release c (s.block i)) tokens refl (is.invariant.transfers c Release refl))
+      releasing = releasing-is ((s.block n).pair c).letting
+          (holds-first Release (s.link c).c toks (token Release n) (λ i. shown Release c (s.block i)) tokens refl (is.invariant.transfers c Release refl))
 
       ungranted : is_granting (view (s.block n).service c) ≡ false
       ungranted = released_ungranted r ((s.block n).pair c) (view (s.block n).service c) well releasing
@@ -258,7 +277,8 @@ module _ {w : ℕ} (config : Config) (log : Log w) (h : Shadow w) (sys : System 
 
       held_is : (z : Bool) → held_by c ((released_if r z).block n) ≡ (if z then prune_right r else held_by c (s.block n))
       held_is true =
-          ap (held_by c) (now true) ∙ ap (λ (g : Bool). if g then ((let_block c r (s.block n)).pair c).held else ((let_block c r (s.block n)).pair c).recorded) ungranted ∙ ap (λ (p : Pair). p.recorded) pair
+          ap (held_by c) (now true) ∙ ap (λ (g : Bool). if g then ((let_block c r (s.block n)).pair c).held else ((let_block c r (s.block n)).pair c).recorded)
+          ungranted ∙ ap (λ (p : Pair). p.recorded) pair
       held_is false = refl
 
       service : (z : Bool) → (block_if z).service ≡ (s.block n).service
@@ -287,13 +307,16 @@ module _ {w : ℕ} (config : Config) (log : Log w) (h : Shadow w) (sys : System 
 
   -- ---- a GrantAck
 
-  pub own-grant_ack : (s.link c).e ≡ token GrantAck n ∷ toks → (x : Beat w) (ms : List (Message w)) (queue : List (Beat w)) → IsNext x (unfinished_at sys c channel.E) (rendered GrantAck c n (s.block n)) ms queue → AreRests x (unfinished_at sys c) rest'
+  pub own-grant_ack : (s.link c).e ≡ token GrantAck n ∷ toks → (x : Beat w) (ms : List (Message w)) (queue : List (Beat w))
+      → IsNext x (unfinished_at sys c channel.E) (rendered GrantAck c n (s.block n)) ms queue → AreRests x (unfinished_at sys c) rest'
       → (asked' : ℕ → Option (BeatA w)) → ((i : ℕ) → asked' i ≡ before i) → IsFlowed asked' rest' c (grant_ack_taken c n toks s) (x ∷ t)
   own-grant_ack tokens x ms queue next rests asked' asks =
       subst (λ (z : Beat w). IsFlowed asked' rest' c (grant_ack_taken c n toks s) (z ∷ t)) (sym x_is)
       (flowed-grant_ack c n toks y before asked' (unfinished_at sys c) rest' s t (ap is_empty (flowed.rest_is channel.E ∙ one.1)) (ap (completes {w = w} (beat.E y)) (flowed.rest_is channel.E ∙ one.1))
-      (subst (λ (z : Beat w). AreRests z (unfinished_at sys c) rest') x_is rests) asks refl seen is.invariant.named (busy_seen is_acknowledging refl (s.block n).service c shows) (λ k e. busy_seen is_acknowledging refl (s.block k).service c e)
-      (λ k e. busy_seen is_granting refl (s.block k).service c e) (coming-granting config log h.mail h.request h.state sys c is) (λ k. comes-same k before asked' (unfinished_at sys c channel.D) asks) flowed)
+      (subst (λ (z : Beat w). AreRests z (unfinished_at sys c) rest') x_is rests) asks refl seen is.invariant.named
+      (busy_seen is_acknowledging refl (s.block n).service c shows) (λ k e. busy_seen is_acknowledging refl (s.block k).service c e)
+      (λ k e. busy_seen is_granting refl (s.block k).service c e) (coming-granting config log h.mail h.request h.state sys c is)
+      (λ k. comes-same k before asked' (unfinished_at sys c channel.D) asks) flowed)
     where
       y : BeatE
       y = record { sink = (s.block n).tracker }

@@ -5,8 +5,8 @@ use Rattle.std.proofs.lemmas.Bool.{cases_eq, ne_eqb, eqb-true}
 use Rattle.tl_beat.specs.Width.{IsWidth}
 use Rattle.tl_beat.specs.declared.beat.Beat.{Beat}
 use Rattle.tl_beat.specs.declared.beat.Link.{Link}
-use Rattle.tl_beat.specs.declared.opcode.Channel.{Channel}
-use Rattle.tl_beat.specs.declared.opcode.Channel.TheVariants as channel
+use Rattle.tl_beat.specs.declared.channel.Channel.{Channel}
+use Rattle.tl_beat.specs.declared.channel.Channel.TheVariants as channel
 use Rattle.tl_burst.specs.Messages.{History, grown, unfinished}
 use Rattle.tl_burst.specs.Part.{completes}
 use Rattle.tl_params.specs.declared.config.Config.{Config}
@@ -89,12 +89,15 @@ pub record IsMovedOn {w : ℕ} (config : Config) (log : Log w) (link : Link) (ch
   pub on_ch : IsOn ch x
   pub delivered : (d : ℕ) → flow d ((Deliver link ch, (stepped config (Deliver link ch) (after config log)).outcome) ∷ log) ≡ (if link.0 == d then x ∷ flow d log else flow d log)
   pub rests : (d : ℕ) (at : Channel)
-      → unfinished_at (stepped config (Deliver link ch) (after config log)).after d at ≡ (if (d == link.0) && same_channel at ch then grown x (unfinished_at (after config log) d at) else unfinished_at (after config log) d at)
+      → unfinished_at (stepped config (Deliver link ch) (after config log)).after d at
+      ≡ (if (d == link.0) && same_channel at ch then grown x (unfinished_at (after config log) d at) else unfinished_at (after config log) d at)
   pub follows : followed config (Deliver link ch) (after config log) h
       ≡ (if completes x (unfinished_at (after config log) link.0 ch) then kind_taken config (next_tracker (after config log)) link.0 first.kind first.number first.rest h else h)
 
-moved-to_manager : {w : ℕ} (config : Config) (log : Log w) (link : Link) (ch : Channel) (h : Shadow w) (terms : Terms) (x : Beat w) (queue : List (Beat w)) → IsWidth w → IsMatched config log h.mail h.request h.state (after config log)
-    → terms_at config link.0 ≡ Some terms → is_to_client ch ≡ false → (after config log).channels link.0 ch ≡ x ∷ queue → is_moving (stepped config (Deliver link ch) (after config log)).outcome ≡ true → IsMovedOn config log link ch h x queue
+moved-to_manager : {w : ℕ} (config : Config) (log : Log w) (link : Link) (ch : Channel) (h : Shadow w) (terms : Terms) (x : Beat w) (queue : List (Beat w))
+    → IsWidth w → IsMatched config log h.mail h.request h.state (after config log)
+    → terms_at config link.0 ≡ Some terms → is_to_client ch ≡ false → (after config log).channels link.0 ch ≡ x ∷ queue
+    → is_moving (stepped config (Deliver link ch) (after config log)).outcome ≡ true → IsMovedOn config log link ch h x queue
 unfolding with_messages
 moved-to_manager {w} config log link ch h terms x queue width is known down beats moving = record {
   first = at.first;
@@ -120,15 +123,18 @@ moved-to_manager {w} config log link ch h terms x queue width is known down beat
     base : System w
     base = with_manager e (with_channel link.0 ch queue sys)
 
-moved-to_client : {w : ℕ} (config : Config) (log : Log w) (link : Link) (ch : Channel) (h : Shadow w) (terms : Terms) (x : Beat w) (queue : List (Beat w)) → IsWidth w → IsMatched config log h.mail h.request h.state (after config log)
-    → terms_at config link.0 ≡ Some terms → is_to_client ch ≡ true → (after config log).channels link.0 ch ≡ x ∷ queue → is_moving (stepped config (Deliver link ch) (after config log)).outcome ≡ true → IsMovedOn config log link ch h x queue
+moved-to_client : {w : ℕ} (config : Config) (log : Log w) (link : Link) (ch : Channel) (h : Shadow w) (terms : Terms) (x : Beat w) (queue : List (Beat w))
+    → IsWidth w → IsMatched config log h.mail h.request h.state (after config log)
+    → terms_at config link.0 ≡ Some terms → is_to_client ch ≡ true → (after config log).channels link.0 ch ≡ x ∷ queue
+    → is_moving (stepped config (Deliver link ch) (after config log)).outcome ≡ true → IsMovedOn config log link ch h x queue
 moved-to_client {w} config log link ch h terms x queue width is known up beats moving = record {
   first = first;
   on_ch = on_ch;
   delivered = λ d. ap (λ (y : Step w). flow d ((Deliver link ch, y.outcome) ∷ log)) t.step_is
       ∙ flow_moved link ch (outcome_of x t.verdict_is) x log d (taken_at link ch x t.verdict_is d (sym (ap (λ (y : Step w). is_moving y.outcome) t.step_is) ∙ moving));
   rests = λ d i. ap (λ (y : Step w). unfinished_at y.after d i) t.step_is
-      ∙ (landed-client link.0 ch x queue t.message (offer.taken x (sys.clients link.0)).after sys up beats on_ch (client-heard terms link.0 ch x queue sys (stepped config (Deliver link ch) sys) width (is.kept link.0) t)).rests d i;
+      ∙ (landed-client link.0 ch x queue t.message (offer.taken x (sys.clients link.0)).after sys up beats on_ch
+      (client-heard terms link.0 ch x queue sys (stepped config (Deliver link ch) sys) width (is.kept link.0) t)).rests d i;
   follows = followed-moving config link ch sys h x queue moving beats
       ∙ ap (λ (l : List Token). if completes x (unfinished_at sys link.0 ch) then token_taken config (next_tracker sys) link.0 l h else h) first.tokens;
 }
@@ -145,8 +151,11 @@ moved-to_client {w} config log link ch h terms x queue width is known up beats m
     on_ch : IsOn ch x
     on_ch = subst (λ (i : Channel). IsOn i x) (first-of config log h link.0 terms ch x queue width is known beats).on (on_it x)
 
-pub moved-on : {w : ℕ} (config : Config) (log : Log w) (link : Link) (ch : Channel) (h : Shadow w) (x : Beat w) (queue : List (Beat w)) (terms : Terms) → IsWidth w → IsMatched config log h.mail h.request h.state (after config log)
-    → (after config log).channels link.0 ch ≡ x ∷ queue → terms_at config link.0 ≡ Some terms → is_moving (stepped config (Deliver link ch) (after config log)).outcome ≡ true → (b : Bool) → is_to_client ch ≡ b → IsMovedOn config log link ch h x queue
+pub moved-on : {w : ℕ} (config : Config) (log : Log w) (link : Link) (ch : Channel) (h : Shadow w) (x : Beat w) (queue : List (Beat w)) (terms : Terms)
+    → IsWidth w → IsMatched config log h.mail h.request h.state (after config log)
+    → (after config log).channels link.0 ch ≡ x ∷ queue → terms_at config link.0 ≡ Some terms
+    → is_moving (stepped config (Deliver link ch) (after config log)).outcome ≡ true → (b : Bool) → is_to_client ch ≡ b
+    → IsMovedOn config log link ch h x queue
 moved-on config log link ch h x queue terms width is beats known moving true e = moved-to_client config log link ch h terms x queue width is known e beats moving
 moved-on config log link ch h x queue terms width is beats known moving false e = moved-to_manager config log link ch h terms x queue width is known e beats moving
 
@@ -155,10 +164,14 @@ moved-on config log link ch h x queue terms width is beats known moving false e 
 -- each link's values are those of the protocol after this step
 abbrev AreFlowedAfter : {w : ℕ} → Config → Log w → Event w → Shadow w → Type 0
 AreFlowedAfter config log event h =
-    AreFlowed ((event, (stepped config event (after config log)).outcome) ∷ log) (followed config event (after config log) h).mail (followed config event (after config log) h).state (stepped config event (after config log)).after
+    AreFlowed ((event, (stepped config event (after config log)).outcome) ∷ log) (followed config event (after config log) h).mail
+    (followed config event (after config log) h).state (stepped config event (after config log)).after
 
-moved-flowed : {w : ℕ} (config : Config) (log : Log w) (link : Link) (ch : Channel) (h : Shadow w) (x : Beat w) (queue : List (Beat w)) → IsWidth w → IsMatched config log h.mail h.request h.state (after config log)
-    → AreFlowed log h.mail h.state (after config log) → (after config log).channels link.0 ch ≡ x ∷ queue → is_moving (stepped config (Deliver link ch) (after config log)).outcome ≡ true → IsMovedOn config log link ch h x queue → AreFlowedAfter config log (Deliver link ch) h
+moved-flowed : {w : ℕ} (config : Config) (log : Log w) (link : Link) (ch : Channel) (h : Shadow w) (x : Beat w) (queue : List (Beat w)) → IsWidth w
+    → IsMatched config log h.mail h.request h.state (after config log)
+    → AreFlowed log h.mail h.state (after config log) → (after config log).channels link.0 ch ≡ x ∷ queue
+    → is_moving (stepped config (Deliver link ch) (after config log)).outcome ≡ true → IsMovedOn config log link ch h x queue
+    → AreFlowedAfter config log (Deliver link ch) h
 moved-flowed {w} config log link ch h x queue width is flowed beats moving at d =
     subst (λ (z : Shadow w). Here z (flow d ((Deliver link ch, (stepped config (Deliver link ch) sys).outcome) ∷ log))) (sym at.follows)
     (subst (λ (t : History w). Here h' t) (sym (at.delivered d))
@@ -194,7 +207,8 @@ moved-flowed {w} config log link ch h x queue width is flowed beats moving at d 
     own : IsFlowed (asked_by h'.mail h'.state c) (unfinished_at sys' c) c h'.state (if c == c then x ∷ flow c log else flow c log)
     own =
         subst (λ (b : Bool). IsFlowed (asked_by h'.mail h'.state c) (unfinished_at sys' c) c h'.state (if b then x ∷ flow c log else flow c log)) (sym (same_number c))
-        (own-kind config log h sys c width is (next_tracker sys) (flow c log) (flowed c) (unfinished_at sys' c) at.first.number at.first.rest x (map (message_of h.mail h.state c) at.first.rest) queue rests ch at.first.kind at.first.own at.first.tokens at.first.next last refl ready)
+        (own-kind config log h sys c width is (next_tracker sys) (flow c log) (flowed c) (unfinished_at sys' c) at.first.number at.first.rest x
+        (map (message_of h.mail h.state c) at.first.rest) queue rests ch at.first.kind at.first.own at.first.tokens at.first.next last refl ready)
       where
         rests : AreRests x (unfinished_at sys c) (unfinished_at sys' c)
         rests i =
@@ -209,11 +223,13 @@ moved-flowed {w} config log link ch h x queue width is flowed beats moving at d 
         rests : (i : Channel) → unfinished_at sys' d i ≡ unfinished_at sys d i
         rests i = at.rests d i ∙ ap (λ (b : Bool). if b && same_channel i ch then grown x (unfinished_at sys d i) else unfinished_at sys d i) (ne_eqb d c ne)
 
-        either : (b : Bool) → last ≡ b → FlowsAs config log h sys c is (next_tracker sys) d ne (flow d log) (if b then kind_taken config (next_tracker sys) c at.first.kind at.first.number at.first.rest h else h)
+        either : (b : Bool) → last ≡ b → FlowsAs config log h sys c is (next_tracker sys) d ne (flow d log)
+            (if b then kind_taken config (next_tracker sys) c at.first.kind at.first.number at.first.rest h else h)
         either true e = other-kind config log h sys c is (next_tracker sys) d ne (flow d log) at.first.kind at.first.number at.first.rest on_kind (ready e) (flowed d)
         either false e = flowed d
 
-delivered-flowed : {w : ℕ} (config : Config) (log : Log w) (link : Link) (ch : Channel) (h : Shadow w) → IsWidth w → IsMatched config log h.mail h.request h.state (after config log) → AreFlowed log h.mail h.state (after config log)
+delivered-flowed : {w : ℕ} (config : Config) (log : Log w) (link : Link) (ch : Channel) (h : Shadow w) → IsWidth w
+    → IsMatched config log h.mail h.request h.state (after config log) → AreFlowed log h.mail h.state (after config log)
     → AreFlowedAfter config log (Deliver link ch) h
 delivered-flowed {w} config log link ch h width is flowed = go (is_moving (stepped config (Deliver link ch) sys).outcome) refl
   where
@@ -225,13 +241,18 @@ delivered-flowed {w} config log link ch h width is flowed = go (is_moving (stepp
         let at = first-moved config link ch sys moving in
         moved-flowed config log link ch h at.0 at.1 width is flowed at.3.0 moving (moved-on config log link ch h at.0 at.1 at.2 width is at.3.0 at.3.1 moving (is_to_client ch) refl)
     go false still =
-        λ d. subst (λ (z : Shadow w). IsFlowed (asked_by z.mail z.state d) (unfinished_at (stepped config (Deliver link ch) sys).after d) d z.state (flow d ((Deliver link ch, (stepped config (Deliver link ch) sys).outcome) ∷ log))) (sym (followed-still config link ch sys h still))
-        (subst (λ (t : History w). IsFlowed (asked_by h.mail h.state d) (unfinished_at (stepped config (Deliver link ch) sys).after d) d h.state t) (sym (flow_still (Deliver link ch) (stepped config (Deliver link ch) sys).outcome log d still))
-        (flowed-rests (asked_by h.mail h.state d) (unfinished_at sys d) (unfinished_at (stepped config (Deliver link ch) sys).after d) d h.state (flow d log) (λ i. (unmoved config link ch sys still).rests d i) (flowed d)))
+        λ d. subst (λ (z : Shadow w). IsFlowed (asked_by z.mail z.state d) (unfinished_at (stepped config (Deliver link ch) sys).after d) d z.state
+        (flow d ((Deliver link ch, (stepped config (Deliver link ch) sys).outcome) ∷ log))) (sym (followed-still config link ch sys h still))
+        (subst (λ (t : History w). IsFlowed (asked_by h.mail h.state d) (unfinished_at (stepped config (Deliver link ch) sys).after d) d h.state t)
+        (sym (flow_still (Deliver link ch) (stepped config (Deliver link ch) sys).outcome log d still))
+        (flowed-rests (asked_by h.mail h.state d) (unfinished_at sys d) (unfinished_at (stepped config (Deliver link ch) sys).after d) d h.state (flow d log)
+        (λ i. (unmoved config link ch sys still).rests d i) (flowed d)))
 
 -- ---- and after a client was asked
 
-asked-flowed : {w : ℕ} (config : Config) (log : Log w) (c : ℕ) (o : Op w) (h : Shadow w) → IsWidth w → IsMatched config log h.mail h.request h.state (after config log) → AreFlowed log h.mail h.state (after config log) → AreFlowedAfter config log (Ask c o) h
+asked-flowed : {w : ℕ} (config : Config) (log : Log w) (c : ℕ) (o : Op w) (h : Shadow w) → IsWidth w
+    → IsMatched config log h.mail h.request h.state (after config log) → AreFlowed log h.mail h.state (after config log)
+    → AreFlowedAfter config log (Ask c o) h
 asked-flowed {w} config log c o h width is flowed = go (terms_at config c) refl
   where
     sys : System w
@@ -241,7 +262,9 @@ asked-flowed {w} config log c o h width is flowed = go (terms_at config c) refl
     After x = AreFlowed ((Ask c o, x.outcome) ∷ log) (followed_by config (Ask c o) x.outcome sys h).mail (followed_by config (Ask c o) x.outcome sys h).state x.after
 
     go : (i : Option Terms) → terms_at config c ≡ i → After (stepped config (Ask c o) sys)
-    go None none = subst After (sym (stepped-nobody config (Ask c o) sys none)) (λ d. subst (λ (t : History w). IsFlowed (asked_by h.mail h.state d) (unfinished_at sys d) d h.state t) (sym (flow_still (Ask c o) outcome.NoSuchClient log d refl)) (flowed d))
+    go None none = subst After (sym (stepped-nobody config (Ask c o) sys none))
+        (λ d. subst (λ (t : History w). IsFlowed (asked_by h.mail h.state d) (unfinished_at sys d) d h.state t)
+        (sym (flow_still (Ask c o) outcome.NoSuchClient log d refl)) (flowed d))
     go (Some terms) known = subst After (sym (stepped-asked config c o sys terms known)) (λ d.
         subst (λ (t : History w). IsFlowed (asked_by h'.mail h'.state d) (unfinished_at (replied c a sys).after d) d h'.state t) (sym (flow_still (Ask c o) (outcome.Replied a.reply) log d refl))
         (flowed-rests (asked_by h'.mail h'.state d) (unfinished_at sys d) (unfinished_at (replied c a sys).after d) d h'.state (flow d log)
@@ -257,7 +280,8 @@ asked-flowed {w} config log c o h width is flowed = go (terms_at config c) refl
         well : IsAskedWell config c o h (remembered config log) (ask.asked terms o (sys.clients c))
         well = asked-well config log h sys c terms o width is known
 
-flowed-event : {w : ℕ} (config : Config) (log : Log w) (event : Event w) (h : Shadow w) → IsWidth w → IsMatched config log h.mail h.request h.state (after config log) → AreFlowed log h.mail h.state (after config log) → AreFlowedAfter config log event h
+flowed-event : {w : ℕ} (config : Config) (log : Log w) (event : Event w) (h : Shadow w) → IsWidth w
+    → IsMatched config log h.mail h.request h.state (after config log) → AreFlowed log h.mail h.state (after config log) → AreFlowedAfter config log event h
 flowed-event config log (Ask c o) h width is flowed = asked-flowed config log c o h width is flowed
 flowed-event config log (Deliver link ch) h width is flowed = delivered-flowed config log link ch h width is flowed
 
@@ -279,8 +303,10 @@ unfolding is_legal
 legal_more l p x t e f = rw (e, f) refl
 
 -- nor by a beat of any channel that is moved
-unbroken : {w : ℕ} (config : Config) (log : Log w) (h : Shadow w) (link : Link) (ch : Channel) (l : Level) (x : Beat w) (queue : List (Beat w)) → IsWidth w → IsMatched config log h.mail h.request h.state (after config log) → AreFlowed log h.mail h.state (after config log)
-    → is_moving (stepped config (Deliver link ch) (after config log)).outcome ≡ true → (after config log).channels link.0 ch ≡ x ∷ queue → level_of config link.0 ≡ Some l → broken_after l config.profile x (flow link.0 log) ≡ None
+unbroken : {w : ℕ} (config : Config) (log : Log w) (h : Shadow w) (link : Link) (ch : Channel) (l : Level) (x : Beat w) (queue : List (Beat w)) → IsWidth w
+    → IsMatched config log h.mail h.request h.state (after config log) → AreFlowed log h.mail h.state (after config log)
+    → is_moving (stepped config (Deliver link ch) (after config log)).outcome ≡ true → (after config log).channels link.0 ch ≡ x ∷ queue
+    → level_of config link.0 ≡ Some l → broken_after l config.profile x (flow link.0 log) ≡ None
 unbroken config log h link channel.A l x queue width is values moving beats level =
     flows-a config log h.mail h.request h.state (after config log) link.0 l x queue width is values beats level
     (request-moves config log h.mail h.request h.state (after config log) link x queue is moving beats (arrival-first config log h (after config log) link.0 x queue width is beats))
@@ -297,9 +323,11 @@ asked-still {w} config log c o = go (terms_at config c) refl
     go None none = ap (λ (x : Step w). is_moving x.outcome) (stepped-nobody config (Ask c o) (after config log) none)
     go (Some terms) known = ap (λ (x : Step w). is_moving x.outcome) (stepped-asked config c o (after config log) terms known)
 
-legal-event : {w : ℕ} (config : Config) (log : Log w) (h : Shadow w) (event : Event w) (d : ℕ) (l : Level) → IsWidth w → IsMatched config log h.mail h.request h.state (after config log) → AreFlowed log h.mail h.state (after config log)
+legal-event : {w : ℕ} (config : Config) (log : Log w) (h : Shadow w) (event : Event w) (d : ℕ) (l : Level) → IsWidth w
+    → IsMatched config log h.mail h.request h.state (after config log) → AreFlowed log h.mail h.state (after config log)
     → level_of config d ≡ Some l → is_legal l config.profile (flow d log) ≡ true → is_legal l config.profile (flow d ((event, (stepped config event (after config log)).outcome) ∷ log)) ≡ true
-legal-event {w} config log h (Ask c o) d l width is values level legal = ap (is_legal l config.profile) (flow_still (Ask c o) (stepped config (Ask c o) (after config log)).outcome log d (asked-still config log c o)) ∙ legal
+legal-event {w} config log h (Ask c o) d l width is values level legal =
+    ap (is_legal l config.profile) (flow_still (Ask c o) (stepped config (Ask c o) (after config log)).outcome log d (asked-still config log c o)) ∙ legal
 legal-event {w} config log h (Deliver link ch) d l width is values level legal = go (is_moving (stepped config (Deliver link ch) sys).outcome) refl
   where
     sys : System w

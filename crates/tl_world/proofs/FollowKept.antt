@@ -29,11 +29,13 @@ use Rattle.tl_client.specs.declared.reply.Reply.TheVariants as reply
 use Rattle.tl_client.specs.Ask.{copy_stored, whole_grow}
 use Rattle.tl_manager.specs.Holders.{cap_probed}
 use Rattle.tl_manager.proofs.Written.{bytes_are}
-use Rattle.tl_world.specs.Follow.{Shadow, with_state, asked, some_below, bytes_at, performs, probes_some, access_taken, request_taken, is_unheld, gift, acquire_taken, granted_after, last_taken, ack_taken, is_whole, taken_by_client, kind_taken}
+use Rattle.tl_world.specs.Follow.{Shadow, with_state, asked, some_below, bytes_at, performs, probes_some, access_taken, request_taken, is_unheld, gift}
+use Rattle.tl_world.specs.Follow.{acquire_taken, granted_after, last_taken, ack_taken, is_whole, taken_by_client, kind_taken}
 use Rattle.tl_world.specs.Invariant.{cap_asked, is_asked, is_replied, IsInvariant, AreOutside}
 use Rattle.tl_world.specs.Phase.{Pair, View, Own, Other, Granting, Acknowledging, GrantedOther, Answered, Kept, Acquiring, Calm, Wants, same_cap, is_quiet, cap_fits, grow_fits}
 use Rattle.tl_world.specs.PhaseSteps.{is_above, is_granted_data, after_report}
-use Rattle.tl_world.specs.Protocol.{Service, Free, Waits, GrantSent, GrantTaken, Block, Closed, Asked, view, token, shown, is_wanting, is_unserved, is_granting, is_answered, is_probed, on, acquire_served, acquire_granted, report_taken, grant_taken}
+use Rattle.tl_world.specs.Protocol.{Service, Free, Waits, GrantSent, GrantTaken, Block, Closed, Asked, view, token, shown, is_wanting, is_unserved, is_granting}
+use Rattle.tl_world.specs.Protocol.{is_answered, is_probed, on, acquire_served, acquire_granted, report_taken, grant_taken}
 use Rattle.tl_world.specs.Render.{cap_sent, report_told, prune_told}
 use Rattle.tl_world.specs.Token.{Kind, Request, Acquire, Probe, ProbeAck, Release, Answer, Grant, ReleaseAck, GrantAck, Token, set}
 use Rattle.tl_world.proofs.Phases.{and_left, and_right}
@@ -89,7 +91,9 @@ unprobed clients caching c own k pair plain outside none d spared = elim (cases_
 pub settled_all : (clients : ℕ) (caching : ℕ → Bool) (c : ℕ) (pair : ℕ → Pair) → ((d : ℕ) → clients ≤ d → caching d ≡ false) → AreOutside caching pair
     → some_below clients (λ d. not (d == c) && not (is_quiet (pair d).probing)) ≡ false → (d : ℕ) → (d ≡ c → ⊥) → is_quiet (pair d).probing ≡ true
 settled_all clients caching c pair plain outside none d ne = elim (cases_lt d clients) [
-  | inl lt ↦ let e : (not (d == c) && not (is_quiet (pair d).probing)) ≡ false = some-none clients (λ i. not (i == c) && not (is_quiet (pair i).probing)) none d lt in not-false (is_quiet (pair d).probing) (rw (ne_eqb d c ne) at e)
+  | inl lt ↦ let e : (not (d == c) && not (is_quiet (pair d).probing)) ≡ false =
+      some-none clients (λ i. not (i == c) && not (is_quiet (pair i).probing)) none d lt in not-false (is_quiet (pair d).probing)
+      (rw (ne_eqb d c ne) at e)
   | inr le ↦ rw (outside d (plain d le)) refl
 ]
 
@@ -126,7 +130,8 @@ pub request_taken-kept : {w : ℕ} (caching : ℕ → Bool) (clients c source tr
     → (h.state.link c).a ≡ token Request source ∷ rest → is_acquire m.opcode ≡ false → length (h.state.block (block_at m.address)).truth ≡ 64
     → (h.state.block (block_at m.address)).service ≡ Free → h.state.tracked tracker ≡ None
     → IsInvariant caching (request_taken clients c source (message.A m) tracker rest h).state
-request_taken-kept {w} caching clients c source tracker m rest h inv plain first access long free unused = go (probes_some clients c false (cap_probed m.opcode m.param) b.pair) (cap_probed m.opcode m.param) refl refl
+request_taken-kept {w} caching clients c source tracker m rest h inv plain first access long free unused =
+    go (probes_some clients c false (cap_probed m.opcode m.param) b.pair) (cap_probed m.opcode m.param) refl refl
   where
     n : ℕ
     n = block_at m.address
@@ -190,7 +195,9 @@ gift_trunk profile.Two false grow.NtoB held false e f = absurd cc
 unheld_none : (clients : ℕ) (caching : ℕ → Bool) (pair : ℕ → Pair) → ((d : ℕ) → clients ≤ d → caching d ≡ false) → AreOutside caching pair → is_unheld clients pair ≡ true → (d : ℕ)
     → same_perm (pair d).recorded perm.None ≡ true
 unheld_none clients caching pair plain outside e d = elim (cases_lt d clients) [
-  | inl lt ↦ not-false (same_perm (pair d).recorded perm.None) (some-none clients (λ i. not (same_perm (pair i).recorded perm.None)) (not-true (some_below clients (λ i. not (same_perm (pair i).recorded perm.None))) e) d lt)
+  | inl lt ↦ not-false (same_perm (pair d).recorded perm.None)
+      (some-none clients (λ i. not (same_perm (pair i).recorded perm.None))
+      (not-true (some_below clients (λ i. not (same_perm (pair i).recorded perm.None))) e) d lt)
   | inr le ↦ rw (outside d (plain d le)) refl
 ]
 
@@ -204,7 +211,8 @@ acquire_taken-kept {w} caching clients p c n tracker rest h inv plain first free
     b = h.state.block n
 
     wants : (whole : Bool) × (g : Grow) × ((b.pair c).acquiring ≡ Wants whole g)
-    wants = wanting-is (b.pair c).acquiring (and_left (is_wanting (b.pair c).acquiring) (is_unserved (view b.service c)) (holds-first Acquire (h.state.link c).a rest (token Acquire n) (λ i. shown Acquire c (h.state.block i)) first refl (inv.transfers c Acquire refl)))
+    wants = wanting-is (b.pair c).acquiring (and_left (is_wanting (b.pair c).acquiring) (is_unserved (view b.service c))
+        (holds-first Acquire (h.state.link c).a rest (token Acquire n) (λ i. shown Acquire c (h.state.block i)) first refl (inv.transfers c Acquire refl)))
 
     go : (whole : Bool) (g : Grow) → (b.pair c).acquiring ≡ Wants whole g → IsInvariant caching (acquire_taken clients p c n (b.pair c).acquiring tracker rest h).state
     go whole g e = rw e (served (some_below clients (λ d. is_probed c true (cap_asked (Wants whole g)) (b.pair d).recorded d)) refl)
@@ -224,7 +232,8 @@ acquire_taken-kept {w} caching clients p c n tracker rest h inv plain first free
             same_again cap.ToN = refl
 
         served : (x : Bool) → some_below clients (λ d. is_probed c true (cap_asked (Wants whole g)) (b.pair d).recorded d) ≡ x
-            → IsInvariant caching (if x then acquire_served c n (b.source c) tracker (cap_asked (Wants whole g)) rest h.state else acquire_granted c n tracker (is_granted_data whole g (b.pair c).recorded) given rest h.state)
+            → IsInvariant caching (if x then acquire_served c n (b.source c) tracker (cap_asked (Wants whole g)) rest h.state else acquire_granted c n tracker
+            (is_granted_data whole g (b.pair c).recorded) given rest h.state)
         served true f =
             let one = some-one clients (λ d. is_probed c true (cap_asked (Wants whole g)) (b.pair d).recorded d) f in
             acquire_served-kept caching c n (b.source c) tracker whole g (cap_asked (Wants whole g)) rest h.state inv first free e low_cap unused refl one.0 one.1
@@ -309,8 +318,10 @@ ack_taken-kept {w} caching clients p c n rest h inv plain first long serving = o
 
     last : ((d : ℕ) → (d ≡ c → ⊥) → is_quiet (b.pair d).probing ≡ true) → (service : Service) → b.service ≡ service → IsInvariant caching (last_taken clients p c n r service rest h).state
     last quiet Free e = absurd (let other : false ≡ true = rw e at seen in cc)
-    last quiet (GrantSent q d k) e = absurd (let one : is_other (view (GrantSent q d k) c) ≡ true = rw e at seen in let none = not-other (c == q) (Granting d k) GrantedOther refl refl in let no : false ≡ true = sym none ∙ one in cc)
-    last quiet (GrantTaken q) e = absurd (let one : is_other (view (GrantTaken q) c) ≡ true = rw e at seen in let none = not-other (c == q) Acknowledging GrantedOther refl refl in let no : false ≡ true = sym none ∙ one in cc)
+    last quiet (GrantSent q d k) e = absurd (let one : is_other (view (GrantSent q d k) c) ≡ true = rw e at seen in let none =
+        not-other (c == q) (Granting d k) GrantedOther refl refl in let no : false ≡ true = sym none ∙ one in cc)
+    last quiet (GrantTaken q) e = absurd (let one : is_other (view (GrantTaken q) c) ≡ true = rw e at seen in let none =
+        not-other (c == q) Acknowledging GrantedOther refl refl in let no : false ≡ true = sym none ∙ one in cc)
     last quiet (Waits q true source k) e =
         let wants = wanting-is (b.pair q).acquiring (own_wanting q source k e) in
         subst (λ (x : Acquiring). IsInvariant caching (granted_after clients p c q n r x rest h).state) (sym wants.2) (granted q source k e quiet wants.0 wants.1 wants.2)
@@ -330,7 +341,8 @@ ack_taken-kept {w} caching clients p c n rest h inv plain first long serving = o
         → IsInvariant caching (if x then with_state (report_taken c n r rest h.state) h else last_taken clients p c n r b.service rest h).state
     others true e =
         let one = some-one clients (λ d. not (d == c) && not (is_quiet (b.pair d).probing)) e in
-        report_taken-kept caching c n r rest h.state inv first answered one.0 (apart one.0 one.1) (not-true (is_quiet (b.pair one.0).probing) (and_right (not (one.0 == c)) (not (is_quiet (b.pair one.0).probing)) one.1))
+        report_taken-kept caching c n r rest h.state inv first answered one.0 (apart one.0 one.1)
+        (not-true (is_quiet (b.pair one.0).probing) (and_right (not (one.0 == c)) (not (is_quiet (b.pair one.0).probing)) one.1))
     others false e = last (settled e) b.service refl
 
 -- ---- Grants
@@ -351,8 +363,10 @@ grant_followed-kept {w} caching c n rest h inv first = go b.service refl
 
     go : (service : Service) → b.service ≡ service → IsInvariant caching (taken_by_client c n service rest h).state
     go Free e = absurd (let no : false ≡ true = rw e at seen in cc)
-    go (Waits q o source k) e = absurd (let one : is_granting (view (Waits q o source k) c) ≡ true = rw e at seen in let none = never (o && (c == q)) Own (Other k) refl refl in let no : false ≡ true = sym none ∙ one in cc)
-    go (GrantTaken q) e = absurd (let one : is_granting (view (GrantTaken q) c) ≡ true = rw e at seen in let none = never (c == q) Acknowledging GrantedOther refl refl in let no : false ≡ true = sym none ∙ one in cc)
+    go (Waits q o source k) e = absurd (let one : is_granting (view (Waits q o source k) c) ≡ true = rw e at seen in let none =
+        never (o && (c == q)) Own (Other k) refl refl in let no : false ≡ true = sym none ∙ one in cc)
+    go (GrantTaken q) e = absurd (let one : is_granting (view (GrantTaken q) c) ≡ true = rw e at seen in let none =
+        never (c == q) Acknowledging GrantedOther refl refl in let no : false ≡ true = sym none ∙ one in cc)
     go (GrantSent q d k) e =
         let one : is_granting (view (GrantSent q d k) c) ≡ true = rw e at seen in
         let same : c ≡ q = eqb-true c q (granting-own (c == q) d k one) in
@@ -385,17 +399,23 @@ kind_taken-kept caching config tracker c Probe n rest h inv plain long serving f
 kind_taken-kept caching config tracker c ProbeAck n rest h inv plain long serving first ready =
     ack_taken-kept caching (length config.clients.items) config.profile c n rest h inv plain first (long n) (serving n)
 kind_taken-kept caching config tracker c Release n rest h inv plain long serving first ready =
-    let releasing = releasing-is ((h.state.block n).pair c).letting (holds-first Release (h.state.link c).c rest (token Release n) (λ i. shown Release c (h.state.block i)) first refl (inv.transfers c Release refl)) in
+    let releasing = releasing-is ((h.state.block n).pair c).letting
+    (holds-first Release (h.state.link c).c rest (token Release n) (λ i. shown Release c (h.state.block i)) first refl (inv.transfers c Release refl))
+    in
     release_taken-kept caching c n (prune_told ((h.state.block n).pair c).letting) rest h.state inv first releasing
 kind_taken-kept caching config tracker c Answer i rest h inv plain long serving first ready =
     let replied = is_replied-is (h.state.uses c i) (holds-first Answer (h.state.link c).d rest (token Answer i) (λ j. is_replied (h.state.uses c j)) first refl (inv.answers c)) in
     answer_taken-kept caching c i rest h.state inv first replied
 kind_taken-kept caching config tracker c Grant n rest h inv plain long serving first ready = grant_followed-kept caching c n rest h inv first
 kind_taken-kept caching config tracker c ReleaseAck n rest h inv plain long serving first ready =
-    let acked = acked-is ((h.state.block n).pair c).letting (holds-first ReleaseAck (h.state.link c).d rest (token ReleaseAck n) (λ i. shown ReleaseAck c (h.state.block i)) first refl (inv.transfers c ReleaseAck refl)) in
+    let acked = acked-is ((h.state.block n).pair c).letting
+    (holds-first ReleaseAck (h.state.link c).d rest (token ReleaseAck n) (λ i. shown ReleaseAck c (h.state.block i)) first refl
+    (inv.transfers c ReleaseAck refl)) in
     release_ack_taken-kept caching c n rest h.state inv first acked
 kind_taken-kept caching config tracker c GrantAck n rest h inv plain long serving first ready =
-    let taken = acknowledging-is (h.state.block n).service c (holds-first GrantAck (h.state.link c).e rest (token GrantAck n) (λ i. shown GrantAck c (h.state.block i)) first refl (inv.transfers c GrantAck refl)) in
+    let taken = acknowledging-is (h.state.block n).service c
+    (holds-first GrantAck (h.state.link c).e rest (token GrantAck n) (λ i. shown GrantAck c (h.state.block i)) first refl
+    (inv.transfers c GrantAck refl)) in
     grant_ack_taken-kept caching c n rest h.state inv first taken
 
 -- ---- operations that are asked
@@ -404,11 +424,14 @@ kind_taken-kept caching config tracker c GrantAck n rest h inv plain long servin
 abbrev pub IsAskable : {w : ℕ} → (ℕ → Bool) → ℕ → Op w → Reply → Shadow w → Type 0
 IsAskable caching c (op.Store address size value) reply.Stored h = same_perm ((h.state.block (block_at address)).pair c).held perm.Trunk ≡ true
 IsAskable caching c (op.Acquire n g) (reply.Started source) h =
-    (caching c ≡ true) × (h.state.uses c source ≡ Closed) × (((h.state.block n).pair c).acquiring ≡ Calm) × (((h.state.block n).pair c).letting ≡ Kept) × (same_perm (grow_left g) ((h.state.block n).pair c).held ≡ true)
+    (caching c ≡ true) × (h.state.uses c source ≡ Closed) × (((h.state.block n).pair c).acquiring ≡ Calm) × (((h.state.block n).pair c).letting ≡ Kept)
+    × (same_perm (grow_left g) ((h.state.block n).pair c).held ≡ true)
 IsAskable caching c (op.AcquireWhole n bytes) (reply.Started source) h =
-    (caching c ≡ true) × (h.state.uses c source ≡ Closed) × (((h.state.block n).pair c).acquiring ≡ Calm) × (((h.state.block n).pair c).letting ≡ Kept) × (same_perm perm.Trunk ((h.state.block n).pair c).held ≡ false)
+    (caching c ≡ true) × (h.state.uses c source ≡ Closed) × (((h.state.block n).pair c).acquiring ≡ Calm) × (((h.state.block n).pair c).letting ≡ Kept)
+    × (same_perm perm.Trunk ((h.state.block n).pair c).held ≡ false)
 IsAskable caching c (op.Release n r) (reply.Started source) h =
-    (caching c ≡ true) × (h.state.lets c source ≡ None) × (((h.state.block n).pair c).acquiring ≡ Calm) × (((h.state.block n).pair c).letting ≡ Kept) × (same_perm ((h.state.block n).pair c).held (prune_left r) ≡ true)
+    (caching c ≡ true) × (h.state.lets c source ≡ None) × (((h.state.block n).pair c).acquiring ≡ Calm) × (((h.state.block n).pair c).letting ≡ Kept)
+    × (same_perm ((h.state.block n).pair c).held (prune_left r) ≡ true)
 IsAskable caching c (op.Access m) (reply.Started source) h = h.state.uses c source ≡ Closed
 IsAskable caching c o r h = ⊤
 

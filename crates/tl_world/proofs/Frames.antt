@@ -3,7 +3,7 @@ use Rattle.std.proofs.Common.{◌≡◌, ℕ, ◌+◌, ◌<◌, ◌≤◌, Bool,
 use Rattle.std.specs.Prelude.{Option, Some, None}
 use Rattle.std.proofs.lemmas.Bool.{cases_eq, and_from}
 use Rattle.tl_beat.specs.declared.beat.Beat.{Beat}
-use Rattle.tl_beat.specs.declared.opcode.Channel.{Channel}
+use Rattle.tl_beat.specs.declared.channel.Channel.{Channel}
 use Rattle.tl_params.specs.declared.config.Config.{Config}
 use Rattle.tl_world.specs.Invariant.{IsInvariant, is_asked, is_replied}
 use Rattle.tl_world.specs.Move.{Move}
@@ -74,13 +74,15 @@ module _ {w : ℕ} (config : Config) (caching : ℕ → Bool) (n : ℕ) (moves :
       → pair_weight size left' m d ((s'.block m).pair d) ≤ pair_weight size left m d ((s.block m).pair d)
   pair-stays d m probing recorded = rw (probing, recorded) (go ((s.block m).pair d).probing refl)
     where
-      go : (x : Probing) → ((s.block m).pair d).probing ≡ x → probing_weight size (left' d ProbeAck m) ((s.block m).pair d).recorded x ≤ probing_weight size (left d ProbeAck m) ((s.block m).pair d).recorded x
+      go : (x : Probing) → ((s.block m).pair d).probing ≡ x
+          → probing_weight size (left' d ProbeAck m) ((s.block m).pair d).recorded x ≤ probing_weight size (left d ProbeAck m) ((s.block m).pair d).recorded x
       go Quiet e = omega arith
       go (Sent k) e = omega arith
       go (Answered r) e = same d ProbeAck m (report-here caching s showing.before d m (rw e refl)) (report-here caching s' showing.after d m (rw (probing, e) refl))
 
   -- an Acquire that is served as before
-  pub acquire-stays : (d m : ℕ) → is_wanting ((s.block m).pair d).acquiring ≡ true → ((s'.block m).pair d).acquiring ≡ ((s.block m).pair d).acquiring → view (s'.block m).service d ≡ view (s.block m).service d
+  pub acquire-stays : (d m : ℕ) → is_wanting ((s.block m).pair d).acquiring ≡ true → ((s'.block m).pair d).acquiring ≡ ((s.block m).pair d).acquiring
+      → view (s'.block m).service d ≡ view (s.block m).service d
       → probes_weight (clients config size left left' answer answer s s') size left' m (s'.block m) ≤ probes_weight (clients config size left left' answer answer s s') size left m (s.block m)
       → acquire_weight size (left' d Acquire m) (left' d Grant m) (probes_weight (clients config size left left' answer answer s s') size left' m (s'.block m)) (view (s'.block m).service d)
       ≤ acquire_weight size (left d Acquire m) (left d Grant m) (probes_weight (clients config size left left' answer answer s s') size left m (s.block m)) (view (s.block m).service d)
@@ -91,13 +93,18 @@ module _ {w : ℕ} (config : Config) (caching : ℕ → Bool) (n : ℕ) (moves :
           ≤ acquire_weight size (left d Acquire m) (left d Grant m) (probes_weight (clients config size left left' answer answer s s') size left m (s.block m)) v
       go Own e = omega (arith, probes)
       go (Granting x k) e = let g = same d Grant m (grant-here caching s showing.before d m (rw e refl)) (grant-here caching s' showing.after d m (rw (viewed, e) refl)) in omega (arith, g)
-      go Idle e = let a = same d Acquire m (acquire-here caching s showing.before d m (rw (e, wants) refl)) (acquire-here caching s' showing.after d m (rw (viewed, e, acquiring, wants) refl)) in omega (arith, a)
-      go (Other k) e = let a = same d Acquire m (acquire-here caching s showing.before d m (rw (e, wants) refl)) (acquire-here caching s' showing.after d m (rw (viewed, e, acquiring, wants) refl)) in omega (arith, a)
-      go Acknowledging e = let a = same d Acquire m (acquire-here caching s showing.before d m (rw (e, wants) refl)) (acquire-here caching s' showing.after d m (rw (viewed, e, acquiring, wants) refl)) in omega (arith, a)
-      go GrantedOther e = let a = same d Acquire m (acquire-here caching s showing.before d m (rw (e, wants) refl)) (acquire-here caching s' showing.after d m (rw (viewed, e, acquiring, wants) refl)) in omega (arith, a)
+      go Idle e = let a = same d Acquire m (acquire-here caching s showing.before d m (rw (e, wants) refl))
+          (acquire-here caching s' showing.after d m (rw (viewed, e, acquiring, wants) refl)) in omega (arith, a)
+      go (Other k) e = let a = same d Acquire m (acquire-here caching s showing.before d m (rw (e, wants) refl))
+          (acquire-here caching s' showing.after d m (rw (viewed, e, acquiring, wants) refl)) in omega (arith, a)
+      go Acknowledging e = let a = same d Acquire m (acquire-here caching s showing.before d m (rw (e, wants) refl))
+          (acquire-here caching s' showing.after d m (rw (viewed, e, acquiring, wants) refl)) in omega (arith, a)
+      go GrantedOther e = let a = same d Acquire m (acquire-here caching s showing.before d m (rw (e, wants) refl))
+          (acquire-here caching s' showing.after d m (rw (viewed, e, acquiring, wants) refl)) in omega (arith, a)
 
   -- a Release that is as before
-  pub let-stays : (d m : ℕ) → ((s'.block m).pair d).letting ≡ ((s.block m).pair d).letting → letting_weight (left' d Release m) ((s'.block m).pair d).letting ≤ letting_weight (left d Release m) ((s.block m).pair d).letting
+  pub let-stays : (d m : ℕ) → ((s'.block m).pair d).letting ≡ ((s.block m).pair d).letting
+      → letting_weight (left' d Release m) ((s'.block m).pair d).letting ≤ letting_weight (left d Release m) ((s.block m).pair d).letting
   let-stays d m letting = rw letting (go ((s.block m).pair d).letting refl)
     where
       go : (x : Letting) → ((s.block m).pair d).letting ≡ x → letting_weight (left' d Release m) x ≤ letting_weight (left d Release m) x
@@ -117,7 +124,8 @@ module _ {w : ℕ} (config : Config) (caching : ℕ → Bool) (n : ℕ) (moves :
     pub acquires : (d i : ℕ) → s.uses d i ≡ Acquires n → s'.uses d i ≡ Acquires n
         → acquire_weight size (left' d Acquire n) (left' d Grant n) (probes_weight number size left' n (s'.block n)) (view (s'.block n).service d)
         ≤ acquire_weight size (left d Acquire n) (left d Grant n) (probes_weight number size left n (s.block n)) (view (s.block n).service d)
-    pub lets : (d i : ℕ) → s.lets d i ≡ Some n → s'.lets d i ≡ Some n → letting_weight (left' d Release n) ((s'.block n).pair d).letting ≤ letting_weight (left d Release n) ((s.block n).pair d).letting
+    pub lets : (d i : ℕ) → s.lets d i ≡ Some n → s'.lets d i ≡ Some n
+        → letting_weight (left' d Release n) ((s'.block n).pair d).letting ≤ letting_weight (left d Release n) ((s.block n).pair d).letting
 
   probes-else : (m : ℕ) → (m ≡ n → ⊥) → probes_weight number size left' m (s'.block m) ≤ probes_weight number size left m (s.block m)
   probes-else m other = probes-no-more config size left left' answer answer s s' m (λ d lt. pair-stays d m (rw (showing.blocks m other) refl) (rw (showing.blocks m other) refl))
@@ -127,7 +135,8 @@ module _ {w : ℕ} (config : Config) (caching : ℕ → Bool) (n : ℕ) (moves :
       → acquire_weight size (left' d Acquire m) (left' d Grant m) (probes_weight number size left' m (s'.block m)) (view (s'.block m).service d)
       ≤ acquire_weight size (left d Acquire m) (left d Grant m) (probes_weight number size left m (s.block m)) (view (s.block m).service d)
   unserved-stays d i m e f before after =
-      let a = same d Acquire m (acquire-here caching s showing.before d m (and_from _ _ (wants-used caching s showing.before d i m e) before)) (acquire-here caching s' showing.after d m (and_from _ _ (wants-used caching s' showing.after d i m f) after)) in
+      let a = same d Acquire m (acquire-here caching s showing.before d m (and_from _ _ (wants-used caching s showing.before d i m e) before))
+      (acquire-here caching s' showing.after d m (and_from _ _ (wants-used caching s' showing.after d i m f) after)) in
       rw (
         unserved-weight size (left' d Acquire m) (left' d Grant m) (probes_weight number size left' m (s'.block m)) (view (s'.block m).service d) after,
         unserved-weight size (left d Acquire m) (left d Grant m) (probes_weight number size left m (s.block m)) (view (s.block m).service d) before,
@@ -156,7 +165,8 @@ module _ {w : ℕ} (config : Config) (caching : ℕ → Bool) (n : ℕ) (moves :
     pub let-all : (d i : ℕ) → s'.lets d i ≡ s.lets d i → owed_let' config size left left' answer answer s s' d i ≤ owed_let config size left left' answer answer s s' d i
     let-all d i e = go (s.lets d i) refl e
       where
-        at : (m : ℕ) → s.lets d i ≡ Some m → s'.lets d i ≡ Some m → (m ≡ n) ⊎ (m ≡ n → ⊥) → letting_weight (left' d Release m) ((s'.block m).pair d).letting ≤ letting_weight (left d Release m) ((s.block m).pair d).letting
+        at : (m : ℕ) → s.lets d i ≡ Some m → s'.lets d i ≡ Some m → (m ≡ n) ⊎ (m ≡ n → ⊥)
+            → letting_weight (left' d Release m) ((s'.block m).pair d).letting ≤ letting_weight (left d Release m) ((s.block m).pair d).letting
         at m f g (inl is) = rw is (block.lets d i (rw is at f) (rw is at g))
         at m f g (inr other) = let-stays d m (rw (showing.blocks m other) refl)
 

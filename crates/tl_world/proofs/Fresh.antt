@@ -1,8 +1,8 @@
 -- As a world begins, it is matched by the protocol as that begins.
 use Rattle.std.proofs.Common.{◌≡◌, ℕ, zero, suc, ◌*◌, ◌+◌, true, List, [], ◌∷◌, replicate, Bool, refl, sym, ap, arith}
 use Rattle.std.proofs.lemmas.List.{get_or-replicate}
-use Rattle.tl_beat.specs.declared.opcode.Channel.{Channel}
-use Rattle.tl_beat.specs.declared.opcode.Channel.TheVariants as channel
+use Rattle.tl_beat.specs.declared.channel.Channel.{Channel}
+use Rattle.tl_beat.specs.declared.channel.Channel.TheVariants as channel
 use Rattle.tl_burst.specs.Messages.{unfinished}
 use Rattle.tl_params.specs.declared.config.Config.{Config}
 use Rattle.tl_rules.specs.Conformance.{on_link}

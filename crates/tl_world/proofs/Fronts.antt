@@ -4,7 +4,7 @@ use Rattle.std.proofs.lemmas.Option.{same_Some}
 use Rattle.std.specs.Prelude.{map}
 use Rattle.tl_beat.specs.Width.{IsWidth}
 use Rattle.tl_beat.specs.declared.beat.Beat.{Beat}
-use Rattle.tl_beat.specs.declared.opcode.Channel.TheVariants as channel
+use Rattle.tl_beat.specs.declared.channel.Channel.TheVariants as channel
 use Rattle.tl_burst.specs.declared.message.Message.{Message}
 use Rattle.tl_burst.specs.declared.message.Message.TheVariants as message
 use Rattle.tl_burst.specs.declared.message.MessageA.{MessageA}
@@ -61,7 +61,8 @@ pub record IsAsked {w : ℕ} (config : Config) (c source : ℕ) (mail : Mail w) 
   pub lawful : illegal_message_at (level_of config c) (message.A request) ≡ None
   pub blank : IsBlankAfter (beats_of (message.A request)) (message.A request)
 
-pub rendered-acquire : {w : ℕ} (c n : ℕ) (b : Block (List ℕ)) (whole : Bool) (g : Grow) → (b.pair c).acquiring ≡ Wants whole g → rendered {w = w} Acquire c n b ≡ message.A (acquisition (acquire_opcode whole) g (b.source c) n)
+pub rendered-acquire : {w : ℕ} (c n : ℕ) (b : Block (List ℕ)) (whole : Bool) (g : Grow) → (b.pair c).acquiring ≡ Wants whole g
+    → rendered {w = w} Acquire c n b ≡ message.A (acquisition (acquire_opcode whole) g (b.source c) n)
 unfolding rendered
 rendered-acquire {w} c n b true g e = rw e refl
 rendered-acquire {w} c n b false g e = rw e refl
@@ -163,12 +164,15 @@ pub acquisition_beats : (w : ℕ) (whole : Bool) (g : Grow) (source n : ℕ) →
 acquisition_beats w true g source n = refl
 acquisition_beats w false g source n = refl
 
-pub acquisition-blank : (w : ℕ) (whole : Bool) (g : Grow) (source n : ℕ) → IsWidth w → IsBlankAfter {w = w} (beats_of {w = w} (message.A (acquisition (acquire_opcode whole) g source n))) (message.A (acquisition (acquire_opcode whole) g source n))
+pub acquisition-blank : (w : ℕ) (whole : Bool) (g : Grow) (source n : ℕ) → IsWidth w
+    → IsBlankAfter {w = w} (beats_of {w = w} (message.A (acquisition (acquire_opcode whole) g source n)))
+    (message.A (acquisition (acquire_opcode whole) g source n))
 acquisition-blank w whole g source n width = rw (acquisition_beats w whole g source n) (acquisition_blank w whole g source n width)
 
 -- ---- its first beat that isn't taken
 
-pub front-of : {w : ℕ} (config : Config) (log : Log w) (mail : Mail w) (request : ℕ → MessageA w) (s : State (List ℕ)) (sys : System w) (c : ℕ) (first : Token) (rest : List Token) (m : MessageA w) (x : Beat w) (queue : List (Beat w))
+pub front-of : {w : ℕ} (config : Config) (log : Log w) (mail : Mail w) (request : ℕ → MessageA w) (s : State (List ℕ)) (sys : System w) (c : ℕ) (first : Token)
+    (rest : List Token) (m : MessageA w) (x : Beat w) (queue : List (Beat w))
     → IsWidth w → IsMatched config log mail request s sys → (s.link c).a ≡ first ∷ rest → message_of mail s c first ≡ message.A m → sys.channels c channel.A ≡ x ∷ queue
     → IsNext x (unfinished channel.A (on_link c sys.manager.trace)) (message.A m) (map (message_of mail s c) rest) queue
 front-of {w} config log mail request s sys c first rest m x queue width is tokens is_it beats =
@@ -176,5 +180,6 @@ front-of {w} config log mail request s sys c first rest m x queue width is token
     (carried_so (messages_on channel.A mail s c) (message.A m ∷ map (message_of mail s c) rest) (sys.channels c channel.A) (x ∷ queue)
     (ap (map (message_of mail s c)) tokens ∙ ap (λ (i : Message w). i ∷ map (message_of mail s c) rest) is_it) beats (is.carried c channel.A))
   where
-    carried_so : (ms ns : List (Message w)) (q r : List (Beat w)) → ms ≡ ns → q ≡ r → IsCarried (unfinished channel.A (on_link c sys.manager.trace)) ms q → IsCarried (unfinished channel.A (on_link c sys.manager.trace)) ns r
+    carried_so : (ms ns : List (Message w)) (q r : List (Beat w)) → ms ≡ ns → q ≡ r → IsCarried (unfinished channel.A (on_link c sys.manager.trace)) ms q
+        → IsCarried (unfinished channel.A (on_link c sys.manager.trace)) ns r
     carried_so ms ns q r e f h = rw (← e, ← f) h

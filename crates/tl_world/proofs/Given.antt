@@ -3,7 +3,7 @@ use Rattle.std.proofs.Common.{◌≡◌, ℕ, true, ◌∷◌, Option, Some, Non
 use Rattle.std.specs.Prelude.{◌≤◌, ◌/◌, is_some, length}
 use Rattle.tl_beat.specs.declared.beat.Beat.{Beat}
 use Rattle.tl_beat.specs.declared.beat.Link.{Link}
-use Rattle.tl_beat.specs.declared.opcode.Channel.{Channel}
+use Rattle.tl_beat.specs.declared.channel.Channel.{Channel}
 use Rattle.tl_params.specs.declared.config.Config.{Config}
 use Rattle.tl_params.specs.declared.perm.Perm.{Perm}
 use Rattle.tl_client.specs.declared.operation.Op.{Op}
@@ -28,13 +28,15 @@ use Rattle.tl_world.proofs.Matching.{shadow, matched}
 use Rattle.tl_world.proofs.Owned.{channels-few}
 use Rattle.tl_world.proofs.Stalling.{exact}
 
-pub matched-given : {w : ℕ} (config : Config) (log : Log w) → IsGiven config log → IsMatched config log (shadow config log).mail (shadow config log).request (shadow config log).state (after config log)
+pub matched-given : {w : ℕ} (config : Config) (log : Log w) → IsGiven config log
+    → IsMatched config log (shadow config log).mail (shadow config log).request (shadow config log).state (after config log)
 matched-given config log given = matched config log given.width given.typed given.is_log
 
 pub unrefused : {w : ℕ} (config : Config) (log : Log w) → IsGiven config log → IsUnrefused (after config log)
 unrefused config log given = let is = matched-given config log given in record { by_clients = is.live; by_manager = is.all_live }
 
-pub channels : {w : ℕ} (config : Config) (log : Log w) → IsGiven config log → (link : ℕ) (ch : Channel) → length ((after config log).channels link ch) ≤ capacity (64 / w) (sources_of (terms_at config link)) config.trackers ch
+pub channels : {w : ℕ} (config : Config) (log : Log w) → IsGiven config log → (link : ℕ) (ch : Channel)
+    → length ((after config log).channels link ch) ≤ capacity (64 / w) (sources_of (terms_at config link)) config.trackers ch
 channels config log given link ch = channels-few config log (shadow config log).mail (shadow config log).request (shadow config log).state given.width (matched-given config log given) link ch
 
 pub coherent : {w : ℕ} (config : Config) (log : Log w) → IsGiven config log → IsCoherent (after config log) log (remembered config log)
@@ -58,7 +60,8 @@ stalls config log given link ch client =
 pub carries : {w : ℕ} (config : Config) (log : Log w) → IsGiven config log → (link : ℕ) (ch : Channel) → IsCarried (after config log) log link ch
 carries config log given link ch = carried-passing config log link ch (passing config log given.width given.typed given.is_log)
 
-pub grants : {w : ℕ} (config : Config) (log : Log w) (link : Link) (ch : Channel) (x : Beat w) (source : ℕ) (p : Perm) (op : Op w) → IsGiven config ((Deliver link ch, outcome.Done x source (Granted p)) ∷ log) → started link.0 Requests source log ≡ Some op
+pub grants : {w : ℕ} (config : Config) (log : Log w) (link : Link) (ch : Channel) (x : Beat w) (source : ℕ) (p : Perm) (op : Op w)
+    → IsGiven config ((Deliver link ch, outcome.Done x source (Granted p)) ∷ log) → started link.0 Requests source log ≡ Some op
     → held_at ((after config ((Deliver link ch, outcome.Done x source (Granted p)) ∷ log)).clients link.0) (op_block op) ≡ p
 unfolding after AreTyped IsLog
 grants config log link ch x source p op given asked =

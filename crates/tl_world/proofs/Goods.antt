@@ -6,8 +6,8 @@ use Rattle.std.proofs.lemmas.List.Elements.{All-nil, All-cons, All-append, All-r
 use Rattle.tl_beat.specs.Width.{IsWidth}
 use Rattle.tl_beat.specs.declared.beat.Beat.{Beat}
 use Rattle.tl_beat.specs.declared.beat.Beat.TheVariants as beat
-use Rattle.tl_beat.specs.declared.opcode.Channel.{Channel}
-use Rattle.tl_beat.specs.declared.opcode.Channel.TheVariants as channel
+use Rattle.tl_beat.specs.declared.channel.Channel.{Channel}
+use Rattle.tl_beat.specs.declared.channel.Channel.TheVariants as channel
 use Rattle.tl_beat.specs.declared.opcode.OpB.{OpB}
 use Rattle.tl_beat.specs.declared.opcode.OpD.{OpD}
 use Rattle.tl_beat.specs.declared.opcode.OpD.TheVariants as d
@@ -62,7 +62,8 @@ unfolding beats_from
 all_beats P m k zero each = All-nil P
 all_beats P m k (suc n) each = All-cons P (beat_of m k) (beats_from m (k + 1) n) (each k (omega arith)) (all_beats P m (k + 1) n (λ i lt. each i (omega (arith, lt))))
 
-pub all-message : {w : ℕ} (P : ℕ → Beat w → Type 0) (l : ℕ) (m : Message w) (s : System w) → ((i : ℕ) → i < beats_of m → P l (beat_of m i)) → ((d : ℕ) (at : Channel) → All (P d) (s.channels d at)) → (d : ℕ) (at : Channel)
+pub all-message : {w : ℕ} (P : ℕ → Beat w → Type 0) (l : ℕ) (m : Message w) (s : System w) → ((i : ℕ) → i < beats_of m → P l (beat_of m i))
+    → ((d : ℕ) (at : Channel) → All (P d) (s.channels d at)) → (d : ℕ) (at : Channel)
     → All (P d) ((with_message l m s).channels d at)
 all-message {w} P l m s each before d at = elim (cases_eq d l) [
   | inl same ↦ rw same (here (l == l) (same_number l) (same_channel at (channel_of_message m)))
@@ -73,19 +74,23 @@ all-message {w} P l m s each before d at = elim (cases_eq d l) [
     more = s.channels l (channel_of_message m) ++ beats_from m 0 (beats_of m)
 
     here : (x : Bool) → x ≡ true → (y : Bool) → All (P l) (if x && y then more else s.channels l at)
-    here x e true = rw e (All-append (P l) (s.channels l (channel_of_message m)) (beats_from m 0 (beats_of m)) (before l (channel_of_message m)) (all_beats (P l) m 0 (beats_of m) (λ i lt. each i (omega (arith, lt)))))
+    here x e true = rw e (All-append (P l) (s.channels l (channel_of_message m)) (beats_from m 0 (beats_of m)) (before l (channel_of_message m))
+        (all_beats (P l) m 0 (beats_of m) (λ i lt. each i (omega (arith, lt)))))
     here x e false = rw e (before l at)
 
     there : (x : Bool) → x ≡ false → All (P d) (if x && same_channel at (channel_of_message m) then more else s.channels d at)
     there x e = rw e (before d at)
 
-pub all-messages : {w : ℕ} (P : ℕ → Beat w → Type 0) (handed : Handed w) (s : System w) → Each (λ x. (i : ℕ) → i < beats_of x.1 → P x.0.0 (beat_of x.1 i)) handed → ((d : ℕ) (at : Channel) → All (P d) (s.channels d at)) → (d : ℕ) (at : Channel)
+pub all-messages : {w : ℕ} (P : ℕ → Beat w → Type 0) (handed : Handed w) (s : System w)
+    → Each (λ x. (i : ℕ) → i < beats_of x.1 → P x.0.0 (beat_of x.1 i)) handed → ((d : ℕ) (at : Channel) → All (P d) (s.channels d at))
+    → (d : ℕ) (at : Channel)
     → All (P d) ((with_messages handed s).channels d at)
 unfolding with_messages
 all-messages P [] s each before d at = before d at
 all-messages P (x ∷ handed) s each before d at = all-messages P handed (with_message x.0.0 x.1 s) each.1 (λ i j. all-message P x.0.0 x.1 s each.0 before i j) d at
 
-pub all-popped : {w : ℕ} (P : ℕ → Beat w → Type 0) (c : ℕ) (ch : Channel) (x : Beat w) (queue : List (Beat w)) (s : System w) → s.channels c ch ≡ x ∷ queue → ((d : ℕ) (at : Channel) → All (P d) (s.channels d at)) → (d : ℕ) (at : Channel)
+pub all-popped : {w : ℕ} (P : ℕ → Beat w → Type 0) (c : ℕ) (ch : Channel) (x : Beat w) (queue : List (Beat w)) (s : System w) → s.channels c ch ≡ x ∷ queue
+    → ((d : ℕ) (at : Channel) → All (P d) (s.channels d at)) → (d : ℕ) (at : Channel)
     → All (P d) ((with_channel c ch queue s).channels d at)
 all-popped {w} P c ch x queue s first before d at = elim (cases_eq d c) [
   | inl same ↦ rw same (here (c == c) (same_number c) (same_channel at ch) refl)
@@ -152,7 +157,8 @@ unspoiled (message.C m) i is clean = rw clean (no_bit i)
 unspoiled (message.D m) i is clean = absurd is
 unspoiled (message.E m) i is clean = refl
 
-pub good-message : {w : ℕ} (config : Config) (c : ℕ) (l : Level) (m : Message w) → IsWidth w → level_of config c ≡ Some l → IsSound l m → IsOfClient m → is_outside config.blocks (beat_of m 0) ≡ false → HasBlock m → AreGood config c m
+pub good-message : {w : ℕ} (config : Config) (c : ℕ) (l : Level) (m : Message w) → IsWidth w → level_of config c ≡ Some l → IsSound l m → IsOfClient m
+    → is_outside config.blocks (beat_of m 0) ≡ false → HasBlock m → AreGood config c m
 good-message {w} config c l m width level sound ours inside long i lt =
     let typed : rules.IsTyped (beat_of m i) = typed-beat m i width long lt in
     record {
@@ -268,7 +274,8 @@ ended_fit blocks d.ReleaseAck x f e = tt
 
 pub fit-taken : {w : ℕ} (blocks : ℕ) (x : Beat w) (e : End w) → is_outside blocks x ≡ false → ((n : ℕ) → length (copy_at e n) ≡ 64) → IsFitAnswer blocks (taken x e).answer
 fit-taken blocks (beat.A x) e inside copies = tt
-fit-taken {w} blocks (beat.B x) e inside copies = ack_fit w blocks x.opcode (held_at e (block_at x.address)) (report_for x (held_at e (block_at x.address))) (block_at x.address) (copy_at e (block_at x.address)) (copies (block_at x.address)) inside
+fit-taken {w} blocks (beat.B x) e inside copies = ack_fit w blocks x.opcode (held_at e (block_at x.address)) (report_for x (held_at e (block_at x.address)))
+    (block_at x.address) (copy_at e (block_at x.address)) (copies (block_at x.address)) inside
 fit-taken blocks (beat.C x) e inside copies = tt
 fit-taken {w} blocks (beat.D x) e inside copies = go (ends (beat.D x) e.past)
   where

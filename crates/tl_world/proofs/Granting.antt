@@ -6,8 +6,8 @@ use Rattle.tl_beat.specs.declared.beat.Beat.{Beat}
 use Rattle.tl_beat.specs.declared.beat.Beat.TheVariants as beat
 use Rattle.tl_beat.specs.declared.beat.BeatD.{BeatD}
 use Rattle.tl_beat.specs.declared.beat.Link.{Link}
-use Rattle.tl_beat.specs.declared.opcode.Channel.{Channel}
-use Rattle.tl_beat.specs.declared.opcode.Channel.TheVariants as channel
+use Rattle.tl_beat.specs.declared.channel.Channel.{Channel}
+use Rattle.tl_beat.specs.declared.channel.Channel.TheVariants as channel
 use Rattle.tl_beat.specs.declared.opcode.OpD.{OpD}
 use Rattle.tl_beat.specs.declared.opcode.OpD.TheVariants as opd
 use Rattle.tl_burst.specs.declared.message.Message.TheVariants as message
@@ -95,7 +95,8 @@ acquired_block w (Wants true g) n bytes = refl
 acquired_block w (Wants false g) n bytes = refl
 acquired_block w Calm n bytes = refl
 
-pub opened-acquire : {w : ℕ} (config : Config) (log : Log w) (h : Shadow w) (sys : System w) (c source n : ℕ) (u : Use) → IsMatched config log h.mail h.request h.state sys → h.state.uses c source ≡ u → u ≡ Acquires n
+pub opened-acquire : {w : ℕ} (config : Config) (log : Log w) (h : Shadow w) (sys : System w) (c source n : ℕ) (u : Use)
+    → IsMatched config log h.mail h.request h.state sys → h.state.uses c source ≡ u → u ≡ Acquires n
     → (remembered config log).opened c Requests source ≡ Some (record { asked = op_of ((h.state.block n).pair c).acquiring n ((h.state.block n).waiting c); answer = None })
 opened-acquire {w} config log h sys c source n u is e f = go (h.state.uses c source) (e ∙ f) (is.beside.requests c source)
   where
@@ -108,7 +109,8 @@ same_op x y e = cc
 
 -- ---- what the client holds then
 
-pub held_granted : {w : ℕ} (config : Config) (tracker c n : ℕ) (rest : List Token) (h : Shadow w) (due : IsGrantDue c n h.state) → (((kind_taken config tracker c Grant n rest h).state.block n).pair c).held ≡ cap_right due.k
+pub held_granted : {w : ℕ} (config : Config) (tracker c n : ℕ) (rest : List Token) (h : Shadow w) (due : IsGrantDue c n h.state)
+    → (((kind_taken config tracker c Grant n rest h).state.block n).pair c).held ≡ cap_right due.k
 held_granted {w} config tracker c n rest h due =
     ap (λ (v : Service). ((((taken_by_client c n v rest h).state).block n).pair c).held) due.service
     ∙ ap (λ (i : Block (List ℕ)). (i.pair c).held) (set-same n (taken_block c (is_whole (b.pair c).acquiring) due.data_too due.k b) h.state.block)
@@ -117,7 +119,8 @@ held_granted {w} config tracker c n rest h due =
     b : Block (List ℕ)
     b = h.state.block n
 
-pub granted-holds : {w : ℕ} (config : Config) (log : Log w) (link : Link) (ch : Channel) (h : Shadow w) (x : Beat w) (source : ℕ) (p : Perm) (op : Op w) → IsWidth w → IsMatched config log h.mail h.request h.state (after config log)
+pub granted-holds : {w : ℕ} (config : Config) (log : Log w) (link : Link) (ch : Channel) (h : Shadow w) (x : Beat w) (source : ℕ) (p : Perm) (op : Op w)
+    → IsWidth w → IsMatched config log h.mail h.request h.state (after config log)
     → (stepped config (Deliver link ch) (after config log)).outcome ≡ outcome.Done x source (finish.Granted p) → started link.0 Requests source log ≡ Some op
     → held (op_block op) ((stepped config (Deliver link ch) (after config log)).after.clients link.0).past ≡ p
 unfolding rendered
@@ -141,7 +144,8 @@ granted-holds {w} config log link ch h x source p op width is done asked = go en
     response_is : (k : Kind) → end.first.kind ≡ k → message_of_kind k h.mail h.state c n ≡ message.D end.response
     response_is k e = ap (λ (i : Kind). message_of_kind i h.mail h.state c n) (sym e) ∙ end.response_is
 
-    then_matched : IsMatched config ((Deliver link ch, (stepped config (Deliver link ch) sys).outcome) ∷ log) (followed config (Deliver link ch) sys h).mail (followed config (Deliver link ch) sys h).request (followed config (Deliver link ch) sys h).state (stepped config (Deliver link ch) sys).after
+    then_matched : IsMatched config ((Deliver link ch, (stepped config (Deliver link ch) sys).outcome) ∷ log) (followed config (Deliver link ch) sys h).mail
+        (followed config (Deliver link ch) sys h).request (followed config (Deliver link ch) sys h).state (stepped config (Deliver link ch) sys).after
     then_matched = matched-event config log h (Deliver link ch) width tt is
 
     grant : (e : end.first.kind ≡ Grant) → held (op_block op) ((stepped config (Deliver link ch) sys).after.clients c).past ≡ p
@@ -149,7 +153,9 @@ granted-holds {w} config log link ch h x source p op width is done asked = go en
         let due = grant-due (is_caching config) c n end.first.rest h.state is.invariant (tokens Grant e) in
         let m : MessageD w = grant_message due.data_too due.k ((h.state.block n).source c) (h.state.block n).tracker (h.state.block n).truth in
         let same : end.response ≡ m = same-response end.response m (sym (response_is Grant e) ∙ grant-rendered c n h.state due) in
-        let cap_is : p ≡ cap_right due.k = same_grant p (cap_right due.k) (end.finish_is ∙ granted-at (d_beat_of end.response end.first.next.k) (sys.clients c) due.data_too due.k (ap (λ (i : MessageD w). i.opcode) same) (ap (λ (i : MessageD w). i.param) same)) in
+        let cap_is : p ≡ cap_right due.k = same_grant p (cap_right due.k)
+        (end.finish_is ∙ granted-at (d_beat_of end.response end.first.next.k) (sys.clients c) due.data_too due.k
+        (ap (λ (i : MessageD w). i.opcode) same) (ap (λ (i : MessageD w). i.param) same)) in
         let from : source ≡ (h.state.block n).source c = end.source_is ∙ ap (λ (i : MessageD w). i.source) same in
         let opened = opened-acquire config log h sys c source n (h.state.uses c source) is refl (ap (h.state.uses c) from ∙ due.used) in
         let op_is : op ≡ op_of ((h.state.block n).pair c).acquiring n ((h.state.block n).waiting c) =

@@ -4,7 +4,7 @@ use Rattle.std.specs.Prelude.{◌==◌, if◌then◌else◌}
 use Rattle.tl_beat.specs.Width.{IsWidth}
 use Rattle.tl_beat.specs.declared.beat.Beat.{Beat}
 use Rattle.tl_beat.specs.declared.beat.Link.{Link}
-use Rattle.tl_beat.specs.declared.opcode.Channel.{Channel}
+use Rattle.tl_beat.specs.declared.channel.Channel.{Channel}
 use Rattle.tl_burst.specs.Messages.{grown}
 use Rattle.tl_burst.specs.Part.{completes}
 use Rattle.tl_params.specs.declared.config.Config.{Config}
@@ -33,7 +33,8 @@ use Rattle.tl_world.proofs.Steps.{same_channel-refl}
 abbrev pub IsGrown : {w : ℕ} → ℕ → Channel → Beat w → System w → System w → Type 0
 IsGrown c ch x sys sys' = (d : ℕ) (at : Channel) → unfinished_at sys' d at ≡ (if (d == c) && same_channel at ch then grown x (unfinished_at sys d at) else unfinished_at sys d at)
 
-pub grown-moved : {w : ℕ} (config : Config) (log : Log w) (h : Shadow w) (link : Link) (ch : Channel) (terms : Terms) (x : Beat w) (queue : List (Beat w)) → IsWidth w → IsMatched config log h.mail h.request h.state (after config log)
+pub grown-moved : {w : ℕ} (config : Config) (log : Log w) (h : Shadow w) (link : Link) (ch : Channel) (terms : Terms) (x : Beat w) (queue : List (Beat w))
+    → IsWidth w → IsMatched config log h.mail h.request h.state (after config log)
     → terms_at config link.0 ≡ Some terms → (after config log).channels link.0 ch ≡ x ∷ queue → is_moving (stepped config (Deliver link ch) (after config log)).outcome ≡ true
     → IsGrown link.0 ch x (after config log) (stepped config (Deliver link ch) (after config log)).after
 grown-moved {w} config log h link ch terms x queue width is known beats moving = go (is_to_client ch) refl
@@ -48,7 +49,8 @@ grown-moved {w} config log h link ch terms x queue width is known beats moving =
     go true up =
         let t : IsTakenByClient terms link.0 ch x queue sys (stepped config (Deliver link ch) sys) = client-moves config link ch sys terms x queue known beats up moving in
         subst (λ (y : Step w). IsGrown link.0 ch x sys y.after) (sym t.step_is)
-        (landed-client link.0 ch x queue t.message (offer.taken x (sys.clients link.0)).after sys up beats on_ch (client-heard terms link.0 ch x queue sys (stepped config (Deliver link ch) sys) width (is.kept link.0) t)).rests
+        (landed-client link.0 ch x queue t.message (offer.taken x (sys.clients link.0)).after sys up beats on_ch
+        (client-heard terms link.0 ch x queue sys (stepped config (Deliver link ch) sys) width (is.kept link.0) t)).rests
     go false down =
         let at : IsAtManager config log link ch h x queue = at-manager config log link ch h terms x queue width is known down beats moving in
         subst (λ (y : Step w). IsGrown link.0 ch x sys y.after) (sym at.step_is)
@@ -59,7 +61,8 @@ pub grown-received : {w : ℕ} (c : ℕ) (ch : Channel) (x : Beat w) (sys sys' :
 grown-received c ch x sys sys' is last d at = is d at ∙ rests-ended c ch x sys last d at
 
 -- and with another one it has one beat more
-pub grown-begun : {w : ℕ} (c : ℕ) (ch : Channel) (x : Beat w) (sys sys' : System w) → IsGrown c ch x sys sys' → completes x (unfinished_at sys c ch) ≡ false → IsBegun c ch x (unfinished_at sys) (unfinished_at sys')
+pub grown-begun : {w : ℕ} (c : ℕ) (ch : Channel) (x : Beat w) (sys sys' : System w) → IsGrown c ch x sys sys' → completes x (unfinished_at sys c ch) ≡ false
+    → IsBegun c ch x (unfinished_at sys) (unfinished_at sys')
 grown-begun c ch x sys sys' is part = record {
   here = is c ch ∙ rw (same_number c, same_channel-refl ch, part) refl;
   others = λ d at ne. is d at ∙ ap (λ (b : Bool). if b then grown x (unfinished_at sys d at) else unfinished_at sys d at) (elsewhere c d ch at ne);

@@ -28,7 +28,8 @@ use Rattle.tl_world.proofs.Made.{made-room, made-empty, made-flat}
 -- ---- one event
 
 -- a log that is longer by an event and what comes of it
-pub given-more : {w : ℕ} (config : Config) (log : Log w) (event : Event w) (o : Outcome w) → IsGiven config log → IsTyped event → o ≡ (stepped config event (after config log)).outcome → IsGiven config ((event, o) ∷ log)
+pub given-more : {w : ℕ} (config : Config) (log : Log w) (event : Event w) (o : Outcome w) → IsGiven config log → IsTyped event
+    → o ≡ (stepped config event (after config log)).outcome → IsGiven config ((event, o) ∷ log)
 unfolding AreTyped IsLog
 given-more config log event o given typed is = record { width = given.width; fits = given.fits; typed = (typed, given.typed); is_log = (is, given.is_log) }
 
@@ -39,10 +40,12 @@ room-next config log event given typed k ch =
     let o = (stepped config event (after config log)).outcome in
     channels config ((event, o) ∷ log) (given-more config log event o given typed refl) k ch
 
-pub reached-step : {w : ℕ} {A M : Type 0} (knows : A → End w → Type 0) (terms : A → Terms) (perm_of : M → ℕ → ℕ → Perm) (config : Config) (old new : Contents w A M) (log : Log w) (event : Event w) (o : Outcome w)
+pub reached-step : {w : ℕ} {A M : Type 0} (knows : A → End w → Type 0) (terms : A → Terms) (perm_of : M → ℕ → ℕ → Perm) (config : Config)
+    (old new : Contents w A M) (log : Log w) (event : Event w) (o : Outcome w)
     → IsReached knows terms perm_of config old log → IsTyped event
     → ((s : System w) → Holds knows terms perm_of config old.parts s → HasRoom config (stepped config event s).after → IsStepped knows terms perm_of config old.parts new.parts event o s)
-    → new.outstanding.requests ≡ counted (starts_request event o) (ends_request o) old.outstanding.requests → new.outstanding.releases ≡ counted (starts_release event o) (ends_release o) old.outstanding.releases
+    → new.outstanding.requests ≡ counted (starts_request event o) (ends_request o) old.outstanding.requests
+    → new.outstanding.releases ≡ counted (starts_release event o) (ends_release o) old.outstanding.releases
     → IsReached knows terms perm_of config new ((event, o) ∷ log) × (o ≡ (stepped config event (after config log)).outcome)
 unfolding after deepest
 reached-step {w} knows terms perm_of config old new log event o r typed happens same_requests same_releases =
@@ -71,7 +74,8 @@ logged-more (f ∷ events) (p ∷ outcomes) e o log same = logged-more events ou
 
 -- ---- a new world
 
-pub reached-new : {w : ℕ} {A M : Type 0} (knows : A → End w → Type 0) (terms : A → Terms) (perm_of : M → ℕ → ℕ → Perm) (config : Config) (contents : Contents w A M) → IsWidth w → AreReady knows terms config contents.parts.clients.items
+pub reached-new : {w : ℕ} {A M : Type 0} (knows : A → End w → Type 0) (terms : A → Terms) (perm_of : M → ℕ → ℕ → Perm) (config : Config)
+    (contents : Contents w A M) → IsWidth w → AreReady knows terms config contents.parts.clients.items
     → Knows perm_of contents.parts.manager config manager_end.fresh → AreFresh config (5 * clients_of config) contents.parts.rings.all.items → AreClear contents.parts.rings.occupied
     → contents.outstanding.requests ≡ 0 → contents.outstanding.releases ≡ 0 → IsReached knows terms perm_of config contents []
 unfolding after AreTyped IsLog deepest requests releases
@@ -91,7 +95,8 @@ reached-new knows terms perm_of config contents width ready known are clear no_r
 }
 
 -- one more of several events, and what comes of it
-pub logged-next : {w : ℕ} (events : List (Event w)) (outcomes : List (Outcome w)) (i : ℕ) (e d : Event w) (o : Outcome w) (log : Log w) → i < length events → length events ≡ length outcomes → e ≡ slice_index_or events i d
+pub logged-next : {w : ℕ} (events : List (Event w)) (outcomes : List (Outcome w)) (i : ℕ) (e d : Event w) (o : Outcome w) (log : Log w) → i < length events
+    → length events ≡ length outcomes → e ≡ slice_index_or events i d
     → logged (take (i + 1) events) (take (i + 1) (slice_set outcomes i o)) log ≡ (e, o) ∷ logged (take i events) (take i outcomes) log
 logged-next {w} events outcomes i e d o log inside same is =
     let below : i < length outcomes = omega (arith, inside, same) in

@@ -6,8 +6,8 @@ use Rattle.tl_beat.specs.declared.beat.Beat.{Beat}
 use Rattle.tl_beat.specs.declared.beat.Beat.TheVariants as beat
 use Rattle.tl_beat.specs.declared.beat.BeatD.{BeatD}
 use Rattle.tl_beat.specs.declared.beat.Link.{Link}
-use Rattle.tl_beat.specs.declared.opcode.Channel.{Channel}
-use Rattle.tl_beat.specs.declared.opcode.Channel.TheVariants as channel
+use Rattle.tl_beat.specs.declared.channel.Channel.{Channel}
+use Rattle.tl_beat.specs.declared.channel.Channel.TheVariants as channel
 use Rattle.tl_beat.specs.declared.opcode.OpD.{OpD}
 use Rattle.tl_burst.specs.declared.message.Message.{Message}
 use Rattle.tl_burst.specs.declared.message.MessageD.{MessageD}
@@ -48,15 +48,21 @@ use Rattle.tl_world.proofs.Codes.{grants-so, not_ack, access_kind}
 
 -- ---- a delivery that moves a beat, as the protocol follows it
 
-pub followed-moving : {w : ℕ} (config : Config) (link : Link) (ch : Channel) (sys : System w) (h : Shadow w) (x : Beat w) (queue : List (Beat w)) → is_moving (stepped config (Deliver link ch) sys).outcome ≡ true → sys.channels link.0 ch ≡ x ∷ queue
-    → followed config (Deliver link ch) sys h ≡ (if completes x (unfinished ch (receiver ch link.0 sys)) then token_taken config (next_tracker sys) link.0 (tokens_on ch (h.state.link link.0)) h else h)
+pub followed-moving : {w : ℕ} (config : Config) (link : Link) (ch : Channel) (sys : System w) (h : Shadow w) (x : Beat w) (queue : List (Beat w))
+    → is_moving (stepped config (Deliver link ch) sys).outcome ≡ true → sys.channels link.0 ch ≡ x ∷ queue
+    → followed config (Deliver link ch) sys h ≡ (if completes x (unfinished ch (receiver ch link.0 sys)) then token_taken config (next_tracker sys) link.0
+    (tokens_on ch (h.state.link link.0)) h else h)
 followed-moving {w} config link ch sys h x queue moving first =
-    ap (λ (b : Bool). if b && is_last (sys.channels link.0 ch) (unfinished ch (receiver ch link.0 sys)) then token_taken config (next_tracker sys) link.0 (tokens_on ch (h.state.link link.0)) h else h) moving
+    ap (λ (b : Bool). if b && is_last (sys.channels link.0 ch) (unfinished ch (receiver ch link.0 sys)) then token_taken config (next_tracker sys) link.0
+    (tokens_on ch (h.state.link link.0)) h else h) moving
     ∙ ap (λ (l : List (Beat w)). if is_last l (unfinished ch (receiver ch link.0 sys)) then token_taken config (next_tracker sys) link.0 (tokens_on ch (h.state.link link.0)) h else h) first
 
 -- and one that moves none leaves it
-pub followed-still : {w : ℕ} (config : Config) (link : Link) (ch : Channel) (sys : System w) (h : Shadow w) → is_moving (stepped config (Deliver link ch) sys).outcome ≡ false → followed config (Deliver link ch) sys h ≡ h
-followed-still {w} config link ch sys h still = ap (λ (b : Bool). if b && is_last (sys.channels link.0 ch) (unfinished ch (receiver ch link.0 sys)) then token_taken config (next_tracker sys) link.0 (tokens_on ch (h.state.link link.0)) h else h) still
+pub followed-still : {w : ℕ} (config : Config) (link : Link) (ch : Channel) (sys : System w) (h : Shadow w)
+    → is_moving (stepped config (Deliver link ch) sys).outcome ≡ false → followed config (Deliver link ch) sys h ≡ h
+followed-still {w} config link ch sys h still = ap
+    (λ (b : Bool). if b && is_last (sys.channels link.0 ch) (unfinished ch (receiver ch link.0 sys)) then token_taken config (next_tracker sys) link.0
+    (tokens_on ch (h.state.link link.0)) h else h) still
 
 pub on_d : {w : ℕ} (y : BeatD w) → IsOn channel.D (beat.D y)
 on_d y channel.A = refl
@@ -88,18 +94,21 @@ pub record IsLastBeat {w : ℕ} (c : ℕ) (x : Beat w) (queue : List (Beat w)) (
   pub last : completes x (unfinished channel.D (sys.clients c).past) ≡ true
   pub heard : HasHeard x (sys.clients c) (offer.taken x (sys.clients c)).after
 
-taken_d : {w : ℕ} (c : ℕ) (x : Beat w) (queue : List (Beat w)) (sys : System w) (mm : MessageD w) (m : Option (Message w)) → IsLastBeat c x queue sys mm → IsTaken c channel.D x queue (pushes_at c (pushes_of m)) sys (after_heard c channel.D x queue sys m)
+taken_d : {w : ℕ} (c : ℕ) (x : Beat w) (queue : List (Beat w)) (sys : System w) (mm : MessageD w) (m : Option (Message w)) → IsLastBeat c x queue sys mm
+    → IsTaken c channel.D x queue (pushes_at c (pushes_of m)) sys (after_heard c channel.D x queue sys m)
 taken_d {w} c x queue sys mm m is =
     taken-landed c channel.D x queue (pushes_at c (pushes_of m)) sys (after_heard c channel.D x queue sys m)
     (landed-client c channel.D x queue m (offer.taken x (sys.clients c)).after sys refl is.first (subst (λ (z : Beat w). IsOn channel.D z) (sym is.x_is) (on_d is.y)) is.heard) is.last
 
-finish_pool_is : {w : ℕ} (c : ℕ) (x : Beat w) (queue : List (Beat w)) (sys : System w) (mm : MessageD w) (is : IsLastBeat c x queue sys mm) → pool_of (finish_at is.y (sys.clients c)) ≡ (if is_release_ack mm.opcode then Releases else Requests)
+finish_pool_is : {w : ℕ} (c : ℕ) (x : Beat w) (queue : List (Beat w)) (sys : System w) (mm : MessageD w) (is : IsLastBeat c x queue sys mm)
+    → pool_of (finish_at is.y (sys.clients c)) ≡ (if is_release_ack mm.opcode then Releases else Requests)
 finish_pool_is {w} c x queue sys mm is = finish-pool w is.y.opcode is.y.param is.y.size _ _ ∙ ap (λ (o : OpD). if is_release_ack o then Releases else Requests) is.opcode
 
 acked_none : {w : ℕ} (o : OpD) (sink : ℕ) → is_grant o ≡ false → acked {w = w} o sink ≡ None
 acked_none o sink e = rw e refl
 
-pub responded-answer : {w : ℕ} (config : Config) (log : Log w) (h : Shadow w) (sys : System w) (c source : ℕ) (rest : List Token) (x : Beat w) (queue : List (Beat w)) (due : IsAnswerDue c source h.mail h.state) → IsWidth w
+pub responded-answer : {w : ℕ} (config : Config) (log : Log w) (h : Shadow w) (sys : System w) (c source : ℕ) (rest : List Token) (x : Beat w)
+    (queue : List (Beat w)) (due : IsAnswerDue c source h.mail h.state) → IsWidth w
     → IsMatched config log h.mail h.request h.state sys → (h.state.link c).d ≡ token Answer source ∷ rest → (is : IsLastBeat c x queue sys due.answer)
     → IsResponded c x queue sys (remembered config log) is.y.source (finish_at is.y (sys.clients c)) (acked is.y.opcode is.y.sink) (kind_taken config (next_tracker sys) c Answer source rest h)
 unfolding accesses_answered
@@ -111,15 +120,19 @@ responded-answer {w} config log h sys c source rest x queue due width matched fi
     let inv = invariant-taken config log h sys c Answer source rest matched first tt in
     record {
       carried = subst (λ (m : Option (Message w)). AreCarried h.mail (answer_taken c source rest h.state) (after_heard c channel.D x queue sys m)) (sym none)
-          (answer_taken-carried (is_caching config) c source rest h.mail h.state sys (after_heard c channel.D x queue sys None) x queue width matched.invariant inv first (taken_d c x queue sys due.answer None is) matched.carried);
-      beside = subst (λ (p : Pool). IsBeside h.mail (answer_taken c source rest h.state) (after_end c p is.y.source ((remembered config log).opened c p is.y.source) (remembered config log))) (sym pool)
+          (answer_taken-carried (is_caching config) c source rest h.mail h.state sys
+          (after_heard c channel.D x queue sys None) x queue width matched.invariant inv first
+          (taken_d c x queue sys due.answer None is) matched.carried);
+      beside = subst (λ (p : Pool). IsBeside h.mail (answer_taken c source rest h.state)
+          (after_end c p is.y.source ((remembered config log).opened c p is.y.source) (remembered config log))) (sym pool)
           (subst (λ (i : ℕ). IsBeside h.mail (answer_taken c source rest h.state) (after_end c Requests i ((remembered config log).opened c Requests i) (remembered config log))) (sym from)
           (beside-answer c source rest h.mail h.state (remembered config log) due.used matched.beside));
       quiet = ap (λ (m : Option (Message w)). accesses_answered (handed_by c m)) none;
     }
 
 pub responded-release_ack : {w : ℕ} (config : Config) (log : Log w) (h : Shadow w) (sys : System w) (c n : ℕ) (rest : List Token) (x : Beat w) (queue : List (Beat w)) → IsWidth w
-    → IsMatched config log h.mail h.request h.state sys → (h.state.link c).d ≡ token ReleaseAck n ∷ rest → is_kept ((h.state.block n).pair c).letting ≡ false → (is : IsLastBeat c x queue sys (ack_message ((h.state.block n).release_source c)))
+    → IsMatched config log h.mail h.request h.state sys → (h.state.link c).d ≡ token ReleaseAck n ∷ rest → is_kept ((h.state.block n).pair c).letting ≡ false
+    → (is : IsLastBeat c x queue sys (ack_message ((h.state.block n).release_source c)))
     → IsResponded c x queue sys (remembered config log) is.y.source (finish_at is.y (sys.clients c)) (acked is.y.opcode is.y.sink) (kind_taken config (next_tracker sys) c ReleaseAck n rest h)
 unfolding accesses_answered
 responded-release_ack {w} config log h sys c n rest x queue width matched first open_ is =
@@ -128,8 +141,11 @@ responded-release_ack {w} config log h sys c n rest x queue width matched first 
     let inv = invariant-taken config log h sys c ReleaseAck n rest matched first tt in
     record {
       carried = subst (λ (m : Option (Message w)). AreCarried h.mail (release_ack_taken c n rest h.state) (after_heard c channel.D x queue sys m)) (sym none)
-          (release_ack_taken-carried (is_caching config) c n rest h.mail h.state sys (after_heard c channel.D x queue sys None) x queue width matched.invariant inv first (taken_d c x queue sys (ack_message ((h.state.block n).release_source c)) None is) matched.carried);
-      beside = subst (λ (p : Pool). IsBeside h.mail (release_ack_taken c n rest h.state) (after_end c p is.y.source ((remembered config log).opened c p is.y.source) (remembered config log))) (sym pool)
+          (release_ack_taken-carried (is_caching config) c n rest h.mail h.state sys
+          (after_heard c channel.D x queue sys None) x queue width matched.invariant inv first
+          (taken_d c x queue sys (ack_message ((h.state.block n).release_source c)) None is) matched.carried);
+      beside = subst (λ (p : Pool). IsBeside h.mail (release_ack_taken c n rest h.state)
+          (after_end c p is.y.source ((remembered config log).opened c p is.y.source) (remembered config log))) (sym pool)
           (subst (λ (i : ℕ). IsBeside h.mail (release_ack_taken c n rest h.state) (after_end c Releases i ((remembered config log).opened c Releases i) (remembered config log))) (sym is.source)
           (beside-release_ack (is_caching config) c n rest h.mail h.state (remembered config log) matched.invariant open_ matched.beside));
       quiet = ap (λ (m : Option (Message w)). accesses_answered (handed_by c m)) none;
@@ -143,7 +159,8 @@ rendered_ack c n whole d k b = refl
 abbrev pub IsBare : ℕ → Bool → Bool → Cap → Block (List ℕ) → Type 0
 IsBare c whole d k b = (j : Kind) (i : ℕ) → shown j i b ≡ true → shown j i (taken_block c whole d k b) ≡ true → (carries j i b ≡ false) ⊎ ((taken_block c whole d k b).truth ≡ b.truth)
 
-pub responded-grant : {w : ℕ} (config : Config) (log : Log w) (h : Shadow w) (sys : System w) (c n : ℕ) (rest : List Token) (x : Beat w) (queue : List (Beat w)) (due : IsGrantDue c n h.state) → IsWidth w
+pub responded-grant : {w : ℕ} (config : Config) (log : Log w) (h : Shadow w) (sys : System w) (c n : ℕ) (rest : List Token) (x : Beat w) (queue : List (Beat w))
+    (due : IsGrantDue c n h.state) → IsWidth w
     → IsMatched config log h.mail h.request h.state sys → (h.state.link c).d ≡ token Grant n ∷ rest → IsBare c due.whole due.data_too due.k (h.state.block n)
     → (is : IsLastBeat c x queue sys (grant_message due.data_too due.k ((h.state.block n).source c) (h.state.block n).tracker (h.state.block n).truth))
     → IsResponded c x queue sys (remembered config log) is.y.source (finish_at is.y (sys.clients c)) (acked is.y.opcode is.y.sink) (kind_taken config (next_tracker sys) c Grant n rest h)
@@ -152,11 +169,17 @@ responded-grant {w} config log h sys c n rest x queue due width matched first ba
     subst (λ (z : Shadow w). IsResponded c x queue sys (remembered config log) is.y.source (finish_at is.y (sys.clients c)) (acked is.y.opcode is.y.sink) z) (sym same)
     (record {
       carried = subst (λ (m : Option (Message w)). AreCarried h.mail (grant_taken c n due.whole due.data_too due.k rest h.state) (after_heard c channel.D x queue sys m)) (sym some)
-          (grant_taken-carried (is_caching config) c n due.whole due.data_too due.k rest (grant_ack (h.state.block n).tracker) h.mail h.state sys (after_heard c channel.D x queue sys (Some (grant_ack (h.state.block n).tracker))) x queue width matched.invariant inv first due.service bare refl
+          (grant_taken-carried (is_caching config) c n due.whole due.data_too due.k rest (grant_ack (h.state.block n).tracker) h.mail h.state sys
+          (after_heard c channel.D x queue sys (Some (grant_ack (h.state.block n).tracker))) x queue width matched.invariant inv first due.service bare
+          refl
           (rendered_ack c n due.whole due.data_too due.k (h.state.block n)) (taken_d c x queue sys mm (Some (grant_ack (h.state.block n).tracker)) is) matched.carried);
-      beside = subst (λ (p : Pool). IsBeside h.mail (grant_taken c n due.whole due.data_too due.k rest h.state) (after_end c p is.y.source ((remembered config log).opened c p is.y.source) (remembered config log))) (sym pool)
-          (subst (λ (i : ℕ). IsBeside h.mail (grant_taken c n due.whole due.data_too due.k rest h.state) (after_end c Requests i ((remembered config log).opened c Requests i) (remembered config log))) (sym is.source)
-          (subst (λ (b : Bool). IsBeside h.mail (grant_taken c n b due.data_too due.k rest h.state) (after_end c Requests ((h.state.block n).source c) ((remembered config log).opened c Requests ((h.state.block n).source c)) (remembered config log))) (ap is_whole due.wants)
+      beside = subst (λ (p : Pool). IsBeside h.mail (grant_taken c n due.whole due.data_too due.k rest h.state)
+          (after_end c p is.y.source ((remembered config log).opened c p is.y.source) (remembered config log))) (sym pool)
+          (subst (λ (i : ℕ). IsBeside h.mail (grant_taken c n due.whole due.data_too due.k rest h.state)
+          (after_end c Requests i ((remembered config log).opened c Requests i) (remembered config log))) (sym is.source)
+          (subst (λ (b : Bool). IsBeside h.mail (grant_taken c n b due.data_too due.k rest h.state)
+          (after_end c Requests ((h.state.block n).source c) ((remembered config log).opened c Requests ((h.state.block n).source c))
+          (remembered config log))) (ap is_whole due.wants)
           (beside-grant (is_caching config) c n due.data_too due.k rest h.mail h.state (remembered config log) matched.invariant (ap is_wanting due.wants) matched.beside)));
       quiet = ap (λ (m : Option (Message w)). accesses_answered (handed_by c m)) some;
     })
@@ -165,7 +188,8 @@ responded-grant {w} config log h sys c n rest x queue due width matched first ba
     mm = grant_message due.data_too due.k ((h.state.block n).source c) (h.state.block n).tracker (h.state.block n).truth
 
     some : acked {w = w} is.y.opcode is.y.sink ≡ Some (grant_ack (h.state.block n).tracker)
-    some = ap (λ (o : OpD). acked {w = w} o is.y.sink) is.opcode ∙ ap (λ (i : ℕ). acked {w = w} (grant_opcode due.data_too) i) is.sink ∙ ap (λ (b : Bool). if b then Some (grant_ack {w = w} (h.state.block n).tracker) else None) (grants-so due.data_too)
+    some = ap (λ (o : OpD). acked {w = w} o is.y.sink) is.opcode ∙ ap (λ (i : ℕ). acked {w = w} (grant_opcode due.data_too) i) is.sink
+        ∙ ap (λ (b : Bool). if b then Some (grant_ack {w = w} (h.state.block n).tracker) else None) (grants-so due.data_too)
 
     pool : pool_of (finish_at is.y (sys.clients c)) ≡ Requests
     pool = finish_pool_is c x queue sys mm is ∙ ap (λ (b : Bool). if b then Releases else Requests) (not_ack due.data_too)

@@ -7,8 +7,8 @@ use Rattle.tl_beat.specs.declared.beat.Beat.{Beat}
 use Rattle.tl_beat.specs.declared.beat.Beat.TheVariants as beat
 use Rattle.tl_beat.specs.declared.beat.BeatD.{BeatD}
 use Rattle.tl_beat.specs.declared.beat.Link.{Link}
-use Rattle.tl_beat.specs.declared.opcode.Channel.{Channel}
-use Rattle.tl_beat.specs.declared.opcode.Channel.TheVariants as channel
+use Rattle.tl_beat.specs.declared.channel.Channel.{Channel}
+use Rattle.tl_beat.specs.declared.channel.Channel.TheVariants as channel
 use Rattle.tl_burst.specs.declared.message.Message.{Message}
 use Rattle.tl_burst.specs.declared.message.Message.TheVariants as message
 use Rattle.tl_burst.specs.declared.message.MessageD.{MessageD}
@@ -94,11 +94,13 @@ bare {w} caching c n h due inv j i before now = go due.whole refl
 
     told : due.whole ≡ true → (i ≡ c) ⊎ (i ≡ c → ⊥) → carries j i b ≡ false
     told e at =
-        let fits = whole_fits (b.pair c).recorded (b.pair c).held due.data_too due.k due.g (sym (ap (λ (x : Bool). grant_fits (b.pair c).recorded (b.pair c).held due.data_too due.k (Wants x due.g)) e) ∙ due.fits) in
+        let fits = whole_fits (b.pair c).recorded (b.pair c).held due.data_too due.k due.g
+        (sym (ap (λ (x : Bool). grant_fits (b.pair c).recorded (b.pair c).held due.data_too due.k (Wants x due.g)) e) ∙ due.fits) in
         uncarried j i b (quiet fits.0 at) (ap is_given due.service ∙ fits.1)
       where
         quiet : same_perm (b.pair c).recorded perm.Trunk ≡ true → (i ≡ c) ⊎ (i ≡ c → ⊥) → is_told (b.pair i) ≡ false
-        quiet top (inl same) = not-true _ (granted-untold (b.pair i) (view b.service i) ((inv.blocks n).phases i) (rw same (ap (λ v. is_granting v) (own_view c due.data_too due.k b.service due.service))))
+        quiet top (inl same) = not-true _ (granted-untold (b.pair i) (view b.service i) ((inv.blocks n).phases i)
+            (rw same (ap (λ v. is_granting v) (own_view c due.data_too due.k b.service due.service))))
         quiet top (inr other) =
             let none = (inv.blocks n).one_owner c i top other in
             not-true _ (and_left _ _ (untold (b.pair i) (view b.service i) ((inv.blocks n).phases i) (or_right (same_perm (b.pair i).held perm.Trunk) (same_perm (b.pair i).recorded perm.None) none)))
@@ -147,7 +149,8 @@ closed_unmoved {w} e sys same = record { channels = λ d at. refl; rests = rests
     rests d channel.D = refl
     rests d channel.E = ap (λ t. unfinished channel.E (on_link d t)) same
 
-pub unmoved : {w : ℕ} (config : Config) (link : Link) (ch : Channel) (sys : System w) → is_moving (stepped config (Deliver link ch) sys).outcome ≡ false → IsUnmoved sys (stepped config (Deliver link ch) sys)
+pub unmoved : {w : ℕ} (config : Config) (link : Link) (ch : Channel) (sys : System w) → is_moving (stepped config (Deliver link ch) sys).outcome ≡ false
+    → IsUnmoved sys (stepped config (Deliver link ch) sys)
 unfolding stepped slave.offered
 unmoved {w} config link ch sys still = at (terms_at config link.0) still
   where
@@ -155,8 +158,10 @@ unmoved {w} config link ch sys still = at (terms_at config link.0) still
     c = link.0
 
     by_client : (terms : client.Terms) (x : Beat w) (queue : List (Beat w)) (a : Result (Verdict × Option (Message w)) Rule) → (offer.offered terms ch x (sys.clients c)).answer ≡ a
-        → is_moving (judged a c ch x queue (offer.offered terms ch x (sys.clients c)).after sys).outcome ≡ false → IsUnmoved sys (judged a c ch x queue (offer.offered terms ch x (sys.clients c)).after sys)
-    by_client terms x queue (Err rule) e s = refused_unmoved c (offer.offered terms ch x (sys.clients c)).after sys (ap (λ (i : client.End w). i.past) (refusal-offered terms ch x (sys.clients c) rule e))
+        → is_moving (judged a c ch x queue (offer.offered terms ch x (sys.clients c)).after sys).outcome ≡ false
+        → IsUnmoved sys (judged a c ch x queue (offer.offered terms ch x (sys.clients c)).after sys)
+    by_client terms x queue (Err rule) e s = refused_unmoved c (offer.offered terms ch x (sys.clients c)).after sys
+        (ap (λ (i : client.End w). i.past) (refusal-offered terms ch x (sys.clients c) rule e))
     by_client terms x queue (Ok (verdict.Stalled, m)) e s = only_unmoved outcome.Stalled sys (λ l i m. refl)
     by_client terms x queue (Ok (verdict.Taken, m)) e s = absurd cc
     by_client terms x queue (Ok (verdict.Done source f, m)) e s = absurd cc
@@ -171,8 +176,10 @@ unmoved {w} config link ch sys still = at (terms_at config link.0) still
     delivered_to terms [] s = only_unmoved outcome.Empty sys (λ l i m. refl)
     delivered_to terms (x ∷ queue) s = to (is_to_client ch) s
       where
-        to : (b : Bool) → is_moving (if b then client_took c ch x queue (offer.offered terms ch x (sys.clients c)) sys else manager_took c ch x queue (slave.offered config (record { 0 = c }) ch x sys.manager) sys).outcome ≡ false
-            → IsUnmoved sys (if b then client_took c ch x queue (offer.offered terms ch x (sys.clients c)) sys else manager_took c ch x queue (slave.offered config (record { 0 = c }) ch x sys.manager) sys)
+        to : (b : Bool) → is_moving (if b then client_took c ch x queue (offer.offered terms ch x (sys.clients c)) sys else manager_took c ch x queue
+            (slave.offered config (record { 0 = c }) ch x sys.manager) sys).outcome ≡ false
+            → IsUnmoved sys (if b then client_took c ch x queue (offer.offered terms ch x (sys.clients c)) sys else manager_took c ch x queue
+            (slave.offered config (record { 0 = c }) ch x sys.manager) sys)
         to true s = by_client terms x queue (offer.offered terms ch x (sys.clients c)).answer refl s
         to false s = by_manager x queue (slave.judged config (record { 0 = c }) ch x sys.manager) s
 
@@ -186,7 +193,8 @@ carried-unmoved {w} mail s sys x is h d at = moved_to (unfinished at (receiver a
     moved_to : (r q : List (Beat w)) → r ≡ unfinished at (receiver at d sys) → q ≡ sys.channels d at → IsCarried r (messages_on at mail s d) q
     moved_to r q e f = rw (e, f) (h d at)
 
-pub beside-unmoved : {w : ℕ} (config : Config) (log : Log w) (mail : Mail w) (s : State (List ℕ)) (link : Link) (ch : Channel) → IsUnmoved (after config log) (stepped config (Deliver link ch) (after config log)) → IsBeside mail s (remembered config log)
+pub beside-unmoved : {w : ℕ} (config : Config) (log : Log w) (mail : Mail w) (s : State (List ℕ)) (link : Link) (ch : Channel)
+    → IsUnmoved (after config log) (stepped config (Deliver link ch) (after config log)) → IsBeside mail s (remembered config log)
     → IsBeside mail s (remembered config ((Deliver link ch, (stepped config (Deliver link ch) (after config log)).outcome) ∷ log))
 unfolding remembered performing accesses_answered
 beside-unmoved {w} config log mail s link ch is h = rw (is.handed, is.machine link ch (remembered config log)) h
@@ -194,40 +202,50 @@ beside-unmoved {w} config log mail s link ch is h = rw (is.handed, is.machine li
 -- ---- the channels and the one memory after a delivery
 
 pub record IsDelivered {w : ℕ} (config : Config) (log : Log w) (link : Link) (ch : Channel) (h : Shadow w) : Type 0 where
-  pub carried : AreCarried (followed config (Deliver link ch) (after config log) h).mail (followed config (Deliver link ch) (after config log) h).state (stepped config (Deliver link ch) (after config log)).after
+  pub carried : AreCarried (followed config (Deliver link ch) (after config log) h).mail (followed config (Deliver link ch) (after config log) h).state
+      (stepped config (Deliver link ch) (after config log)).after
   pub beside : IsBeside (followed config (Deliver link ch) (after config log) h).mail (followed config (Deliver link ch) (after config log) h).state
       (remembered config ((Deliver link ch, (stepped config (Deliver link ch) (after config log)).outcome) ∷ log))
 
 -- as the protocol is afterwards
-pub delivered_as : {w : ℕ} (config : Config) (log : Log w) (link : Link) (ch : Channel) (h h' : Shadow w) → followed config (Deliver link ch) (after config log) h ≡ h' → AreCarried h'.mail h'.state (stepped config (Deliver link ch) (after config log)).after
+pub delivered_as : {w : ℕ} (config : Config) (log : Log w) (link : Link) (ch : Channel) (h h' : Shadow w)
+    → followed config (Deliver link ch) (after config log) h ≡ h' → AreCarried h'.mail h'.state (stepped config (Deliver link ch) (after config log)).after
     → IsBeside h'.mail h'.state (remembered config ((Deliver link ch, (stepped config (Deliver link ch) (after config log)).outcome) ∷ log)) → IsDelivered config log link ch h
 delivered_as {w} config log link ch h h' e carried beside = record {
   carried = subst (λ (z : Shadow w). AreCarried z.mail z.state (stepped config (Deliver link ch) (after config log)).after) (sym e) carried;
   beside = subst (λ (z : Shadow w). IsBeside z.mail z.state (remembered config ((Deliver link ch, (stepped config (Deliver link ch) (after config log)).outcome) ∷ log))) (sym e) beside;
 }
 
-pub delivered-unmoved : {w : ℕ} (config : Config) (log : Log w) (link : Link) (ch : Channel) (h : Shadow w) → IsMatched config log h.mail h.request h.state (after config log) → is_moving (stepped config (Deliver link ch) (after config log)).outcome ≡ false
+pub delivered-unmoved : {w : ℕ} (config : Config) (log : Log w) (link : Link) (ch : Channel) (h : Shadow w)
+    → IsMatched config log h.mail h.request h.state (after config log) → is_moving (stepped config (Deliver link ch) (after config log)).outcome ≡ false
     → IsDelivered config log link ch h
 delivered-unmoved {w} config log link ch h is still =
     let no = unmoved config link ch (after config log) still in
-    delivered_as config log link ch h h (followed-still config link ch (after config log) h still) (carried-unmoved h.mail h.state (after config log) (stepped config (Deliver link ch) (after config log)) no is.carried)
+    delivered_as config log link ch h h (followed-still config link ch (after config log) h still)
+    (carried-unmoved h.mail h.state (after config log) (stepped config (Deliver link ch) (after config log)) no is.carried)
     (beside-unmoved config log h.mail h.state link ch no is.beside)
 
 -- ---- on channel D
 
 -- the machine afterwards, where this came of it
 pub remembered_after : {w : ℕ} (config : Config) (log : Log w) (link : Link) (ch : Channel) (x : Step w) → stepped config (Deliver link ch) (after config log) ≡ x
-    → remembered config ((Deliver link ch, (stepped config (Deliver link ch) (after config log)).outcome) ∷ log) ≡ performing (accesses_answered x.handed) (moved (Deliver link ch) x.outcome (remembered config log))
+    → remembered config ((Deliver link ch, (stepped config (Deliver link ch) (after config log)).outcome) ∷ log) ≡ performing (accesses_answered x.handed)
+    (moved (Deliver link ch) x.outcome (remembered config log))
 unfolding remembered
 remembered_after {w} config log link ch x e = ap (λ (y : Step w). performing (accesses_answered y.handed) (moved (Deliver link ch) y.outcome (remembered config log))) e
 
-last_d : {w : ℕ} (config : Config) (log : Log w) (link : Link) (h h' : Shadow w) (terms : client.Terms) (x : Beat w) (queue : List (Beat w)) (mm : MessageD w) (is : IsLastBeat link.0 x queue (after config log) mm)
-    → IsTakenByClient terms link.0 channel.D x queue (after config log) (stepped config (Deliver link channel.D) (after config log)) → followed config (Deliver link channel.D) (after config log) h ≡ h'
-    → IsResponded link.0 x queue (after config log) (remembered config log) is.y.source (finish_at is.y ((after config log).clients link.0)) (acked is.y.opcode is.y.sink) h' → IsDelivered config log link channel.D h
+last_d : {w : ℕ} (config : Config) (log : Log w) (link : Link) (h h' : Shadow w) (terms : client.Terms) (x : Beat w) (queue : List (Beat w)) (mm : MessageD w)
+    (is : IsLastBeat link.0 x queue (after config log) mm)
+    → IsTakenByClient terms link.0 channel.D x queue (after config log) (stepped config (Deliver link channel.D) (after config log))
+    → followed config (Deliver link channel.D) (after config log) h ≡ h'
+    → IsResponded link.0 x queue (after config log) (remembered config log) is.y.source (finish_at is.y ((after config log).clients link.0))
+    (acked is.y.opcode is.y.sink) h' → IsDelivered config log link channel.D h
 unfolding performing
 last_d {w} config log link h h' terms x queue mm is t same responded =
     delivered_as config log link channel.D h h' same (subst (λ (y : Step w). AreCarried h'.mail h'.state y.after) (sym step_is) responded.carried)
-    (subst (λ (m : Machine w). IsBeside h'.mail h'.state m) (sym (remembered_after config log link channel.D now step_is ∙ ap (λ (l : List (ℕ × ℕ)). performing l (moved (Deliver link channel.D) now.outcome (remembered config log))) responded.quiet)) responded.beside)
+    (subst (λ (m : Machine w). IsBeside h'.mail h'.state m)
+    (sym (remembered_after config log link channel.D now step_is
+    ∙ ap (λ (l : List (ℕ × ℕ)). performing l (moved (Deliver link channel.D) now.outcome (remembered config log))) responded.quiet)) responded.beside)
   where
     sys : System w
     sys = after config log
@@ -239,30 +257,36 @@ last_d {w} config log link h h' terms x queue mm is t same responded =
     last = sym (ap (λ (z : Beat w). completes z (unfinished channel.D e.past)) is.x_is) ∙ is.last
 
     now : Step w
-    now = handing (outcome.Done x is.y.source (finish_at is.y e)) (handed_by link.0 (acked is.y.opcode is.y.sink)) (with_client link.0 (offer.taken x e).after (with_channel link.0 channel.D queue sys))
+    now = handing (outcome.Done x is.y.source (finish_at is.y e)) (handed_by link.0 (acked is.y.opcode is.y.sink))
+        (with_client link.0 (offer.taken x e).after (with_channel link.0 channel.D queue sys))
 
     same_parts : (t.verdict_is ≡ verdict.Done is.y.source (finish_at is.y e)) × (t.message ≡ acked is.y.opcode is.y.sink)
-    same_parts = same_answers t.verdict_is (verdict.Done is.y.source (finish_at is.y e)) t.message (acked is.y.opcode is.y.sink) (offer.taken x e).answer t.answer (ap (λ (z : Beat w). (offer.taken z e).answer) is.x_is ∙ answer-last is.y e last)
+    same_parts = same_answers t.verdict_is (verdict.Done is.y.source (finish_at is.y e)) t.message (acked is.y.opcode is.y.sink)
+        (offer.taken x e).answer t.answer (ap (λ (z : Beat w). (offer.taken z e).answer) is.x_is ∙ answer-last is.y e last)
 
     step_is : stepped config (Deliver link channel.D) sys ≡ now
     step_is =
         t.step_is
         ∙ ap (λ (v : Verdict). handing (step.outcome_of x v) (handed_by link.0 t.message) (with_client link.0 (offer.taken x e).after (with_channel link.0 channel.D queue sys))) same_parts.0
-        ∙ ap (λ (m : Option (Message w)). handing (outcome.Done x is.y.source (finish_at is.y e)) (handed_by link.0 m) (with_client link.0 (offer.taken x e).after (with_channel link.0 channel.D queue sys))) same_parts.1
+        ∙ ap (λ (m : Option (Message w)). handing (outcome.Done x is.y.source (finish_at is.y e)) (handed_by link.0 m)
+        (with_client link.0 (offer.taken x e).after (with_channel link.0 channel.D queue sys))) same_parts.1
 
 none_pushed : (w : ℕ) (at : Channel) (b : Bool) → (if b then pushes_of {w = w} None at else None) ≡ None
 none_pushed w at true = refl
 none_pushed w at false = refl
 
-part_d : {w : ℕ} (config : Config) (log : Log w) (link : Link) (h : Shadow w) (terms : client.Terms) (x : Beat w) (queue : List (Beat w)) (mm : MessageD w) (k : ℕ) → IsWidth w → IsMatched config log h.mail h.request h.state (after config log)
+part_d : {w : ℕ} (config : Config) (log : Log w) (link : Link) (h : Shadow w) (terms : client.Terms) (x : Beat w) (queue : List (Beat w)) (mm : MessageD w)
+    (k : ℕ) → IsWidth w → IsMatched config log h.mail h.request h.state (after config log)
     → (after config log).channels link.0 channel.D ≡ x ∷ queue → x ≡ beat.D (d_beat_of mm k) → completes x (unfinished channel.D ((after config log).clients link.0).past) ≡ false
-    → IsTakenByClient terms link.0 channel.D x queue (after config log) (stepped config (Deliver link channel.D) (after config log)) → followed config (Deliver link channel.D) (after config log) h ≡ h → IsDelivered config log link channel.D h
+    → IsTakenByClient terms link.0 channel.D x queue (after config log) (stepped config (Deliver link channel.D) (after config log))
+    → followed config (Deliver link channel.D) (after config log) h ≡ h → IsDelivered config log link channel.D h
 unfolding performing accesses_answered
 part_d {w} config log link h terms x queue mm k width is first x_is part t same =
     delivered_as config log link channel.D h h same
     (subst (λ (y : Step w). AreCarried h.mail h.state y.after) (sym step_is)
     (carried-part h.mail h.state link.0 channel.D x queue (pushes_at link.0 (pushes_of None)) sys now.after width
-    (landed-client link.0 channel.D x queue None (offer.taken x e).after sys refl first (subst (λ (z : Beat w). IsOn channel.D z) (sym x_is) (on_d y)) (client-heard terms link.0 channel.D x queue sys (stepped config (Deliver link channel.D) sys) width (is.kept link.0) t))
+    (landed-client link.0 channel.D x queue None (offer.taken x e).after sys refl first (subst (λ (z : Beat w). IsOn channel.D z) (sym x_is) (on_d y))
+    (client-heard terms link.0 channel.D x queue sys (stepped config (Deliver link channel.D) sys) width (is.kept link.0) t))
     (λ d at. none_pushed w at (d == link.0)) part is.carried))
     (subst (λ (m : Machine w). IsBeside h.mail h.state m) (sym (remembered_after config log link channel.D now step_is)) is.beside)
   where
@@ -294,8 +318,10 @@ pub rendered_release_ack : {w : ℕ} (c n : ℕ) (b : Block (List ℕ)) → rend
 unfolding rendered
 rendered_release_ack c n b = refl
 
-pub delivered-d : {w : ℕ} (config : Config) (log : Log w) (link : Link) (h : Shadow w) (terms : client.Terms) (x : Beat w) (queue : List (Beat w)) → IsWidth w → IsMatched config log h.mail h.request h.state (after config log)
-    → terms_at config link.0 ≡ Some terms → (after config log).channels link.0 channel.D ≡ x ∷ queue → is_moving (stepped config (Deliver link channel.D) (after config log)).outcome ≡ true → IsDelivered config log link channel.D h
+pub delivered-d : {w : ℕ} (config : Config) (log : Log w) (link : Link) (h : Shadow w) (terms : client.Terms) (x : Beat w) (queue : List (Beat w)) → IsWidth w
+    → IsMatched config log h.mail h.request h.state (after config log)
+    → terms_at config link.0 ≡ Some terms → (after config log).channels link.0 channel.D ≡ x ∷ queue
+    → is_moving (stepped config (Deliver link channel.D) (after config log)).outcome ≡ true → IsDelivered config log link channel.D h
 delivered-d {w} config log link h terms x queue width is known beats moving = kinds first.kind first.number first.tokens first.own first.next
   where
     sys : System w
@@ -322,7 +348,8 @@ delivered-d {w} config log link h terms x queue width is known beats moving = ki
     -- a message of channel D, what its last beat makes, and its token
     by_message : (k : Kind) (i : ℕ) (mm : MessageD w) → (h.state.link c).d ≡ token k i ∷ first.rest → message_of_kind k h.mail h.state c i ≡ message.D mm
         → IsNext x (unfinished channel.D e.past) (message_of_kind k h.mail h.state c i) (map (message_of h.mail h.state c) first.rest) queue
-        → ((last : IsLastBeat c x queue sys mm) → IsResponded c x queue sys (remembered config log) last.y.source (finish_at last.y e) (acked last.y.opcode last.y.sink) (kind_taken config (next_tracker sys) c k i first.rest h)) → IsDelivered config log link channel.D h
+        → ((last : IsLastBeat c x queue sys mm) → IsResponded c x queue sys (remembered config log) last.y.source (finish_at last.y e)
+        (acked last.y.opcode last.y.sink) (kind_taken config (next_tracker sys) c k i first.rest h)) → IsDelivered config log link channel.D h
     by_message k i mm tokens message next responds = go (completes x (unfinished channel.D e.past)) refl
       where
         x_is : x ≡ beat.D (d_beat_of mm next.k)
@@ -332,8 +359,10 @@ delivered-d {w} config log link h terms x queue width is known beats moving = ki
         go true done =
             let last : IsLastBeat c x queue sys mm = record { y = d_beat_of mm next.k; x_is = x_is; opcode = refl; source = refl; sink = refl; first = beats; last = done; heard = heard } in
             last_d config log link h (kind_taken config (next_tracker sys) c k i first.rest h) terms x queue mm last t
-            (follows ∙ ap (λ (b : Bool). if b then token_taken config (next_tracker sys) c (h.state.link c).d h else h) done ∙ ap (λ (l : List Token). token_taken config (next_tracker sys) c l h) tokens) (responds last)
-        go false part = part_d config log link h terms x queue mm next.k width is beats x_is part t (follows ∙ ap (λ (b : Bool). if b then token_taken config (next_tracker sys) c (h.state.link c).d h else h) part)
+            (follows ∙ ap (λ (b : Bool). if b then token_taken config (next_tracker sys) c (h.state.link c).d h else h) done
+            ∙ ap (λ (l : List Token). token_taken config (next_tracker sys) c l h) tokens) (responds last)
+        go false part = part_d config log link h terms x queue mm next.k width is beats x_is part t
+            (follows ∙ ap (λ (b : Bool). if b then token_taken config (next_tracker sys) c (h.state.link c).d h else h) part)
 
     kinds : (k : Kind) (i : ℕ) → (h.state.link c).d ≡ token k i ∷ first.rest → is_on channel.D k ≡ true
         → IsNext x (unfinished channel.D e.past) (message_of_kind k h.mail h.state c i) (map (message_of h.mail h.state c) first.rest) queue → IsDelivered config log link channel.D h
@@ -345,7 +374,8 @@ delivered-d {w} config log link h terms x queue width is known beats moving = ki
         by_message Grant n (grant_message due.data_too due.k ((h.state.block n).source c) (h.state.block n).tracker (h.state.block n).truth) tokens (grant-rendered c n h.state due) next
         (λ last. responded-grant config log h sys c n first.rest x queue due width is tokens (bare (is_caching config) c n h due is.invariant) last)
     kinds ReleaseAck n tokens own next =
-        let acked_there = holds-first ReleaseAck (h.state.link c).d first.rest (token ReleaseAck n) (λ i. shown ReleaseAck c (h.state.block i)) tokens refl (is.invariant.transfers c ReleaseAck refl) in
+        let acked_there = holds-first ReleaseAck (h.state.link c).d first.rest (token ReleaseAck n) (λ i. shown ReleaseAck c (h.state.block i)) tokens refl
+        (is.invariant.transfers c ReleaseAck refl) in
         by_message ReleaseAck n (ack_message ((h.state.block n).release_source c)) tokens (rendered_release_ack c n (h.state.block n)) next
         (λ last. responded-release_ack config log h sys c n first.rest x queue width is tokens (acked-open ((h.state.block n).pair c).letting acked_there) last)
     kinds Request i tokens own next = absurd cc

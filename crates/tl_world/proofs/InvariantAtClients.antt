@@ -4,8 +4,8 @@ use Rattle.std.specs.Prelude.{map}
 use Rattle.tl_beat.specs.Width.{IsWidth}
 use Rattle.tl_beat.specs.declared.beat.Beat.{Beat}
 use Rattle.tl_beat.specs.declared.beat.Link.{Link}
-use Rattle.tl_beat.specs.declared.opcode.Channel.{Channel}
-use Rattle.tl_beat.specs.declared.opcode.Channel.TheVariants as channel
+use Rattle.tl_beat.specs.declared.channel.Channel.{Channel}
+use Rattle.tl_beat.specs.declared.channel.Channel.TheVariants as channel
 use Rattle.tl_burst.specs.declared.message.MessageA.{MessageA}
 use Rattle.tl_burst.specs.Messages.{unfinished}
 use Rattle.tl_params.specs.declared.config.Config.{Config}
@@ -35,7 +35,8 @@ use Rattle.tl_world.proofs.RequestsTaken.{next_tracker}
 use Rattle.tl_world.proofs.Steps.{stepped-to-client}
 use Rattle.tl_world.proofs.BothParts.{kept-letting}
 
-pub invariant-asked : {w : ℕ} (config : Config) (log : Log w) (mail : Mail w) (request : ℕ → MessageA w) (s : State (List ℕ)) (sys : System w) (terms : Terms) (c : ℕ) (o : Op w) → IsMatched config log mail request s sys
+pub invariant-asked : {w : ℕ} (config : Config) (log : Log w) (mail : Mail w) (request : ℕ → MessageA w) (s : State (List ℕ)) (sys : System w) (terms : Terms)
+    (c : ℕ) (o : Op w) → IsMatched config log mail request s sys
     → terms_at config c ≡ Some terms → IsInvariant (is_caching config) (asked c o (ask.asked terms o (sys.clients c)).reply (shadow_of mail request s)).state
 invariant-asked config log mail request s sys terms c o h at =
     asked-kept (is_caching config) c o (ask.asked terms o (sys.clients c)).reply (shadow_of mail request s) h.invariant (askable config log mail request s sys terms c o h at)
@@ -45,8 +46,10 @@ unfolding stepped
 nobody_moves config sys link ch none = ap (λ (o : Option Terms). is_moving (stepped_at config o (Deliver link ch) sys).outcome) none
 
 -- a Probe that is moved doesn't wait for a Release
-probe_ready : {w : ℕ} (config : Config) (log : Log w) (mail : Mail w) (request : ℕ → MessageA w) (s : State (List ℕ)) (sys : System w) (link : Link) (n : ℕ) (rest : List Token) (x : Beat w) (queue : List (Beat w)) → IsWidth w
-    → IsMatched config log mail request s sys → is_moving (stepped config (Deliver link channel.B) sys).outcome ≡ true → sys.channels link.0 channel.B ≡ x ∷ queue → (s.link link.0).b ≡ token Probe n ∷ rest
+probe_ready : {w : ℕ} (config : Config) (log : Log w) (mail : Mail w) (request : ℕ → MessageA w) (s : State (List ℕ)) (sys : System w) (link : Link) (n : ℕ)
+    (rest : List Token) (x : Beat w) (queue : List (Beat w)) → IsWidth w
+    → IsMatched config log mail request s sys → is_moving (stepped config (Deliver link channel.B) sys).outcome ≡ true
+    → sys.channels link.0 channel.B ≡ x ∷ queue → (s.link link.0).b ≡ token Probe n ∷ rest
     → IsNext x (unfinished channel.B (sys.clients link.0).past) (message_of_kind Probe mail s link.0 n) (map (message_of mail s link.0) rest) queue → ((s.block n).pair link.0).letting ≡ Kept
 probe_ready {w} config log mail request s sys link n rest x queue width h moves beats first next = at_terms (terms_at config link.0) refl
   where
@@ -56,7 +59,8 @@ probe_ready {w} config log mail request s sys link n rest x queue width h moves 
     stands terms at false waits =
         let probed = probe-delivered config log mail request s sys terms (next_tracker sys) link.0 n rest (map (message_of mail s link.0) rest) x queue width h at beats first next in
         let step : is_moving (stepped config (Deliver link channel.B) sys).outcome ≡ false =
-        ap (λ (i : Step w). is_moving i.outcome) (stepped-to-client config link channel.B sys terms x queue at beats refl) ∙ ap (λ (o : Offered w). is_moving (client_took link.0 channel.B x queue o sys).outcome) (probed.waits_for waits) in
+        ap (λ (i : Step w). is_moving i.outcome) (stepped-to-client config link channel.B sys terms x queue at beats refl)
+        ∙ ap (λ (o : Offered w). is_moving (client_took link.0 channel.B x queue o sys).outcome) (probed.waits_for waits) in
         absurd (let no : true ≡ false = sym moves ∙ step in cc)
 
     at_terms : (o : Option Terms) → terms_at config link.0 ≡ o → ((s.block n).pair link.0).letting ≡ Kept
@@ -64,10 +68,14 @@ probe_ready {w} config log mail request s sys link n rest x queue width h moves 
     at_terms (Some terms) at = stands terms at (is_kept ((s.block n).pair link.0).letting) refl
 
 -- what a client takes, it may take
-pub ready-client : {w : ℕ} (config : Config) (log : Log w) (mail : Mail w) (request : ℕ → MessageA w) (s : State (List ℕ)) (sys : System w) (link : Link) (ch : Channel) (k : Kind) (i : ℕ) (rest : List Token) (x : Beat w) (queue : List (Beat w)) → IsWidth w
-    → IsMatched config log mail request s sys → is_to_client ch ≡ true → is_on ch k ≡ true → is_moving (stepped config (Deliver link ch) sys).outcome ≡ true → sys.channels link.0 ch ≡ x ∷ queue → tokens_on ch (s.link link.0) ≡ token k i ∷ rest
-    → IsNext x (unfinished ch (receiver ch link.0 sys)) (message_of_kind k mail s link.0 i) (map (message_of mail s link.0) rest) queue → IsReady (next_tracker sys) link.0 k i (shadow_of mail request s)
-ready-client config log mail request s sys link channel.B Probe i rest x queue width h up own moves beats first next = probe_ready config log mail request s sys link i rest x queue width h moves beats first next
+pub ready-client : {w : ℕ} (config : Config) (log : Log w) (mail : Mail w) (request : ℕ → MessageA w) (s : State (List ℕ)) (sys : System w) (link : Link)
+    (ch : Channel) (k : Kind) (i : ℕ) (rest : List Token) (x : Beat w) (queue : List (Beat w)) → IsWidth w
+    → IsMatched config log mail request s sys → is_to_client ch ≡ true → is_on ch k ≡ true → is_moving (stepped config (Deliver link ch) sys).outcome ≡ true
+    → sys.channels link.0 ch ≡ x ∷ queue → tokens_on ch (s.link link.0) ≡ token k i ∷ rest
+    → IsNext x (unfinished ch (receiver ch link.0 sys)) (message_of_kind k mail s link.0 i) (map (message_of mail s link.0) rest) queue
+    → IsReady (next_tracker sys) link.0 k i (shadow_of mail request s)
+ready-client config log mail request s sys link channel.B Probe i rest x queue width h up own moves beats first next =
+    probe_ready config log mail request s sys link i rest x queue width h moves beats first next
 ready-client config log mail request s sys link channel.D Answer i rest x queue width h up own moves beats first next = tt
 ready-client config log mail request s sys link channel.D Grant i rest x queue width h up own moves beats first next = tt
 ready-client config log mail request s sys link channel.D ReleaseAck i rest x queue width h up own moves beats first next = tt

@@ -5,8 +5,8 @@ use Rattle.tl_beat.specs.Width.{IsWidth}
 use Rattle.tl_beat.specs.declared.beat.Beat.{Beat}
 use Rattle.tl_beat.specs.declared.beat.Beat.TheVariants as beat
 use Rattle.tl_beat.specs.declared.beat.Link.{Link}
-use Rattle.tl_beat.specs.declared.opcode.Channel.{Channel}
-use Rattle.tl_beat.specs.declared.opcode.Channel.TheVariants as channel
+use Rattle.tl_beat.specs.declared.channel.Channel.{Channel}
+use Rattle.tl_beat.specs.declared.channel.Channel.TheVariants as channel
 use Rattle.tl_burst.specs.declared.message.Message.TheVariants as message
 use Rattle.tl_burst.specs.declared.message.MessageA.{MessageA}
 use Rattle.tl_burst.specs.Burst.{a_beat_of, beats_of}
@@ -39,15 +39,20 @@ use Rattle.tl_world.proofs.Steps.{stepped-to-manager}
 
 -- a request that is moved needn't wait
 pub request-moves : {w : ℕ} (config : Config) (log : Log w) (mail : Mail w) (request : ℕ → MessageA w) (s : State (List ℕ)) (sys : System w) (link : Link) (x : Beat w) (queue : List (Beat w))
-    → IsMatched config log mail request s sys → is_moving (stepped config (Deliver link channel.A) sys).outcome ≡ true → sys.channels link.0 channel.A ≡ x ∷ queue → IsArrival config (shadow_of mail request s) sys link.0 x queue → must_wait config (record { 0 = link.0 }) x sys.manager.trace ≡ false
+    → IsMatched config log mail request s sys → is_moving (stepped config (Deliver link channel.A) sys).outcome ≡ true
+    → sys.channels link.0 channel.A ≡ x ∷ queue → IsArrival config (shadow_of mail request s) sys link.0 x queue
+    → must_wait config (record { 0 = link.0 }) x sys.manager.trace ≡ false
 request-moves {w} config log mail request s sys link x queue h moving beats arrives = go (must_wait config (record { 0 = link.0 }) x sys.manager.trace) refl
   where
-    stands : (terms : Terms) → terms_at config link.0 ≡ Some terms → must_wait config (record { 0 = link.0 }) x sys.manager.trace ≡ true → is_moving (stepped config (Deliver link channel.A) sys).outcome ≡ false
+    stands : (terms : Terms) → terms_at config link.0 ≡ Some terms → must_wait config (record { 0 = link.0 }) x sys.manager.trace ≡ true
+        → is_moving (stepped config (Deliver link channel.A) sys).outcome ≡ false
     stands terms at waits =
         ap (λ (i : Step w). is_moving i.outcome) (stepped-to-manager config link channel.A sys terms x queue at beats refl)
-        ∙ ap (λ (a : manager.Reception w × manager_end.End w). is_moving (manager_took link.0 channel.A x queue a sys).outcome) (request-stalled config log (shadow_of mail request s) sys link.0 x queue h beats arrives waits)
+        ∙ ap (λ (a : manager.Reception w × manager_end.End w). is_moving (manager_took link.0 channel.A x queue a sys).outcome)
+        (request-stalled config log (shadow_of mail request s) sys link.0 x queue h beats arrives waits)
 
-    at_terms : (o : Option Terms) → terms_at config link.0 ≡ o → must_wait config (record { 0 = link.0 }) x sys.manager.trace ≡ true → is_moving (stepped config (Deliver link channel.A) sys).outcome ≡ false
+    at_terms : (o : Option Terms) → terms_at config link.0 ≡ o → must_wait config (record { 0 = link.0 }) x sys.manager.trace ≡ true
+        → is_moving (stepped config (Deliver link channel.A) sys).outcome ≡ false
     at_terms None at waits = nobody_moves config sys link channel.A at
     at_terms (Some terms) at waits = stands terms at waits
 
@@ -108,21 +113,29 @@ ready_up tracker c channel.D k i h up own = absurd cc
 -- ---- every event
 
 -- what is taken with the last beat of a message may be taken
-pub ready-delivered : {w : ℕ} (config : Config) (log : Log w) (mail : Mail w) (request : ℕ → MessageA w) (s : State (List ℕ)) (sys : System w) (link : Link) (ch : Channel) (x : Beat w) (queue : List (Beat w)) → IsWidth w
+pub ready-delivered : {w : ℕ} (config : Config) (log : Log w) (mail : Mail w) (request : ℕ → MessageA w) (s : State (List ℕ)) (sys : System w) (link : Link)
+    (ch : Channel) (x : Beat w) (queue : List (Beat w)) → IsWidth w
     → IsMatched config log mail request s sys → (d : IsDelivery config mail s sys link ch x queue) → IsReady (next_tracker sys) link.0 d.first.kind d.first.number (shadow_of mail request s)
 ready-delivered config log mail request s sys link channel.A x queue width h d = ready-a config log mail request s sys link x queue width h d
-ready-delivered config log mail request s sys link channel.B x queue width h d = ready-client config log mail request s sys link channel.B d.first.kind d.first.number d.first.rest x queue width h refl d.first.own d.moves d.beats d.first.tokens d.first.next
+ready-delivered config log mail request s sys link channel.B x queue width h d =
+    ready-client config log mail request s sys link channel.B d.first.kind d.first.number d.first.rest x queue width h refl d.first.own d.moves d.beats
+    d.first.tokens d.first.next
 ready-delivered config log mail request s sys link channel.C x queue width h d = ready_up (next_tracker sys) link.0 channel.C d.first.kind d.first.number (shadow_of mail request s) refl d.first.own
-ready-delivered config log mail request s sys link channel.D x queue width h d = ready-client config log mail request s sys link channel.D d.first.kind d.first.number d.first.rest x queue width h refl d.first.own d.moves d.beats d.first.tokens d.first.next
+ready-delivered config log mail request s sys link channel.D x queue width h d =
+    ready-client config log mail request s sys link channel.D d.first.kind d.first.number d.first.rest x queue width h refl d.first.own d.moves d.beats
+    d.first.tokens d.first.next
 ready-delivered config log mail request s sys link channel.E x queue width h d = ready_up (next_tracker sys) link.0 channel.E d.first.kind d.first.number (shadow_of mail request s) refl d.first.own
 
-invariant-delivered : {w : ℕ} (config : Config) (log : Log w) (mail : Mail w) (request : ℕ → MessageA w) (s : State (List ℕ)) (sys : System w) (link : Link) (ch : Channel) (x : Beat w) (queue : List (Beat w)) → IsWidth w
+invariant-delivered : {w : ℕ} (config : Config) (log : Log w) (mail : Mail w) (request : ℕ → MessageA w) (s : State (List ℕ)) (sys : System w) (link : Link)
+    (ch : Channel) (x : Beat w) (queue : List (Beat w)) → IsWidth w
     → IsMatched config log mail request s sys → (d : IsDelivery config mail s sys link ch x queue)
     → IsInvariant (is_caching config) (taken_of config mail request s sys link.0 d.first.kind d.first.number d.first.rest).state
 invariant-delivered config log mail request s sys link ch x queue width h d =
-    invariant-taken config log (shadow_of mail request s) sys link.0 d.first.kind d.first.number d.first.rest h (on-first config mail s sys link ch x queue d) (ready-delivered config log mail request s sys link ch x queue width h d)
+    invariant-taken config log (shadow_of mail request s) sys link.0 d.first.kind d.first.number d.first.rest h (on-first config mail s sys link ch x queue d)
+    (ready-delivered config log mail request s sys link ch x queue width h d)
 
-pub invariant-followed : {w : ℕ} (config : Config) (log : Log w) (mail : Mail w) (request : ℕ → MessageA w) (s : State (List ℕ)) (sys : System w) (event : Event w) → IsWidth w → IsMatched config log mail request s sys
+pub invariant-followed : {w : ℕ} (config : Config) (log : Log w) (mail : Mail w) (request : ℕ → MessageA w) (s : State (List ℕ)) (sys : System w)
+    (event : Event w) → IsWidth w → IsMatched config log mail request s sys
     → IsInvariant (is_caching config) (followed config event sys (shadow_of mail request s)).state
 invariant-followed {w} config log mail request s sys event width h =
     followed-cases config log mail request s sys event (λ (i : Shadow w). IsInvariant (is_caching config) i.state) width h h.invariant

@@ -7,7 +7,7 @@ use Rattle.tl_beat.specs.declared.beat.Beat.{Beat}
 use Rattle.tl_beat.specs.declared.beat.Beat.TheVariants as beat
 use Rattle.tl_beat.specs.declared.beat.BeatA.{BeatA}
 use Rattle.tl_beat.specs.declared.beat.BeatB.{BeatB}
-use Rattle.tl_beat.specs.declared.opcode.Channel.TheVariants as channel
+use Rattle.tl_beat.specs.declared.channel.Channel.TheVariants as channel
 use Rattle.tl_beat.specs.declared.opcode.OpB.TheVariants as b
 use Rattle.tl_beat.specs.declared.opcode.OpC.TheVariants as c
 use Rattle.tl_burst.specs.declared.message.Message.TheVariants as message
@@ -201,7 +201,8 @@ known-probed {w} {X} asked burst c n k rest s e width none known =
     })
   where
     now_here : (((probe_taken c n k rest s).block n).pair c).held ≡ report_right (report_at k ((s.block n).pair c).held)
-    now_here = ap (λ (bl : Block X). (bl.pair c).held) (set-same n (probed_block c k (s.block n)) s.block) ∙ ap (λ (q : Pair). q.held) (set-same c (after_probe k ((s.block n).pair c)) (s.block n).pair)
+    now_here = ap (λ (bl : Block X). (bl.pair c).held) (set-same n (probed_block c k (s.block n)) s.block)
+        ∙ ap (λ (q : Pair). q.held) (set-same c (after_probe k ((s.block n).pair c)) (s.block n).pair)
 
     told : report_right (report_for (probe_beat {w = w} n k) (held_at e n)) ≡ report_right (report_at k ((s.block n).pair c).held)
     told = ap report_right (report_is w n k (held_at e n)) ∙ ap (λ (q : Perm). report_right (report_at k q)) (known.held_is n)

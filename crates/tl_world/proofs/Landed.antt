@@ -3,8 +3,8 @@ use Rattle.std.proofs.Common.{◌≡◌, ℕ, Bool, true, false, List, [], ◌�
 use Rattle.std.specs.Prelude.{◌==◌, ◌&&◌, if◌then◌else◌, Option, Some, None}
 use Rattle.std.proofs.lemmas.Bool.{cases_eq, ne_eqb}
 use Rattle.tl_beat.specs.declared.beat.Beat.{Beat}
-use Rattle.tl_beat.specs.declared.opcode.Channel.{Channel}
-use Rattle.tl_beat.specs.declared.opcode.Channel.TheVariants as channel
+use Rattle.tl_beat.specs.declared.channel.Channel.{Channel}
+use Rattle.tl_beat.specs.declared.channel.Channel.TheVariants as channel
 use Rattle.tl_burst.specs.declared.message.Message.{Message}
 use Rattle.tl_burst.specs.Burst.{beats_of}
 use Rattle.tl_burst.specs.Messages.{History, on, grown, unfinished}
@@ -27,7 +27,8 @@ abbrev pub pushes_of : {w : ℕ} → Option (Message w) → Channel → Option (
 pushes_of None at = None
 pushes_of (Some m) at = if same_channel at (channel_of_message m) then Some m else None
 
-pub channels-handed : {w : ℕ} (l : ℕ) (m : Option (Message w)) (s : System w) (d : ℕ) (at : Channel) → (with_messages (handed_by l m) s).channels d at ≡ behind (pushes_at l (pushes_of m) d at) (s.channels d at)
+pub channels-handed : {w : ℕ} (l : ℕ) (m : Option (Message w)) (s : System w) (d : ℕ) (at : Channel)
+    → (with_messages (handed_by l m) s).channels d at ≡ behind (pushes_at l (pushes_of m) d at) (s.channels d at)
 unfolding with_messages
 channels-handed {w} l None s d at = go (d == l)
   where
@@ -61,7 +62,8 @@ pub record IsLanded {w : ℕ} (c : ℕ) (ch : Channel) (x : Beat w) (queue : Lis
 
 -- with the last beat of a message its receiver has nothing of the next
 pub rests-ended : {w : ℕ} (c : ℕ) (ch : Channel) (x : Beat w) (sys : System w) → completes x (unfinished ch (receiver ch c sys)) ≡ true → (d : ℕ) (at : Channel)
-    → (if (d == c) && same_channel at ch then grown x (unfinished at (receiver at d sys)) else unfinished at (receiver at d sys)) ≡ (if (d == c) && same_channel at ch then [] else unfinished at (receiver at d sys))
+    → (if (d == c) && same_channel at ch then grown x (unfinished at (receiver at d sys)) else unfinished at (receiver at d sys))
+    ≡ (if (d == c) && same_channel at ch then [] else unfinished at (receiver at d sys))
 rests-ended {w} c ch x sys last d at = ended (cases_eq d c) (same_channel at ch) refl
   where
     rest : ℕ → Channel → List (Beat w)
@@ -95,7 +97,8 @@ grown_history ch at x t is = rw (is at) refl
 abbrev pub HasHeard : {w : ℕ} → Beat w → client.End w → client.End w → Type 0
 HasHeard x e e' = (at : Channel) → unfinished at e'.past ≡ unfinished at (x ∷ e.past)
 
-pub landed-client : {w : ℕ} (c : ℕ) (ch : Channel) (x : Beat w) (queue : List (Beat w)) (m : Option (Message w)) (e : client.End w) (sys : System w) → is_to_client ch ≡ true → sys.channels c ch ≡ x ∷ queue → IsOn ch x
+pub landed-client : {w : ℕ} (c : ℕ) (ch : Channel) (x : Beat w) (queue : List (Beat w)) (m : Option (Message w)) (e : client.End w) (sys : System w)
+    → is_to_client ch ≡ true → sys.channels c ch ≡ x ∷ queue → IsOn ch x
     → HasHeard x (sys.clients c) e
     → IsLanded c ch x queue (pushes_at c (pushes_of m)) sys (with_messages (handed_by c m) (with_client c e (with_channel c ch queue sys)))
 landed-client {w} c ch x queue m e sys to_client first is heard = record {
@@ -129,7 +132,8 @@ landed-client {w} c ch x queue m e sys to_client first is heard = record {
         ∙ sym (ap (λ (b : Bool). if b && same_channel at ch then grown x (unfinished at (sys.clients d).past) else unfinished at (sys.clients d).past) (ne_eqb d c other))
 
     theirs : (d : ℕ) (at : Channel) → same_channel at ch ≡ false
-        → unfinished at (on_link d after.manager.trace) ≡ (if (d == c) && same_channel at ch then grown x (unfinished at (on_link d sys.manager.trace)) else unfinished at (on_link d sys.manager.trace))
+        → unfinished at (on_link d after.manager.trace) ≡ (if (d == c)
+        && same_channel at ch then grown x (unfinished at (on_link d sys.manager.trace)) else unfinished at (on_link d sys.manager.trace))
     theirs d at f = rw f (ap (λ (b : manager_end.End w). unfinished at (on_link d b.trace)) manager_is ∙ unless (d == c))
       where
         unless : (b : Bool) → unfinished at (on_link d sys.manager.trace) ≡ (if b && false then grown x (unfinished at (on_link d sys.manager.trace)) else unfinished at (on_link d sys.manager.trace))
@@ -197,8 +201,10 @@ abbrev pub HasTaken : {w : ℕ} → ℕ → Beat w → manager_end.End w → man
 HasTaken c x e e' = (d : ℕ) (at : Channel) → is_to_client at ≡ false → unfinished at (on_link d e'.trace) ≡ unfinished at (if c == d then x ∷ on_link d e.trace else on_link d e.trace)
 
 -- whatever it hands out, it has this beat too
-pub rests-manager : {w : ℕ} (c : ℕ) (ch : Channel) (x : Beat w) (queue : List (Beat w)) (handed : Handed w) (e : manager_end.End w) (sys : System w) → is_to_client ch ≡ false → IsOn ch x → HasTaken c x sys.manager e → (d : ℕ) (at : Channel)
-    → unfinished at (receiver at d (with_messages handed (with_manager e (with_channel c ch queue sys)))) ≡ (if (d == c) && same_channel at ch then grown x (unfinished at (receiver at d sys)) else unfinished at (receiver at d sys))
+pub rests-manager : {w : ℕ} (c : ℕ) (ch : Channel) (x : Beat w) (queue : List (Beat w)) (handed : Handed w) (e : manager_end.End w) (sys : System w)
+    → is_to_client ch ≡ false → IsOn ch x → HasTaken c x sys.manager e → (d : ℕ) (at : Channel)
+    → unfinished at (receiver at d (with_messages handed (with_manager e (with_channel c ch queue sys))))
+    ≡ (if (d == c) && same_channel at ch then grown x (unfinished at (receiver at d sys)) else unfinished at (receiver at d sys))
 rests-manager {w} c ch x queue handed e sys to_manager is heard = rests
   where
     base : System w
@@ -214,7 +220,8 @@ rests-manager {w} c ch x queue handed e sys to_manager is heard = rests
     swapped d ne = ne_eqb c d (λ f. ne (sym f))
 
     theirs : (d : ℕ) (at : Channel) → is_to_client at ≡ false → (d ≡ c) ⊎ (d ≡ c → ⊥)
-        → unfinished at (on_link d after.manager.trace) ≡ (if (d == c) && same_channel at ch then grown x (unfinished at (on_link d sys.manager.trace)) else unfinished at (on_link d sys.manager.trace))
+        → unfinished at (on_link d after.manager.trace) ≡ (if (d == c)
+        && same_channel at ch then grown x (unfinished at (on_link d sys.manager.trace)) else unfinished at (on_link d sys.manager.trace))
     theirs d at up (inl same) =
         rw same (ap (λ (b : manager_end.End w). unfinished at (on_link c b.trace)) manager_is ∙ heard c at up
         ∙ ap (λ (b : Bool). unfinished at (if b then x ∷ on_link c sys.manager.trace else on_link c sys.manager.trace)) (same_number c)
@@ -259,7 +266,8 @@ rests-manager {w} c ch x queue handed e sys to_manager is heard = rests
     rests d channel.D = ours d channel.D (not_here ch channel.D to_manager refl)
     rests d channel.E = theirs d channel.E refl (cases_eq d c)
 
-pub landed-manager : {w : ℕ} (c : ℕ) (ch : Channel) (x : Beat w) (queue : List (Beat w)) (pushes : ℕ → Channel → Option (Message w)) (handed : Handed w) (e : manager_end.End w) (sys : System w) → is_to_client ch ≡ false
+pub landed-manager : {w : ℕ} (c : ℕ) (ch : Channel) (x : Beat w) (queue : List (Beat w)) (pushes : ℕ → Channel → Option (Message w)) (handed : Handed w)
+    (e : manager_end.End w) (sys : System w) → is_to_client ch ≡ false
     → sys.channels c ch ≡ x ∷ queue
     → IsOn ch x
     → HasTaken c x sys.manager e

@@ -3,8 +3,8 @@ use Rattle.std.proofs.Common.{◌≡◌, ℕ, ◌-◌, ◌<◌, ◌≤◌, Bool,
 use Rattle.std.specs.Prelude.{length}
 use Rattle.std.proofs.lemmas.Bool.{cases_eq}
 use Rattle.tl_beat.specs.declared.beat.Beat.{Beat}
-use Rattle.tl_beat.specs.declared.opcode.Channel.{Channel}
-use Rattle.tl_beat.specs.declared.opcode.Channel.TheVariants as channel
+use Rattle.tl_beat.specs.declared.channel.Channel.{Channel}
+use Rattle.tl_beat.specs.declared.channel.Channel.TheVariants as channel
 use Rattle.tl_burst.specs.Burst.{beats_of}
 use Rattle.tl_world.specs.Move.{Move, Stays, Pushes, Pops, IsMoved, channel_for}
 use Rattle.tl_world.specs.Potential.{Left}
@@ -105,7 +105,8 @@ module _ {w : ℕ} (caching : ℕ → Bool) (n : ℕ) (moves : ℕ → Channel �
   transfer_same d k m t before after = go (cases_eq m n)
     where
       go : (m ≡ n) ⊎ (m ≡ n → ⊥) → rendered {w = w} k d m (s'.block m) ≡ rendered k d m (s.block m)
-      go (inl same) = subst (λ (i : ℕ). shown k d (s.block i) ≡ true → shown k d (s'.block i) ≡ true → rendered {w = w} k d i (s'.block i) ≡ rendered k d i (s.block i)) (sym same) (showing.same d k t) before after
+      go (inl same) = subst (λ (i : ℕ). shown k d (s.block i) ≡ true → shown k d (s'.block i) ≡ true
+          → rendered {w = w} k d i (s'.block i) ≡ rendered k d i (s.block i)) (sym same) (showing.same d k t) before after
       go (inr other) = rw (showing.blocks m other) refl
 
   pub message-same : (d : ℕ) (k : Kind) (m : ℕ) → IsHere s d k m → IsHere s' d k m → message_of_kind k mail' s' d m ≡ message_of_kind k mail s d m
@@ -125,7 +126,8 @@ module _ {w : ℕ} (caching : ℕ → Bool) (n : ℕ) (moves : ℕ → Channel �
   left-same c ch rest rest' popped d k m before after =
       rw (message-same d k m before after) (ap (λ (i : ℕ). beats_of (message_of_kind k mail s d m) - i) (go (cases_eq d c) (same_channels (channel_for k) ch)))
     where
-      apart : (d ≡ c → channel_for k ≡ ch → ⊥) → taken_of (rest' d (channel_for k)) (is_front k m (tokens_on (channel_for k) (s'.link d))) ≡ taken_of (rest d (channel_for k)) (is_front k m (tokens_on (channel_for k) (s.link d)))
+      apart : (d ≡ c → channel_for k ≡ ch → ⊥) → taken_of (rest' d (channel_for k)) (is_front k m (tokens_on (channel_for k) (s'.link d))) ≡ taken_of
+          (rest d (channel_for k)) (is_front k m (tokens_on (channel_for k) (s.link d)))
       apart ne = taken-stays (moves d (channel_for k)) k m _ _ _ _ (showing.moved d (channel_for k)) (popped.unpopped d (channel_for k) ne) (popped.rests d (channel_for k) ne) before
 
       go : (d ≡ c) ⊎ (d ≡ c → ⊥) → (channel_for k ≡ ch) ⊎ (channel_for k ≡ ch → ⊥)
@@ -133,4 +135,5 @@ module _ {w : ℕ} (caching : ℕ → Bool) (n : ℕ) (moves : ℕ → Channel �
       go (inr ne) at = apart (λ e f. ne e)
       go (inl e) (inr ne) = apart (λ g f. ne f)
       go (inl e) (inl f) =
-          taken-none k m popped.first _ _ (rest d (channel_for k)) (rest' d (channel_for k)) (rw (e, f) popped.tokens) (rw (e, f) popped.none) (once caching s d (channel_for k) showing.before k m) after
+          taken-none k m popped.first _ _ (rest d (channel_for k)) (rest' d (channel_for k)) (rw (e, f) popped.tokens) (rw (e, f) popped.none)
+          (once caching s d (channel_for k) showing.before k m) after

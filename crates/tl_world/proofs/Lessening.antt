@@ -4,7 +4,7 @@ use Rattle.std.specs.Prelude.{◌/◌, if◌then◌else◌, length, Some}
 use Rattle.tl_beat.specs.Width.{IsWidth}
 use Rattle.tl_beat.specs.declared.beat.Beat.{Beat}
 use Rattle.tl_beat.specs.declared.beat.Link.{Link}
-use Rattle.tl_beat.specs.declared.opcode.Channel.{Channel}
+use Rattle.tl_beat.specs.declared.channel.Channel.{Channel}
 use Rattle.tl_burst.specs.Burst.{beats_of}
 use Rattle.tl_burst.specs.Part.{completes}
 use Rattle.tl_params.specs.declared.config.Config.{Config}
@@ -52,9 +52,11 @@ module _ {w : ℕ} (config : Config) (log : Log w) (h : Shadow w) (width : IsWid
 
   -- ---- the last beat of a message
 
-  by-kind : (tracker c : ℕ) (k : Kind) (i : ℕ) (rest : List Token) (sys' : System w) → c < length config.clients.items → length config.clients.items ≤ 16 → tokens_on (channel_for k) (h.state.link c) ≡ token k i ∷ rest
+  by-kind : (tracker c : ℕ) (k : Kind) (i : ℕ) (rest : List Token) (sys' : System w) → c < length config.clients.items → length config.clients.items ≤ 16
+      → tokens_on (channel_for k) (h.state.link c) ≡ token k i ∷ rest
       → IsReceived c (channel_for k) (after config log) sys' → IsReady tracker c k i h → Kept (kind_taken config tracker c k i rest h) → IsLess (kind_taken config tracker c k i rest h) sys'
-  by-kind tracker c Request i rest sys' lt sixteen first received ready kept = request-owed config log h sys' tracker c i rest ready.0 width matched lt sixteen first ready.1 ready.2 ready.3 received kept
+  by-kind tracker c Request i rest sys' lt sixteen first received ready kept =
+      request-owed config log h sys' tracker c i rest ready.0 width matched lt sixteen first ready.1 ready.2 ready.3 received kept
   by-kind tracker c Acquire i rest sys' lt sixteen first received ready kept = acquire-owed config log h sys' width matched tracker c i rest lt sixteen first ready.0 received kept
   by-kind tracker c Probe i rest sys' lt sixteen first received ready kept = probe-owed config log h sys' width matched tracker c i rest lt first received kept
   by-kind tracker c ProbeAck i rest sys' lt sixteen first received ready kept = report-owed config log h sys' tracker c i rest width matched lt first received kept
@@ -64,7 +66,8 @@ module _ {w : ℕ} (config : Config) (log : Log w) (h : Shadow w) (width : IsWid
   by-kind tracker c ReleaseAck i rest sys' lt sixteen first received ready kept = release_ack-owed config log h sys' width matched tracker c i rest lt first received kept
   by-kind tracker c GrantAck i rest sys' lt sixteen first received ready kept = grant_ack-owed config log h sys' width matched tracker c i rest lt first received kept
 
-  by-first : (link : Link) (ch : Channel) (x : Beat w) (queue : List (Beat w)) (sys' : System w) (d : IsDelivery config h.mail h.state (after config log) link ch x queue) → link.0 < length config.clients.items → length config.clients.items ≤ 16
+  by-first : (link : Link) (ch : Channel) (x : Beat w) (queue : List (Beat w)) (sys' : System w)
+      (d : IsDelivery config h.mail h.state (after config log) link ch x queue) → link.0 < length config.clients.items → length config.clients.items ≤ 16
       → IsReceived link.0 ch (after config log) sys' → Kept (kind_taken config (next_tracker (after config log)) link.0 d.first.kind d.first.number d.first.rest h)
       → IsLess (kind_taken config (next_tracker (after config log)) link.0 d.first.kind d.first.number d.first.rest h) sys'
   by-first link ch x queue sys' d lt sixteen received kept =
@@ -93,10 +96,13 @@ module _ {w : ℕ} (config : Config) (log : Log w) (h : Shadow w) (width : IsWid
           let h' : Shadow w = followed config (Deliver link ch) sys h in
           kept-matched config ((Deliver link ch, (stepped config (Deliver link ch) sys).outcome) ∷ log) h'.mail h'.request h'.state sys' (matched-event config log h (Deliver link ch) width tt matched)
 
-      taken : (x : Beat w) (queue : List (Beat w)) (terms : Terms) → terms_at config link.0 ≡ Some terms → sys.channels link.0 ch ≡ x ∷ queue → (b : Bool) → completes x (unfinished_at sys link.0 ch) ≡ b → IsLess (followed config (Deliver link ch) sys h) sys'
+      taken : (x : Beat w) (queue : List (Beat w)) (terms : Terms) → terms_at config link.0 ≡ Some terms → sys.channels link.0 ch ≡ x ∷ queue → (b : Bool)
+          → completes x (unfinished_at sys link.0 ch) ≡ b → IsLess (followed config (Deliver link ch) sys h) sys'
       taken x queue terms known beats true last =
           subst (λ (z : Shadow w). IsLess z sys') (sym follows)
-          (by-first link ch x queue sys' d (client_below config link.0 terms known) sixteen (grown-received link.0 ch x sys sys' (grown-moved config log h link ch terms x queue width matched known beats moving) last) (subst Kept follows kept))
+          (by-first link ch x queue sys' d (client_below config link.0 terms known) sixteen
+          (grown-received link.0 ch x sys sys' (grown-moved config log h link ch terms x queue width matched known beats moving) last)
+          (subst Kept follows kept))
         where
           first : IsFirst ch link.0 h.mail h.state sys x queue
           first = first-token (is_caching config) ch link.0 h.mail h.state sys x queue width matched.invariant matched.carried beats
@@ -114,14 +120,17 @@ module _ {w : ℕ} (config : Config) (log : Log w) (h : Shadow w) (width : IsWid
           (grown-begun link.0 ch x sys sys' (grown-moved config log h link ch terms x queue width matched known beats moving) part))
         where
           follows : followed config (Deliver link ch) sys h ≡ h
-          follows = followed-moving config link ch sys h x queue moving beats ∙ ap (λ (b : Bool). if b then token_taken config (next_tracker sys) link.0 (tokens_on ch (h.state.link link.0)) h else h) part
+          follows = followed-moving config link ch sys h x queue moving beats
+              ∙ ap (λ (b : Bool). if b then token_taken config (next_tracker sys) link.0 (tokens_on ch (h.state.link link.0)) h else h) part
 
-      go : ((x : Beat w) × (queue : List (Beat w)) × (terms : Terms) × ((sys.channels link.0 ch ≡ x ∷ queue) × (terms_at config link.0 ≡ Some terms))) → IsLess (followed config (Deliver link ch) sys h) sys'
+      go : ((x : Beat w) × (queue : List (Beat w)) × (terms : Terms) × ((sys.channels link.0 ch ≡ x ∷ queue) × (terms_at config link.0 ≡ Some terms)))
+          → IsLess (followed config (Deliver link ch) sys h) sys'
       go p = taken p.0 p.1 p.2 p.3.1 p.3.0 (completes p.0 (unfinished_at sys link.0 ch)) refl
 
   -- where no beat is moved, nothing more is owed
   pub still-owed : (link : Link) (ch : Channel) → is_moving (stepped config (Deliver link ch) (after config log)).outcome ≡ false
-      → owed config (followed config (Deliver link ch) (after config log) h).mail (followed config (Deliver link ch) (after config log) h).state (stepped config (Deliver link ch) (after config log)).after ≤ owed config h.mail h.state (after config log)
+      → owed config (followed config (Deliver link ch) (after config log) h).mail (followed config (Deliver link ch) (after config log) h).state
+      (stepped config (Deliver link ch) (after config log)).after ≤ owed config h.mail h.state (after config log)
   still-owed link ch still =
       subst (λ (z : Shadow w). owed config z.mail z.state sys' ≤ owed config h.mail h.state sys) (sym (followed-still config link ch sys h still))
       (stays config (64 / w) (left sys) (left sys') (answer_to h.mail) (answer_to h.mail) h.state h.state (none-more config (64 / w) (left sys) (left sys') (answer_to h.mail) h.state less))
@@ -140,5 +149,7 @@ module _ {w : ℕ} (config : Config) (log : Log w) (h : Shadow w) (width : IsWid
 
       less : (c : ℕ) (k : Kind) (m : ℕ) → left sys' c k m ≤ left sys c k m
       less c k m =
-          let as_much : left sys' c k m ≡ left sys c k m = ap (λ (rest : List (Beat w)). beats_of (message_of_kind k h.mail h.state c m) - taken_of rest (is_front k m (tokens_on (channel_for k) (h.state.link c)))) (same.rests c (channel_for k)) in
+          let as_much : left sys' c k m ≡ left sys c k m = ap
+          (λ (rest : List (Beat w)). beats_of (message_of_kind k h.mail h.state c m) - taken_of rest
+          (is_front k m (tokens_on (channel_for k) (h.state.link c)))) (same.rests c (channel_for k)) in
           omega (arith, as_much)

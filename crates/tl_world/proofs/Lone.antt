@@ -20,7 +20,9 @@ use Rattle.tl_world.specs.Follow.{Shadow, acquire_taken, gift, granted_after, is
 use Rattle.tl_world.specs.Invariant.{IsInvariant, cap_asked, is_replied}
 use Rattle.tl_world.specs.Phase.{Pair, Own, Other, Acquiring, Calm, Wants, cap_fits, grant_fits}
 use Rattle.tl_world.specs.PhaseSteps.{after_grant_sent, after_probe, after_report, is_granted_data}
-use Rattle.tl_world.specs.Protocol.{Service, Free, Waits, GrantSent, GrantTaken, Block, State, Use, Closed, Asked, InService, Replied, Acquires, view, token, on, shown, is_probed, is_sent, acquire_granted, acquire_served, granted_at_once, granted_pair, probe_taken, report_taken, reported_block, served_block, served_pair}
+use Rattle.tl_world.specs.Protocol.{Service, Free, Waits, GrantSent, GrantTaken, Block, State, Use, Closed, Asked, InService, Replied, Acquires, view, token}
+use Rattle.tl_world.specs.Protocol.{on, shown, is_probed, is_sent, acquire_granted, acquire_served, granted_at_once, granted_pair, probe_taken, report_taken}
+use Rattle.tl_world.specs.Protocol.{reported_block, served_block, served_pair}
 use Rattle.tl_world.specs.Render.{report_told}
 use Rattle.tl_world.specs.Token.{Kind, Request, Acquire, Probe, ProbeAck, Release, Answer, Grant, ReleaseAck, GrantAck, Token, set, set_at}
 use Rattle.tl_world.specs.Whole.{IsGivenAsked, gives_asked}
@@ -110,7 +112,8 @@ fits_cap : (recorded held : Perm) (d : Bool) (k : Cap) (g : Grow) (x : Acquiring
 fits_cap recorded held d k g x e fits = go (rw e at fits)
   where
     go : grant_fits recorded held d k (Wants false g) ≡ true → cap_fits false g k ≡ true
-    go f = and_left (cap_fits false g k) (not (false && d) && (false || (d || same_perm held perm.Branch))) (and_right (same_perm recorded (cap_right k)) (cap_fits false g k && (not (false && d) && (false || (d || same_perm held perm.Branch)))) f)
+    go f = and_left (cap_fits false g k) (not (false && d) && (false || (d || same_perm held perm.Branch)))
+        (and_right (same_perm recorded (cap_right k)) (cap_fits false g k && (not (false && d) && (false || (d || same_perm held perm.Branch)))) f)
 
 brings_granted : (p : Profile) (n : ℕ) (g : Grow) (u : Use) (x : Pair) (q : Perm) → u ≡ Closed → x.held ≡ q → grown_to p g q ≡ true → Brings p n g u x
 brings_granted p n g u x q e f is = rw e (ap (grown_to p g) f ∙ is)
@@ -189,7 +192,8 @@ module _ (p : Profile) (c n source : ℕ) (g : Grow) where
       lone_steady s (acquire_granted d m tracker data_too k rest s) (λ e j. refl)
       (steady_at m (granted_at_once d tracker data_too k (s.block m)) s.block n c (λ here. steady_pair d (after_grant_sent k ((s.block m).pair d)) (s.block m).pair (refl, refl) c)) is
 
-  lone_acquire : {w : ℕ} (clients : ℕ) (profile : Profile) (d m : ℕ) (x : Acquiring) (tracker : ℕ) (rest : List Token) (h : Shadow w) → IsLone p c n source g h.state → IsLone p c n source g (acquire_taken clients profile d m x tracker rest h).state
+  lone_acquire : {w : ℕ} (clients : ℕ) (profile : Profile) (d m : ℕ) (x : Acquiring) (tracker : ℕ) (rest : List Token) (h : Shadow w)
+      → IsLone p c n source g h.state → IsLone p c n source g (acquire_taken clients profile d m x tracker rest h).state
   lone_acquire clients profile d m Calm tracker rest h is = is
   lone_acquire {w} clients profile d m (Wants whole j) tracker rest h is =
       let b : Block (List ℕ) = h.state.block m in
@@ -199,7 +203,8 @@ module _ (p : Profile) (c n source : ℕ) (g : Grow) where
       lone_if (some_below clients (λ e. is_probed d true k (b.pair e).recorded e)) (acquire_served d m (b.source d) tracker k rest h.state) (acquire_granted d m tracker data_too given rest h.state)
       (lone_served d m (b.source d) tracker k rest h.state is) (lone_sent d m tracker data_too given rest h.state is)
 
-  lone_probe : (caching : ℕ → Bool) (d m : ℕ) (k : Cap) (rest : List Token) (s : State (List ℕ)) → IsInvariant caching s → is_sent ((s.block m).pair d).probing ≡ true → IsLone p c n source g s → IsLone p c n source g (probe_taken d m k rest s)
+  lone_probe : (caching : ℕ → Bool) (d m : ℕ) (k : Cap) (rest : List Token) (s : State (List ℕ)) → IsInvariant caching s
+      → is_sent ((s.block m).pair d).probing ≡ true → IsLone p c n source g s → IsLone p c n source g (probe_taken d m k rest s)
   lone_probe caching d m k rest s inv sent is =
       lone_steady s (probe_taken d m k rest s) (λ e i. refl) (steady_at m _ s.block n c (λ here. go here (cases_eq c d))) is
     where
@@ -207,11 +212,13 @@ module _ (p : Profile) (c n source : ℕ) (g : Grow) where
       go here (inl same) = absurd (unprobed caching s inv is (ap₂ (λ (i j : ℕ). is_sent ((s.block i).pair j).probing) here same ∙ sent))
       go here (inr other) = rw (set-other d c (after_probe k ((s.block m).pair d)) (s.block m).pair other) (refl, refl)
 
-  lone_granted : {w : ℕ} (clients : ℕ) (profile : Profile) (d q m : ℕ) (r : Report) (x : Acquiring) (rest : List Token) (h : Shadow w) → IsLone p c n source g h.state → IsLone p c n source g (granted_after clients profile d q m r x rest h).state
+  lone_granted : {w : ℕ} (clients : ℕ) (profile : Profile) (d q m : ℕ) (r : Report) (x : Acquiring) (rest : List Token) (h : Shadow w)
+      → IsLone p c n source g h.state → IsLone p c n source g (granted_after clients profile d q m r x rest h).state
   lone_granted clients profile d q m r Calm rest h is = is
   lone_granted clients profile d q m r (Wants whole j) rest h is = lone_steady h.state _ (λ e i. refl) (steady_at m _ h.state.block n c (λ here. steady_granted d q r _ (h.state.block m).pair c)) is
 
-  lone_last : {w : ℕ} (clients : ℕ) (profile : Profile) (d m : ℕ) (r : Report) (v : Service) (rest : List Token) (h : Shadow w) → ((q i : ℕ) (k : Cap) → v ≡ Waits q false i k → h.state.uses q i ≡ InService m) → IsLone p c n source g h.state
+  lone_last : {w : ℕ} (clients : ℕ) (profile : Profile) (d m : ℕ) (r : Report) (v : Service) (rest : List Token) (h : Shadow w)
+      → ((q i : ℕ) (k : Cap) → v ≡ Waits q false i k → h.state.uses q i ≡ InService m) → IsLone p c n source g h.state
       → IsLone p c n source g (last_taken clients profile d m r v rest h).state
   lone_last clients profile d m r Free rest h used is = is
   lone_last clients profile d m r (Waits q true i k) rest h used is = lone_granted clients profile d q m r ((h.state.block m).pair q).acquiring rest h is
@@ -219,7 +226,8 @@ module _ (p : Profile) (c n source : ℕ) (g : Grow) where
   lone_last clients profile d m r (GrantSent q e k) rest h used is = is
   lone_last clients profile d m r (GrantTaken q) rest h used is = is
 
-  lone_grant : {w : ℕ} (config : Config) (tracker d m : ℕ) (rest : List Token) (h : Shadow w) → AreGiven p h.state → IsGrantDue d m h.state → IsLone p c n source g h.state → IsLone p c n source g (kind_taken config tracker d Grant m rest h).state
+  lone_grant : {w : ℕ} (config : Config) (tracker d m : ℕ) (rest : List Token) (h : Shadow w) → AreGiven p h.state → IsGrantDue d m h.state
+      → IsLone p c n source g h.state → IsLone p c n source g (kind_taken config tracker d Grant m rest h).state
   lone_grant {w} config tracker d m rest h given due is = record {
     others = λ e i else_. uses_are e i ∙ each-set_at (λ j k (v : Use). IsElsewhere c source j k → v ≡ Closed) d src Closed h.state.uses (λ any. refl) is.others e i else_;
     brings = brings_granted p n g (after.uses c source) ((after.block n).pair c) (cap_right due.k)
@@ -250,11 +258,13 @@ module _ (p : Profile) (c n source : ℕ) (g : Grow) where
       gives = ap (λ (x : Acquiring). gives_asked p x due.k) (sym (due.wants ∙ wants)) ∙ given_as
 
   -- It stays alone, and keeps what it has brought, whatever message is taken.
-  pub lone-kind_taken : {w : ℕ} (caching : ℕ → Bool) (config : Config) (tracker d : ℕ) (k : Kind) (i : ℕ) (rest : List Token) (h : Shadow w) → IsInvariant caching h.state → AreGiven p h.state → on k (h.state.link d) ≡ token k i ∷ rest
+  pub lone-kind_taken : {w : ℕ} (caching : ℕ → Bool) (config : Config) (tracker d : ℕ) (k : Kind) (i : ℕ) (rest : List Token) (h : Shadow w)
+      → IsInvariant caching h.state → AreGiven p h.state → on k (h.state.link d) ≡ token k i ∷ rest
       → IsLone p c n source g h.state → IsLone p c n source g (kind_taken config tracker d k i rest h).state
   lone-kind_taken caching config tracker d Request i rest h inv given first is = absurd (no_access h.state d i Asked is (first-asked caching d i rest h inv first) refl)
   lone-kind_taken caching config tracker d Answer i rest h inv given first is =
-      absurd (no_access h.state d i Replied is (is_replied-is (h.state.uses d i) (holds-first Answer (h.state.link d).d rest (token Answer i) (λ j. is_replied (h.state.uses d j)) first refl (inv.answers d))) refl)
+      absurd (no_access h.state d i Replied is (is_replied-is (h.state.uses d i)
+      (holds-first Answer (h.state.link d).d rest (token Answer i) (λ j. is_replied (h.state.uses d j)) first refl (inv.answers d))) refl)
   lone-kind_taken caching config tracker d Acquire i rest h inv given first is = lone_acquire _ config.profile d i ((h.state.block i).pair d).acquiring tracker rest h is
   lone-kind_taken caching config tracker d Probe i rest h inv given first is =
       lone_probe caching d i _ rest h.state inv (holds-first Probe (h.state.link d).b rest (token Probe i) (λ j. shown Probe d (h.state.block j)) first refl (inv.transfers d Probe refl)) is
@@ -270,9 +280,13 @@ module _ (p : Profile) (c n source : ℕ) (g : Grow) where
       last = last_taken (length config.clients.items) config.profile d i r (h.state.block i).service rest h
 
       either : (b : Bool) → IsLone p c n source g (if b then with_state told h else last).state
-      either true = lone_steady h.state told (λ e j. refl) (steady_at i (reported_block d r (h.state.block i)) h.state.block n c (λ here. steady_pair d (after_report r ((h.state.block i).pair d)) (h.state.block i).pair (refl, refl) c)) is
+      either true = lone_steady h.state told (λ e j. refl)
+          (steady_at i (reported_block d r (h.state.block i)) h.state.block n c
+          (λ here. steady_pair d (after_report r ((h.state.block i).pair d)) (h.state.block i).pair (refl, refl) c)) is
       either false = lone_last (length config.clients.items) config.profile d i r (h.state.block i).service rest h (λ q j k e. serving-use caching h.state i q j k inv e) is
-  lone-kind_taken caching config tracker d Release i rest h inv given first is = lone_steady h.state _ (λ e j. refl) (steady_at i _ h.state.block n c (λ here. steady_pair d _ (h.state.block i).pair (refl, refl) c)) is
+  lone-kind_taken caching config tracker d Release i rest h inv given first is =
+      lone_steady h.state _ (λ e j. refl) (steady_at i _ h.state.block n c (λ here. steady_pair d _ (h.state.block i).pair (refl, refl) c)) is
   lone-kind_taken caching config tracker d Grant i rest h inv given first is = lone_grant config tracker d i rest h given (grant-due caching d i rest h.state inv first) is
-  lone-kind_taken caching config tracker d ReleaseAck i rest h inv given first is = lone_steady h.state _ (λ e j. refl) (steady_at i _ h.state.block n c (λ here. steady_pair d _ (h.state.block i).pair (refl, refl) c)) is
+  lone-kind_taken caching config tracker d ReleaseAck i rest h inv given first is =
+      lone_steady h.state _ (λ e j. refl) (steady_at i _ h.state.block n c (λ here. steady_pair d _ (h.state.block i).pair (refl, refl) c)) is
   lone-kind_taken caching config tracker d GrantAck i rest h inv given first is = lone_steady h.state _ (λ e j. refl) (steady_at i _ h.state.block n c (λ here. (refl, refl))) is

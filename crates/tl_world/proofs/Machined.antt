@@ -4,8 +4,8 @@ use Rattle.std.specs.Prelude.{if◌then◌else◌, Result, Ok, Err, is_some}
 use Rattle.tl_beat.specs.Width.{IsWidth}
 use Rattle.tl_beat.specs.declared.beat.Beat.{Beat}
 use Rattle.tl_beat.specs.declared.beat.Link.{Link}
-use Rattle.tl_beat.specs.declared.opcode.Channel.{Channel}
-use Rattle.tl_beat.specs.declared.opcode.Channel.TheVariants as channel
+use Rattle.tl_beat.specs.declared.channel.Channel.{Channel}
+use Rattle.tl_beat.specs.declared.channel.Channel.TheVariants as channel
 use Rattle.tl_burst.specs.declared.message.Message.{Message}
 use Rattle.tl_params.specs.declared.config.Config.{Config}
 use Rattle.tl_params.specs.declared.rule.Rule.{Rule}
@@ -65,16 +65,20 @@ delivered-so {w} config terms c ch (x ∷ rest) s = go (is_to_client ch)
     of_manager (manager.Stalled, e) = refl
     of_manager (manager.Sent handed, e) = refl
 
-    go : (b : Bool) → is_delivered (if b then judged (offered terms ch x (s.clients c)).answer c ch x rest (offered terms ch x (s.clients c)).after s else manager_took c ch x rest (manager.offered config (record { 0 = c }) ch x s.manager) s).outcome ≡ true
+    go : (b : Bool) → is_delivered (if b then judged (offered terms ch x (s.clients c)).answer c ch x rest
+        (offered terms ch x (s.clients c)).after s else manager_took c ch x rest (manager.offered config (record { 0 = c }) ch x s.manager) s).outcome
+        ≡ true
     go true = of_client (offered terms ch x (s.clients c)).answer _
     go false = of_manager _
 
-stepped-so : {w : ℕ} (config : Config) (link : Link) (ch : Channel) (terms : Terms) (s : System w) → terms_at config link.0 ≡ Some terms → is_delivered (stepped config (Deliver link ch) s).outcome ≡ true
+stepped-so : {w : ℕ} (config : Config) (link : Link) (ch : Channel) (terms : Terms) (s : System w) → terms_at config link.0 ≡ Some terms
+    → is_delivered (stepped config (Deliver link ch) s).outcome ≡ true
 unfolding stepped
 stepped-so config link ch terms s known = rw known (delivered-so config terms link.0 ch (s.channels link.0 ch) s)
 
 step_allowed : {w : ℕ} (config : Config) (link : Link) (ch : Channel) (o : Outcome w) (m : Machine w) → is_delivered o ≡ true → is_client config link.0 ≡ true
-    → ((x : Beat w) (source : ℕ) (f : Finish) → o ≡ outcome.Done x source f → (ch ≡ channel.D) × Ends (m.opened link.0 (pool_of f) source) x f) → IsStep config (Deliver link ch) o m (moved (Deliver link ch) o m)
+    → ((x : Beat w) (source : ℕ) (f : Finish) → o ≡ outcome.Done x source f → (ch ≡ channel.D) × Ends (m.opened link.0 (pool_of f) source) x f)
+    → IsStep config (Deliver link ch) o m (moved (Deliver link ch) o m)
 unfolding is_delivered
 step_allowed config link channel.A outcome.Empty m so known done = (known, tt, refl)
 step_allowed config link channel.B outcome.Empty m so known done = (known, tt, refl)
@@ -101,7 +105,8 @@ step_allowed config link ch outcome.NoSuchClient m so known done = absurd cc
 
 -- ---- events
 
-nobody-continues : {w : ℕ} (config : Config) (log : Log w) (event : Event w) → terms_at config (step.client_of event) ≡ None → Continues config (event, (stepped config event (after config log)).outcome) log
+nobody-continues : {w : ℕ} (config : Config) (log : Log w) (event : Event w) → terms_at config (step.client_of event) ≡ None
+    → Continues config (event, (stepped config event (after config log)).outcome) log
 unfolding remembered performing Performs accesses_answered
 nobody-continues {w} config log event none =
     rw (stepped-nobody config event (after config log) none) (remembered config log, [], (rw none refl, refl), same event)
@@ -110,7 +115,8 @@ nobody-continues {w} config log event none =
     same (Ask c o) = refl
     same (Deliver link ch) = refl
 
-continues-delivered : {w : ℕ} (config : Config) (log : Log w) (link : Link) (ch : Channel) (h : Shadow w) (terms : Terms) → IsWidth w → IsMatched config log h.mail h.request h.state (after config log) → terms_at config link.0 ≡ Some terms
+continues-delivered : {w : ℕ} (config : Config) (log : Log w) (link : Link) (ch : Channel) (h : Shadow w) (terms : Terms) → IsWidth w
+    → IsMatched config log h.mail h.request h.state (after config log) → terms_at config link.0 ≡ Some terms
     → Continues config (Deliver link ch, (stepped config (Deliver link ch) (after config log)).outcome) log
 continues-delivered {w} config log link ch h terms width is known = (
   moved (Deliver link ch) (stepped config (Deliver link ch) (after config log)).outcome m,
@@ -122,7 +128,8 @@ continues-delivered {w} config log link ch h terms width is known = (
     m : Machine w
     m = remembered config log
 
-    done : (x : Beat w) (source : ℕ) (f : Finish) → (stepped config (Deliver link ch) (after config log)).outcome ≡ outcome.Done x source f → (ch ≡ channel.D) × Ends (m.opened link.0 (pool_of f) source) x f
+    done : (x : Beat w) (source : ℕ) (f : Finish) → (stepped config (Deliver link ch) (after config log)).outcome ≡ outcome.Done x source f → (ch ≡ channel.D)
+        × Ends (m.opened link.0 (pool_of f) source) x f
     done x source f e = (end.on_d, go end.first.kind refl)
       where
         end : IsEnding config log link ch h x source f
@@ -139,14 +146,17 @@ continues-delivered {w} config log link ch h terms width is known = (
         go ReleaseAck g = ends-transfer config log link ch h x source f is end (λ i. let no_one : ReleaseAck ≡ Answer = sym g ∙ i in cc)
         go GrantAck g = ends-transfer config log link ch h x source f is end (λ i. let no_one : GrantAck ≡ Answer = sym g ∙ i in cc)
 
-continues_event : {w : ℕ} (config : Config) (log : Log w) (event : Event w) (h : Shadow w) → IsWidth w → IsMatched config log h.mail h.request h.state (after config log) → Continues config (event, (stepped config event (after config log)).outcome) log
+continues_event : {w : ℕ} (config : Config) (log : Log w) (event : Event w) (h : Shadow w) → IsWidth w
+    → IsMatched config log h.mail h.request h.state (after config log) → Continues config (event, (stepped config event (after config log)).outcome) log
 continues_event {w} config log event h width is = go event (terms_at config (step.client_of event)) refl
   where
     go : (e : Event w) (o : Option Terms) → terms_at config (step.client_of e) ≡ o → Continues config (e, (stepped config e (after config log)).outcome) log
     go e None none = nobody-continues config log e none
     go (Deliver link ch) (Some terms) known = continues-delivered config log link ch h terms width is known
     go (Ask c o) (Some terms) known =
-        subst (λ (i : Outcome w). Continues config (Ask c o, i) log) (sym (ap (λ (x : Step w). x.outcome) (stepped-asked config c o (after config log) terms known))) (continues-ask config log h c terms o width is known)
+        subst (λ (i : Outcome w). Continues config (Ask c o, i) log)
+        (sym (ap (λ (x : Step w). x.outcome) (stepped-asked config c o (after config log) terms known)))
+        (continues-ask config log h c terms o width is known)
 
 -- Each event goes on from the machine before it.
 pub continues : {w : ℕ} (config : Config) (log : Log w) (x : Event w × Outcome w) → IsWidth w → AreTyped log → IsLog config (x ∷ log) → Continues config x log

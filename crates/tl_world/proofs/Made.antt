@@ -7,7 +7,7 @@ use Rattle.std.proofs.lemmas.Bool.{cases_eq}
 use Rattle.std.specs.Prelude.{◌≢◌, slice_index_or}
 use Rattle.circular_buffer.specs.Buffer.{Buffer, buffer}
 use Rattle.tl_beat.specs.declared.beat.Beat.{Beat}
-use Rattle.tl_beat.specs.declared.opcode.Channel.{Channel}
+use Rattle.tl_beat.specs.declared.channel.Channel.{Channel}
 use Rattle.tl_params.specs.declared.config.ClientConfig.{ClientConfig}
 use Rattle.tl_params.specs.declared.config.Config.{Config}
 use Rattle.tl_world.specs.Carrying.{number, place, capacity_at, AreClear, AreFresh, Carries}
@@ -22,7 +22,8 @@ use Rattle.tl_world.proofs.Queues.{number-below, back}
 pub sources-at : (config : Config) (k : ℕ) (d : ClientConfig) → k < clients_of config → sources_of (terms_at config k) ≡ (slice_index_or config.clients.items k d).sources
 sources-at config k d lt = rw (slice_get-get_or config.clients.items k d lt) refl
 
-pub one-more : {w : ℕ} (config : Config) (i : ℕ) (rings new : List (Ring w)) (ring : Ring w) → AreFresh config i rings → new ≡ rings ++ ring ∷ [] → ring.beats ≡ buffer [] (capacity_at w config i) → ring.deepest ≡ 0
+pub one-more : {w : ℕ} (config : Config) (i : ℕ) (rings new : List (Ring w)) (ring : Ring w) → AreFresh config i rings → new ≡ rings ++ ring ∷ []
+    → ring.beats ≡ buffer [] (capacity_at w config i) → ring.deepest ≡ 0
     → AreFresh config (i + 1) new
 one-more {w} config i rings new ring so_far is made flat = record {
   so_many = ap (λ (xs : List (Ring w)). length xs) is ∙ (let many = so_far.so_many in omega (arith, many, length-append rings (ring ∷ [])));
@@ -53,7 +54,8 @@ module _ {w : ℕ} (config : Config) (rings : Rings w) (are : AreFresh config (5
   number-of : (k : ℕ) (ch : Channel) → place k ch % 5 ≡ number ch
   number-of k ch = omega (arith, number-below ch)
 
-  pub made-room : (k : ℕ) (ch : Channel) (d : Ring w) → k < clients_of config → (slice_index_or rings.all.items (place k ch) d).beats.capacity ≡ capacity (64 / w) (sources_of (terms_at config k)) config.trackers ch
+  pub made-room : (k : ℕ) (ch : Channel) (d : Ring w) → k < clients_of config
+      → (slice_index_or rings.all.items (place k ch) d).beats.capacity ≡ capacity (64 / w) (sources_of (terms_at config k)) config.trackers ch
   made-room k ch d lt =
       ap (λ (b : Buffer (Beat w)). b.capacity) (are.beats (place k ch) d (at-place k ch lt)) ∙ rw (link-of k ch, number-of k ch, back ch) refl
 

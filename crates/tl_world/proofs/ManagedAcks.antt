@@ -5,7 +5,7 @@ use Rattle.std.proofs.lemmas.Bool.{cases_eq, ne_eqb}
 use Rattle.std.proofs.lemmas.Option.{same_Some}
 use Rattle.tl_beat.specs.declared.beat.Beat.TheVariants as beat
 use Rattle.tl_beat.specs.declared.beat.BeatE.{BeatE}
-use Rattle.tl_beat.specs.declared.opcode.Channel.TheVariants as channel
+use Rattle.tl_beat.specs.declared.channel.Channel.TheVariants as channel
 use Rattle.tl_burst.specs.declared.message.MessageA.{MessageA}
 use Rattle.tl_burst.specs.Burst.{a_beat_of}
 use Rattle.tl_burst.specs.Messages.{History, unfinished}
@@ -24,7 +24,8 @@ use Rattle.tl_manager.proofs.Serving.{if_passes, serving-filter}
 use Rattle.tl_world.specs.Invariant.{AreNamed, is_busy}
 use Rattle.tl_world.specs.Managed.{IsManaged, is_own, client_in, service_with}
 use Rattle.tl_world.specs.Phase.{Acknowledging, GrantedOther, is_quiet}
-use Rattle.tl_world.specs.Protocol.{Service, Free, Waits, GrantSent, GrantTaken, Block, State, Use, Closed, Asked, InService, Replied, Acquires, view, is_granting, is_acknowledging, grant_ack_taken, freed_block}
+use Rattle.tl_world.specs.Protocol.{Service, Free, Waits, GrantSent, GrantTaken, Block, State, Use, Closed, Asked, InService, Replied, Acquires, view}
+use Rattle.tl_world.specs.Protocol.{is_granting, is_acknowledging, grant_ack_taken, freed_block}
 use Rattle.tl_world.specs.Render.{probe_beat}
 use Rattle.tl_world.specs.Sources.{AreServed, is_served, is_granted, cap_waited}
 use Rattle.tl_world.specs.Token.{Token, set}
@@ -42,11 +43,13 @@ burst-e x t = refl
 abbrev pub acked : {w : ℕ} → ℕ → BeatE → Trace w → Trace w
 acked c x t = (record { 0 = c }, beat.E x) ∷ t
 
-sinks-e : {w : ℕ} (c : ℕ) (x : BeatE) (t : Trace w) (d i : ℕ) → pending (key.GrantSink i) (on_link d (acked c x t)) ≡ (if (c == d) && (x.sink == i) then false else pending (key.GrantSink i) (on_link d t))
+sinks-e : {w : ℕ} (c : ℕ) (x : BeatE) (t : Trace w) (d i : ℕ)
+    → pending (key.GrantSink i) (on_link d (acked c x t)) ≡ (if (c == d) && (x.sink == i) then false else pending (key.GrantSink i) (on_link d t))
 sinks-e {w} c x t d i = go (c == d) refl
   where
     go : (b : Bool) → (c == d) ≡ b → pending (key.GrantSink i) (on_link d (acked c x t)) ≡ (if b && (x.sink == i) then false else pending (key.GrantSink i) (on_link d t))
-    go true e = ap (pending (key.GrantSink i)) (own_beat d (record { 0 = c }) (beat.E x) t e) ∙ pending-closed (key.GrantSink i) (beat.E x) (on_link d t) refl ∙ rw ((whole-e {w = w} x (on_link d t)).1) refl
+    go true e = ap (pending (key.GrantSink i)) (own_beat d (record { 0 = c }) (beat.E x) t e) ∙ pending-closed (key.GrantSink i) (beat.E x) (on_link d t) refl
+        ∙ rw ((whole-e {w = w} x (on_link d t)).1) refl
     go false e = ap (pending (key.GrantSink i)) (other_beat d (record { 0 = c }) (beat.E x) t e)
 
 -- ---- the GrantAck of a block
@@ -121,8 +124,10 @@ serving-acked {w} c n x request s t is known i = passed ∙ elim (cases_eq i n) 
 pub managed-acked : {w : ℕ} {X : Type 0} (request : ℕ → MessageA w) (c n : ℕ) (rest : List Token) (x : BeatE) (s : State X) (t : Trace w) → IsAcked c n x request s t → IsManaged request s t
     → IsManaged request (grant_ack_taken c n rest s) (acked c x t)
 managed-acked {w} {X} request c n rest x s t is known = record {
-  recorded_is = λ d i. beat-keeps (held i) d (record { 0 = c }) (beat.E x) t (λ h. held_unsaid i (beat.E x) h refl) ∙ known.recorded_is d i ∙ sym (set-part (λ (b : Block X). (b.pair d).recorded) n new s.block refl i);
-  probes = λ d i. beat-keeps (pending (key.ProbeOf i)) d (record { 0 = c }) (beat.E x) t (λ h. pending-quiet (key.ProbeOf i) (beat.E x) h refl refl) ∙ known.probes d i ∙ sym (set-part (λ (b : Block X). not (is_quiet (b.pair d).probing)) n new s.block refl i);
+  recorded_is = λ d i. beat-keeps (held i) d (record { 0 = c }) (beat.E x) t (λ h. held_unsaid i (beat.E x) h refl) ∙ known.recorded_is d i
+      ∙ sym (set-part (λ (b : Block X). (b.pair d).recorded) n new s.block refl i);
+  probes = λ d i. beat-keeps (pending (key.ProbeOf i)) d (record { 0 = c }) (beat.E x) t (λ h. pending-quiet (key.ProbeOf i) (beat.E x) h refl refl)
+      ∙ known.probes d i ∙ sym (set-part (λ (b : Block X). not (is_quiet (b.pair d).probing)) n new s.block refl i);
   acquires = λ d i.
       beat-keeps (pending (key.AcquireOf i)) d (record { 0 = c }) (beat.E x) t (λ h. pending-quiet (key.AcquireOf i) (beat.E x) h refl refl) ∙ known.acquires d i
       ∙ sym (set-part (λ (b : Block X). is_own (view b.service d)) n new s.block (rw is.taken (sym (not_owned (d == c)))) i);
@@ -148,13 +153,15 @@ managed-acked {w} {X} request c n rest x s t is known = record {
     as_before d i other (Some v) e f = ap (λ b. (v.link.0 == d) && b) (granted-left (record { 0 = c }) x t v (stays (is_ended_by (record { 0 = c }, beat.E x) v) refl passes))
       where
         passes : if_passes (λ r. not (is_ended_by (record { 0 = c }, beat.E x) r)) (Some v) ≡ Some v
-        passes = ap (if_passes (λ (r : manager.Service w). not (is_ended_by (record { 0 = c }, beat.E x) r))) (sym e) ∙ sym (ap (service_of_block i) (services-e (record { 0 = c }) x t) ∙ serving-filter i _ (services t) is.apart) ∙ f
+        passes = ap (if_passes (λ (r : manager.Service w). not (is_ended_by (record { 0 = c }, beat.E x) r))) (sym e)
+            ∙ sym (ap (service_of_block i) (services-e (record { 0 = c }) x t) ∙ serving-filter i _ (services t) is.apart) ∙ f
 
         stays : (b : Bool) → is_ended_by (record { 0 = c }, beat.E x) v ≡ b → (if not b then Some v else None) ≡ Some v → b ≡ false
         stays true g h = absurd cc
         stays false g h = refl
 
-    acks_now : (d i : ℕ) → is_granted_to d u (if i == n then None else service_of_block i (services t)) ≡ (is_granting (view (set n new s.block i).service d) || is_acknowledging (view (set n new s.block i).service d))
+    acks_now : (d i : ℕ) → is_granted_to d u (if i == n then None else service_of_block i (services t)) ≡ (is_granting (view (set n new s.block i).service d)
+        || is_acknowledging (view (set n new s.block i).service d))
     acks_now d i = elim (cases_eq i n) [
       | inl same ↦ rw (same, set-same n new s.block, same_number n) refl
       | inr other ↦ rw (set-other n i new s.block other, ne_eqb i n other)
@@ -215,7 +222,8 @@ are_served-acked {w} {X} request c n rest x s t is known = record {
       | inl same ↦ rw (same, set-same (s.block n).tracker None s.tracked, is.sink_is, same_number (s.block n).tracker, known.sinks d (s.block n).tracker, tracked_here, here d) (closed_or d)
       | inr other ↦
           let differ : (s.block n).tracker ≡ i → ⊥ = λ e. other (sym e) in
-          rw (set-other (s.block n).tracker i None s.tracked other, is.sink_is, ne_eqb (s.block n).tracker i differ) (part_none (c == d) (pending (key.GrantSink i) (on_link d t)) ∙ known.sinks d i ∙ elsewhere d i other (s.tracked i) refl)
+          rw (set-other (s.block n).tracker i None s.tracked other, is.sink_is, ne_eqb (s.block n).tracker i differ)
+          (part_none (c == d) (pending (key.GrantSink i) (on_link d t)) ∙ known.sinks d i ∙ elsewhere d i other (s.tracked i) refl)
     ]
 
     asked_now : (i p from : ℕ) (own : Bool) (low : Cap) → (set n new s.block i).service ≡ Waits p own from low → request_of from (on_link p t) ≡ Some (a_beat_of (request i) 0)

@@ -4,7 +4,7 @@ use Rattle.std.specs.Prelude.{if◌then◌else◌}
 use Rattle.std.proofs.lemmas.Bool.{cases_eq, eqb-true, ne_eqb, and_parts}
 use Rattle.tl_beat.specs.declared.beat.Beat.TheVariants as beat
 use Rattle.tl_beat.specs.declared.beat.BeatC.{BeatC}
-use Rattle.tl_beat.specs.declared.opcode.Channel.TheVariants as channel
+use Rattle.tl_beat.specs.declared.channel.Channel.TheVariants as channel
 use Rattle.tl_burst.specs.declared.message.Message.TheVariants.{D}
 use Rattle.tl_burst.specs.declared.message.MessageA.{MessageA}
 use Rattle.tl_burst.specs.declared.message.MessageD.{MessageD}
@@ -97,7 +97,8 @@ pub managed-ended : {w : ℕ} {X : Type 0} (request : ℕ → MessageA w) (c q n
     → IsEnding c q n source k r x m request s t → IsManaged request s t → IsManaged request (report_answers c q n source r f rest s) (after_sent (record { 0 = q }) (D m) (taken c x t))
 managed-ended {w} {X} request c q n source k r f rest x m s t is known = record {
   recorded_is = λ d i. recorded-answer (record { 0 = q }) m u is.reply.width is.reply.whole other d i ∙ reported-records request c n r new x s t is.last (λ j. refl) known d i;
-  probes = λ d i. reply-quiet (key.ProbeOf i) (record { 0 = q }) m u d is.reply.width is.reply.whole (λ e. (refl, refl)) ∙ reported-missing request c n r new x s t is.last is.report (λ j. refl) known d i;
+  probes = λ d i. reply-quiet (key.ProbeOf i) (record { 0 = q }) m u d is.reply.width is.reply.whole (λ e. (refl, refl))
+      ∙ reported-missing request c n r new x s t is.last is.report (λ j. refl) known d i;
   acquires = λ d i.
       reply-quiet (key.AcquireOf i) (record { 0 = q }) m u d is.reply.width is.reply.whole (λ e. (refl, rw other refl)) ∙ (quiet-c (record { 0 = c }) x t).acquires d i ∙ known.acquires d i
       ∙ sym (set-part (λ (b : Block X). is_own (view b.service d)) n new s.block (rw is.waits refl) i);
@@ -131,11 +132,13 @@ no-burst c q t ok free = go (comes_in_request q (unfinished channel.A (on_link c
     go true k e = absurd (omega (arith, e))
     go false k e = refl
 
-pub are_served-ended : {w : ℕ} {X : Type 0} (request : ℕ → MessageA w) (c q n source : ℕ) (k : Cap) (r : Report) (f : X → X) (rest : List Token) (x : BeatC w) (m : MessageD w) (s : State X) (t : Trace w)
+pub are_served-ended : {w : ℕ} {X : Type 0} (request : ℕ → MessageA w) (c q n source : ℕ) (k : Cap) (r : Report) (f : X → X) (rest : List Token) (x : BeatC w)
+    (m : MessageD w) (s : State X) (t : Trace w)
     → IsEnding c q n source k r x m request s t → AreServed request s t → AreServed request (report_answers c q n source r f rest s) (after_sent (record { 0 = q }) (D m) (taken c x t))
 are_served-ended {w} {X} request c q n source k r f rest x m s t is known = record {
   sources = λ d i. sources_now d i ((q == d) && (source == i)) refl;
-  sinks = λ d i. reply-quiet (key.GrantSink i) (record { 0 = q }) m u d is.reply.width is.reply.whole (λ e. (rw other refl, refl)) ∙ (quiet-c (record { 0 = c }) x t).sinks d i ∙ known.sinks d i ∙ sym (sinks_now d i);
+  sinks = λ d i. reply-quiet (key.GrantSink i) (record { 0 = q }) m u d is.reply.width is.reply.whole (λ e. (rw other refl, refl))
+      ∙ (quiet-c (record { 0 = c }) x t).sinks d i ∙ known.sinks d i ∙ sym (sinks_now d i);
   requests = λ i. elim (cases_eq i n) [
     | inl same ↦ rw (same, set-same n new s.block) tt
     | inr apart ↦ rw (set-other n i new s.block apart) (known.requests i)
@@ -176,7 +179,8 @@ are_served-ended {w} {X} request c q n source k r f rest x m s t is known = reco
         let client : q ≡ d = eqb-true q d p.0 in
         let mine : source ≡ i = eqb-true source i p.1 in
         let free : pending (key.RequestSource i) (on_link d v) ≡ false = source_now d i ∙ rw e refl in
-        let none : comes_in_request i (unfinished channel.A (on_link d v)) ≡ false = no-burst d i v (accounted-answer n (service_for q n request s) m u is.reply is.answers is.access is.accounted) free in
+        let none : comes_in_request i (unfinished channel.A (on_link d v)) ≡ false =
+        no-burst d i v (accounted-answer n (service_for q n request s) m u is.reply is.answers is.access is.accounted) free in
         rw (free, none, ← client, ← mine, set_at-same q source Replied s.uses) refl
     sources_now d i false e =
         source_now d i ∙ rw (e, set_at-other q source Replied s.uses d i e, served_now d (s.uses d i), burst-reply (record { 0 = q }) m u d, (quiet-c (record { 0 = c }) x t).bursts d)
@@ -200,6 +204,7 @@ are_served-ended {w} {X} request c q n source k r f rest x m s t is known = reco
 
     probes_now : (d i : ℕ) → is_quiet ((set n new s.block i).pair d).probing ≡ false → probe_of i (on_link d t) ≡ Some (probe_beat i (cap_waited (set n new s.block i).service))
     probes_now d i e = elim (cases_eq i n) [
-      | inl same ↦ absurd (let yes = all-quiet c n r new s.block (λ j. refl) is.settled d in let no : is_quiet ((set n new s.block n).pair d).probing ≡ false = rw same at e in let differ : true ≡ false = sym yes ∙ no in cc)
+      | inl same ↦ absurd (let yes = all-quiet c n r new s.block (λ j. refl) is.settled d in let no : is_quiet ((set n new s.block n).pair d).probing ≡ false =
+          rw same at e in let differ : true ≡ false = sym yes ∙ no in cc)
       | inr apart ↦ known.probes d i (reported-probing c n r new s.block (λ j. refl) d i e) ∙ rw (set-other n i new s.block apart) refl
     ]

@@ -4,7 +4,7 @@ use Rattle.std.specs.Prelude.{if◌then◌else◌, unwrap_or}
 use Rattle.std.proofs.lemmas.Bool.{cases_eq, eqb-true, ne_eqb, and_parts}
 use Rattle.tl_beat.specs.Width.{IsWidth}
 use Rattle.tl_beat.specs.declared.beat.BeatC.{BeatC}
-use Rattle.tl_beat.specs.declared.opcode.Channel.TheVariants as channel
+use Rattle.tl_beat.specs.declared.channel.Channel.TheVariants as channel
 use Rattle.tl_burst.specs.declared.message.Message.TheVariants.{D}
 use Rattle.tl_burst.specs.declared.message.MessageA.{MessageA}
 use Rattle.tl_burst.specs.declared.message.MessageD.{MessageD}
@@ -31,7 +31,8 @@ use Rattle.tl_world.specs.Invariant.{AreNamed}
 use Rattle.tl_world.specs.Managed.{IsManaged, is_own}
 use Rattle.tl_world.specs.Phase.{Pair, Own, Other, Granting, GrantedOther, is_quiet}
 use Rattle.tl_world.specs.PhaseSteps.{after_report, after_grant_sent}
-use Rattle.tl_world.specs.Protocol.{Waits, GrantSent, Block, State, Use, Closed, Asked, InService, Replied, Acquires, view, is_granting, is_acknowledging, is_wanting, report_grants, granted_block, reported_block}
+use Rattle.tl_world.specs.Protocol.{Waits, GrantSent, Block, State, Use, Closed, Asked, InService, Replied, Acquires, view, is_granting, is_acknowledging}
+use Rattle.tl_world.specs.Protocol.{is_wanting, report_grants, granted_block, reported_block}
 use Rattle.tl_world.specs.Sources.{AreServed, is_served, is_granted, cap_waited}
 use Rattle.tl_world.specs.Render.{probe_beat}
 use Rattle.tl_world.specs.Token.{Token, set}
@@ -50,7 +51,8 @@ pub record IsGiven {w : ℕ} (q n tracker : ℕ) (m : MessageD w) (u : Trace w) 
   pub sink : m.sink ≡ tracker
   pub asks : (i : ℕ) → asks_for i (request_of m.source (on_link q u)) ≡ (n == i)
 
-grants_it : {w : ℕ} (q n tracker : ℕ) (m : MessageD w) (u : Trace w) → IsGiven q n tracker m u → (d i : ℕ) → (q == d) ≡ true → (is_grant m.opcode && asks_for i (request_of m.source (on_link d u))) ≡ (n == i)
+grants_it : {w : ℕ} (q n tracker : ℕ) (m : MessageD w) (u : Trace w) → IsGiven q n tracker m u → (d i : ℕ) → (q == d) ≡ true
+    → (is_grant m.opcode && asks_for i (request_of m.source (on_link d u))) ≡ (n == i)
 grants_it q n tracker m u is d i e = rw (← eqb-true q d e, is.grants) (is.asks i)
 
 pub given-acquires : {w : ℕ} (q n tracker : ℕ) (m : MessageD w) (u : Trace w) → IsGiven q n tracker m u → (d i : ℕ)
@@ -78,7 +80,8 @@ pub given-sinks : {w : ℕ} (q n tracker : ℕ) (m : MessageD w) (u : Trace w) �
 given-sinks {w} q n tracker m u is d i = pending-reply (key.GrantSink i) (record { 0 = q }) m u d is.width is.whole ∙ rw (is.grants, is.sink) (go (q == d))
   where
     go : (b : Bool)
-        → (if b then after_whole (tracker == i) false (pending (key.GrantSink i) (on_link d u)) else pending (key.GrantSink i) (on_link d u)) ≡ (if b && (tracker == i) then true else pending (key.GrantSink i) (on_link d u))
+        → (if b then after_whole (tracker == i) false (pending (key.GrantSink i) (on_link d u)) else pending (key.GrantSink i) (on_link d u))
+        ≡ (if b && (tracker == i) then true else pending (key.GrantSink i) (on_link d u))
     go true = refl
     go false = refl
 
@@ -92,7 +95,9 @@ given-records {w} q n tracker m u is d i = go (q == d) refl
 
     go : (b : Bool) → (q == d) ≡ b → recorded d i (after_sent (record { 0 = q }) (D m) u) ≡ (if b && (n == i) then capped m.param else recorded d i u)
     go true e =
-        ap (held i) (own_link d (record { 0 = q }) (D m) u e) ∙ held-sent_d i m (on_link d u) (subst (λ (j : ℕ). unfinished channel.D (on_link j u) ≡ []) (eqb-true q d e) is.whole) (beats-positive (D m) is.width)
+        ap (held i) (own_link d (record { 0 = q }) (D m) u e)
+        ∙ held-sent_d i m (on_link d u) (subst (λ (j : ℕ). unfinished channel.D (on_link j u) ≡ []) (eqb-true q d e) is.whole)
+        (beats-positive (D m) is.width)
         ∙ ap (λ z. unwrap_or (if z then Some (capped m.param) else None) (recorded d i u)) (grants_it q n tracker m u is d i e) ∙ said (n == i)
     go false e = ap (held i) (other_link d (record { 0 = q }) (D m) u e)
 
@@ -175,7 +180,8 @@ if_always : {A : Type 0} (b : Bool) (p q : A) → (if b && true then p else q) �
 if_always true p q = refl
 if_always false p q = refl
 
-pub managed-conceded : {w : ℕ} {X : Type 0} (request : ℕ → MessageA w) (c q n source : ℕ) (k gift : Cap) (r : Report) (dt : Bool) (rest : List Token) (x : BeatC w) (m : MessageD w) (s : State X) (t : Trace w)
+pub managed-conceded : {w : ℕ} {X : Type 0} (request : ℕ → MessageA w) (c q n source : ℕ) (k gift : Cap) (r : Report) (dt : Bool) (rest : List Token)
+    (x : BeatC w) (m : MessageD w) (s : State X) (t : Trace w)
     → IsConceded c q n source k gift r x m request s t → IsManaged request s t → IsManaged request (report_grants c q n r dt gift rest s) (after_sent (record { 0 = q }) (D m) (taken c x t))
 managed-conceded {w} {X} request c q n source k gift r dt rest x m s t is known = record {
   recorded_is = λ d i. given-records q n (s.block n).tracker m u given d i ∙ records_now d i ∙ sym (pair-over (λ p. p.recorded) q n gives new mid s.block (λ j. refl) d i);
@@ -213,7 +219,9 @@ managed-conceded {w} {X} request c q n source k gift r dt rest x m s t is known 
     others : q ≡ c → ⊥
     others e = is.apart (sym e)
 
-    probing_same : (d i : ℕ) (b : Bool) → ((q == d) && (n == i)) ≡ b → (if b then not (is_quiet gives.probing) else not (is_quiet ((set n mid s.block i).pair d).probing)) ≡ not (is_quiet ((set n mid s.block i).pair d).probing)
+    probing_same : (d i : ℕ) (b : Bool) → ((q == d) && (n == i)) ≡ b
+        → (if b then not (is_quiet gives.probing) else not (is_quiet ((set n mid s.block i).pair d).probing))
+        ≡ not (is_quiet ((set n mid s.block i).pair d).probing)
     probing_same d i false e = refl
     probing_same d i true e =
         let p = and_parts (q == d) (n == i) e in
@@ -222,20 +230,24 @@ managed-conceded {w} {X} request c q n source k gift r dt rest x m s t is known 
     acquires_now : (d i : ℕ) → (if (q == d) && (n == i) then false else pending (key.AcquireOf i) (on_link d u)) ≡ is_own (view (set n new s.block i).service d)
     acquires_now d i = elim (cases_eq i n) [
       | inl same ↦ rw (same, set-same n new s.block, same_number n, (quiet-c (record { 0 = c }) x t).acquires d n, known.acquires d n, is.waits, swapped q d)
-          (if_always (d == q) false (is_own (if true && (d == q) then Own else Other k)) ∙ ap (λ z. if (d == q) then false else z) (own_if (d == q) k) ∙ twice (d == q) ∙ sym (never_own (d == q) dt gift))
+          (if_always (d == q) false (is_own (if true && (d == q) then Own else Other k)) ∙ ap (λ z. if (d == q) then false else z) (own_if (d == q) k)
+          ∙ twice (d == q) ∙ sym (never_own (d == q) dt gift))
       | inr other ↦
           let differ : n ≡ i → ⊥ = λ e. other (sym e) in
-          rw (ne_eqb n i differ, set-other n i new s.block other) (never_if (q == d) false (pending (key.AcquireOf i) (on_link d u)) ∙ (quiet-c (record { 0 = c }) x t).acquires d i ∙ known.acquires d i)
+          rw (ne_eqb n i differ, set-other n i new s.block other)
+          (never_if (q == d) false (pending (key.AcquireOf i) (on_link d u)) ∙ (quiet-c (record { 0 = c }) x t).acquires d i ∙ known.acquires d i)
     ]
 
-    acks_now : (d i : ℕ) → (if (q == d) && (n == i) then true else pending (key.GrantAckOf i) (on_link d u)) ≡ (is_granting (view (set n new s.block i).service d) || is_acknowledging (view (set n new s.block i).service d))
+    acks_now : (d i : ℕ) → (if (q == d) && (n == i) then true else pending (key.GrantAckOf i) (on_link d u))
+        ≡ (is_granting (view (set n new s.block i).service d) || is_acknowledging (view (set n new s.block i).service d))
     acks_now d i = elim (cases_eq i n) [
       | inl same ↦ rw (same, set-same n new s.block, same_number n, (quiet-c (record { 0 = c }) x t).grants d n, known.grant_acks d n, is.waits, swapped q d)
           (if_always (d == q) true (is_granting (if true && (d == q) then Own else Other k) || is_acknowledging (if true && (d == q) then Own else Other k))
           ∙ ap (λ z. if (d == q) then true else z) (waits_ungranted (d == q) k) ∙ alike (d == q) ∙ sym (granted_if (d == q) dt gift))
       | inr other ↦
           let differ : n ≡ i → ⊥ = λ e. other (sym e) in
-          rw (ne_eqb n i differ, set-other n i new s.block other) (never_if (q == d) true (pending (key.GrantAckOf i) (on_link d u)) ∙ (quiet-c (record { 0 = c }) x t).grants d i ∙ known.grant_acks d i)
+          rw (ne_eqb n i differ, set-other n i new s.block other)
+          (never_if (q == d) true (pending (key.GrantAckOf i) (on_link d u)) ∙ (quiet-c (record { 0 = c }) x t).grants d i ∙ known.grant_acks d i)
     ]
 
 -- ---- sources, sinks and requests
@@ -249,7 +261,8 @@ only_source q n source i s named used e =
     let second = eqb-true i ((s.block n).source q) (and_right (is_wanting ((s.block n).pair q).acquiring) (i == (s.block n).source q) there) in
     second ∙ sym first
 
-pub are_served-conceded : {w : ℕ} {X : Type 0} (request : ℕ → MessageA w) (c q n source : ℕ) (k gift : Cap) (r : Report) (dt : Bool) (rest : List Token) (x : BeatC w) (m : MessageD w) (s : State X) (t : Trace w)
+pub are_served-conceded : {w : ℕ} {X : Type 0} (request : ℕ → MessageA w) (c q n source : ℕ) (k gift : Cap) (r : Report) (dt : Bool) (rest : List Token)
+    (x : BeatC w) (m : MessageD w) (s : State X) (t : Trace w)
     → IsConceded c q n source k gift r x m request s t → AreServed request s t → AreServed request (report_grants c q n r dt gift rest s) (after_sent (record { 0 = q }) (D m) (taken c x t))
 are_served-conceded {w} {X} request c q n source k gift r dt rest x m s t is known = record {
   sources = λ d i. sources_now d i ((q == d) && (source == i)) refl;
@@ -308,7 +321,8 @@ are_served-conceded {w} {X} request c q n source k gift r dt rest x m s t is kno
     answered : is_served q (s.uses q source) z ≡ false
     answered = rw (is.used, set-same n new s.block) (never_own (q == q) dt gift)
 
-    sources_now : (d i : ℕ) (b : Bool) → ((q == d) && (source == i)) ≡ b → pending (key.RequestSource i) (on_link d v) ≡ (is_served d (s.uses d i) z || comes_in_request i (unfinished channel.A (on_link d v)))
+    sources_now : (d i : ℕ) (b : Bool) → ((q == d) && (source == i)) ≡ b
+        → pending (key.RequestSource i) (on_link d v) ≡ (is_served d (s.uses d i) z || comes_in_request i (unfinished channel.A (on_link d v)))
     sources_now d i true e =
         let p = and_parts (q == d) (source == i) e in
         let client : q ≡ d = eqb-true q d p.0 in
@@ -331,13 +345,16 @@ are_served-conceded {w} {X} request c q n source k gift r dt rest x m s t is kno
     ]
       where
         away : (d ≡ q) ⊎ (d ≡ q → ⊥) → i ≡ (s.block n).tracker → (d == q) ≡ false
-        away (inl client) mine = absurd (let yes : ((q == d) && ((s.block n).tracker == i)) ≡ true = rw (client, mine, same_number q, same_number (s.block n).tracker) refl in let no : false ≡ true = sym apart ∙ yes in cc)
+        away (inl client) mine = absurd (let yes : ((q == d) && ((s.block n).tracker == i)) ≡ true =
+            rw (client, mine, same_number q, same_number (s.block n).tracker) refl
+            in let no : false ≡ true = sym apart ∙ yes in cc)
         away (inr other) mine = ne_eqb d q other
 
     granted_here : is_granted q (Some n) z ≡ true
     granted_here = rw (set-same n new s.block) (granted_if (q == q) dt gift ∙ same_number q)
 
-    sinks_now : (d i : ℕ) (b : Bool) → ((q == d) && ((s.block n).tracker == i)) ≡ b → (if (q == d) && ((s.block n).tracker == i) then true else pending (key.GrantSink i) (on_link d u)) ≡ is_granted d (s.tracked i) z
+    sinks_now : (d i : ℕ) (b : Bool) → ((q == d) && ((s.block n).tracker == i)) ≡ b
+        → (if (q == d) && ((s.block n).tracker == i) then true else pending (key.GrantSink i) (on_link d u)) ≡ is_granted d (s.tracked i) z
     sinks_now d i true e =
         let p = and_parts (q == d) ((s.block n).tracker == i) e in
         rw (e, ← eqb-true q d p.0, ← eqb-true (s.block n).tracker i p.1) (sym (ap (λ o. is_granted q o z) (tracker-of n s is.named (rw is.waits refl)) ∙ granted_here))

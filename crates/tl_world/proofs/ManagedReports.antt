@@ -5,7 +5,7 @@ use Rattle.std.specs.Prelude.{if◌then◌else◌, List}
 use Rattle.tl_beat.specs.Width.{IsWidth}
 use Rattle.tl_beat.specs.declared.beat.Beat.TheVariants as beat
 use Rattle.tl_beat.specs.declared.beat.BeatC.{BeatC}
-use Rattle.tl_beat.specs.declared.opcode.Channel.TheVariants as channel
+use Rattle.tl_beat.specs.declared.channel.Channel.TheVariants as channel
 use Rattle.tl_burst.specs.declared.message.Message.TheVariants.{D}
 use Rattle.tl_burst.specs.declared.message.MessageA.{MessageA}
 use Rattle.tl_burst.specs.declared.message.MessageD.{MessageD}
@@ -25,7 +25,8 @@ use Rattle.tl_world.specs.PhaseSteps.{after_report, after_release_taken}
 use Rattle.tl_world.specs.Protocol.{Block, State, report_taken, reported_block, release_taken, let_block}
 use Rattle.tl_world.specs.Sources.{AreServed}
 use Rattle.tl_world.specs.Token.{Token, set}
-use Rattle.tl_world.proofs.Quieted.{AreQuiet, quiet-then, quiet-c, IsLastOf, recorded-last, recorded-part, missing-last, missing-part, missing-release, quiet-release_ack, recorded-answer, AreStill, managed-still, are_served-still, pair-part, pair-still}
+use Rattle.tl_world.proofs.Quieted.{AreQuiet, quiet-then, quiet-c, IsLastOf, recorded-last, recorded-part, missing-last, missing-part, missing-release}
+use Rattle.tl_world.proofs.Quieted.{quiet-release_ack, recorded-answer, AreStill, managed-still, are_served-still, pair-part, pair-still}
 use Rattle.tl_world.proofs.Tokens.{set-part}
 
 -- ---- a beat that isn't the last one
@@ -65,7 +66,8 @@ reported-records request c n r new x s t is pairs known d i =
     recorded-last c n (report_right r) x t is d i ∙ same_or ((c == d) && (n == i)) (report_right r) _ _ (known.recorded_is d i)
     ∙ sym (pair-part (λ p. p.recorded) c n (after_report r ((s.block n).pair c)) new s.block pairs d i)
 
-pub reported-missing : {w : ℕ} {X : Type 0} (request : ℕ → MessageA w) (c n : ℕ) (r : Report) (new : Block X) (x : BeatC w) (s : State X) (t : Trace w) → IsLastOf c n (report_right r) x t → is_probe_ack x.opcode ≡ true
+pub reported-missing : {w : ℕ} {X : Type 0} (request : ℕ → MessageA w) (c n : ℕ) (r : Report) (new : Block X) (x : BeatC w) (s : State X) (t : Trace w)
+    → IsLastOf c n (report_right r) x t → is_probe_ack x.opcode ≡ true
     → ((d : ℕ) → new.pair d ≡ set c (after_report r ((s.block n).pair c)) (s.block n).pair d) → IsManaged request s t → (d i : ℕ)
     → pending (key.ProbeOf i) (on_link d ((record { 0 = c }, beat.C x) ∷ t)) ≡ not (is_quiet ((set n new s.block i).pair d).probing)
 reported-missing request c n r new x s t is report pairs known d i =
@@ -82,11 +84,13 @@ reported-probing c n r new block pairs d i e =
     go true f = absurd cc
     go false f = f
 
-pub managed-reported : {w : ℕ} {X : Type 0} (request : ℕ → MessageA w) (c n : ℕ) (r : Report) (rest : List Token) (x : BeatC w) (s : State X) (t : Trace w) → IsLastOf c n (report_right r) x t → is_probe_ack x.opcode ≡ true
+pub managed-reported : {w : ℕ} {X : Type 0} (request : ℕ → MessageA w) (c n : ℕ) (r : Report) (rest : List Token) (x : BeatC w) (s : State X) (t : Trace w)
+    → IsLastOf c n (report_right r) x t → is_probe_ack x.opcode ≡ true
     → IsManaged request s t → IsManaged request (report_taken c n r rest s) ((record { 0 = c }, beat.C x) ∷ t)
 managed-reported request c n r rest x s t is report known =
     managed-still request s (report_taken c n r rest s) t ((record { 0 = c }, beat.C x) ∷ t) (quiet-c (record { 0 = c }) x t) (still-reported c n r rest s)
-    (λ d i. reported-records request c n r (reported_block c r (s.block n)) x s t is (λ j. refl) known d i) (λ d i. reported-missing request c n r (reported_block c r (s.block n)) x s t is report (λ j. refl) known d i) known
+    (λ d i. reported-records request c n r (reported_block c r (s.block n)) x s t is (λ j. refl) known d i)
+    (λ d i. reported-missing request c n r (reported_block c r (s.block n)) x s t is report (λ j. refl) known d i) known
 
 pub are_served-reported : {w : ℕ} {X : Type 0} (request : ℕ → MessageA w) (c n : ℕ) (r : Report) (rest : List Token) (x : BeatC w) (s : State X) (t : Trace w)
     → AreServed request s t → AreServed request (report_taken c n r rest s) ((record { 0 = c }, beat.C x) ∷ t)
@@ -122,12 +126,14 @@ released-quiet c x m t is =
     quiet-then t ((record { 0 = c }, beat.C x) ∷ t) (after_sent (record { 0 = c }) (D m) ((record { 0 = c }, beat.C x) ∷ t)) (quiet-c (record { 0 = c }) x t)
     (quiet-release_ack (record { 0 = c }) m ((record { 0 = c }, beat.C x) ∷ t) is.width is.whole is.ack is.none)
 
-pub managed-released : {w : ℕ} {X : Type 0} (request : ℕ → MessageA w) (c n : ℕ) (r : Prune) (rest : List Token) (x : BeatC w) (m : MessageD w) (s : State X) (t : Trace w) → IsLastOf c n (prune_right r) x t → IsReleased c x m t
+pub managed-released : {w : ℕ} {X : Type 0} (request : ℕ → MessageA w) (c n : ℕ) (r : Prune) (rest : List Token) (x : BeatC w) (m : MessageD w) (s : State X)
+    (t : Trace w) → IsLastOf c n (prune_right r) x t → IsReleased c x m t
     → IsManaged request s t → IsManaged request (release_taken c n r rest s) (after_sent (record { 0 = c }) (D m) ((record { 0 = c }, beat.C x) ∷ t))
 managed-released {w} request c n r rest x m s t is answer known =
     managed-still request s (release_taken c n r rest s) t (after_sent (record { 0 = c }) (D m) u) (released-quiet c x m t answer) (still-released c n r rest s)
     (λ d i. recorded-answer (record { 0 = c }) m u answer.width answer.whole answer.none d i ∙ recorded-last c n (prune_right r) x t is d i
-    ∙ same_or ((c == d) && (n == i)) (prune_right r) _ _ (known.recorded_is d i) ∙ sym (pair-part (λ p. p.recorded) c n (after_release_taken r ((s.block n).pair c)) (let_block c r (s.block n)) s.block (λ j. refl) d i))
+    ∙ same_or ((c == d) && (n == i)) (prune_right r) _ _ (known.recorded_is d i)
+    ∙ sym (pair-part (λ p. p.recorded) c n (after_release_taken r ((s.block n).pair c)) (let_block c r (s.block n)) s.block (λ j. refl) d i))
     (λ d i. reply-quiet (key.ProbeOf i) (record { 0 = c }) m u d answer.width answer.whole (λ e. (refl, refl)) ∙ missing-release c x t answer.other d i ∙ known.probes d i
     ∙ sym (probing-released (λ p. not (is_quiet p.probing)) (λ q p. refl) c n r rest s d i))
     known

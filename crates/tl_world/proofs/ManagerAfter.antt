@@ -8,8 +8,8 @@ use Rattle.tl_beat.specs.declared.beat.Beat.{Beat}
 use Rattle.tl_beat.specs.declared.beat.Beat.TheVariants as beat
 use Rattle.tl_beat.specs.declared.beat.BeatC.{BeatC}
 use Rattle.tl_beat.specs.declared.beat.BeatE.{BeatE}
-use Rattle.tl_beat.specs.declared.opcode.Channel.{Channel}
-use Rattle.tl_beat.specs.declared.opcode.Channel.TheVariants as channel
+use Rattle.tl_beat.specs.declared.channel.Channel.{Channel}
+use Rattle.tl_beat.specs.declared.channel.Channel.TheVariants as channel
 use Rattle.tl_burst.specs.declared.message.Message.{Message}
 use Rattle.tl_burst.specs.declared.message.Message.TheVariants as message
 use Rattle.tl_burst.specs.declared.message.MessageC.{MessageC}
@@ -65,20 +65,24 @@ IsManagerOf config h e = IsAtManager config h.mail h.request h.state e
 abbrev pub left : {w : ℕ} → ℕ → Beat w → Deed w → End w → End w
 left c x d e = taken (record { 0 = c }) x d e
 
-pub left-is : {w : ℕ} (config : Config) (c : ℕ) (ch : Channel) (x : Beat w) (d : Deed w) (e : End w) → IsTakenUp config c ch x e → deed config (record { 0 = c }) x e ≡ d → (offered config (record { 0 = c }) ch x e).1 ≡ left c x d e
+pub left-is : {w : ℕ} (config : Config) (c : ℕ) (ch : Channel) (x : Beat w) (d : Deed w) (e : End w) → IsTakenUp config c ch x e
+    → deed config (record { 0 = c }) x e ≡ d → (offered config (record { 0 = c }) ch x e).1 ≡ left c x d e
 left-is {w} config c ch x d e up is = ap (λ (p : slave.Reception w × End w). p.1) up.answer ∙ ap (λ (i : Deed w). left c x i e) is
 
-pub kept-left : {w : ℕ} (config : Config) (c : ℕ) (x : BeatC w) (d : Deed w) (e : End w) → IsWidth w → IsTakenUp config c channel.C (beat.C x) e → deed config (record { 0 = c }) (beat.C x) e ≡ d → IsKept config e → IsKept config (left c (beat.C x) d e)
+pub kept-left : {w : ℕ} (config : Config) (c : ℕ) (x : BeatC w) (d : Deed w) (e : End w) → IsWidth w → IsTakenUp config c channel.C (beat.C x) e
+    → deed config (record { 0 = c }) (beat.C x) e ≡ d → IsKept config e → IsKept config (left c (beat.C x) d e)
 kept-left config c x d e width up is kept = subst (IsKept config) (left-is config c channel.C (beat.C x) d e up is) (kept-offered config (record { 0 = c }) channel.C (beat.C x) e width tt kept)
 
-pub others-left : {w : ℕ} (config : Config) (c n : ℕ) (x : BeatC w) (d : Deed w) (e : End w) → IsWidth w → IsTakenUp config c channel.C (beat.C x) e → deed config (record { 0 = c }) (beat.C x) e ≡ d → IsKept config e → block_at x.address ≡ n
+pub others-left : {w : ℕ} (config : Config) (c n : ℕ) (x : BeatC w) (d : Deed w) (e : End w) → IsWidth w → IsTakenUp config c channel.C (beat.C x) e
+    → deed config (record { 0 = c }) (beat.C x) e ≡ d → IsKept config e → block_at x.address ≡ n
     → (i : ℕ) → (i ≡ n → ⊥) → block_in d.memory i ≡ block_in e.memory i
 others-left {w} config c n x d e width up is kept block i other =
     ap (λ (z : End w). block_in z.memory i) (sym (left-is config c channel.C (beat.C x) d e up is)) ∙ other-blocks config (record { 0 = c }) channel.C x e n width kept block i other
 
 -- ---- a beat of channel C that isn't the last of its message
 
-pub report_part-left : {w : ℕ} (config : Config) (c : ℕ) (x : BeatC w) (h : Shadow w) (e : End w) → IsWidth w → IsTakenUp config c channel.C (beat.C x) e → ends (beat.C x) (on_link c e.trace) ≡ false → IsManagerOf config h e
+pub report_part-left : {w : ℕ} (config : Config) (c : ℕ) (x : BeatC w) (h : Shadow w) (e : End w) → IsWidth w → IsTakenUp config c channel.C (beat.C x) e
+    → ends (beat.C x) (on_link c e.trace) ≡ false → IsManagerOf config h e
     → IsManagerOf config h (left c (beat.C x) (deed config (record { 0 = c }) (beat.C x) e) e)
 unfolding with_handed
 report_part-left {w} config c x h e width up part is =
@@ -102,19 +106,22 @@ pub record IsEnd {w : ℕ} (is_report : Bool) (c n param : ℕ) (carries : Bool)
   pub last : k + 1 ≡ beats_of (message.C m)
   pub long : length truth ≡ 64
 
-pub ends-it : {w : ℕ} (b : Bool) (c n param : ℕ) (carries : Bool) (truth : List ℕ) (k : ℕ) (m : MessageC w) (e : End w) → IsEnd b c n param carries truth k m e → ends (beat.C (c_beat_of m k)) (on_link c e.trace) ≡ true
+pub ends-it : {w : ℕ} (b : Bool) (c n param : ℕ) (carries : Bool) (truth : List ℕ) (k : ℕ) (m : MessageC w) (e : End w) → IsEnd b c n param carries truth k m e
+    → ends (beat.C (c_beat_of m k)) (on_link c e.trace) ≡ true
 ends-it b c n param carries truth k m e is = rw (is.rest, length-begun (message.C m) k) (is_last k (beats_of (message.C m)) is.last)
 
 -- the bytes that it carries
 pub payload-end : {w : ℕ} (b : Bool) (c n param : ℕ) (carries : Bool) (truth : List ℕ) (k : ℕ) (m : MessageC w) (e : End w) → IsEnd b c n param carries truth k m e → carries ≡ true
     → payload_of (beat.C (c_beat_of m k) ∷ unfinished channel.C (on_link c e.trace)) ≡ truth
 payload-end {w} b c n param carries truth k m e is some =
-    ap (λ (beats : List (Beat w)). payload_of (beat.C (c_beat_of m k) ∷ beats)) is.rest ∙ payload-c m (begun (message.C m) (suc k)) is.width is.about.long (whole, is.about.blank) ∙ is.about.payload_is some
+    ap (λ (beats : List (Beat w)). payload_of (beat.C (c_beat_of m k) ∷ beats)) is.rest
+    ∙ payload-c m (begun (message.C m) (suc k)) is.width is.about.long (whole, is.about.blank) ∙ is.about.payload_is some
   where
     whole : begun (message.C m) (suc k) ≡ burst_of (message.C m)
     whole = let all : suc k ≡ beats_of (message.C m) = omega (arith, is.last) in ap (λ (i : ℕ). begun (message.C m) i) all
 
-pub last-of : {w : ℕ} (b : Bool) (c n param : ℕ) (carries : Bool) (truth : List ℕ) (k : ℕ) (right : Perm) (m : MessageC w) (e : End w) → IsEnd b c n param carries truth k m e → reported param ≡ right → IsLastOf c n right (c_beat_of m k) e.trace
+pub last-of : {w : ℕ} (b : Bool) (c n param : ℕ) (carries : Bool) (truth : List ℕ) (k : ℕ) (right : Perm) (m : MessageC w) (e : End w)
+    → IsEnd b c n param carries truth k m e → reported param ≡ right → IsLastOf c n right (c_beat_of m k) e.trace
 last-of b c n param carries truth k right m e is said = record {
   last = ends-it b c n param carries truth k m e is;
   kind = rw (is.about.reports, is.about.releases) (either b);
@@ -130,14 +137,16 @@ last-of b c n param carries truth k right m e is said = record {
 pub memory-end : {w : ℕ} (b : Bool) (c n param : ℕ) (carries : Bool) (truth : List ℕ) (k : ℕ) (m : MessageC w) (e : End w) → IsEnd b c n param carries truth k m e
     → block_in (memory_with (record { 0 = c }) (c_beat_of m k) e) n ≡ (if carries then truth else block_in e.memory n)
 memory-end {w} b c n param carries truth k m e is =
-    block-taken (c_beat_of m k) (beat.C (c_beat_of m k) ∷ unfinished channel.C (on_link c e.trace)) e.memory n carries truth is.about.block is.about.carries_is (payload-end b c n param carries truth k m e is) is.long
+    block-taken (c_beat_of m k) (beat.C (c_beat_of m k) ∷ unfinished channel.C (on_link c e.trace)) e.memory n carries truth is.about.block is.about.carries_is
+    (payload-end b c n param carries truth k m e is) is.long
 
 -- ---- a Release
 
 release_is : {w : ℕ} (source : ℕ) → (m : MessageD w) × (release_ack source ≡ message.D m) × (is_release_ack m.opcode ≡ true) × (is_grant m.opcode ≡ false)
 release_is source = (_, refl, refl, refl)
 
-pub deed-released : {w : ℕ} (config : Config) (c n k : ℕ) (r : Prune) (m : MessageC w) (h : Shadow w) (e : End w) → IsEnd false c n (prune_code r) (same_perm (prune_left r) perm.Trunk) (h.state.block n).truth k m e
+pub deed-released : {w : ℕ} (config : Config) (c n k : ℕ) (r : Prune) (m : MessageC w) (h : Shadow w) (e : End w)
+    → IsEnd false c n (prune_code r) (same_perm (prune_left r) perm.Trunk) (h.state.block n).truth k m e
     → deed config (record { 0 = c }) (beat.C (c_beat_of m k)) e ≡ record { handed = (record { 0 = c }, release_ack m.source) ∷ []; memory = memory_with (record { 0 = c }) (c_beat_of m k) e }
 deed-released config c n k r m h e end =
     deed-release config (record { 0 = c }) (c_beat_of m k) e (ends-it false c n (prune_code r) (same_perm (prune_left r) perm.Trunk) (h.state.block n).truth k m e end) end.about.releases
@@ -157,7 +166,8 @@ released-left {w} config c n k r rest m h e up end is =
       served_with = λ i. still i;
       manager_kept = kept-left config c x does e end.width up done is.manager_kept;
       memory = λ i.
-          blocks-now e.memory does.memory n (let_block c r (h.state.block n)) h.state (memory-end false c n (prune_code r) carries truth k m e end ∙ ap (λ z. if carries then truth else z) (is.memory n))
+          blocks-now e.memory does.memory n (let_block c r (h.state.block n)) h.state
+          (memory-end false c n (prune_code r) carries truth k m e end ∙ ap (λ z. if carries then truth else z) (is.memory n))
           (others-left config c n x does e end.width up done is.manager_kept end.about.block) is.memory i;
       all_live = is.all_live;
     })
@@ -198,7 +208,8 @@ released-left {w} config c n k r rest m h e up end is =
 abbrev pub others_probed : ℕ → (ℕ → Pair) → ℕ → Bool
 others_probed c pair d = not (d == c) && not (is_quiet (pair d).probing)
 
-pub settled-is : {w : ℕ} (config : Config) (c n : ℕ) (right : Perm) (x : BeatC w) (h : Shadow w) (e : End w) → IsLastOf c n right x e.trace → is_probe_ack x.opcode ≡ true → IsManaged h.request h.state e.trace
+pub settled-is : {w : ℕ} (config : Config) (c n : ℕ) (right : Perm) (x : BeatC w) (h : Shadow w) (e : End w) → IsLastOf c n right x e.trace
+    → is_probe_ack x.opcode ≡ true → IsManaged h.request h.state e.trace
     → is_settled config n ((record { 0 = c }, beat.C x) ∷ e.trace) ≡ not (some_below (length config.clients.items) (others_probed c (h.state.block n).pair))
 settled-is {w} config c n right x h e last report managed =
     nobody-same config (λ d. is_missing d n ((record { 0 = c }, beat.C x) ∷ e.trace)) (others_probed c (h.state.block n).pair) (λ d. missing-last c n right x e.trace last report d n ∙ now d)
@@ -211,7 +222,8 @@ settled-is {w} config c n right x h e last report managed =
 
 -- ---- a ProbeAck that isn't the last one missing
 
-pub deed-reported : {w : ℕ} (config : Config) (c n k : ℕ) (r : Report) (m : MessageC w) (h : Shadow w) (e : End w) → IsEnd true c n (report_code r) (same_perm (report_left r) perm.Trunk) (h.state.block n).truth k m e
+pub deed-reported : {w : ℕ} (config : Config) (c n k : ℕ) (r : Report) (m : MessageC w) (h : Shadow w) (e : End w)
+    → IsEnd true c n (report_code r) (same_perm (report_left r) perm.Trunk) (h.state.block n).truth k m e
     → some_below (length config.clients.items) (others_probed c (h.state.block n).pair) ≡ true → IsManaged h.request h.state e.trace
     → deed config (record { 0 = c }) (beat.C (c_beat_of m k)) e ≡ nothing (memory_with (record { 0 = c }) (c_beat_of m k) e)
 deed-reported {w} config c n k r m h e end others managed =
@@ -229,7 +241,8 @@ deed-reported {w} config c n k r m h e end others managed =
     carries = same_perm (report_left r) perm.Trunk
 
 pub reported-left : {w : ℕ} (config : Config) (c n k : ℕ) (r : Report) (rest : List Token) (m : MessageC w) (h : Shadow w) (e : End w) → IsTakenUp config c channel.C (beat.C (c_beat_of m k)) e
-    → IsEnd true c n (report_code r) (same_perm (report_left r) perm.Trunk) (h.state.block n).truth k m e → some_below (length config.clients.items) (others_probed c (h.state.block n).pair) ≡ true → IsManagerOf config h e
+    → IsEnd true c n (report_code r) (same_perm (report_left r) perm.Trunk) (h.state.block n).truth k m e
+    → some_below (length config.clients.items) (others_probed c (h.state.block n).pair) ≡ true → IsManagerOf config h e
     → IsManagerOf config (with_state (report_taken c n r rest h.state) h) (left c (beat.C (c_beat_of m k)) (deed config (record { 0 = c }) (beat.C (c_beat_of m k)) e) e)
 unfolding with_handed
 reported-left {w} config c n k r rest m h e up end others is =
@@ -239,7 +252,8 @@ reported-left {w} config c n k r rest m h e up end others is =
       served_with = λ i. still i;
       manager_kept = kept-left config c x does e end.width up done is.manager_kept;
       memory = λ i.
-          blocks-now e.memory does.memory n (reported_block c r (h.state.block n)) h.state (memory-end true c n (report_code r) carries truth k m e end ∙ ap (λ z. if carries then truth else z) (is.memory n))
+          blocks-now e.memory does.memory n (reported_block c r (h.state.block n)) h.state
+          (memory-end true c n (report_code r) carries truth k m e end ∙ ap (λ z. if carries then truth else z) (is.memory n))
           (others-left config c n x does e end.width up done is.manager_kept end.about.block) is.memory i;
       all_live = is.all_live;
     })
@@ -273,7 +287,8 @@ reported-left {w} config c n k r rest m h e up end others is =
 
 -- ---- a GrantAck
 
-pub acked-left : {w : ℕ} (config : Config) (c n : ℕ) (rest : List Token) (x : BeatE) (h : Shadow w) (e : End w) → IsWidth w → IsTakenUp config c channel.E (beat.E x) e → IsAcked c n x h.request h.state e.trace → IsManagerOf config h e
+pub acked-left : {w : ℕ} (config : Config) (c n : ℕ) (rest : List Token) (x : BeatE) (h : Shadow w) (e : End w) → IsWidth w
+    → IsTakenUp config c channel.E (beat.E x) e → IsAcked c n x h.request h.state e.trace → IsManagerOf config h e
     → IsManagerOf config (with_state (grant_ack_taken c n rest h.state) h) (left c (beat.E x) (deed config (record { 0 = c }) (beat.E x) e) e)
 unfolding with_handed
 acked-left {w} config c n rest x h e width up acks is =
@@ -281,7 +296,8 @@ acked-left {w} config c n rest x h e width up acks is =
       managed = managed-acked h.request c n rest x h.state e.trace acks is.managed;
       served = are_served-acked h.request c n rest x h.state e.trace acks is.served;
       served_with = λ i. still i;
-      manager_kept = subst (IsKept config) (left-is config c channel.E (beat.E x) (nothing e.memory) e up done) (kept-offered config (record { 0 = c }) channel.E (beat.E x) e width tt is.manager_kept);
+      manager_kept = subst (IsKept config) (left-is config c channel.E (beat.E x) (nothing e.memory) e up done)
+          (kept-offered config (record { 0 = c }) channel.E (beat.E x) e width tt is.manager_kept);
       memory = λ i. is.memory i ∙ sym (set-part (λ (b : Block (List ℕ)). b.memory) n (freed_block (h.state.block n)) h.state.block refl i);
       all_live = is.all_live;
     })

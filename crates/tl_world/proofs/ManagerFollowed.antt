@@ -3,8 +3,8 @@ use Rattle.std.proofs.Common.{false, ◌≡◌, ℕ, false, List, ◌∷◌, Opt
 use Rattle.std.specs.Prelude.{if◌then◌else◌, option_map, slice_get, All}
 use Rattle.tl_beat.specs.Width.{IsWidth}
 use Rattle.tl_beat.specs.declared.beat.Beat.{Beat}
-use Rattle.tl_beat.specs.declared.opcode.Channel.{Channel}
-use Rattle.tl_beat.specs.declared.opcode.Channel.TheVariants as channel
+use Rattle.tl_beat.specs.declared.channel.Channel.{Channel}
+use Rattle.tl_beat.specs.declared.channel.Channel.TheVariants as channel
 use Rattle.tl_burst.specs.Messages.{unfinished}
 use Rattle.tl_burst.specs.Part.{completes}
 use Rattle.tl_params.specs.declared.config.Config.{Config}
@@ -32,7 +32,8 @@ use Rattle.tl_world.proofs.ManagerTakes.{IsTakenUp}
 use Rattle.tl_world.proofs.Steps.{manager-with_messages, stepped-to-manager}
 
 -- a link that has a beat is a client's
-pub client-of : {w : ℕ} (config : Config) (c : ℕ) (ch : Channel) (x : Beat w) (queue : List (Beat w)) (sys : System w) → sys.channels c ch ≡ x ∷ queue → All (λ y. manager.IsSound config (record { 0 = c }, y)) (sys.channels c ch)
+pub client-of : {w : ℕ} (config : Config) (c : ℕ) (ch : Channel) (x : Beat w) (queue : List (Beat w)) (sys : System w) → sys.channels c ch ≡ x ∷ queue
+    → All (λ y. manager.IsSound config (record { 0 = c }, y)) (sys.channels c ch)
     → (t : Terms) × (terms_at config c ≡ Some t)
 client-of {w} config c ch x queue sys beats sound =
     let all : All (λ y. manager.IsSound config (record { 0 = c }, y)) (x ∷ queue) = rw beats at sound in
@@ -45,38 +46,48 @@ client-of {w} config c ch x queue sys beats sound =
     go (Some i) e = (_, refl)
 
 -- what the step is
-pub step-taken : {w : ℕ} (config : Config) (c : ℕ) (ch : Channel) (x : Beat w) (queue : List (Beat w)) (sys : System w) (t : Terms) → terms_at config c ≡ Some t → sys.channels c ch ≡ x ∷ queue → is_to_client ch ≡ false → IsTakenUp config c ch x sys.manager
+pub step-taken : {w : ℕ} (config : Config) (c : ℕ) (ch : Channel) (x : Beat w) (queue : List (Beat w)) (sys : System w) (t : Terms) → terms_at config c ≡ Some t
+    → sys.channels c ch ≡ x ∷ queue → is_to_client ch ≡ false → IsTakenUp config c ch x sys.manager
     → stepped config (Deliver (record { 0 = c }) ch) sys
     ≡ handing (outcome.Moved x) (deed config (record { 0 = c }) x sys.manager).handed (with_manager (left c x (deed config (record { 0 = c }) x sys.manager) sys.manager) (with_channel c ch queue sys))
 step-taken {w} config c ch x queue sys t terms beats down up =
     stepped-to-manager config (record { 0 = c }) ch sys t x queue terms beats down ∙ ap (λ (p : slave.Reception w × End w). manager_took c ch x queue p sys) up.answer
 
-pub manager-taken : {w : ℕ} (config : Config) (c : ℕ) (ch : Channel) (x : Beat w) (queue : List (Beat w)) (sys : System w) (t : Terms) → terms_at config c ≡ Some t → sys.channels c ch ≡ x ∷ queue → is_to_client ch ≡ false → IsTakenUp config c ch x sys.manager
+pub manager-taken : {w : ℕ} (config : Config) (c : ℕ) (ch : Channel) (x : Beat w) (queue : List (Beat w)) (sys : System w) (t : Terms)
+    → terms_at config c ≡ Some t → sys.channels c ch ≡ x ∷ queue → is_to_client ch ≡ false → IsTakenUp config c ch x sys.manager
     → (stepped config (Deliver (record { 0 = c }) ch) sys).after.manager ≡ left c x (deed config (record { 0 = c }) x sys.manager) sys.manager
 manager-taken {w} config c ch x queue sys t terms beats down up =
-    ap (λ (s : Step w). s.after.manager) (step-taken config c ch x queue sys t terms beats down up) ∙ manager-with_messages (deed config (record { 0 = c }) x sys.manager).handed (with_manager (left c x (deed config (record { 0 = c }) x sys.manager) sys.manager) (with_channel c ch queue sys))
+    ap (λ (s : Step w). s.after.manager) (step-taken config c ch x queue sys t terms beats down up)
+    ∙ manager-with_messages (deed config (record { 0 = c }) x sys.manager).handed
+    (with_manager (left c x (deed config (record { 0 = c }) x sys.manager) sys.manager) (with_channel c ch queue sys))
 
 -- and what the protocol does then
-pub followed-taken : {w : ℕ} (config : Config) (c : ℕ) (ch : Channel) (x : Beat w) (queue : List (Beat w)) (sys : System w) (h : Shadow w) (t : Terms) → terms_at config c ≡ Some t → sys.channels c ch ≡ x ∷ queue → is_to_client ch ≡ false
+pub followed-taken : {w : ℕ} (config : Config) (c : ℕ) (ch : Channel) (x : Beat w) (queue : List (Beat w)) (sys : System w) (h : Shadow w) (t : Terms)
+    → terms_at config c ≡ Some t → sys.channels c ch ≡ x ∷ queue → is_to_client ch ≡ false
     → IsTakenUp config c ch x sys.manager
     → followed config (Deliver (record { 0 = c }) ch) sys h
     ≡ (if completes x (unfinished ch (receiver ch c sys)) then token_taken config (least_untaken (trackers_of (services sys.manager.trace))) c (tokens_on ch (h.state.link c)) h else h)
 followed-taken {w} config c ch x queue sys h t terms beats down up =
     ap (λ (s : Step w). delivered config c ch s.outcome sys h) (step-taken config c ch x queue sys t terms beats down up)
-    ∙ ap (λ (b : List (Beat w)). if is_last b (unfinished ch (receiver ch c sys)) then token_taken config (least_untaken (trackers_of (services sys.manager.trace))) c (tokens_on ch (h.state.link c)) h else h) beats
+    ∙ ap (λ (b : List (Beat w)). if is_last b (unfinished ch (receiver ch c sys)) then token_taken config
+    (least_untaken (trackers_of (services sys.manager.trace))) c (tokens_on ch (h.state.link c)) h else h) beats
 
-pub manager-followed_c : {w : ℕ} (config : Config) (log : Log w) (h : Shadow w) (sys : System w) (c : ℕ) (x : Beat w) (queue : List (Beat w)) → IsWidth w → IsMatched config log h.mail h.request h.state sys → sys.channels c channel.C ≡ x ∷ queue
+pub manager-followed_c : {w : ℕ} (config : Config) (log : Log w) (h : Shadow w) (sys : System w) (c : ℕ) (x : Beat w) (queue : List (Beat w)) → IsWidth w
+    → IsMatched config log h.mail h.request h.state sys → sys.channels c channel.C ≡ x ∷ queue
     → IsManagerOf config (followed config (Deliver (record { 0 = c }) channel.C) sys h) (stepped config (Deliver (record { 0 = c }) channel.C) sys).after.manager
 manager-followed_c {w} config log h sys c x queue width is beats =
     let t = client-of config c channel.C x queue sys beats (is.sound c channel.C) in
     let d = channel_c-delivered config log (least_untaken (trackers_of (services sys.manager.trace))) h sys c x queue width is beats in
     subst (λ (i : End w). IsManagerOf config (followed config (Deliver (record { 0 = c }) channel.C) sys h) i) (sym (manager-taken config c channel.C x queue sys t.0 t.1 beats refl d.up))
-    (subst (λ (i : Shadow w). IsManagerOf config i (left c x (deed config (record { 0 = c }) x sys.manager) sys.manager)) (sym (followed-taken config c channel.C x queue sys h t.0 t.1 beats refl d.up)) d.manager)
+    (subst (λ (i : Shadow w). IsManagerOf config i (left c x (deed config (record { 0 = c }) x sys.manager) sys.manager))
+    (sym (followed-taken config c channel.C x queue sys h t.0 t.1 beats refl d.up)) d.manager)
 
-pub manager-followed_e : {w : ℕ} (config : Config) (log : Log w) (h : Shadow w) (sys : System w) (c : ℕ) (x : Beat w) (queue : List (Beat w)) → IsWidth w → IsMatched config log h.mail h.request h.state sys → sys.channels c channel.E ≡ x ∷ queue
+pub manager-followed_e : {w : ℕ} (config : Config) (log : Log w) (h : Shadow w) (sys : System w) (c : ℕ) (x : Beat w) (queue : List (Beat w)) → IsWidth w
+    → IsMatched config log h.mail h.request h.state sys → sys.channels c channel.E ≡ x ∷ queue
     → IsManagerOf config (followed config (Deliver (record { 0 = c }) channel.E) sys h) (stepped config (Deliver (record { 0 = c }) channel.E) sys).after.manager
 manager-followed_e {w} config log h sys c x queue width is beats =
     let t = client-of config c channel.E x queue sys beats (is.sound c channel.E) in
     let d = channel_e-delivered config log (least_untaken (trackers_of (services sys.manager.trace))) h sys c x queue width is beats in
     subst (λ (i : End w). IsManagerOf config (followed config (Deliver (record { 0 = c }) channel.E) sys h) i) (sym (manager-taken config c channel.E x queue sys t.0 t.1 beats refl d.up))
-    (subst (λ (i : Shadow w). IsManagerOf config i (left c x (deed config (record { 0 = c }) x sys.manager) sys.manager)) (sym (followed-taken config c channel.E x queue sys h t.0 t.1 beats refl d.up)) d.manager)
+    (subst (λ (i : Shadow w). IsManagerOf config i (left c x (deed config (record { 0 = c }) x sys.manager) sys.manager))
+    (sym (followed-taken config c channel.E x queue sys h t.0 t.1 beats refl d.up)) d.manager)

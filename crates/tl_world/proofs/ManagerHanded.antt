@@ -31,7 +31,12 @@ granted-memory caching c q r d k b some well =
 -- the Grant that is handed out is the one of the token
 pub grant-rendered : {w : ℕ} (config : Config) (caching : ℕ → Bool) (c q n source : ℕ) (r : Report) (whole : Bool) (g : Grow) (h : Shadow w) → source ≡ (h.state.block n).source q
     → IsWell caching (granted_block c q r (is_granted_data whole g ((h.state.block n).pair q).recorded) (gift_after config c n r whole g h) (h.state.block n))
-    → grant_after config c q n source r whole g h ≡ rendered Grant q n (granted_block c q r (is_granted_data whole g ((h.state.block n).pair q).recorded) (gift_after config c n r whole g h) (h.state.block n))
+    → grant_after config c q n source r whole g h ≡ rendered Grant q n
+    (granted_block c q r (is_granted_data whole g ((h.state.block n).pair q).recorded) (gift_after config c n r whole g h) (h.state.block n))
 unfolding rendered
 grant-rendered config caching c q n source r whole g h own well =
-    rw (own, granted-memory caching c q r (is_granted_data whole g ((h.state.block n).pair q).recorded) (gift_after config c n r whole g h) (h.state.block n) (gives-some config.profile whole g _) well) refl
+    rw (
+      own,
+      granted-memory caching c q r (is_granted_data whole g ((h.state.block n).pair q).recorded) (gift_after config c n r whole g h) (h.state.block n)
+          (gives-some config.profile whole g _) well,
+    ) refl

@@ -3,8 +3,8 @@ use Rattle.std.proofs.Common.{◌≡◌, subst, ℕ, List, [], ◌∷◌, Option
 use Rattle.std.specs.Prelude.{⊤}
 use Rattle.tl_beat.specs.Width.{IsWidth}
 use Rattle.tl_beat.specs.declared.beat.Beat.{Beat}
-use Rattle.tl_beat.specs.declared.opcode.Channel.{Channel}
-use Rattle.tl_beat.specs.declared.opcode.Channel.TheVariants as channel
+use Rattle.tl_beat.specs.declared.channel.Channel.{Channel}
+use Rattle.tl_beat.specs.declared.channel.Channel.TheVariants as channel
 use Rattle.tl_params.specs.declared.config.Config.{Config}
 use Rattle.tl_client.specs.Ask as client_ask
 use Rattle.tl_client.specs.End.{Terms}
@@ -33,13 +33,16 @@ IsAllowed config (Deliver link channel.D) terms sys h = IsInvariant (is_caching 
 IsAllowed config event terms sys h = ⊤
 
 -- where a channel is empty
-empty-delivered : {w : ℕ} (config : Config) (log : Log w) (h : Shadow w) (sys : System w) (c : ℕ) (ch : Channel) (terms : Terms) → IsMatched config log h.mail h.request h.state sys → terms_at config c ≡ Some terms → sys.channels c ch ≡ []
+empty-delivered : {w : ℕ} (config : Config) (log : Log w) (h : Shadow w) (sys : System w) (c : ℕ) (ch : Channel) (terms : Terms)
+    → IsMatched config log h.mail h.request h.state sys → terms_at config c ≡ Some terms → sys.channels c ch ≡ []
     → IsManagerOf config (followed config (Deliver (record { 0 = c }) ch) sys h) (stepped config (Deliver (record { 0 = c }) ch) sys).after.manager
 empty-delivered {w} config log h sys c ch terms is client none =
-    subst (λ (s : Step w). IsManagerOf config (delivered config c ch s.outcome sys h) s.after.manager) (sym (stepped-empty config (record { 0 = c }) ch sys terms client none)) (at_manager-matched config log h.mail h.request h.state sys is)
+    subst (λ (s : Step w). IsManagerOf config (delivered config c ch s.outcome sys h) s.after.manager)
+    (sym (stepped-empty config (record { 0 = c }) ch sys terms client none)) (at_manager-matched config log h.mail h.request h.state sys is)
 
 pub manager-kept : {w : ℕ} (config : Config) (log : Log w) (h : Shadow w) (sys : System w) (event : Event w) → IsWidth w → IsMatched config log h.mail h.request h.state sys
-    → ((terms : Terms) → terms_at config (client_of event) ≡ Some terms → IsAllowed config event terms sys h) → IsManagerOf config (followed config event sys h) (stepped config event sys).after.manager
+    → ((terms : Terms) → terms_at config (client_of event) ≡ Some terms → IsAllowed config event terms sys h)
+    → IsManagerOf config (followed config event sys h) (stepped config event sys).after.manager
 manager-kept {w} config log h sys event width is may = go (terms_at config (client_of event)) refl
   where
     reports : (c : ℕ) (terms : Terms) → terms_at config c ≡ Some terms → (xs : List (Beat w)) → sys.channels c channel.C ≡ xs
@@ -52,7 +55,8 @@ manager-kept {w} config log h sys event width is may = go (terms_at config (clie
     acks c terms client [] e = empty-delivered config log h sys c channel.E terms is client e
     acks c terms client (x ∷ queue) e = manager-followed_e config log h sys c x queue width is e
 
-    with_terms : (terms : Terms) (event : Event w) → terms_at config (client_of event) ≡ Some terms → IsAllowed config event terms sys h → IsManagerOf config (followed config event sys h) (stepped config event sys).after.manager
+    with_terms : (terms : Terms) (event : Event w) → terms_at config (client_of event) ≡ Some terms → IsAllowed config event terms sys h
+        → IsManagerOf config (followed config event sys h) (stepped config event sys).after.manager
     with_terms terms (Ask c o) client allowed = at_manager-ask config log h sys c o terms is client allowed
     with_terms terms (Deliver link channel.A) client allowed = at_manager-delivered_a config log h sys link.0 terms width is client
     with_terms terms (Deliver link channel.B) client allowed = at_manager-to_client config log h sys link channel.B terms is client refl allowed

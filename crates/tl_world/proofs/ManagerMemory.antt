@@ -8,7 +8,7 @@ use Rattle.tl_beat.specs.declared.beat.Beat.{Beat}
 use Rattle.tl_beat.specs.declared.beat.Beat.TheVariants as beat
 use Rattle.tl_beat.specs.declared.beat.BeatC.{BeatC}
 use Rattle.tl_beat.specs.declared.beat.Link.{Link}
-use Rattle.tl_beat.specs.declared.opcode.Channel.{Channel}
+use Rattle.tl_beat.specs.declared.channel.Channel.{Channel}
 use Rattle.tl_burst.specs.declared.message.Message.TheVariants as message
 use Rattle.tl_burst.specs.declared.message.MessageA.{MessageA}
 use Rattle.tl_params.specs.declared.config.Config.{Config}
@@ -62,7 +62,8 @@ blocks-now memory later n new s here others known i = elim (cases_eq i n) [
 -- ---- a message of channel C
 
 -- its bytes, where it carries data
-pub block-taken : {w : ℕ} (x : BeatC w) (beats : List (Beat w)) (memory : Memory) (n : ℕ) (carries : Bool) (truth : List ℕ) → block_at x.address ≡ n → c_carries_data x.opcode ≡ carries → (carries ≡ true → payload_of beats ≡ truth) → length truth ≡ 64
+pub block-taken : {w : ℕ} (x : BeatC w) (beats : List (Beat w)) (memory : Memory) (n : ℕ) (carries : Bool) (truth : List ℕ) → block_at x.address ≡ n
+    → c_carries_data x.opcode ≡ carries → (carries ≡ true → payload_of beats ≡ truth) → length truth ≡ 64
     → block_in (written x beats memory) n ≡ (if carries then truth else block_in memory n)
 block-taken x beats memory n carries truth block is payload long = rw is (go carries payload)
   where
@@ -88,7 +89,9 @@ pub block-performed : {w : ℕ} (o : Option Level) (m : MessageA w) (memory : Me
     → block_in (effect (message.A m) memory).0 n ≡ performs m (block_in memory n)
 unfolding effect
 block-performed {w} o m memory n width lawful block =
-    rw (← block) (block-alike (block_at m.address) _ _ (after-local m.opcode m memory (bytes_at (block_at m.address) (block_in memory (block_at m.address))) (room-lawful o m width lawful) (bytes_at-same (block_at m.address) memory)))
+    rw (← block) (block-alike (block_at m.address) _ _
+    (after-local m.opcode m memory (bytes_at (block_at m.address) (block_in memory (block_at m.address))) (room-lawful o m width lawful)
+    (bytes_at-same (block_at m.address) memory)))
 
 -- and so does what it is answered
 pub answer-performed : {w : ℕ} (o : Option Level) (m : MessageA w) (memory : Memory) (n : ℕ) → IsWidth w → illegal_message_at o (message.A m) ≡ None → block_at m.address ≡ n

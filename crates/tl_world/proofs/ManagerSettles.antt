@@ -13,7 +13,7 @@ use Rattle.std.specs.Prelude.{◌==◌, if◌then◌else◌}
 use Rattle.std.proofs.lemmas.Bool.{cases_eq, ne_eqb, not-false}
 use Rattle.tl_beat.specs.declared.beat.Beat.TheVariants as beat
 use Rattle.tl_beat.specs.declared.beat.BeatC.{BeatC}
-use Rattle.tl_beat.specs.declared.opcode.Channel.TheVariants as channel
+use Rattle.tl_beat.specs.declared.channel.Channel.TheVariants as channel
 use Rattle.tl_burst.specs.declared.message.Message.{Message}
 use Rattle.tl_burst.specs.declared.message.Message.TheVariants as message
 use Rattle.tl_burst.specs.declared.message.MessageA.{MessageA}
@@ -79,10 +79,13 @@ pub record IsSettling {w : ℕ} (config : Config) (c q n source k : ℕ) (own : 
 abbrev pub trace_with : {w : ℕ} → ℕ → ℕ → MessageC w → End w → Trace w
 trace_with c k m e = endings.taken c (c_beat_of m k) e.trace
 
-settling-last : {w : ℕ} (config : Config) (c q n source k : ℕ) (own : Bool) (low : Cap) (r : Report) (m : MessageC w) (h : Shadow w) (e : End w) → IsSettling config c q n source k own low r m h e → IsLastOf c n (report_right r) (c_beat_of m k) e.trace
-settling-last config c q n source k own low r m h e at = last-of true c n (report_code r) (same_perm (report_left r) perm.Trunk) (h.state.block n).truth k (report_right r) m e at.end (reported-report r)
+settling-last : {w : ℕ} (config : Config) (c q n source k : ℕ) (own : Bool) (low : Cap) (r : Report) (m : MessageC w) (h : Shadow w) (e : End w)
+    → IsSettling config c q n source k own low r m h e → IsLastOf c n (report_right r) (c_beat_of m k) e.trace
+settling-last config c q n source k own low r m h e at = last-of true c n (report_code r) (same_perm (report_left r) perm.Trunk) (h.state.block n).truth k
+    (report_right r) m e at.end (reported-report r)
 
-settling-all : {w : ℕ} (config : Config) (c q n source k : ℕ) (own : Bool) (low : Cap) (r : Report) (m : MessageC w) (h : Shadow w) (e : End w) → IsSettling config c q n source k own low r m h e → is_settled config n (trace_with c k m e) ≡ true
+settling-all : {w : ℕ} (config : Config) (c q n source k : ℕ) (own : Bool) (low : Cap) (r : Report) (m : MessageC w) (h : Shadow w) (e : End w)
+    → IsSettling config c q n source k own low r m h e → is_settled config n (trace_with c k m e) ≡ true
 settling-all config c q n source k own low r m h e at =
     settled-is config c n (report_right r) (c_beat_of m k) h e (settling-last config c q n source k own low r m h e at) at.end.about.reports at.is.managed ∙ ap not at.alone
 
@@ -94,14 +97,18 @@ pub settling-ready : {w : ℕ} (config : Config) (c q n source k : ℕ) (own : B
     → IsReady config n (service_for q n h.request h.state) (trace_with c k m e)
 settling-ready {w} config c q n source k own low r m h e at =
     subst (λ (i : ℕ). IsReady config i (service_for q n h.request h.state) (trace_with c k m e)) at.end.about.block
-    (report-ready config (record { 0 = c }) (c_beat_of m k) (service_for q n h.request h.state) e (is_taken config (record { 0 = c }) (beat.C (c_beat_of m k)) e at.end.width (passed config (record { 0 = c }) channel.C (beat.C (c_beat_of m k)) e tt at.up.passes) at.is.manager_kept) at.end.about.reports
+    (report-ready config (record { 0 = c }) (c_beat_of m k) (service_for q n h.request h.state) e
+    (is_taken config (record { 0 = c }) (beat.C (c_beat_of m k)) e at.end.width
+    (passed config (record { 0 = c }) channel.C (beat.C (c_beat_of m k)) e tt at.up.passes) at.is.manager_kept) at.end.about.reports
     (ap (λ (i : ℕ). service_of_block i (services (trace_with c k m e))) at.end.about.block ∙ settling-found config c q n source k own low r m h e at)
     (ap (λ (i : ℕ). is_settled config i (trace_with c k m e)) at.end.about.block ∙ settling-all config c q n source k own low r m h e at))
 
 pub settling-deed : {w : ℕ} (config : Config) (c q n source k : ℕ) (own : Bool) (low : Cap) (r : Report) (m : MessageC w) (h : Shadow w) (e : End w) → IsSettling config c q n source k own low r m h e
     → deed config (record { 0 = c }) (beat.C (c_beat_of m k)) e ≡ performed config (service_for q n h.request h.state) (trace_with c k m e) (memory_with (record { 0 = c }) (c_beat_of m k) e)
 settling-deed {w} config c q n source k own low r m h e at =
-    deed-settled config (record { 0 = c }) (c_beat_of m k) (service_for q n h.request h.state) e (ends-it true c n (report_code r) (same_perm (report_left r) perm.Trunk) (h.state.block n).truth k m e at.end) at.end.about.releases at.end.about.reports
+    deed-settled config (record { 0 = c }) (c_beat_of m k) (service_for q n h.request h.state) e
+    (ends-it true c n (report_code r) (same_perm (report_left r) perm.Trunk) (h.state.block n).truth k m e at.end) at.end.about.releases
+    at.end.about.reports
     (ap (λ (i : ℕ). is_settled config i (trace_with c k m e)) at.end.about.block ∙ settling-all config c q n source k own low r m h e at)
     (ap (λ (i : ℕ). service_of_block i (services (trace_with c k m e))) at.end.about.block ∙ settling-found config c q n source k own low r m h e at)
 
@@ -118,13 +125,16 @@ settling-quiet config c q n source k own low r m h e at d other =
 -- the request is lawful
 settling-lawful : {w : ℕ} (config : Config) (c q n source k : ℕ) (own : Bool) (low : Cap) (r : Report) (m : MessageC w) (h : Shadow w) (e : End w) → IsSettling config c q n source k own low r m h e
     → IsPerformable config (service_for q n h.request h.state)
-settling-lawful config c q n source k own low r m h e at = of_served (IsPerformable config) n (services e.trace) (service_for q n h.request h.state) (at.is.managed.serving_is n ∙ rw at.waits refl) at.is.manager_kept.requests
+settling-lawful config c q n source k own low r m h e at = of_served (IsPerformable config) n (services e.trace) (service_for q n h.request h.state)
+    (at.is.managed.serving_is n ∙ rw at.waits refl) at.is.manager_kept.requests
 
-settling-for : {w : ℕ} (config : Config) (c q n source k : ℕ) (own : Bool) (low : Cap) (r : Report) (m : MessageC w) (h : Shadow w) (e : End w) → IsSettling config c q n source k own low r m h e → IsFor (Waits q own source low) n (h.request n)
+settling-for : {w : ℕ} (config : Config) (c q n source k : ℕ) (own : Bool) (low : Cap) (r : Report) (m : MessageC w) (h : Shadow w) (e : End w)
+    → IsSettling config c q n source k own low r m h e → IsFor (Waits q own source low) n (h.request n)
 settling-for config c q n source k own low r m h e at = rw at.waits at (at.is.served.requests n)
 
 -- the answer is the reply of the service
-settling-reply : {w : ℕ} (config : Config) (c q n source k : ℕ) (own : Bool) (low : Cap) (r : Report) (m : MessageC w) (i : MessageD w) (h : Shadow w) (e : End w) → IsSettling config c q n source k own low r m h e
+settling-reply : {w : ℕ} (config : Config) (c q n source k : ℕ) (own : Bool) (low : Cap) (r : Report) (m : MessageC w) (i : MessageD w) (h : Shadow w)
+    (e : End w) → IsSettling config c q n source k own low r m h e
     → i.source ≡ (h.request n).source → is_release_ack i.opcode ≡ false → IsReply n (service_for q n h.request h.state) i (trace_with c k m e)
 settling-reply config c q n source k own low r m i h e at source_is other =
     let ready = settling-ready config c q n source k own low r m h e at in
@@ -144,11 +154,13 @@ settling-reply config c q n source k own low r m i h e at source_is other =
 settling-memory : {w : ℕ} (config : Config) (c q n source k : ℕ) (own : Bool) (low : Cap) (r : Report) (m : MessageC w) (h : Shadow w) (e : End w) → IsSettling config c q n source k own low r m h e
     → block_in (memory_with (record { 0 = c }) (c_beat_of m k) e) n ≡ protocol.written r (h.state.block n).truth (h.state.block n).memory
 settling-memory config c q n source k own low r m h e at =
-    memory-end true c n (report_code r) (same_perm (report_left r) perm.Trunk) (h.state.block n).truth k m e at.end ∙ ap (λ z. if same_perm (report_left r) perm.Trunk then (h.state.block n).truth else z) (at.is.memory n)
+    memory-end true c n (report_code r) (same_perm (report_left r) perm.Trunk) (h.state.block n).truth k m e at.end
+    ∙ ap (λ z. if same_perm (report_left r) perm.Trunk then (h.state.block n).truth else z) (at.is.memory n)
 
 -- ---- an access
 
-answer_is : {w : ℕ} (r : MessageA w) (kind : Answer) → (m : MessageD w) × (access_answer r kind ≡ message.D m) × (is_access_answer m.opcode ≡ true) × (is_release_ack m.opcode ≡ false) × (m.source ≡ r.source)
+answer_is : {w : ℕ} (r : MessageA w) (kind : Answer) → (m : MessageD w) × (access_answer r kind ≡ message.D m) × (is_access_answer m.opcode ≡ true)
+    × (is_release_ack m.opcode ≡ false) × (m.source ≡ r.source)
 answer_is r answer.Ack = (_, refl, refl, refl, refl)
 answer_is r answer.Hint = (_, refl, refl, refl, refl)
 answer_is r (answer.Data payload) = (_, refl, refl, refl, refl)
@@ -165,10 +177,13 @@ deed-ended {w} config c q n source k low r m h e at =
     let memory = memory_with (record { 0 = c }) (c_beat_of m k) e in
     settling-deed config c q n source k false low r m h e at ∙ performed-access config (service_for q n h.request h.state) (trace_with c k m e) memory for.0
     ∙ ap (λ (i : Message w). record { handed = (record { 0 = q }, i) ∷ []; memory = (effect (message.A (h.request n)) memory).0 })
-    (answer-performed (level_of config q) (h.request n) memory n at.end.width (settling-lawful config c q n source k false low r m h e at).lawful for.2 ∙ ap (answers (h.request n)) (settling-memory config c q n source k false low r m h e at))
+    (answer-performed (level_of config q) (h.request n) memory n at.end.width (settling-lawful config c q n source k false low r m h e at).lawful for.2
+    ∙ ap (answers (h.request n)) (settling-memory config c q n source k false low r m h e at))
 
-pub ended-left : {w : ℕ} (config : Config) (c q n source k : ℕ) (low : Cap) (r : Report) (rest : List Token) (m : MessageC w) (h : Shadow w) (e : End w) → IsSettling config c q n source k false low r m h e
-    → IsManagerOf config (with_answer q source (answers (h.request n) (protocol.written r (h.state.block n).truth (h.state.block n).memory)) (with_state (report_answers c q n source r (performs (h.request n)) rest h.state) h))
+pub ended-left : {w : ℕ} (config : Config) (c q n source k : ℕ) (low : Cap) (r : Report) (rest : List Token) (m : MessageC w) (h : Shadow w) (e : End w)
+    → IsSettling config c q n source k false low r m h e
+    → IsManagerOf config (with_answer q source (answers (h.request n) (protocol.written r (h.state.block n).truth (h.state.block n).memory))
+    (with_state (report_answers c q n source r (performs (h.request n)) rest h.state) h))
     (left c (beat.C (c_beat_of m k)) (deed config (record { 0 = c }) (beat.C (c_beat_of m k)) e) e)
 unfolding with_handed
 ended-left {w} config c q n source k low r rest m h e at =
@@ -236,20 +251,24 @@ ended-left {w} config c q n source k low r rest m h e at =
 -- ---- an Acquire
 
 -- the Grant of an Acquire, by what is recorded
-pub grant-made : {w : ℕ} (config : Config) (q n tracker : ℕ) (v : MessageA w) (t : Trace w) (memory : Memory) (whole : Bool) (g : Grow) (unheld : Bool) (p : Perm) → v.opcode ≡ acquire_opcode whole → v.param ≡ grow_code g → block_at v.address ≡ n
+pub grant-made : {w : ℕ} (config : Config) (q n tracker : ℕ) (v : MessageA w) (t : Trace w) (memory : Memory) (whole : Bool) (g : Grow) (unheld : Bool)
+    (p : Perm) → v.opcode ≡ acquire_opcode whole → v.param ≡ grow_code g → block_at v.address ≡ n
     → holders.is_unheld config n t ≡ unheld → recorded q n t ≡ p
-    → grant config (record { tracker = tracker; link = record { 0 = q }; request = v }) t memory ≡ grant_of (GrantSent q (is_granted_data whole g p) (gift config.profile whole g unheld)) v.source tracker (block_in memory n)
+    → grant config (record { tracker = tracker; link = record { 0 = q }; request = v }) t memory ≡ grant_of
+    (GrantSent q (is_granted_data whole g p) (gift config.profile whole g unheld)) v.source tracker (block_in memory n)
 grant-made {w} config q n tracker v t memory whole g unheld p opcode param block none held_is =
     let cap_is : cap_granted config.profile v.opcode v.param (holders.is_unheld config (block_at v.address) t) ≡ gift config.profile whole g unheld = rw (opcode, param, block, none) refl in
     let data_is : handing.is_granted_data v.opcode v.param (recorded q (block_at v.address) t) ≡ is_granted_data whole g p = rw (opcode, param, block, held_is) (data-same whole g p) in
     ap₂ (λ k d. handing.grant_with (record { tracker = tracker; link = record { 0 = q }; request = v }) k d memory) cap_is data_is ∙ go (is_granted_data whole g p)
   where
-    go : (d : Bool) → handing.grant_with (record { tracker = tracker; link = record { 0 = q }; request = v }) (gift config.profile whole g unheld) d memory ≡ grant_of (GrantSent q d (gift config.profile whole g unheld)) v.source tracker (block_in memory n)
+    go : (d : Bool) → handing.grant_with (record { tracker = tracker; link = record { 0 = q }; request = v })
+        (gift config.profile whole g unheld) d memory ≡ grant_of (GrantSent q d (gift config.profile whole g unheld)) v.source tracker (block_in memory n)
     go true = rw block refl
     go false = refl
 
 given_is : {w : ℕ} (q : ℕ) (d : Bool) (k : Cap) (source sink : ℕ) (payload : List ℕ)
-    → (m : MessageD w) × (grant_of (GrantSent q d k) source sink payload ≡ message.D m) × (is_grant m.opcode ≡ true) × (is_release_ack m.opcode ≡ false) × (m.source ≡ source) × (m.sink ≡ sink) × (m.param ≡ cap_code k)
+    → (m : MessageD w) × (grant_of (GrantSent q d k) source sink payload ≡ message.D m) × (is_grant m.opcode ≡ true) × (is_release_ack m.opcode ≡ false)
+    × (m.source ≡ source) × (m.sink ≡ sink) × (m.param ≡ cap_code k)
 given_is q d k source sink payload = let kinds = grants_always d in (_, refl, kinds.0, kinds.1, refl, refl, refl)
 
 -- what is recorded of the block before the Grant
@@ -280,15 +299,19 @@ gift_after config c n r whole g h = gift config.profile whole g (is_unheld (leng
 
 abbrev pub grant_after : {w : ℕ} → Config → ℕ → ℕ → ℕ → ℕ → Report → Bool → Grow → Shadow w → Message w
 grant_after config c q n source r whole g h =
-    grant_of (GrantSent q (is_granted_data whole g ((h.state.block n).pair q).recorded) (gift_after config c n r whole g h)) source (h.state.block n).tracker (protocol.written r (h.state.block n).truth (h.state.block n).memory)
+    grant_of (GrantSent q (is_granted_data whole g ((h.state.block n).pair q).recorded) (gift_after config c n r whole g h)) source (h.state.block n).tracker
+    (protocol.written r (h.state.block n).truth (h.state.block n).memory)
 
 -- what is done: the Grant is handed out, with what the ProbeAcks left of the block
-pub deed-conceded : {w : ℕ} (config : Config) (c q n source k : ℕ) (low : Cap) (r : Report) (whole : Bool) (g : Grow) (m : MessageC w) (h : Shadow w) (e : End w) → IsSettling config c q n source k true low r m h e → IsWanted c q n source whole g h
-    → deed config (record { 0 = c }) (beat.C (c_beat_of m k)) e ≡ record { handed = (record { 0 = q }, grant_after config c q n source r whole g h) ∷ []; memory = memory_with (record { 0 = c }) (c_beat_of m k) e }
+pub deed-conceded : {w : ℕ} (config : Config) (c q n source k : ℕ) (low : Cap) (r : Report) (whole : Bool) (g : Grow) (m : MessageC w) (h : Shadow w)
+    (e : End w) → IsSettling config c q n source k true low r m h e → IsWanted c q n source whole g h
+    → deed config (record { 0 = c }) (beat.C (c_beat_of m k)) e ≡ record
+    { handed = (record { 0 = q }, grant_after config c q n source r whole g h) ∷ []; memory = memory_with (record { 0 = c }) (c_beat_of m k) e }
 deed-conceded {w} config c q n source k low r whole g m h e at wanted =
     settling-deed config c q n source k true low r m h e at ∙ performed-acquire config (service_for q n h.request h.state) u memory for.0
     ∙ ap (λ (i : Message w). record { handed = (record { 0 = q }, i) ∷ []; memory = memory })
-    (grant-made config q n (h.state.block n).tracker (h.request n) u memory whole g unheld ((h.state.block n).pair q).recorded wanted.opcode_is wanted.param_is for.2 none (settling-records config c q n source k true low r m h e at q ∙ mine)
+    (grant-made config q n (h.state.block n).tracker (h.request n) u memory whole g unheld
+    ((h.state.block n).pair q).recorded wanted.opcode_is wanted.param_is for.2 none (settling-records config c q n source k true low r m h e at q ∙ mine)
     ∙ sent)
   where
     u : Trace w
@@ -311,10 +334,12 @@ deed-conceded {w} config c q n source k low r whole g m h e at wanted =
     mine : (pairs_after c r (h.state.block n).pair q).recorded ≡ ((h.state.block n).pair q).recorded
     mine = ap (λ (p : Pair). p.recorded) (set-other c q (after_report r ((h.state.block n).pair c)) (h.state.block n).pair (λ f. wanted.apart (sym f)))
 
-    sent : grant_of (GrantSent q (is_granted_data whole g ((h.state.block n).pair q).recorded) (gift config.profile whole g unheld)) (h.request n).source (h.state.block n).tracker (block_in memory n) ≡ grant_after config c q n source r whole g h
+    sent : grant_of (GrantSent q (is_granted_data whole g ((h.state.block n).pair q).recorded) (gift config.profile whole g unheld)) (h.request n).source
+        (h.state.block n).tracker (block_in memory n) ≡ grant_after config c q n source r whole g h
     sent = rw (for.1, settling-memory config c q n source k true low r m h e at) refl
 
-pub conceded-left : {w : ℕ} (config : Config) (c q n source k : ℕ) (low : Cap) (r : Report) (whole : Bool) (g : Grow) (rest : List Token) (m : MessageC w) (h : Shadow w) (e : End w) → IsSettling config c q n source k true low r m h e → IsWanted c q n source whole g h
+pub conceded-left : {w : ℕ} (config : Config) (c q n source k : ℕ) (low : Cap) (r : Report) (whole : Bool) (g : Grow) (rest : List Token) (m : MessageC w)
+    (h : Shadow w) (e : End w) → IsSettling config c q n source k true low r m h e → IsWanted c q n source whole g h
     → IsManagerOf config (with_state (report_grants c q n r (is_granted_data whole g ((h.state.block n).pair q).recorded) (gift_after config c n r whole g h) rest h.state) h)
     (left c (beat.C (c_beat_of m k)) (deed config (record { 0 = c }) (beat.C (c_beat_of m k)) e) e)
 unfolding with_handed
@@ -329,7 +354,8 @@ conceded-left {w} config c q n source k low r whole g rest m h e at wanted =
       served_with = λ i. still i;
       manager_kept = kept-left config c x does e at.end.width at.up done at.is.manager_kept;
       memory = λ i.
-          blocks-now e.memory does.memory n new h.state (settling-memory config c q n source k true low r m h e at) (others-left config c n x does e at.end.width at.up done at.is.manager_kept at.end.about.block) at.is.memory i;
+          blocks-now e.memory does.memory n new h.state (settling-memory config c q n source k true low r m h e at)
+          (others-left config c n x does e at.end.width at.up done at.is.manager_kept at.end.about.block) at.is.memory i;
       all_live = at.is.all_live;
     })
   where
@@ -357,7 +383,8 @@ conceded-left {w} config c q n source k low r whole g rest m h e at wanted =
     for : IsFor (Waits q true source low) n (h.request n)
     for = settling-for config c q n source k true low r m h e at
 
-    reply : (i : MessageD w) × (grant_after config c q n source r whole g h ≡ message.D i) × (is_grant i.opcode ≡ true) × (is_release_ack i.opcode ≡ false) × (i.source ≡ source) × (i.sink ≡ (h.state.block n).tracker) × (i.param ≡ cap_code given)
+    reply : (i : MessageD w) × (grant_after config c q n source r whole g h ≡ message.D i) × (is_grant i.opcode ≡ true) × (is_release_ack i.opcode ≡ false)
+        × (i.source ≡ source) × (i.sink ≡ (h.state.block n).tracker) × (i.param ≡ cap_code given)
     reply = given_is q data_too given source (h.state.block n).tracker (protocol.written r (h.state.block n).truth (h.state.block n).memory)
 
     conceded : IsConceded c q n source low given r x reply.0 h.request h.state e.trace

@@ -5,8 +5,8 @@ use Rattle.std.specs.Prelude.{◌==◌, if◌then◌else◌, map}
 use Rattle.tl_beat.specs.declared.beat.Beat.{Beat}
 use Rattle.tl_beat.specs.declared.beat.Beat.TheVariants as beat
 use Rattle.tl_beat.specs.declared.beat.BeatE.{BeatE}
-use Rattle.tl_beat.specs.declared.opcode.Channel.{Channel}
-use Rattle.tl_beat.specs.declared.opcode.Channel.TheVariants as channel
+use Rattle.tl_beat.specs.declared.channel.Channel.{Channel}
+use Rattle.tl_beat.specs.declared.channel.Channel.TheVariants as channel
 use Rattle.tl_beat.specs.First.{first_if}
 use Rattle.tl_burst.specs.declared.message.Message.TheVariants as message
 use Rattle.tl_burst.specs.declared.message.MessageA.{MessageA}
@@ -56,8 +56,12 @@ use Rattle.tl_world.proofs.Tokens.{same_number, ordered-first}
 
 -- it is a ProbeAck or a Release
 pub by-first_c : {w : ℕ} (P : List Token → Type 0) (c : ℕ) (mail : Mail w) (s : State (List ℕ)) (sys : System w) (x : Beat w) (queue : List (Beat w)) → IsFirst channel.C c mail s sys x queue
-    → ((n : ℕ) (rest : List Token) → (s.link c).c ≡ token ProbeAck n ∷ rest → IsNext x (unfinished channel.C (on_link c sys.manager.trace)) (rendered ProbeAck c n (s.block n)) (map (message_of mail s c) rest) queue → P (token ProbeAck n ∷ rest))
-    → ((n : ℕ) (rest : List Token) → (s.link c).c ≡ token Release n ∷ rest → IsNext x (unfinished channel.C (on_link c sys.manager.trace)) (rendered Release c n (s.block n)) (map (message_of mail s c) rest) queue → P (token Release n ∷ rest))
+    → ((n : ℕ) (rest : List Token) → (s.link c).c ≡ token ProbeAck n ∷ rest
+    → IsNext x (unfinished channel.C (on_link c sys.manager.trace)) (rendered ProbeAck c n (s.block n)) (map (message_of mail s c) rest) queue
+    → P (token ProbeAck n ∷ rest))
+    → ((n : ℕ) (rest : List Token) → (s.link c).c ≡ token Release n ∷ rest
+    → IsNext x (unfinished channel.C (on_link c sys.manager.trace)) (rendered Release c n (s.block n)) (map (message_of mail s c) rest) queue
+    → P (token Release n ∷ rest))
     → P (s.link c).c
 by-first_c {w} P c mail s sys x queue at report release = subst P (sym at.tokens) (go at.kind at.own at.tokens at.next)
   where
@@ -77,7 +81,9 @@ by-first_c {w} P c mail s sys x queue at report release = subst P (sym at.tokens
 
 -- or a GrantAck
 pub by-first_e : {w : ℕ} (P : List Token → Type 0) (c : ℕ) (mail : Mail w) (s : State (List ℕ)) (sys : System w) (x : Beat w) (queue : List (Beat w)) → IsFirst channel.E c mail s sys x queue
-    → ((n : ℕ) (rest : List Token) → (s.link c).e ≡ token GrantAck n ∷ rest → IsNext x (unfinished channel.E (on_link c sys.manager.trace)) (rendered GrantAck c n (s.block n)) (map (message_of mail s c) rest) queue → P (token GrantAck n ∷ rest))
+    → ((n : ℕ) (rest : List Token) → (s.link c).e ≡ token GrantAck n ∷ rest
+    → IsNext x (unfinished channel.E (on_link c sys.manager.trace)) (rendered GrantAck c n (s.block n)) (map (message_of mail s c) rest) queue
+    → P (token GrantAck n ∷ rest))
     → P (s.link c).e
 by-first_e {w} P c mail s sys x queue at ack = subst P (sym at.tokens) (go at.kind at.own at.tokens at.next)
   where
@@ -149,11 +155,13 @@ seen_cap test (GrantTaken r) c e = absurd (go (c == r) e)
 abbrev NextOrder : {w : ℕ} → Profile → MessageC w → ℕ → History w → Type 0
 NextOrder {w} profile m k t = broken_in_order profile (beat.C (c_beat_of m k)) t ≡ None
 
-by_place : {w : ℕ} (profile : Profile) (m : MessageC w) (k : ℕ) (t : History w) → unfinished channel.C t ≡ begun (message.C m) k → (unfinished channel.C t ≡ [] → NextOrder profile m 0 t) → NextOrder profile m k t
+by_place : {w : ℕ} (profile : Profile) (m : MessageC w) (k : ℕ) (t : History w) → unfinished channel.C t ≡ begun (message.C m) k
+    → (unfinished channel.C t ≡ [] → NextOrder profile m 0 t) → NextOrder profile m k t
 by_place profile m zero t rest first = first rest
 by_place profile m (suc k) t rest first = later-legal profile (message.C m) k t rest
 
-pub report-order : {w : ℕ} (config : Config) (caching : ℕ → Bool) (request : ℕ → MessageA w) (c n k : ℕ) (r : Report) (truth : List ℕ) (carries : Bool) (m : MessageC w) (s : State (List ℕ)) (e : End w) → IsInvariant caching s
+pub report-order : {w : ℕ} (config : Config) (caching : ℕ → Bool) (request : ℕ → MessageA w) (c n k : ℕ) (r : Report) (truth : List ℕ) (carries : Bool)
+    (m : MessageC w) (s : State (List ℕ)) (e : End w) → IsInvariant caching s
     → IsManaged request s e.trace → AreServed request s e.trace → IsKept config e → ((s.block n).pair c).probing ≡ Answered r → IsAbout true n (report_code r) carries truth m
     → unfinished channel.C (on_link c e.trace) ≡ begun (message.C m) k → broken_in_order config.profile (beat.C (c_beat_of m k)) (on_link c e.trace) ≡ None
 report-order {w} config caching request c n k r truth carries m s e inv managed served kept answered about rest = by_place config.profile m k t rest first
@@ -174,7 +182,8 @@ report-order {w} config caching request c n k r truth carries m s e inv managed 
         let missing : pending (key.ProbeOf n) t ≡ true = managed.probes c n ∙ rw answered refl in
         let released : pending (key.ReleaseOf n) t ≡ false = (kept.releases c).blocks n ∙ rw none refl in
         let probe = served.probes c n (rw answered refl) in
-        report-legal config.profile n (cap_waited b.service) r (b.pair c).recorded (c_beat_of m 0) t about.reports about.releases about.block about.param_is none missing released probe (managed.recorded_is c n) told
+        report-legal config.profile n (cap_waited b.service) r (b.pair c).recorded
+        (c_beat_of m 0) t about.reports about.releases about.block about.param_is none missing released probe (managed.recorded_is c n) told
 
 -- ---- a Release
 
@@ -190,7 +199,8 @@ pruned prune.TtoN p e = e
 pruned prune.BtoN p e = e
 
 -- a Release that is first has no ProbeAck of its block behind it
-pub unanswered : (caching : ℕ → Bool) (c n : ℕ) (rest : List Token) (s : State (List ℕ)) → IsInvariant caching s → (s.link c).c ≡ token Release n ∷ rest → is_answered ((s.block n).pair c).probing ≡ false
+pub unanswered : (caching : ℕ → Bool) (c n : ℕ) (rest : List Token) (s : State (List ℕ)) → IsInvariant caching s → (s.link c).c ≡ token Release n ∷ rest
+    → is_answered ((s.block n).pair c).probing ≡ false
 unfolding count
 unanswered caching c n rest s inv first =
     let behind = ordered-first n (s.link c).c rest (token Release n) first (rw (same_number n) refl) (inv.ordered c n) in
@@ -202,7 +212,8 @@ unanswered caching c n rest s inv first =
     none true e = absurd (omega (arith, e))
     none false e = refl
 
-pub release-order : {w : ℕ} (config : Config) (caching : ℕ → Bool) (request : ℕ → MessageA w) (c n k : ℕ) (r : Prune) (rest : List Token) (truth : List ℕ) (carries : Bool) (m : MessageC w) (s : State (List ℕ)) (e : End w) → IsInvariant caching s
+pub release-order : {w : ℕ} (config : Config) (caching : ℕ → Bool) (request : ℕ → MessageA w) (c n k : ℕ) (r : Prune) (rest : List Token) (truth : List ℕ)
+    (carries : Bool) (m : MessageC w) (s : State (List ℕ)) (e : End w) → IsInvariant caching s
     → IsManaged request s e.trace → IsKept config e → (s.link c).c ≡ token Release n ∷ rest → ((s.block n).pair c).letting ≡ Releasing r → IsAbout false n (prune_code r) carries truth m
     → unfinished channel.C (on_link c e.trace) ≡ begun (message.C m) k → broken_in_order config.profile (beat.C (c_beat_of m k)) (on_link c e.trace) ≡ None
 unfolding broken_order
@@ -231,14 +242,16 @@ release-order {w} config caching request c n k r rest truth carries m s e inv ma
         let releases : pending (key.ReleaseOf n) t ≡ false = (kept.releases c).blocks n ∙ rw none refl in
         let legal : prunes_from (prune_of (prune_code r)) (held n t) ≡ true = rw (managed.recorded_is c n) (pruned r (b.pair c).recorded fits) in
         rw (none, about.releases, about.block, about.param_is)
-        (release_rules (pending (key.ReleaseSource m.source) t) (pending (key.AcquireOf n) t) (pending (key.ReleaseOf n) t) (prunes_from (prune_of (prune_code r)) (held n t)) used acquires releases legal)
+        (release_rules (pending (key.ReleaseSource m.source) t) (pending (key.AcquireOf n) t) (pending (key.ReleaseOf n) t)
+        (prunes_from (prune_of (prune_code r)) (held n t)) used acquires releases legal)
 
 -- ---- a GrantAck
 
 ack_rule : (pends coming : Bool) → pends ≡ true → coming ≡ false → first_if (not pends || coming) H8 None ≡ None
 ack_rule pends coming e f = rw (e, f) refl
 
-pub ack-order : {w : ℕ} (config : Config) (request : ℕ → MessageA w) (c n : ℕ) (x : BeatE) (s : State (List ℕ)) (e : End w) → AreNamed s → AreServed request s e.trace → IsKept config e → (s.block n).service ≡ GrantTaken c
+pub ack-order : {w : ℕ} (config : Config) (request : ℕ → MessageA w) (c n : ℕ) (x : BeatE) (s : State (List ℕ)) (e : End w) → AreNamed s
+    → AreServed request s e.trace → IsKept config e → (s.block n).service ≡ GrantTaken c
     → x.sink ≡ (s.block n).tracker → (pending (key.GrantSink x.sink) (on_link c e.trace) ≡ true) × (broken_in_order {w = w} config.profile (beat.E x) (on_link c e.trace) ≡ None)
 unfolding broken_order
 ack-order {w} config request c n x s e named served kept taken_is sink =

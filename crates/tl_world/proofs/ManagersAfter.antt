@@ -5,8 +5,8 @@ use Rattle.std.proofs.lemmas.List.Elements.{All-head}
 use Rattle.tl_beat.specs.Width.{IsWidth}
 use Rattle.tl_beat.specs.declared.beat.Beat.{Beat}
 use Rattle.tl_beat.specs.declared.beat.Link.{Link}
-use Rattle.tl_beat.specs.declared.opcode.Channel.{Channel}
-use Rattle.tl_beat.specs.declared.opcode.Channel.TheVariants as channel
+use Rattle.tl_beat.specs.declared.channel.Channel.{Channel}
+use Rattle.tl_beat.specs.declared.channel.Channel.TheVariants as channel
 use Rattle.tl_beat.specs.declared.opcode.OpB.TheVariants as opb
 use Rattle.tl_burst.specs.declared.message.Message.{Message}
 use Rattle.tl_burst.specs.declared.message.Message.TheVariants as message
@@ -113,7 +113,8 @@ request_channel config c source (message.C m) h = absurd (let e = h.0 in cc)
 request_channel config c source (message.D m) h = absurd (let e = h.0 in cc)
 request_channel config c source (message.E m) h = absurd (let e = h.0 in cc)
 
-rendered_channel : (w : ℕ) (ch : Channel) (k : Kind) (c n : ℕ) (b : Block (List ℕ)) → is_to_client ch ≡ false → is_on ch k ≡ true → (k ≡ Request → ⊥) → channel_of_message (rendered {w = w} k c n b) ≡ ch
+rendered_channel : (w : ℕ) (ch : Channel) (k : Kind) (c n : ℕ) (b : Block (List ℕ)) → is_to_client ch ≡ false → is_on ch k ≡ true → (k ≡ Request → ⊥)
+    → channel_of_message (rendered {w = w} k c n b) ≡ ch
 unfolding rendered
 rendered_channel w channel.A Acquire c n b down own other = acquire_channel w (b.pair c).acquiring (b.source c) n
 rendered_channel w channel.A Request c n b down own other = absurd (other refl)
@@ -155,19 +156,25 @@ pub record IsAtManager {w : ℕ} (config : Config) (log : Log w) (link : Link) (
   pub beats : (after config log).channels link.0 ch ≡ x ∷ queue
   pub heard : HasTaken link.0 x (after config log).manager (slave.taken link x (deed config link x (after config log).manager) (after config log).manager)
   pub step_is : stepped config (Deliver link ch) (after config log)
-      ≡ handing (outcome.Moved x) (deed config link x (after config log).manager).handed (with_manager (slave.taken link x (deed config link x (after config log).manager) (after config log).manager) (with_channel link.0 ch queue (after config log)))
+      ≡ handing (outcome.Moved x) (deed config link x (after config log).manager).handed
+      (with_manager (slave.taken link x (deed config link x (after config log).manager) (after config log).manager)
+      (with_channel link.0 ch queue (after config log)))
   pub follows : followed config (Deliver link ch) (after config log) h
       ≡ (if completes x (unfinished ch (receiver ch link.0 (after config log))) then kind_taken config (next_tracker (after config log)) link.0 first.kind first.number first.rest h else h)
 
-pub at-manager : {w : ℕ} (config : Config) (log : Log w) (link : Link) (ch : Channel) (h : Shadow w) (terms : client.Terms) (x : Beat w) (queue : List (Beat w)) → IsWidth w → IsMatched config log h.mail h.request h.state (after config log)
-    → terms_at config link.0 ≡ Some terms → is_to_client ch ≡ false → (after config log).channels link.0 ch ≡ x ∷ queue → is_moving (stepped config (Deliver link ch) (after config log)).outcome ≡ true → IsAtManager config log link ch h x queue
+pub at-manager : {w : ℕ} (config : Config) (log : Log w) (link : Link) (ch : Channel) (h : Shadow w) (terms : client.Terms) (x : Beat w) (queue : List (Beat w))
+    → IsWidth w → IsMatched config log h.mail h.request h.state (after config log)
+    → terms_at config link.0 ≡ Some terms → is_to_client ch ≡ false → (after config log).channels link.0 ch ≡ x ∷ queue
+    → is_moving (stepped config (Deliver link ch) (after config log)).outcome ≡ true → IsAtManager config log link ch h x queue
 at-manager {w} config log link ch h terms x queue width is known down beats moving =
     let first = first-token (is_caching config) ch link.0 h.mail h.state (after config log) x queue width is.invariant is.carried beats in
     let t = manager-moves config link ch (after config log) terms x queue known beats down moving in
     let chan = message_channel first.kind first.number first.tokens first.own in
     record {
       first = first;
-      on_it = subst (λ (i : Channel). IsOn i x) chan (subst (λ (z : Beat w). IsOn (channel_of_message (message_of_kind first.kind h.mail h.state link.0 first.number)) z) (sym first.next.beat_is) (on_message (message_of_kind first.kind h.mail h.state link.0 first.number) first.next.k));
+      on_it = subst (λ (i : Channel). IsOn i x) chan (subst
+          (λ (z : Beat w). IsOn (channel_of_message (message_of_kind first.kind h.mail h.state link.0 first.number)) z) (sym first.next.beat_is)
+          (on_message (message_of_kind first.kind h.mail h.state link.0 first.number) first.next.k));
       of_it = ap (λ (z : Beat w). channel_of z) first.next.beat_is ∙ channel_of_beat (message_of_kind first.kind h.mail h.state link.0 first.number) first.next.k ∙ chan;
       beats = beats;
       heard = manager-heard config link ch x queue (after config log) (stepped config (Deliver link ch) (after config log)) width head.typed is.manager_kept t;
@@ -179,10 +186,13 @@ at-manager {w} config log link ch h terms x queue width is known down beats movi
     head : manager.IsSound config (record { 0 = link.0 }, x)
     head = All-head (λ y. manager.IsSound config (record { 0 = link.0 }, y)) x queue (same beats (is.sound link.0 ch))
       where
-        same : (after config log).channels link.0 ch ≡ x ∷ queue → All (λ y. manager.IsSound config (record { 0 = link.0 }, y)) ((after config log).channels link.0 ch) → All (λ y. manager.IsSound config (record { 0 = link.0 }, y)) (x ∷ queue)
+        same : (after config log).channels link.0 ch ≡ x ∷ queue
+            → All (λ y. manager.IsSound config (record { 0 = link.0 }, y)) ((after config log).channels link.0 ch)
+            → All (λ y. manager.IsSound config (record { 0 = link.0 }, y)) (x ∷ queue)
         same e f = rw e at f
 
-    message_channel : (k : Kind) (i : ℕ) {rest : List Token} → tokens_on ch (h.state.link link.0) ≡ token k i ∷ rest → is_on ch k ≡ true → channel_of_message (message_of_kind k h.mail h.state link.0 i) ≡ ch
+    message_channel : (k : Kind) (i : ℕ) {rest : List Token} → tokens_on ch (h.state.link link.0) ≡ token k i ∷ rest → is_on ch k ≡ true
+        → channel_of_message (message_of_kind k h.mail h.state link.0 i) ≡ ch
     message_channel Request i {rest} tokens own = asked ch tokens own
       where
         asked : (at : Channel) → tokens_on at (h.state.link link.0) ≡ token Request i ∷ rest → is_on at Request ≡ true → channel_of_message (h.mail.request link.0 i) ≡ at
@@ -215,18 +225,23 @@ after_taken config link ch x queue sys handed = with_messages handed (with_manag
 
 -- What is left to show of the last beat of a message: what the manager hands out, and that the channels and the one
 -- memory are those of the protocol then.
-pub delivered-last : {w : ℕ} (config : Config) (log : Log w) (link : Link) (ch : Channel) (h : Shadow w) (x : Beat w) (queue : List (Beat w)) (handed : Handed w) (pushes : ℕ → Channel → Option (Message w)) → is_to_client ch ≡ false
+pub delivered-last : {w : ℕ} (config : Config) (log : Log w) (link : Link) (ch : Channel) (h : Shadow w) (x : Beat w) (queue : List (Beat w))
+    (handed : Handed w) (pushes : ℕ → Channel → Option (Message w)) → is_to_client ch ≡ false
     → (is : IsAtManager config log link ch h x queue) → completes x (unfinished ch (receiver ch link.0 (after config log))) ≡ true → (deed config link x (after config log).manager).handed ≡ handed
     → ((d : ℕ) (at : Channel) → (after_taken config link ch x queue (after config log) handed).channels d at ≡ behind (pushes d at) ((with_channel link.0 ch queue (after config log)).channels d at))
     → (IsTaken link.0 ch x queue pushes (after config log) (after_taken config link ch x queue (after config log) handed)
-    → AreCarried (kind_taken config (next_tracker (after config log)) link.0 is.first.kind is.first.number is.first.rest h).mail (kind_taken config (next_tracker (after config log)) link.0 is.first.kind is.first.number is.first.rest h).state
+    → AreCarried (kind_taken config (next_tracker (after config log)) link.0 is.first.kind is.first.number is.first.rest h).mail
+    (kind_taken config (next_tracker (after config log)) link.0 is.first.kind is.first.number is.first.rest h).state
     (after_taken config link ch x queue (after config log) handed))
-    → IsBeside (kind_taken config (next_tracker (after config log)) link.0 is.first.kind is.first.number is.first.rest h).mail (kind_taken config (next_tracker (after config log)) link.0 is.first.kind is.first.number is.first.rest h).state
+    → IsBeside (kind_taken config (next_tracker (after config log)) link.0 is.first.kind is.first.number is.first.rest h).mail
+    (kind_taken config (next_tracker (after config log)) link.0 is.first.kind is.first.number is.first.rest h).state
     (performing (accesses_answered handed) (remembered config log))
     → IsDelivered config log link ch h
 delivered-last {w} config log link ch h x queue handed pushes down is last gives pushed carried beside =
     delivered_as config log link ch h h' (is.follows ∙ ap (λ (b : Bool). if b then h' else h) last)
-    (subst (λ (y : Step w). AreCarried h'.mail h'.state y.after) (sym step_is) (carried (taken-landed link.0 ch x queue pushes sys now.after (landed-manager link.0 ch x queue pushes handed e sys down is.beats is.on_it is.heard pushed) last)))
+    (subst (λ (y : Step w). AreCarried h'.mail h'.state y.after) (sym step_is)
+    (carried (taken-landed link.0 ch x queue pushes sys now.after
+    (landed-manager link.0 ch x queue pushes handed e sys down is.beats is.on_it is.heard pushed) last)))
     (subst (λ (m : Machine w). IsBeside h'.mail h'.state m) (sym (remembered_after config log link ch now step_is)) beside)
   where
     sys : System w
@@ -253,13 +268,15 @@ receiver_down channel.E c sys e = refl
 receiver_down channel.B c sys e = absurd cc
 receiver_down channel.D c sys e = absurd cc
 
-pub delivered-part : {w : ℕ} (config : Config) (log : Log w) (link : Link) (ch : Channel) (h : Shadow w) (x : Beat w) (queue : List (Beat w)) → IsWidth w → IsMatched config log h.mail h.request h.state (after config log) → is_to_client ch ≡ false
+pub delivered-part : {w : ℕ} (config : Config) (log : Log w) (link : Link) (ch : Channel) (h : Shadow w) (x : Beat w) (queue : List (Beat w)) → IsWidth w
+    → IsMatched config log h.mail h.request h.state (after config log) → is_to_client ch ≡ false
     → IsAtManager config log link ch h x queue → completes x (unfinished ch (receiver ch link.0 (after config log))) ≡ false → IsDelivered config log link ch h
 unfolding with_messages performing accesses_answered
 delivered-part {w} config log link ch h x queue width matched down is part =
     delivered_as config log link ch h h (is.follows ∙ ap (λ (b : Bool). if b then kind_taken config (next_tracker sys) link.0 is.first.kind is.first.number is.first.rest h else h) part)
     (subst (λ (y : Step w). AreCarried h.mail h.state y.after) (sym step_is)
-    (carried-part h.mail h.state link.0 ch x queue (λ d at. None) sys now.after width (landed-manager link.0 ch x queue (λ d at. None) [] e sys down is.beats is.on_it is.heard (λ d at. refl)) (λ d at. refl) part matched.carried))
+    (carried-part h.mail h.state link.0 ch x queue (λ d at. None) sys now.after width
+    (landed-manager link.0 ch x queue (λ d at. None) [] e sys down is.beats is.on_it is.heard (λ d at. refl)) (λ d at. refl) part matched.carried))
     (subst (λ (m : Machine w). IsBeside h.mail h.state m) (sym (remembered_after config log link ch now step_is)) matched.beside)
   where
     sys : System w

@@ -25,7 +25,8 @@ pub record IsAtManager {w : ℕ} (config : Config) (mail : Mail w) (request : �
   pub memory : (n : ℕ) → bytes_from e.memory (64 * n) 64 ≡ (s.block n).memory
   pub all_live : e.closed ≡ []
 
-pub at_manager-matched : {w : ℕ} (config : Config) (log : Log w) (mail : Mail w) (request : ℕ → MessageA w) (s : State (List ℕ)) (sys : System w) → IsMatched config log mail request s sys → IsAtManager config mail request s sys.manager
+pub at_manager-matched : {w : ℕ} (config : Config) (log : Log w) (mail : Mail w) (request : ℕ → MessageA w) (s : State (List ℕ)) (sys : System w)
+    → IsMatched config log mail request s sys → IsAtManager config mail request s sys.manager
 at_manager-matched config log mail request s sys is = record {
   managed = is.managed;
   served = is.served;
@@ -36,7 +37,8 @@ at_manager-matched config log mail request s sys is = record {
 }
 
 -- the values of the trace give all else
-pub at_manager-traced : {w : ℕ} (caching : ℕ → Bool) (config : Config) (mail : Mail w) (request : ℕ → MessageA w) (s : State (List ℕ)) (e : End w) → IsInvariant caching s → IsKept config e → IsTraced request s e.trace
+pub at_manager-traced : {w : ℕ} (caching : ℕ → Bool) (config : Config) (mail : Mail w) (request : ℕ → MessageA w) (s : State (List ℕ)) (e : End w)
+    → IsInvariant caching s → IsKept config e → IsTraced request s e.trace
     → ((n : ℕ) → IsServedWith mail (s.block n).service (request n)) → ((n : ℕ) → bytes_from e.memory (64 * n) 64 ≡ (s.block n).memory) → e.closed ≡ [] → IsAtManager config mail request s e
 at_manager-traced caching config mail request s e inv kept is with memory live = record {
   managed = managed-traced caching config request s e inv kept is;
@@ -59,7 +61,8 @@ same_with mail (Waits r own source k) after m e ok = rw e ok
 same_with mail (GrantTaken r) after m e ok = rw e ok
 
 -- what the manager's end knows stays, where the blocks are the same to it
-pub at_manager-same : {w : ℕ} (caching : ℕ → Bool) (config : Config) (mail : Mail w) (request : ℕ → MessageA w) (s u : State (List ℕ)) (e : End w) → IsInvariant caching u → IsSameToManager s u → ((n : ℕ) → (u.block n).memory ≡ (s.block n).memory)
+pub at_manager-same : {w : ℕ} (caching : ℕ → Bool) (config : Config) (mail : Mail w) (request : ℕ → MessageA w) (s u : State (List ℕ)) (e : End w)
+    → IsInvariant caching u → IsSameToManager s u → ((n : ℕ) → (u.block n).memory ≡ (s.block n).memory)
     → IsAtManager config mail request s e → IsAtManager config mail request u e
 at_manager-same caching config mail request s u e inv same memory is = at_manager-traced caching config mail request u e inv is.manager_kept
     (traced-same request s u e.trace same (traced-known request s e.trace is.managed is.served))

@@ -3,8 +3,8 @@ use Rattle.std.proofs.Common.{◌≡◌, ℕ, Bool, true, false, List, [], ◌�
 use Rattle.tl_beat.specs.Width.{IsWidth}
 use Rattle.tl_beat.specs.declared.beat.Beat.{Beat}
 use Rattle.tl_beat.specs.declared.beat.Link.{Link}
-use Rattle.tl_beat.specs.declared.opcode.Channel.{Channel}
-use Rattle.tl_beat.specs.declared.opcode.Channel.TheVariants as channel
+use Rattle.tl_beat.specs.declared.channel.Channel.{Channel}
+use Rattle.tl_beat.specs.declared.channel.Channel.TheVariants as channel
 use Rattle.tl_params.specs.declared.config.Config.{Config}
 use Rattle.tl_client.specs.declared.operation.Op.{Op}
 use Rattle.tl_client.specs.Ask as ask
@@ -59,7 +59,9 @@ not_moving {w} x y e moving still = let no : true ≡ false = sym moving ∙ ap 
 
 -- ---- the channels and the one memory after any delivery
 
-delivered-a : {w : ℕ} (config : Config) (log : Log w) (c : ℕ) (h : Shadow w) (terms : Terms) → IsWidth w → IsMatched config log h.mail h.request h.state (after config log) → terms_at config c ≡ Some terms → IsDelivered config log (record { 0 = c }) channel.A h
+delivered-a : {w : ℕ} (config : Config) (log : Log w) (c : ℕ) (h : Shadow w) (terms : Terms) → IsWidth w
+    → IsMatched config log h.mail h.request h.state (after config log) → terms_at config c ≡ Some terms
+    → IsDelivered config log (record { 0 = c }) channel.A h
 unfolding remembered
 delivered-a {w} config log c h terms width is at =
     let sys : System w = after config log in
@@ -72,13 +74,15 @@ delivered-a {w} config log c h terms width is at =
       beside = beside-delivered_a config log h sys c terms (moved event (stepped config event sys).outcome m) width is at (subst (IsBeside h.mail h.state) (sym still) is.beside);
     }
 
-delivered-all : {w : ℕ} (config : Config) (log : Log w) (link : Link) (ch : Channel) (h : Shadow w) → IsWidth w → IsMatched config log h.mail h.request h.state (after config log) → IsDelivered config log link ch h
+delivered-all : {w : ℕ} (config : Config) (log : Log w) (link : Link) (ch : Channel) (h : Shadow w) → IsWidth w
+    → IsMatched config log h.mail h.request h.state (after config log) → IsDelivered config log link ch h
 delivered-all {w} config log link ch h width is = go (is_moving (stepped config (Deliver link ch) sys).outcome) refl
   where
     sys : System w
     sys = after config log
 
-    moves : (at : Channel) (terms : Terms) (beats : List (Beat w)) → terms_at config link.0 ≡ Some terms → sys.channels link.0 at ≡ beats → is_moving (stepped config (Deliver link at) sys).outcome ≡ true → IsDelivered config log link at h
+    moves : (at : Channel) (terms : Terms) (beats : List (Beat w)) → terms_at config link.0 ≡ Some terms → sys.channels link.0 at ≡ beats
+        → is_moving (stepped config (Deliver link at) sys).outcome ≡ true → IsDelivered config log link at h
     moves at terms [] known none moving = absurd (not_moving _ _ (stepped-empty config link at sys terms known none) moving refl)
     moves channel.A terms (x ∷ queue) known beats moving = delivered-a config log link.0 h terms width is known
     moves channel.B terms (x ∷ queue) known beats moving = delivered-b config log link h terms x queue width is known beats moving
@@ -98,15 +102,18 @@ delivered-all {w} config log link ch h width is = go (is_moving (stepped config 
 
 record IsFollowed {w : ℕ} (config : Config) (log : Log w) (event : Event w) (h : Shadow w) : Type 0 where
   pub carried : AreCarried (followed config event (after config log) h).mail (followed config event (after config log) h).state (stepped config event (after config log)).after
-  pub beside : IsBeside (followed config event (after config log) h).mail (followed config event (after config log) h).state (remembered config ((event, (stepped config event (after config log)).outcome) ∷ log))
+  pub beside : IsBeside (followed config event (after config log) h).mail (followed config event (after config log) h).state
+      (remembered config ((event, (stepped config event (after config log)).outcome) ∷ log))
 
 -- where this is the step
 abbrev FollowedBy : {w : ℕ} → Config → Log w → Event w → Shadow w → Step w → Type 0
 FollowedBy config log event h x =
     AreCarried (followed_by config event x.outcome (after config log) h).mail (followed_by config event x.outcome (after config log) h).state x.after
-    × IsBeside (followed_by config event x.outcome (after config log) h).mail (followed_by config event x.outcome (after config log) h).state (performing (accesses_answered x.handed) (moved event x.outcome (remembered config log)))
+    × IsBeside (followed_by config event x.outcome (after config log) h).mail (followed_by config event x.outcome (after config log) h).state
+    (performing (accesses_answered x.handed) (moved event x.outcome (remembered config log)))
 
-asked-all : {w : ℕ} (config : Config) (log : Log w) (c : ℕ) (o : Op w) (h : Shadow w) → IsWidth w → IsMatched config log h.mail h.request h.state (after config log) → FollowedBy config log (Ask c o) h (stepped config (Ask c o) (after config log))
+asked-all : {w : ℕ} (config : Config) (log : Log w) (c : ℕ) (o : Op w) (h : Shadow w) → IsWidth w
+    → IsMatched config log h.mail h.request h.state (after config log) → FollowedBy config log (Ask c o) h (stepped config (Ask c o) (after config log))
 unfolding remembered performing accesses_answered
 asked-all {w} config log c o h width is = go (terms_at config c) refl
   where
@@ -118,7 +125,8 @@ asked-all {w} config log c o h width is = go (terms_at config c) refl
     go (Some terms) known =
         let r = (ask.asked terms o (sys.clients c)).reply in
         let replied : (stepped config (Ask c o) sys).outcome ≡ outcome.Replied r = ap (λ (x : Step w). x.outcome) (stepped-asked config c o sys terms known) in (
-          subst (λ (x : Outcome w). AreCarried (followed_by config (Ask c o) x sys h).mail (followed_by config (Ask c o) x sys h).state (stepped config (Ask c o) sys).after) (sym replied) (carried-ask config log h sys c terms o width is known),
+          subst (λ (x : Outcome w). AreCarried (followed_by config (Ask c o) x sys h).mail (followed_by config (Ask c o) x sys h).state
+              (stepped config (Ask c o) sys).after) (sym replied) (carried-ask config log h sys c terms o width is known),
           subst
               (λ (x : Outcome w). IsBeside (followed_by config (Ask c o) x sys h).mail (followed_by config (Ask c o) x sys h).state
               (performing (accesses_answered (stepped config (Ask c o) sys).handed) (moved (Ask c o) x (remembered config log)))) (sym replied)
@@ -132,15 +140,18 @@ followed-all config log (Deliver link ch) h width is = let all = delivered-all c
 
 -- ---- all that is kept, after an event
 
-sized-followed : {w : ℕ} (config : Config) (log : Log w) (h : Shadow w) (sys : System w) (event : Event w) → IsWidth w → IsMatched config log h.mail h.request h.state sys → IsTyped event → AllSized (followed config event sys h).state
+sized-followed : {w : ℕ} (config : Config) (log : Log w) (h : Shadow w) (sys : System w) (event : Event w) → IsWidth w
+    → IsMatched config log h.mail h.request h.state sys → IsTyped event → AllSized (followed config event sys h).state
 unfolding stepped
 sized-followed {w} config log h sys (Ask c o) width is typed =
     asked-cases config log h.mail h.request h.state sys c o (terms_at config c) (λ (i : Shadow w). AllSized i.state) refl is.sized
     (λ terms at. sized-asked (is_caching config) c o (ask.asked terms o (sys.clients c)).reply h is.invariant typed (asked-well config log h sys c terms o width is at).word is.sized)
 sized-followed {w} config log h sys (Deliver link ch) width is typed =
-    delivered-cases config log h.mail h.request h.state sys link ch (λ (i : Shadow w). AllSized i.state) width is is.sized (λ x queue d. sized-kind_taken config (next_tracker sys) link.0 d.first.kind d.first.number d.first.rest h is.sized)
+    delivered-cases config log h.mail h.request h.state sys link ch (λ (i : Shadow w). AllSized i.state) width is is.sized
+    (λ x queue d. sized-kind_taken config (next_tracker sys) link.0 d.first.kind d.first.number d.first.rest h is.sized)
 
-strangers-followed : {w : ℕ} (config : Config) (log : Log w) (h : Shadow w) (sys : System w) (event : Event w) → IsWidth w → IsMatched config log h.mail h.request h.state sys → AreStrange config (followed config event sys h).state.uses
+strangers-followed : {w : ℕ} (config : Config) (log : Log w) (h : Shadow w) (sys : System w) (event : Event w) → IsWidth w
+    → IsMatched config log h.mail h.request h.state sys → AreStrange config (followed config event sys h).state.uses
 strangers-followed {w} config log h sys event width is =
     followed-cases config log h.mail h.request h.state sys event (λ (i : Shadow w). AreStrange config i.state.uses) width is is.strangers
     (λ terms c o at. strangers-asked config c o (ask.asked terms o (sys.clients c)).reply h terms at is.strangers)
@@ -163,7 +174,9 @@ acquired-followed {w} config log h sys event width is =
     (λ terms c o at. asked-acquired (is_caching config) c o (ask.asked terms o (sys.clients c)).reply h is.invariant (askable config log h.mail h.request h.state sys terms c o is at) is.acquired)
     (λ link ch x queue d. kind_taken-acquired config (next_tracker sys) link.0 d.first.kind d.first.number d.first.rest h is.acquired)
 
-allowed : {w : ℕ} (config : Config) (log : Log w) (h : Shadow w) (sys : System w) (event : Event w) → IsWidth w → IsMatched config log h.mail h.request h.state sys → (terms : Terms) → terms_at config (client_of event) ≡ Some terms → IsAllowed config event terms sys h
+allowed : {w : ℕ} (config : Config) (log : Log w) (h : Shadow w) (sys : System w) (event : Event w) → IsWidth w
+    → IsMatched config log h.mail h.request h.state sys → (terms : Terms) → terms_at config (client_of event) ≡ Some terms
+    → IsAllowed config event terms sys h
 allowed config log h sys (Ask c o) width is terms at = askable config log h.mail h.request h.state sys terms c o is at
 allowed config log h sys (Deliver link channel.A) width is terms at = tt
 allowed config log h sys (Deliver link channel.B) width is terms at = invariant-followed config log h.mail h.request h.state sys (Deliver link channel.B) width is
@@ -173,7 +186,8 @@ allowed config log h sys (Deliver link channel.E) width is terms at = tt
 
 -- what is kept of the whole is kept by an event
 pub matched-event : {w : ℕ} (config : Config) (log : Log w) (h : Shadow w) (event : Event w) → IsWidth w → IsTyped event → IsMatched config log h.mail h.request h.state (after config log)
-    → IsMatched config ((event, (stepped config event (after config log)).outcome) ∷ log) (followed config event (after config log) h).mail (followed config event (after config log) h).request (followed config event (after config log) h).state
+    → IsMatched config ((event, (stepped config event (after config log)).outcome) ∷ log) (followed config event (after config log) h).mail
+    (followed config event (after config log) h).request (followed config event (after config log) h).state
     (stepped config event (after config log)).after
 matched-event {w} config log h event width typed is = record {
   invariant = invariant-followed config log h.mail h.request h.state sys event width is;
@@ -222,11 +236,13 @@ shadow config [] = first_shadow
 shadow config (x ∷ log) = followed config x.0 (after config log) (shadow config log)
 
 -- What is kept of the whole holds after every log.
-pub matched : {w : ℕ} (config : Config) (log : Log w) → IsWidth w → AreTyped log → IsLog config log → IsMatched config log (shadow config log).mail (shadow config log).request (shadow config log).state (after config log)
+pub matched : {w : ℕ} (config : Config) (log : Log w) → IsWidth w → AreTyped log → IsLog config log
+    → IsMatched config log (shadow config log).mail (shadow config log).request (shadow config log).state (after config log)
 unfolding shadow after AreTyped IsLog
 matched config [] width typed is = fresh-matched config
 matched {w} config (x ∷ log) width typed is =
     let sys : System w = after config log in
     let h : Shadow w = shadow config log in
     let h' : Shadow w = followed config x.0 sys h in
-    subst (λ (o : Outcome w). IsMatched config ((x.0, o) ∷ log) h'.mail h'.request h'.state (stepped config x.0 sys).after) (sym is.0) (matched-event config log h x.0 width typed.0 (matched config log width typed.1 is.1))
+    subst (λ (o : Outcome w). IsMatched config ((x.0, o) ∷ log) h'.mail h'.request h'.state (stepped config x.0 sys).after) (sym is.0)
+    (matched-event config log h x.0 width typed.0 (matched config log width typed.1 is.1))

@@ -42,7 +42,8 @@ again-same f n x e =
 -- the bytes that a lawful access reaches are of its block
 pub access-room : {w : ℕ} (o : Option Level) (m : MessageA w) → IsWidth w → illegal_message_at o (A m) ≡ None → m.address % 64 + 2 ^ m.size ≤ 64
 access-room None m width lawful = absurd cc
-access-room {w} (Some l) m width lawful = room_in_block m.size m.address m.small (eqb-true (m.address % 2 ^ m.size) 0 (control_aligned w l m.opcode m.param m.size m.address (control_of_legal l m width lawful)))
+access-room {w} (Some l) m width lawful = room_in_block m.size m.address m.small
+    (eqb-true (m.address % 2 ^ m.size) 0 (control_aligned w l m.opcode m.param m.size m.address (control_of_legal l m width lawful)))
 
 -- the memory's bytes of the block after the access are those that the protocol gives the block
 pub performed-block : {w : ℕ} (o : Option Level) (m : MessageA w) (f : Memory) → IsWidth w → illegal_message_at o (A m) ≡ None
@@ -56,4 +57,5 @@ performed-block {w} o m f width lawful =
 pub performed-reply : {w : ℕ} (o : Option Level) (m : MessageA w) (f : Memory) → IsWidth w → illegal_message_at o (A m) ≡ None
     → (effect (A m) f).1 ≡ (effect (A m) (bytes_at (block_at m.address) (bytes_from f (64 * block_at m.address) 64))).1
 unfolding effect
-performed-reply {w} o m f width lawful = reply-local m.opcode m f (bytes_at (block_at m.address) (bytes_from f (64 * block_at m.address) 64)) (access-room o m width lawful) (again-same f (block_at m.address))
+performed-reply {w} o m f width lawful = reply-local m.opcode m f (bytes_at (block_at m.address) (bytes_from f (64 * block_at m.address) 64))
+    (access-room o m width lawful) (again-same f (block_at m.address))

@@ -5,8 +5,8 @@ use Rattle.std.proofs.lemmas.Bool.{cases_eq, ne_eqb}
 use Rattle.tl_beat.specs.Width.{IsWidth}
 use Rattle.tl_beat.specs.declared.beat.Beat.{Beat}
 use Rattle.tl_beat.specs.declared.beat.Link.{Link}
-use Rattle.tl_beat.specs.declared.opcode.Channel.{Channel}
-use Rattle.tl_beat.specs.declared.opcode.Channel.TheVariants as channel
+use Rattle.tl_beat.specs.declared.channel.Channel.{Channel}
+use Rattle.tl_beat.specs.declared.channel.Channel.TheVariants as channel
 use Rattle.tl_burst.specs.declared.message.Message.{Message}
 use Rattle.tl_burst.specs.Burst.{beats_of}
 use Rattle.tl_burst.specs.Messages.{grown, unfinished}
@@ -80,7 +80,8 @@ pub record IsTakenByClient {w : ℕ} (terms : client.Terms) (c : ℕ) (ch : Chan
   pub heard : after.heard (offer.offered terms ch x (sys.clients c)).answer x (sys.clients c).past ≡ x ∷ (sys.clients c).past
   pub step_is : step ≡ handing (outcome_of x verdict_is) (handed_by c message) (with_client c (offer.taken x (sys.clients c)).after (with_channel c ch queue sys))
 
-client_moves : {w : ℕ} (terms : client.Terms) (c : ℕ) (ch : Channel) (x : Beat w) (queue : List (Beat w)) (sys : System w) → is_moving (client_took c ch x queue (offer.offered terms ch x (sys.clients c)) sys).outcome ≡ true
+client_moves : {w : ℕ} (terms : client.Terms) (c : ℕ) (ch : Channel) (x : Beat w) (queue : List (Beat w)) (sys : System w)
+    → is_moving (client_took c ch x queue (offer.offered terms ch x (sys.clients c)) sys).outcome ≡ true
     → IsTakenByClient terms c ch x queue sys (client_took c ch x queue (offer.offered terms ch x (sys.clients c)) sys)
 client_moves {w} terms c ch x queue sys moving = go (offer.offered terms ch x (sys.clients c)).answer refl moving
   where
@@ -101,13 +102,15 @@ client_moves {w} terms c ch x queue sys moving = go (offer.offered terms ch x (s
           step_is = ap (λ a. judged a c ch x queue o.after sys) e ∙ is ∙ ap (λ (p : Offered w). handing (outcome_of x v) (handed_by c m) (with_client c p.after (with_channel c ch queue sys))) takes;
         }
 
-    go : (a : Result (Verdict × Option (Message w)) Rule) → o.answer ≡ a → is_moving (judged a c ch x queue o.after sys).outcome ≡ true → IsTakenByClient terms c ch x queue sys (judged o.answer c ch x queue o.after sys)
+    go : (a : Result (Verdict × Option (Message w)) Rule) → o.answer ≡ a → is_moving (judged a c ch x queue o.after sys).outcome ≡ true
+        → IsTakenByClient terms c ch x queue sys (judged o.answer c ch x queue o.after sys)
     go (Err rule) e h = absurd cc
     go (Ok (verdict.Stalled, m)) e h = absurd cc
     go (Ok (verdict.Taken, m)) e h = made verdict.Taken m e refl refl refl
     go (Ok (verdict.Done source finish, m)) e h = made (verdict.Done source finish) m e refl refl refl
 
-pub client-moves : {w : ℕ} (config : Config) (link : Link) (ch : Channel) (sys : System w) (terms : client.Terms) (x : Beat w) (queue : List (Beat w)) → terms_at config link.0 ≡ Some terms → sys.channels link.0 ch ≡ x ∷ queue
+pub client-moves : {w : ℕ} (config : Config) (link : Link) (ch : Channel) (sys : System w) (terms : client.Terms) (x : Beat w) (queue : List (Beat w))
+    → terms_at config link.0 ≡ Some terms → sys.channels link.0 ch ≡ x ∷ queue
     → is_to_client ch ≡ true
     → is_moving (stepped config (Deliver link ch) sys).outcome ≡ true → IsTakenByClient terms link.0 ch x queue sys (stepped config (Deliver link ch) sys)
 client-moves {w} config link ch sys terms x queue known first up moving =
@@ -130,15 +133,21 @@ pub offered-passes : {w : ℕ} (config : Config) (link : Link) (ch : Channel) (x
 unfolding slave.offered
 offered-passes {w} config link ch x e handed is = go (slave.judged config link ch x e) is
   where
-    go : (j : slave.Judgement) → (slave.offered_as j config link x e).0 ≡ slave.Sent handed → slave.offered_as j config link x e ≡ (slave.Sent (manager_deed.deed config link x e).handed, slave.taken link x (manager_deed.deed config link x e) e)
+    go : (j : slave.Judgement) → (slave.offered_as j config link x e).0 ≡ slave.Sent handed
+        → slave.offered_as j config link x e ≡ (
+          slave.Sent (manager_deed.deed config link x e).handed,
+          slave.taken link x (manager_deed.deed config link x e) e,
+        )
     go (slave.Breaks rule) h = absurd cc
     go slave.Waits h = absurd cc
     go slave.Passes h = refl
 
 -- the step, where the manager takes the beat
 pub record IsTakenByManager {w : ℕ} (config : Config) (link : Link) (ch : Channel) (x : Beat w) (queue : List (Beat w)) (sys : System w) (step : Step w) : Type 0 where
-  pub takes : slave.offered config link ch x sys.manager ≡ (slave.Sent (manager_deed.deed config link x sys.manager).handed, slave.taken link x (manager_deed.deed config link x sys.manager) sys.manager)
-  pub step_is : step ≡ handing (outcome.Moved x) (manager_deed.deed config link x sys.manager).handed (with_manager (slave.taken link x (manager_deed.deed config link x sys.manager) sys.manager) (with_channel link.0 ch queue sys))
+  pub takes : slave.offered config link ch x sys.manager
+      ≡ (slave.Sent (manager_deed.deed config link x sys.manager).handed, slave.taken link x (manager_deed.deed config link x sys.manager) sys.manager)
+  pub step_is : step ≡ handing (outcome.Moved x) (manager_deed.deed config link x sys.manager).handed
+      (with_manager (slave.taken link x (manager_deed.deed config link x sys.manager) sys.manager) (with_channel link.0 ch queue sys))
 
 manager_moves : {w : ℕ} (config : Config) (link : Link) (ch : Channel) (x : Beat w) (queue : List (Beat w)) (sys : System w)
     → is_moving (manager_took link.0 ch x queue (slave.offered config link ch x sys.manager) sys).outcome ≡ true
@@ -153,7 +162,8 @@ manager_moves {w} config link ch x queue sys moving = go (slave.offered config l
         let takes = offered-passes config link ch x sys.manager handed (ap (λ (p : slave.Reception w × manager_end.End w). p.0) f) in
         record { takes = takes; step_is = ap (λ p. manager_took link.0 ch x queue p sys) takes }
 
-pub manager-moves : {w : ℕ} (config : Config) (link : Link) (ch : Channel) (sys : System w) (terms : client.Terms) (x : Beat w) (queue : List (Beat w)) → terms_at config link.0 ≡ Some terms → sys.channels link.0 ch ≡ x ∷ queue
+pub manager-moves : {w : ℕ} (config : Config) (link : Link) (ch : Channel) (sys : System w) (terms : client.Terms) (x : Beat w) (queue : List (Beat w))
+    → terms_at config link.0 ≡ Some terms → sys.channels link.0 ch ≡ x ∷ queue
     → is_to_client ch ≡ false
     → is_moving (stepped config (Deliver link ch) sys).outcome ≡ true → IsTakenByManager config link ch x queue sys (stepped config (Deliver link ch) sys)
 manager-moves {w} config link ch sys terms x queue known first down moving =
@@ -164,17 +174,22 @@ manager-moves {w} config link ch sys terms x queue known first down moving =
     same : (a b : Step w) → a ≡ b → IsTakenByManager config link ch x queue sys b → IsTakenByManager config link ch x queue sys a
     same a b e h = rw e h
 
-pub manager-heard : {w : ℕ} (config : Config) (link : Link) (ch : Channel) (x : Beat w) (queue : List (Beat w)) (sys : System w) (step : Step w) → IsWidth w → manager.IsTyped x → manager.IsKept config sys.manager
+pub manager-heard : {w : ℕ} (config : Config) (link : Link) (ch : Channel) (x : Beat w) (queue : List (Beat w)) (sys : System w) (step : Step w) → IsWidth w
+    → manager.IsTyped x → manager.IsKept config sys.manager
     → IsTakenByManager config link ch x queue sys step → HasTaken link.0 x sys.manager (slave.taken link x (manager_deed.deed config link x sys.manager) sys.manager)
 manager-heard {w} config link ch x queue sys step width typed kept is d = λ at. go at
   where
-    one : (at : Channel) → is_of_clients at ≡ true → unfinished at (on_link d (slave.taken link x (manager_deed.deed config link x sys.manager) sys.manager).trace) ≡ unfinished at (if link.0 == d then x ∷ on_link d sys.manager.trace else on_link d sys.manager.trace)
+    one : (at : Channel) → is_of_clients at ≡ true → unfinished at
+        (on_link d (slave.taken link x (manager_deed.deed config link x sys.manager) sys.manager).trace) ≡ unfinished at
+        (if link.0 == d then x ∷ on_link d sys.manager.trace else on_link d sys.manager.trace)
     one at up =
         ap (λ (p : slave.Reception w × manager_end.End w). unfinished at (on_link d p.1.trace)) (sym is.takes)
         ∙ manager_after.unfinished-offered config link ch x sys.manager d at width typed kept up
         ∙ ap (λ (p : slave.Reception w × manager_end.End w). unfinished at (taken_after p.0 (link, x) d (on_link d sys.manager.trace))) is.takes
 
-    go : (at : Channel) → is_to_client at ≡ false → unfinished at (on_link d (slave.taken link x (manager_deed.deed config link x sys.manager) sys.manager).trace) ≡ unfinished at (if link.0 == d then x ∷ on_link d sys.manager.trace else on_link d sys.manager.trace)
+    go : (at : Channel) → is_to_client at ≡ false → unfinished at
+        (on_link d (slave.taken link x (manager_deed.deed config link x sys.manager) sys.manager).trace) ≡ unfinished at
+        (if link.0 == d then x ∷ on_link d sys.manager.trace else on_link d sys.manager.trace)
     go channel.A f = one channel.A refl
     go channel.C f = one channel.C refl
     go channel.E f = one channel.E refl
@@ -183,14 +198,16 @@ manager-heard {w} config link ch x queue sys step width typed kept is d = λ at.
 
 -- ---- a beat that isn't the last of its message
 
-pub carried-part : {w : ℕ} (mail : Mail w) (s : State (List ℕ)) (c : ℕ) (ch : Channel) (x : Beat w) (queue : List (Beat w)) (pushes : ℕ → Channel → Option (Message w)) (sys sys' : System w) → IsWidth w
+pub carried-part : {w : ℕ} (mail : Mail w) (s : State (List ℕ)) (c : ℕ) (ch : Channel) (x : Beat w) (queue : List (Beat w))
+    (pushes : ℕ → Channel → Option (Message w)) (sys sys' : System w) → IsWidth w
     → IsLanded c ch x queue pushes sys sys' → ((d : ℕ) (at : Channel) → pushes d at ≡ None) → completes x (unfinished ch (receiver ch c sys)) ≡ false → AreCarried mail s sys → AreCarried mail s sys'
 carried-part {w} mail s c ch x queue pushes sys sys' width is none part h d at = go (cases_eq d c) (same_channel at ch) refl
   where
     rest : ℕ → Channel → List (Beat w)
     rest i j = unfinished j (receiver j i sys)
 
-    moved : (r q : List (Beat w)) → unfinished at (receiver at d sys') ≡ r → sys'.channels d at ≡ q → IsCarried r (messages_on at mail s d) q → IsCarried (unfinished at (receiver at d sys')) (messages_on at mail s d) (sys'.channels d at)
+    moved : (r q : List (Beat w)) → unfinished at (receiver at d sys') ≡ r → sys'.channels d at ≡ q → IsCarried r (messages_on at mail s d) q
+        → IsCarried (unfinished at (receiver at d sys')) (messages_on at mail s d) (sys'.channels d at)
     moved r q e f i = rw (e, f) i
 
     channel_is : sys'.channels d at ≡ (if (d == c) && same_channel at ch then queue else sys.channels d at)

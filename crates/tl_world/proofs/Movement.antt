@@ -5,8 +5,8 @@ use Rattle.std.proofs.lemmas.Bool.{cases_eq, eqb-true}
 use Rattle.tl_beat.specs.Width.{IsWidth}
 use Rattle.tl_beat.specs.declared.beat.Beat.{Beat}
 use Rattle.tl_beat.specs.declared.beat.Link.{Link}
-use Rattle.tl_beat.specs.declared.opcode.Channel.{Channel}
-use Rattle.tl_beat.specs.declared.opcode.Channel.TheVariants as channel
+use Rattle.tl_beat.specs.declared.channel.Channel.{Channel}
+use Rattle.tl_beat.specs.declared.channel.Channel.TheVariants as channel
 use Rattle.tl_burst.specs.declared.message.MessageA.{MessageA}
 use Rattle.tl_params.specs.declared.config.Config.{Config}
 use Rattle.tl_client.specs.End.{Terms}
@@ -62,7 +62,8 @@ nothing_in (x ∷ xs) e = absurd (omega (arith, e))
 pub none-counted : {X : Type 0} (config : Config) (s : State X) → IsClosed s → ((c : ℕ) → (s.link c).e ≡ []) → open_requests config s + open_releases config s ≡ 0
 none-counted config s closed no_acks =
     let requests : open_requests config s ≡ 0 = total-zero (clients_in config) (λ c. total (sources_in config c) (λ i. one_if (is_used (s.uses c i))) + length (s.link c).e) (λ c few.
-    let uses : total (sources_in config c) (λ i. one_if (is_used (s.uses c i))) ≡ 0 = total-zero (sources_in config c) (λ i. one_if (is_used (s.uses c i))) (λ i lt. ap (λ (u : Use). one_if (is_used u)) (closed.uses c i)) in
+    let uses : total (sources_in config c) (λ i. one_if (is_used (s.uses c i))) ≡ 0 =
+    total-zero (sources_in config c) (λ i. one_if (is_used (s.uses c i))) (λ i lt. ap (λ (u : Use). one_if (is_used u)) (closed.uses c i)) in
     let acks : length (s.link c).e ≡ 0 = ap length (no_acks c) in
     omega (arith, uses, acks)) in
     let releases : open_releases config s ≡ 0 = total-zero (clients_in config) (λ c. total (sources_in config c) (λ i. one_if (is_let (s.lets c i)))) (λ c few.
@@ -72,7 +73,8 @@ none-counted config s closed no_acks =
 module _ {w : ℕ} (config : Config) (log : Log w) (mail : Mail w) (request : ℕ → MessageA w) (s : State (List ℕ)) (matched : IsMatched config log mail request s (after config log))
     (width : IsWidth w) (none : open_requests config s + open_releases config s ≡ 0) where
   -- the two sums of one client
-  of_client : (c : ℕ) → c < clients_in config → (total (sources_in config c) (λ i. one_if (is_used (s.uses c i))) + length (s.link c).e ≡ 0) × (total (sources_in config c) (λ i. one_if (is_let (s.lets c i))) ≡ 0)
+  of_client : (c : ℕ) → c < clients_in config → (total (sources_in config c) (λ i. one_if (is_used (s.uses c i))) + length (s.link c).e ≡ 0)
+      × (total (sources_in config c) (λ i. one_if (is_let (s.lets c i))) ≡ 0)
   of_client c few = (
     total-none (clients_in config) (λ d. total (sources_in config d) (λ i. one_if (is_used (s.uses d i))) + length (s.link d).e) (omega (arith, none)) c few,
     total-none (clients_in config) (λ d. total (sources_in config d) (λ i. one_if (is_let (s.lets d i)))) (omega (arith, none)) c few,
@@ -131,7 +133,8 @@ module _ {w : ℕ} (config : Config) (log : Log w) (mail : Mail w) (request : �
 -- A delivery is next exactly while something is outstanding.
 pub next-while-outstanding : {w : ℕ} (config : Config) (log : Log w) (mail : Mail w) (request : ℕ → MessageA w) (s : State (List ℕ)) (matched : IsMatched config log mail request s (after config log))
     → IsCoherent (after config log) log (remembered config log) → 0 < config.trackers
-    → ((c : ℕ) (terms : Terms) (ch : Channel) (x : Beat w) (rest : List (Beat w)) → terms_at config c ≡ Some terms → (after config log).channels c ch ≡ x ∷ rest → IsFirst config terms c ch x (after config log))
+    → ((c : ℕ) (terms : Terms) (ch : Channel) (x : Beat w) (rest : List (Beat w)) → terms_at config c ≡ Some terms → (after config log).channels c ch ≡ x ∷ rest
+    → IsFirst config terms c ch x (after config log))
     → IsWidth w → AreCounted config log s → is_none (next_delivery config (after config log)) ≡ (outstanding log == 0)
 next-while-outstanding {w} config log mail request s matched coherent trackers firsts width counted = go (next_delivery config (after config log)) refl (outstanding log == 0) refl
   where
@@ -150,9 +153,11 @@ next-while-outstanding {w} config log mail request s matched coherent trackers f
     go (Some d) e false f = refl
     go (Some d) e true f =
         let none : open_requests config s + open_releases config s ≡ 0 = sym sum ∙ eqb-true (outstanding log) 0 f in
-        let stands = standing-when-closed config log mail request s matched coherent trackers firsts (closed-when-counted config log mail request s matched width none) (no-acks-counted config log mail request s matched width none) in
+        let stands = standing-when-closed config log mail request s matched coherent trackers firsts
+        (closed-when-counted config log mail request s matched width none) (no-acks-counted config log mail request s matched width none) in
         absurd (let both : Some d ≡ None = sym e ∙ stands in cc)
 
 -- where no delivery is next, nothing is outstanding
-pub none-outstanding : {w : ℕ} (config : Config) (log : Log w) → is_none (next_delivery config (after config log)) ≡ (outstanding log == 0) → next_delivery config (after config log) ≡ None → outstanding log ≡ 0
+pub none-outstanding : {w : ℕ} (config : Config) (log : Log w) → is_none (next_delivery config (after config log)) ≡ (outstanding log == 0)
+    → next_delivery config (after config log) ≡ None → outstanding log ≡ 0
 none-outstanding config log moving none = eqb-true (outstanding log) 0 (sym moving ∙ ap is_none none)

@@ -7,8 +7,8 @@ use Rattle.std.proofs.lemmas.Bool.{true_from_ne_false}
 use Rattle.tl_beat.specs.Width.{IsWidth}
 use Rattle.tl_beat.specs.declared.beat.Beat.{Beat}
 use Rattle.tl_beat.specs.declared.beat.Beat.TheVariants as beat
-use Rattle.tl_beat.specs.declared.opcode.Channel.{Channel}
-use Rattle.tl_beat.specs.declared.opcode.Channel.TheVariants as channel
+use Rattle.tl_beat.specs.declared.channel.Channel.{Channel}
+use Rattle.tl_beat.specs.declared.channel.Channel.TheVariants as channel
 use Rattle.tl_burst.specs.declared.message.Message.{Message}
 use Rattle.tl_burst.specs.declared.message.MessageA.{MessageA}
 use Rattle.tl_burst.specs.Messages.{unfinished}
@@ -58,7 +58,8 @@ few_test n lt = grind (arith, nat_tests, lt)
 
 module _ {w : ℕ} (config : Config) (log : Log w) (mail : Mail w) (request : ℕ → MessageA w) (s : State (List ℕ)) (matched : IsMatched config log mail request s (after config log))
     (coherent : IsCoherent (after config log) log (remembered config log)) (trackers : 0 < config.trackers)
-    (firsts : (c : ℕ) (terms : Terms) (ch : Channel) (x : Beat w) (rest : List (Beat w)) → terms_at config c ≡ Some terms → (after config log).channels c ch ≡ x ∷ rest → IsFirst config terms c ch x (after config log)) where
+    (firsts : (c : ℕ) (terms : Terms) (ch : Channel) (x : Beat w) (rest : List (Beat w)) → terms_at config c ≡ Some terms
+    → (after config log).channels c ch ≡ x ∷ rest → IsFirst config terms c ch x (after config log)) where
   -- a channel without a beat has no message
   no_message : (c : ℕ) (ch : Channel) → (after config log).channels c ch ≡ [] → tokens_on ch (s.link c) ≡ []
   no_message c ch none = no_tokens (message_of mail s c) (tokens_on ch (s.link c)) (carried-none _ (messages_on ch mail s c) (rw none at (matched.carried c ch)))
@@ -187,7 +188,8 @@ module _ {w : ℕ} (config : Config) (log : Log w) (mail : Mail w) (request : �
 
   -- where nothing is open, and no GrantAck is on its way, no delivery is next
   pub standing-when-closed : IsClosed s → ((c : ℕ) → (s.link c).e ≡ []) → next_delivery config (after config log) ≡ None
-  standing-when-closed closed no_acks = no-next config (after config log) (λ c ch. empty-still config (after config log) c ch (no_beat c ch (bare_on ch c (bare-when-closed _ s matched.invariant closed no_acks))))
+  standing-when-closed closed no_acks = no-next config (after config log)
+      (λ c ch. empty-still config (after config log) c ch (no_beat c ch (bare_on ch c (bare-when-closed _ s matched.invariant closed no_acks))))
     where
       bare_on : (ch : Channel) (c : ℕ) → IsBare s → tokens_on ch (s.link c) ≡ []
       bare_on channel.A c bare = bare.a c

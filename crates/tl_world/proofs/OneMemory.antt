@@ -45,12 +45,14 @@ access_code a.Intent e = omega arith
 access_code a.AcquireBlock e = absurd cc
 access_code a.AcquirePerm e = absurd cc
 
-elsewhere : {w : ℕ} (o : Option Level) (m : MessageA w) (f : Memory) (x : ℕ) → IsWidth w → is_acquire m.opcode ≡ false → illegal_message_at o (A m) ≡ None → IsBlankAfter (beats_of (A m)) (A m) → x / 64 ≢ m.address / 64 → (effect (A m) f).0 x ≡ f x
+elsewhere : {w : ℕ} (o : Option Level) (m : MessageA w) (f : Memory) (x : ℕ) → IsWidth w → is_acquire m.opcode ≡ false → illegal_message_at o (A m) ≡ None
+    → IsBlankAfter (beats_of (A m)) (A m) → x / 64 ≢ m.address / 64 → (effect (A m) f).0 x ≡ f x
 elsewhere None m f x width access lawful blank ne = absurd cc
 elsewhere (Some l) m f x width access lawful blank ne = effect_elsewhere (A m) width (access_at_uh l m width (access_code m.opcode access) lawful) blank f x ne
 
 -- the blocks after an access, of which one is its own
-pub blocks-performed : {w : ℕ} (o : Option Level) (m : MessageA w) (f : Memory) (truth : ℕ → List ℕ) → IsWidth w → is_acquire m.opcode ≡ false → illegal_message_at o (A m) ≡ None → IsBlankAfter (beats_of (A m)) (A m)
+pub blocks-performed : {w : ℕ} (o : Option Level) (m : MessageA w) (f : Memory) (truth : ℕ → List ℕ) → IsWidth w → is_acquire m.opcode ≡ false
+    → illegal_message_at o (A m) ≡ None → IsBlankAfter (beats_of (A m)) (A m)
     → length (truth (block_at m.address)) ≡ 64 → ((n : ℕ) → IsBlock f n (truth n))
     → IsBlock (effect (A m) f).0 (block_at m.address) (performs m (truth (block_at m.address))) × ((n : ℕ) → (n ≡ block_at m.address → ⊥) → IsBlock (effect (A m) f).0 n (truth n))
 blocks-performed {w} o m f truth width access lawful blank long is = (
@@ -63,7 +65,8 @@ blocks-performed {w} o m f truth width access lawful blank long is = (
     apart n i lt ne e = ne (omega (arith, lt, e))
 
 -- its reply, by the bytes of its block
-pub reply-performed : {w : ℕ} (o : Option Level) (m : MessageA w) (f : Memory) (bytes : List ℕ) → IsWidth w → illegal_message_at o (A m) ≡ None → IsBlock f (block_at m.address) bytes → length bytes ≡ 64
+pub reply-performed : {w : ℕ} (o : Option Level) (m : MessageA w) (f : Memory) (bytes : List ℕ) → IsWidth w → illegal_message_at o (A m) ≡ None
+    → IsBlock f (block_at m.address) bytes → length bytes ≡ 64
     → (effect (A m) f).1 ≡ (effect (A m) (bytes_at (block_at m.address) bytes)).1
 reply-performed o m f bytes width lawful is long =
     performed-reply o m f width lawful ∙ ap (λ (b : List ℕ). (effect (A m) (bytes_at (block_at m.address) b)).1) (bytes-of-block f (block_at m.address) bytes is long)
@@ -103,7 +106,8 @@ get_slice [] i lt = absurd (omega (arith, lt))
 get_slice (x ∷ xs) zero lt = refl
 get_slice (x ∷ xs) (suc i) lt = get_slice xs i (omega (arith, lt))
 
-pub block-stored : (address size value : ℕ) (copy : List ℕ) (f : Memory) → address % 64 + 2 ^ size ≤ 64 → length copy ≡ 64 → IsBlock f (block_at address) copy → IsBlock (with_number address size value f) (block_at address) (copy_stored address size value copy)
+pub block-stored : (address size value : ℕ) (copy : List ℕ) (f : Memory) → address % 64 + 2 ^ size ≤ 64 → length copy ≡ 64 → IsBlock f (block_at address) copy
+    → IsBlock (with_number address size value f) (block_at address) (copy_stored address size value copy)
 block-stored address size value copy f room long is i lt = go (reaches address size x) refl
   where
     x : ℕ
@@ -128,12 +132,14 @@ block-stored address size value copy f room long is i lt = go (reaches address s
     go false e = elim (cases_lt x address) [
       | inl below ↦ outside (inl (omega (arith, lt, below)))
       | inr from ↦ elim (cases_lt x (address + 2 ^ size)) [
-        | inl to ↦ absurd (let yes : (nat_le address x && nat_lt x (address + 2 ^ size)) ≡ true = rw (le-leb address x from, lt-ltb x (address + 2 ^ size) to) refl in let no : true ≡ false = sym yes ∙ e in cc)
+        | inl to ↦ absurd (let yes : (nat_le address x && nat_lt x (address + 2 ^ size)) ≡ true =
+            rw (le-leb address x from, lt-ltb x (address + 2 ^ size) to) refl in let no : true ≡ false = sym yes ∙ e in cc)
         | inr above ↦ outside (inr (omega (arith, lt, above, from)))
       ]
     ]
 
-pub block-unstored : (address size value k : ℕ) (old : List ℕ) (f : Memory) → address % 64 + 2 ^ size ≤ 64 → (k ≡ block_at address → ⊥) → IsBlock f k old → IsBlock (with_number address size value f) k old
+pub block-unstored : (address size value k : ℕ) (old : List ℕ) (f : Memory) → address % 64 + 2 ^ size ≤ 64 → (k ≡ block_at address → ⊥) → IsBlock f k old
+    → IsBlock (with_number address size value f) k old
 block-unstored address size value k old f room ne is i lt = go (reaches address size (64 * k + i)) refl
   where
     go : (b : Bool) → reaches address size (64 * k + i) ≡ b → (if b then byte_of value (64 * k + i - address) else f (64 * k + i)) ≡ slice_index old i

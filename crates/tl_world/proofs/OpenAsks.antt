@@ -42,14 +42,16 @@ module _ {X : Type 0} (config : Config) (s : State X) where
       let a = acks-same (clients_in config) (access_asked c source s).link s.link (λ d. set-part (λ x. x.e) c (with_a (token Request source) (s.link c)) s.link refl d) in
       record { requests = omega (arith, u, was, a, requests-split config s, requests-split config (access_asked c source s)); releases = refl }
 
-  acquire-asked : (c n source : ℕ) (whole : Bool) (g : Grow) (bytes : X) → c < clients_in config → source < sources_in config c → s.uses c source ≡ Closed → IsBalance config s (acquire_asked c n source whole g bytes s) true false false false
+  acquire-asked : (c n source : ℕ) (whole : Bool) (g : Grow) (bytes : X) → c < clients_in config → source < sources_in config c → s.uses c source ≡ Closed
+      → IsBalance config s (acquire_asked c n source whole g bytes s) true false false false
   acquire-asked c n source whole g bytes few lt free =
       let u = marked-set is_used (clients_in config) (sources_in config) c source (Acquires n) s.uses few lt in
       let was : one_if (is_used (s.uses c source)) ≡ 0 = ap (λ (x : Use). one_if (is_used x)) free in
       let a = acks-same (clients_in config) (acquire_asked c n source whole g bytes s).link s.link (λ d. set-part (λ x. x.e) c (with_a (token Acquire n) (s.link c)) s.link refl d) in
       record { requests = omega (arith, u, was, a, requests-split config s, requests-split config (acquire_asked c n source whole g bytes s)); releases = refl }
 
-  release-asked : (c n source : ℕ) (r : Prune) → c < clients_in config → source < sources_in config c → s.lets c source ≡ None → IsBalance config s (release_asked c n source r s) false false true false
+  release-asked : (c n source : ℕ) (r : Prune) → c < clients_in config → source < sources_in config c → s.lets c source ≡ None
+      → IsBalance config s (release_asked c n source r s) false false true false
   release-asked c n source r few lt free =
       let l = marked-set is_let (clients_in config) (sources_in config) c source (Some n) s.lets few lt in
       let was : one_if (is_let (s.lets c source)) ≡ 0 = ap (λ (x : Option ℕ). one_if (is_let x)) free in
@@ -91,9 +93,11 @@ module _ {w : ℕ} (config : Config) (c : ℕ) (h : Shadow w) where
     done-opens (op.Load address size) free may = load-opens address size (held_at e (block_at address)) e
     done-opens (op.Store address size value) free may = store-opens address size value (held_at e (block_at address)) e
     done-opens (op.Acquire n g) free may =
-        acquire-asked config h.state c n (source_or_0 (free_request terms e.past)) false g _ few (own_source _ (least_free-some (λ s. pending (RequestSource s) e.past) 0 terms.sources free.b1).1) may.1
+        acquire-asked config h.state c n (source_or_0 (free_request terms e.past)) false g _ few
+        (own_source _ (least_free-some (λ s. pending (RequestSource s) e.past) 0 terms.sources free.b1).1) may.1
     done-opens (op.AcquireWhole n bytes) free may =
-        acquire-asked config h.state c n (source_or_0 (free_request terms e.past)) true _ bytes few (own_source _ (least_free-some (λ s. pending (RequestSource s) e.past) 0 terms.sources free.b1).1) may.1
+        acquire-asked config h.state c n (source_or_0 (free_request terms e.past)) true _ bytes few
+        (own_source _ (least_free-some (λ s. pending (RequestSource s) e.past) 0 terms.sources free.b1).1) may.1
     done-opens (op.Release n r) free may =
         release-asked config h.state c n (source_or_0 (free_release terms e.past)) r few (own_source _ (least_free-some (λ s. pending (ReleaseSource s) e.past) 0 terms.sources free.b1).1) may.1
     done-opens (op.Access (message.A m)) free may =
@@ -104,8 +108,11 @@ module _ {w : ℕ} (config : Config) (c : ℕ) (h : Shadow w) where
     done-opens (op.Access (message.E m)) free may = record { requests = refl; releases = refl }
 
 -- What is open after a client is asked.
-pub balance-asked : {w : ℕ} (config : Config) (log : Log w) (h : Shadow w) (sys : System w) (terms : Terms) (c : ℕ) (o : Op w) → IsMatched config log h.mail h.request h.state sys → terms_at config c ≡ Some terms → c < clients_in config
-    → IsBalance config h.state (asked c o (ask.asked terms o (sys.clients c)).reply h).state (starts_request (Ask c o) (outcome.Replied (ask.asked terms o (sys.clients c)).reply)) false (starts_release (Ask c o) (outcome.Replied (ask.asked terms o (sys.clients c)).reply)) false
+pub balance-asked : {w : ℕ} (config : Config) (log : Log w) (h : Shadow w) (sys : System w) (terms : Terms) (c : ℕ) (o : Op w)
+    → IsMatched config log h.mail h.request h.state sys → terms_at config c ≡ Some terms → c < clients_in config
+    → IsBalance config h.state (asked c o (ask.asked terms o (sys.clients c)).reply h).state
+    (starts_request (Ask c o) (outcome.Replied (ask.asked terms o (sys.clients c)).reply)) false
+    (starts_release (Ask c o) (outcome.Replied (ask.asked terms o (sys.clients c)).reply)) false
 balance-asked {w} config log h sys terms c o is at few =
     asked-cases terms o (sys.clients c) (λ (x : ask.Asked w). IsAskable (is_caching config) c o x.reply h → IsOpenAfter config c h o x.reply) (λ b may. busy-opens config c h o b)
     (λ free may. done-opens config c h terms (sys.clients c) at few o free may) (askable config log h.mail h.request h.state sys terms c o is at)

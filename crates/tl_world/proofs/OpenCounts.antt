@@ -43,7 +43,8 @@ marked-set {B} test clients sources c k x f few lt =
     row d g = total (sources d) (λ i. one_if (test (g i)))
 
 -- no place changes, as the test has it
-pub marked-same : {B : Type 0} (test : B → Bool) (clients : ℕ) (sources : ℕ → ℕ) (f g : ℕ → ℕ → B) → ((c i : ℕ) → test (f c i) ≡ test (g c i)) → marked test clients sources f ≡ marked test clients sources g
+pub marked-same : {B : Type 0} (test : B → Bool) (clients : ℕ) (sources : ℕ → ℕ) (f g : ℕ → ℕ → B) → ((c i : ℕ) → test (f c i) ≡ test (g c i))
+    → marked test clients sources f ≡ marked test clients sources g
 marked-same test clients sources f g same =
     total-same clients (λ c. total (sources c) (λ i. one_if (test (f c i)))) (λ c. total (sources c) (λ i. one_if (test (g c i))))
     (λ c few. total-same (sources c) (λ i. one_if (test (f c i))) (λ i. one_if (test (g c i))) (λ i lt. ap one_if (same c i)))
@@ -87,7 +88,8 @@ pub requests-split : {X : Type 0} (config : Config) (s : State X) → open_reque
 requests-split config s = total-plus (clients_in config) (λ c. total (sources_in config c) (λ i. one_if (is_used (s.uses c i)))) (λ c. length (s.link c).e)
 
 -- nothing is opened or ended
-pub balance-same : {X : Type 0} (config : Config) (s s' : State X) → ((c i : ℕ) → is_used (s'.uses c i) ≡ is_used (s.uses c i)) → ((c i : ℕ) → is_let (s'.lets c i) ≡ is_let (s.lets c i)) → ((c : ℕ) → (s'.link c).e ≡ (s.link c).e)
+pub balance-same : {X : Type 0} (config : Config) (s s' : State X) → ((c i : ℕ) → is_used (s'.uses c i) ≡ is_used (s.uses c i))
+    → ((c i : ℕ) → is_let (s'.lets c i) ≡ is_let (s.lets c i)) → ((c : ℕ) → (s'.link c).e ≡ (s.link c).e)
     → IsBalance config s s' false false false false
 balance-same config s s' uses lets links =
     let u = marked-same is_used (clients_in config) (sources_in config) s'.uses s.uses uses in

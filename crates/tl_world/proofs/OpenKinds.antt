@@ -14,13 +14,17 @@ use Rattle.tl_params.specs.declared.profile.Profile.{Profile}
 use Rattle.tl_rules.specs.History.{block_at}
 use Rattle.tl_manager.specs.Holders.{cap_probed}
 use Rattle.tl_world.specs.Follow as follow
-use Rattle.tl_world.specs.Follow.{Shadow, with_state, some_below, probes_some, access_taken, request_taken, acquire_taken, is_unheld, gift, granted_after, last_taken, ack_taken, is_whole, taken_by_client, kind_taken}
+use Rattle.tl_world.specs.Follow.{Shadow, with_state, some_below, probes_some, access_taken, request_taken, acquire_taken, is_unheld, gift, granted_after}
+use Rattle.tl_world.specs.Follow.{last_taken, ack_taken, is_whole, taken_by_client, kind_taken}
 use Rattle.tl_world.specs.Invariant.{IsInvariant, cap_asked, serves_with}
 use Rattle.tl_world.specs.Log.{Log}
 use Rattle.tl_world.specs.Phase.{Acquiring, Calm, Wants, is_quiet}
 use Rattle.tl_world.specs.PhaseSteps.{is_granted_data}
 use Rattle.tl_world.specs.Potential.{is_used, is_let}
-use Rattle.tl_world.specs.Protocol.{Service, Free, Waits, GrantSent, GrantTaken, Block, State, Link, Use, Closed, Asked, InService, Replied, Acquires, token, on, is_probed, with_probe, answered_link, served_link, probed_link, popped_link, ended_link, granted_link, let_link, taken_link, access_answered, access_served, acquire_granted, acquire_served, probe_taken, report_taken, report_answers, report_grants, release_taken, answer_taken, grant_taken, release_ack_taken, grant_ack_taken}
+use Rattle.tl_world.specs.Protocol.{Service, Free, Waits, GrantSent, GrantTaken, Block, State, Link, Use, Closed, Asked, InService, Replied, Acquires, token}
+use Rattle.tl_world.specs.Protocol.{on, is_probed, with_probe, answered_link, served_link, probed_link, popped_link, ended_link, granted_link, let_link}
+use Rattle.tl_world.specs.Protocol.{taken_link, access_answered, access_served, acquire_granted, acquire_served, probe_taken, report_taken, report_answers}
+use Rattle.tl_world.specs.Protocol.{report_grants, release_taken, answer_taken, grant_taken, release_ack_taken, grant_ack_taken}
 use Rattle.tl_world.specs.Render.{report_told}
 use Rattle.tl_world.specs.System.{System}
 use Rattle.tl_world.specs.Token.{Kind, Request, Acquire, Probe, ProbeAck, Release, Answer, Grant, ReleaseAck, GrantAck, Token, one_if, set}
@@ -76,7 +80,8 @@ module _ {X : Type 0} (config : Config) (s : State X) where
       (served_e c false n k rest (s.block n) s.link)
 
   acquire-granted : (c n tracker : ℕ) (d : Bool) (k : Cap) (rest : List Token) → IsBalance config s (acquire_granted c n tracker d k rest s) false false false false
-  acquire-granted c n tracker d k rest = balance-same config s (acquire_granted c n tracker d k rest s) (λ i j. refl) (λ i j. refl) (set_e c (answered_link (token Grant n) rest (s.link c)) s.link refl)
+  acquire-granted c n tracker d k rest = balance-same config s (acquire_granted c n tracker d k rest s) (λ i j. refl) (λ i j. refl)
+      (set_e c (answered_link (token Grant n) rest (s.link c)) s.link refl)
 
   acquire-served : (c n source tracker : ℕ) (k : Cap) (rest : List Token) → IsBalance config s (acquire_served c n source tracker k rest s) false false false false
   acquire-served c n source tracker k rest = balance-same config s (acquire_served c n source tracker k rest s) (λ i j. refl) (λ i j. refl) (served_e c true n k rest (s.block n) s.link)
@@ -100,7 +105,8 @@ module _ {X : Type 0} (config : Config) (s : State X) where
 
   -- ---- events that end something
 
-  answer-taken : (c source : ℕ) (rest : List Token) → c < clients_in config → source < sources_in config c → s.uses c source ≡ Replied → IsBalance config s (answer_taken c source rest s) false true false false
+  answer-taken : (c source : ℕ) (rest : List Token) → c < clients_in config → source < sources_in config c → s.uses c source ≡ Replied
+      → IsBalance config s (answer_taken c source rest s) false true false false
   answer-taken c source rest few lt used =
       let u = marked-set is_used (clients_in config) (sources_in config) c source Closed s.uses few lt in
       let was : one_if (is_used (s.uses c source)) ≡ 1 = ap (λ (x : Use). one_if (is_used x)) used in
@@ -167,7 +173,8 @@ module _ {w : ℕ} (config : Config) (h : Shadow w) where
       b = h.state.block n
 
       go : (x : Bool) → IsBalance config h.state
-          (if x then acquire_served c n (b.source c) tracker (cap_asked (Wants whole g)) rest h.state else acquire_granted c n tracker (is_granted_data whole g (b.pair c).recorded) (gift p whole g (is_unheld clients b.pair)) rest h.state) false false false false
+          (if x then acquire_served c n (b.source c) tracker (cap_asked (Wants whole g)) rest h.state else acquire_granted c n tracker
+          (is_granted_data whole g (b.pair c).recorded) (gift p whole g (is_unheld clients b.pair)) rest h.state) false false false false
       go true = acquire-served config h.state c n (b.source c) tracker (cap_asked (Wants whole g)) rest
       go false = acquire-granted config h.state c n tracker (is_granted_data whole g (b.pair c).recorded) (gift p whole g (is_unheld clients b.pair)) rest
 
@@ -175,7 +182,8 @@ module _ {w : ℕ} (config : Config) (h : Shadow w) where
   granted-kind clients p c q n r Calm rest = unchanged config h.state
   granted-kind clients p c q n r (Wants whole g) rest = report-grants config h.state c q n r _ _ rest
 
-  last-kind : (caching : ℕ → Bool) (clients : ℕ) (p : Profile) (c n : ℕ) (r : Report) (service : Service) (rest : List Token) → IsInvariant caching h.state → (h.state.block n).service ≡ service → Stays (last_taken clients p c n r service rest h)
+  last-kind : (caching : ℕ → Bool) (clients : ℕ) (p : Profile) (c n : ℕ) (r : Report) (service : Service) (rest : List Token) → IsInvariant caching h.state
+      → (h.state.block n).service ≡ service → Stays (last_taken clients p c n r service rest h)
   last-kind caching clients p c n r Free rest inv e = unchanged config h.state
   last-kind caching clients p c n r (GrantSent q d k) rest inv e = unchanged config h.state
   last-kind caching clients p c n r (GrantTaken q) rest inv e = unchanged config h.state
@@ -192,15 +200,18 @@ module _ {w : ℕ} (config : Config) (h : Shadow w) where
       go false = last-kind caching clients p c n r (h.state.block n).service rest inv refl
 
 -- What is open, after the first token of a channel of a client's link is taken.
-pub balance-kind : {w : ℕ} (config : Config) (log : Log w) (tracker c : ℕ) (k : Kind) (i : ℕ) (rest : List Token) (h : Shadow w) (sys : System w) → IsMatched config log h.mail h.request h.state sys → c < clients_in config
-    → AreBounded c (sources_in config c) config.trackers h.state → on k (h.state.link c) ≡ token k i ∷ rest → IsBalance config h.state (kind_taken config tracker c k i rest h).state false (is_ending k) false (is_letting_go k)
+pub balance-kind : {w : ℕ} (config : Config) (log : Log w) (tracker c : ℕ) (k : Kind) (i : ℕ) (rest : List Token) (h : Shadow w) (sys : System w)
+    → IsMatched config log h.mail h.request h.state sys → c < clients_in config
+    → AreBounded c (sources_in config c) config.trackers h.state → on k (h.state.link c) ≡ token k i ∷ rest
+    → IsBalance config h.state (kind_taken config tracker c k i rest h).state false (is_ending k) false (is_letting_go k)
 balance-kind {w} config log tracker c Request i rest h sys is few own first =
     let asked = asked-first config log h.mail h.request h.state sys c i rest is first in
     subst (λ (m : Message w). IsBalance config h.state (request_taken (clients_in config) c i m tracker rest h).state false false false false) (sym asked.is_it)
     (request-kind config h (clients_in config) c i tracker asked.request rest asked.used)
 balance-kind config log tracker c Acquire n rest h sys is few own first = acquire-kind config h (clients_in config) config.profile c n tracker ((h.state.block n).pair c).acquiring rest
 balance-kind config log tracker c Probe n rest h sys is few own first = probe-taken config h.state c n _ rest
-balance-kind config log tracker c ProbeAck n rest h sys is few own first = ack-kind config h (is_caching config) (clients_in config) config.profile c n (report_told ((h.state.block n).pair c).probing) rest is.invariant
+balance-kind config log tracker c ProbeAck n rest h sys is few own first =
+    ack-kind config h (is_caching config) (clients_in config) config.profile c n (report_told ((h.state.block n).pair c).probing) rest is.invariant
 balance-kind config log tracker c Release n rest h sys is few own first = release-taken config h.state c n _ rest
 balance-kind config log tracker c Answer source rest h sys is few own first =
     let due = answer-due (is_caching config) c source rest h.mail h.state is.invariant (is.answered c source) first in
@@ -208,7 +219,8 @@ balance-kind config log tracker c Answer source rest h sys is few own first =
 balance-kind config log tracker c Grant n rest h sys is few own first =
     let due = grant-due (is_caching config) c n rest h.state is.invariant first in
     subst (λ (v : Service). IsBalance config h.state (taken_by_client c n v rest h).state false false false false) (sym due.service)
-    (grant-taken config h.state c n (is_whole ((h.state.block n).pair c).acquiring) due.data_too due.k rest few (own.requests ((h.state.block n).source c) (λ closed. absurd (let both : Acquires n ≡ Closed = sym due.used ∙ closed in cc))) due.used)
+    (grant-taken config h.state c n (is_whole ((h.state.block n).pair c).acquiring) due.data_too due.k rest few
+    (own.requests ((h.state.block n).source c) (λ closed. absurd (let both : Acquires n ≡ Closed = sym due.used ∙ closed in cc))) due.used)
 balance-kind config log tracker c ReleaseAck n rest h sys is few own first =
     let let_ = ack-due (is_caching config) c n rest h.state is.invariant first in
     release-ack-taken config h.state c n rest few (own.releases ((h.state.block n).release_source c) n let_) let_

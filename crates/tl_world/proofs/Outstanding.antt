@@ -7,8 +7,8 @@ use Rattle.tl_beat.specs.declared.beat.Beat.{Beat}
 use Rattle.tl_beat.specs.declared.beat.Beat.TheVariants as beat
 use Rattle.tl_beat.specs.declared.beat.BeatD.{BeatD}
 use Rattle.tl_beat.specs.declared.beat.Link.{Link}
-use Rattle.tl_beat.specs.declared.opcode.Channel.{Channel}
-use Rattle.tl_beat.specs.declared.opcode.Channel.TheVariants as channel
+use Rattle.tl_beat.specs.declared.channel.Channel.{Channel}
+use Rattle.tl_beat.specs.declared.channel.Channel.TheVariants as channel
 use Rattle.tl_beat.specs.declared.opcode.OpD.{OpD}
 use Rattle.tl_beat.specs.declared.opcode.OpD.TheVariants as opd
 use Rattle.tl_burst.specs.declared.message.Message.{Message}
@@ -87,7 +87,8 @@ moved-ends (beat.D x) = (refl, refl)
 moved-ends (beat.E x) = (refl, refl)
 
 -- a response ends what its opcode says
-finish-ends : {w : ℕ} (x : Beat w) (source : ℕ) (o : OpD) (param size address : ℕ) (payload : List ℕ) → Ends (outcome.Done x source (finish_of w o param size address payload)) (is_access_answer o) (is_release_ack o)
+finish-ends : {w : ℕ} (x : Beat w) (source : ℕ) (o : OpD) (param size address : ℕ) (payload : List ℕ)
+    → Ends (outcome.Done x source (finish_of w o param size address payload)) (is_access_answer o) (is_release_ack o)
 finish-ends x source opd.AccessAck param size address payload = (refl, refl)
 finish-ends x source opd.AccessAckData param size address payload = (refl, refl)
 finish-ends x source opd.HintAck param size address payload = (refl, refl)
@@ -164,10 +165,12 @@ probe-ends {w} x e v m of_b answer =
     subst (λ (u : Verdict). Ends (outcome_of x u) false false) (sym (probe-verdict x e v m of_b answer)) (ends.0 ∙ ap is_e of_b, ends.1)
 
 -- the first beat of channel B is one of a Probe
-first-probe : {w : ℕ} (c : ℕ) (h : Shadow w) (sys : System w) (x : Beat w) (queue : List (Beat w)) (first : IsFirst channel.B c h.mail h.state sys x queue) → (channel_of x ≡ channel.B) × ((is_ending first.kind ≡ false) × (is_letting_go first.kind ≡ false))
+first-probe : {w : ℕ} (c : ℕ) (h : Shadow w) (sys : System w) (x : Beat w) (queue : List (Beat w)) (first : IsFirst channel.B c h.mail h.state sys x queue)
+    → (channel_of x ≡ channel.B) × ((is_ending first.kind ≡ false) × (is_letting_go first.kind ≡ false))
 first-probe {w} c h sys x queue first = go first.kind first.own first.next
   where
-    go : (k : Kind) → is_on channel.B k ≡ true → IsNext x (unfinished channel.B (receiver channel.B c sys)) (message_of_kind k h.mail h.state c first.number) (map (message_of h.mail h.state c) first.rest) queue
+    go : (k : Kind) → is_on channel.B k ≡ true → IsNext x (unfinished channel.B (receiver channel.B c sys)) (message_of_kind k h.mail h.state c first.number)
+        (map (message_of h.mail h.state c) first.rest) queue
         → (channel_of x ≡ channel.B) × ((is_ending k ≡ false) × (is_letting_go k ≡ false))
     go Probe own next = (ap (λ (z : Beat w). channel_of z) next.beat_is ∙ probe_on_b w c first.number next.k (h.state.block first.number), (refl, refl))
     go Request own next = absurd cc
@@ -188,7 +191,8 @@ first-moved {w} config link ch sys moving = go (terms_at config link.0) refl mov
     First : Type 0
     First = (x : Beat w) × (queue : List (Beat w)) × (terms : Terms) × ((sys.channels link.0 ch ≡ x ∷ queue) × (terms_at config link.0 ≡ Some terms))
 
-    at : (terms : Terms) → terms_at config link.0 ≡ Some terms → (beats : List (Beat w)) → sys.channels link.0 ch ≡ beats → is_moving (delivered config terms link.0 ch beats sys).outcome ≡ true → First
+    at : (terms : Terms) → terms_at config link.0 ≡ Some terms → (beats : List (Beat w)) → sys.channels link.0 ch ≡ beats
+        → is_moving (delivered config terms link.0 ch beats sys).outcome ≡ true → First
     at terms e [] f m = absurd cc
     at terms e (x ∷ queue) f m = (x, queue, terms, (f, e))
 
@@ -206,7 +210,8 @@ module _ {w : ℕ} (config : Config) (log : Log w) (h : Shadow w) (width : IsWid
   bounds : (c : ℕ) → AreBounded c (sources_in config c) config.trackers h.state
   bounds c = matched-bounded config log h.mail h.request h.state (after config log) matched c (sources-own config log c width)
 
-  counted-as : (link : Link) (ch : Channel) (o : Outcome w) (h' : Shadow w) (ends lets : Bool) → Ends o ends lets → IsBalance config h.state h'.state false ends false lets → IsCounted (Deliver link ch) o h'
+  counted-as : (link : Link) (ch : Channel) (o : Outcome w) (h' : Shadow w) (ends lets : Bool) → Ends o ends lets
+      → IsBalance config h.state h'.state false ends false lets → IsCounted (Deliver link ch) o h'
   counted-as link ch o h' ends lets e b = record {
     requests = ap (λ (x : Bool). open_requests config h'.state + one_if x) e.0 ∙ b.requests;
     releases = ap (λ (x : Bool). open_releases config h'.state + one_if x) e.1 ∙ b.releases;
@@ -216,9 +221,11 @@ module _ {w : ℕ} (config : Config) (log : Log w) (h : Shadow w) (width : IsWid
   unopened = record { requests = refl; releases = refl }
 
   -- the last beat of a message, or another one
-  counted-either : (link : Link) (ch : Channel) (o : Outcome w) (tracker : ℕ) (k : Kind) (i : ℕ) (rest : List Token) (b : Bool) → link.0 < clients_in config → on k (h.state.link link.0) ≡ token k i ∷ rest
+  counted-either : (link : Link) (ch : Channel) (o : Outcome w) (tracker : ℕ) (k : Kind) (i : ℕ) (rest : List Token) (b : Bool) → link.0 < clients_in config
+      → on k (h.state.link link.0) ≡ token k i ∷ rest
       → (b ≡ true → Ends o (is_ending k) (is_letting_go k)) → (b ≡ false → Ends o false false) → IsCounted (Deliver link ch) o (if b then kind_taken config tracker link.0 k i rest h else h)
-  counted-either link ch o tracker k i rest true few first last part = counted-as link ch o (kind_taken config tracker link.0 k i rest h) (is_ending k) (is_letting_go k) (last refl) (balance-kind config log tracker link.0 k i rest h (after config log) matched few (bounds link.0) first)
+  counted-either link ch o tracker k i rest true few first last part = counted-as link ch o (kind_taken config tracker link.0 k i rest h) (is_ending k)
+      (is_letting_go k) (last refl) (balance-kind config log tracker link.0 k i rest h (after config log) matched few (bounds link.0) first)
   counted-either link ch o tracker k i rest false few first last part = counted-as link ch o h false false (part refl) unopened
 
   -- ---- what the manager takes
@@ -234,7 +241,8 @@ module _ {w : ℕ} (config : Config) (log : Log w) (h : Shadow w) (width : IsWid
   whole_e c Grant n on_it = absurd cc
   whole_e c ReleaseAck n on_it = absurd cc
 
-  part_apart : (ch : Channel) (c : ℕ) (x : Beat w) (queue : List (Beat w)) → IsFirst ch c h.mail h.state (after config log) x queue → completes x (unfinished ch (receiver ch c (after config log))) ≡ false → is_e ch ≡ false
+  part_apart : (ch : Channel) (c : ℕ) (x : Beat w) (queue : List (Beat w)) → IsFirst ch c h.mail h.state (after config log) x queue
+      → completes x (unfinished ch (receiver ch c (after config log))) ≡ false → is_e ch ≡ false
   part_apart channel.A c x queue first part = refl
   part_apart channel.B c x queue first part = refl
   part_apart channel.C c x queue first part = refl
@@ -244,12 +252,15 @@ module _ {w : ℕ} (config : Config) (log : Log w) (h : Shadow w) (width : IsWid
       let yes = first.next.completes_is ∙ one_whole first.next.k (beats_of (message_of_kind first.kind h.mail h.state c first.number)) one first.next.within in
       absurd (let both : true ≡ false = sym yes ∙ part in cc)
 
-  counted-manager : (link : Link) (ch : Channel) (terms : Terms) (x : Beat w) (queue : List (Beat w)) → terms_at config link.0 ≡ Some terms → is_to_client ch ≡ false → (after config log).channels link.0 ch ≡ x ∷ queue
-      → is_moving (stepped config (Deliver link ch) (after config log)).outcome ≡ true → IsCounted (Deliver link ch) (stepped config (Deliver link ch) (after config log)).outcome (followed config (Deliver link ch) (after config log) h)
+  counted-manager : (link : Link) (ch : Channel) (terms : Terms) (x : Beat w) (queue : List (Beat w)) → terms_at config link.0 ≡ Some terms
+      → is_to_client ch ≡ false → (after config log).channels link.0 ch ≡ x ∷ queue
+      → is_moving (stepped config (Deliver link ch) (after config log)).outcome ≡ true
+      → IsCounted (Deliver link ch) (stepped config (Deliver link ch) (after config log)).outcome (followed config (Deliver link ch) (after config log) h)
   counted-manager link ch terms x queue known down beats moving =
       subst (λ (o : Outcome w). IsCounted (Deliver link ch) o (followed config (Deliver link ch) (after config log) h)) (sym (ap (λ (y : Step w). y.outcome) at.step_is))
       (subst (λ (z : Shadow w). IsCounted (Deliver link ch) (outcome.Moved x) z) (sym at.follows)
-      (counted-either link ch (outcome.Moved x) (next_tracker (after config log)) at.first.kind at.first.number at.first.rest (completes x (unfinished ch (receiver ch link.0 (after config log)))) (client_below config link.0 terms known)
+      (counted-either link ch (outcome.Moved x) (next_tracker (after config log)) at.first.kind at.first.number at.first.rest
+      (completes x (unfinished ch (receiver ch link.0 (after config log)))) (client_below config link.0 terms known)
       (on_same ch at.first.kind (h.state.link link.0) at.first.own ∙ at.first.tokens)
       (λ last. (ends.0 ∙ sym kinds.0, ends.1 ∙ sym kinds.1)) (λ part. (ends.0 ∙ part_apart ch link.0 x queue at.first part, ends.1))))
     where
@@ -287,7 +298,9 @@ module _ {w : ℕ} (config : Config) (log : Log w) (h : Shadow w) (width : IsWid
           ∙ ap (λ (l : List Token). if done then token_taken config (next_tracker (after config log)) link.0 l h else h) first.tokens
 
   counted-b : (link : Link) (terms : Terms) (x : Beat w) (queue : List (Beat w)) → terms_at config link.0 ≡ Some terms → (after config log).channels link.0 channel.B ≡ x ∷ queue
-      → is_moving (stepped config (Deliver link channel.B) (after config log)).outcome ≡ true → IsCounted (Deliver link channel.B) (stepped config (Deliver link channel.B) (after config log)).outcome (followed config (Deliver link channel.B) (after config log) h)
+      → is_moving (stepped config (Deliver link channel.B) (after config log)).outcome ≡ true
+      → IsCounted (Deliver link channel.B) (stepped config (Deliver link channel.B) (after config log)).outcome
+      (followed config (Deliver link channel.B) (after config log) h)
   counted-b link terms x queue known beats moving =
       counted-client link channel.B terms x queue known beats moving first (client-moves config link channel.B (after config log) terms x queue known beats refl moving) (λ v m answer.
       let none = probe-ends x ((after config log).clients link.0) v m probe.0 answer in
@@ -317,7 +330,8 @@ module _ {w : ℕ} (config : Config) (log : Log w) (h : Shadow w) (width : IsWid
 
       last : completes x (unfinished channel.D e.past) ≡ true → Ends (outcome_of x v) (is_ending k) (is_letting_go k)
       last f =
-          let same = (same_answers v (verdict.Done y.source (finish_at y e)) m (acked y.opcode y.sink) (offer.taken x e).answer answer (ap (λ (z : Beat w). (offer.taken z e).answer) x_is ∙ answer-last y e (at true f))).0 in
+          let same = (same_answers v (verdict.Done y.source (finish_at y e)) m (acked y.opcode y.sink) (offer.taken x e).answer answer
+          (ap (λ (z : Beat w). (offer.taken z e).answer) x_is ∙ answer-last y e (at true f))).0 in
           let ends = finish-ends x y.source y.opcode y.param y.size _ _ in
           subst (λ (u : Verdict). Ends (outcome_of x u) (is_ending k) (is_letting_go k)) (sym same) (ends.0 ∙ access, ends.1 ∙ ack)
 
@@ -328,9 +342,12 @@ module _ {w : ℕ} (config : Config) (log : Log w) (h : Shadow w) (width : IsWid
           subst (λ (u : Verdict). Ends (outcome_of x u) false false) (sym same) (ends.0 ∙ ap (λ (z : Beat w). is_e (channel_of z)) x_is, ends.1)
 
   counted-d : (link : Link) (terms : Terms) (x : Beat w) (queue : List (Beat w)) → terms_at config link.0 ≡ Some terms → (after config log).channels link.0 channel.D ≡ x ∷ queue
-      → is_moving (stepped config (Deliver link channel.D) (after config log)).outcome ≡ true → IsCounted (Deliver link channel.D) (stepped config (Deliver link channel.D) (after config log)).outcome (followed config (Deliver link channel.D) (after config log) h)
+      → is_moving (stepped config (Deliver link channel.D) (after config log)).outcome ≡ true
+      → IsCounted (Deliver link channel.D) (stepped config (Deliver link channel.D) (after config log)).outcome
+      (followed config (Deliver link channel.D) (after config log) h)
   counted-d link terms x queue known beats moving =
-      counted-client link channel.D terms x queue known beats moving first (client-moves config link channel.D (after config log) terms x queue known beats refl moving) (kinds first.kind first.tokens first.own first.next)
+      counted-client link channel.D terms x queue known beats moving first
+      (client-moves config link channel.D (after config log) terms x queue known beats refl moving) (kinds first.kind first.tokens first.own first.next)
     where
       c : ℕ
       c = link.0
@@ -353,7 +370,8 @@ module _ {w : ℕ} (config : Config) (log : Log w) (h : Shadow w) (width : IsWid
           response-ends c Grant (grant_message due.data_too due.k ((h.state.block first.number).source c) (h.state.block first.number).tracker (h.state.block first.number).truth) next.k x
           (next.beat_is ∙ ap (λ (m : Message w). beat_of m next.k) (grant-rendered c first.number h.state due)) (grant_kind due.data_too).0 (grant_kind due.data_too).1
       kinds ReleaseAck tokens own next =
-          response-ends c ReleaseAck (ack_message ((h.state.block first.number).release_source c)) next.k x (next.beat_is ∙ ap (λ (m : Message w). beat_of m next.k) (rendered_release_ack c first.number (h.state.block first.number))) refl refl
+          response-ends c ReleaseAck (ack_message ((h.state.block first.number).release_source c)) next.k x
+          (next.beat_is ∙ ap (λ (m : Message w). beat_of m next.k) (rendered_release_ack c first.number (h.state.block first.number))) refl refl
       kinds Request tokens own next = absurd cc
       kinds Acquire tokens own next = absurd cc
       kinds Probe tokens own next = absurd cc
@@ -370,7 +388,9 @@ module _ {w : ℕ} (config : Config) (log : Log w) (h : Shadow w) (width : IsWid
       (counted-as link ch (stepped config (Deliver link ch) (after config log)).outcome h false false (still-ends (stepped config (Deliver link ch) (after config log)).outcome still) unopened)
   counted-delivery link ch true moving = go ch (first-moved config link ch (after config log) moving) moving
     where
-      go : (i : Channel) → ((x : Beat w) × (queue : List (Beat w)) × (terms : Terms) × (((after config log).channels link.0 i ≡ x ∷ queue) × (terms_at config link.0 ≡ Some terms))) → is_moving (stepped config (Deliver link i) (after config log)).outcome ≡ true
+      go : (i : Channel) → ((x : Beat w) × (queue : List (Beat w)) × (terms : Terms)
+          × (((after config log).channels link.0 i ≡ x ∷ queue) × (terms_at config link.0 ≡ Some terms)))
+          → is_moving (stepped config (Deliver link i) (after config log)).outcome ≡ true
           → IsCounted (Deliver link i) (stepped config (Deliver link i) (after config log)).outcome (followed config (Deliver link i) (after config log) h)
       go channel.A p m = counted-manager link channel.A p.2 p.0 p.1 p.3.1 refl p.3.0 m
       go channel.B p m = counted-b link p.2 p.0 p.1 p.3.1 p.3.0 m
@@ -384,6 +404,7 @@ module _ {w : ℕ} (config : Config) (log : Log w) (h : Shadow w) (width : IsWid
   counted-followed (Deliver link ch) = counted-delivery link ch (is_moving (stepped config (Deliver link ch) (after config log)).outcome) refl
   counted-followed (Ask c o) = go (terms_at config c) refl
     where
-      go : (t : Option Terms) → terms_at config c ≡ t → IsCounted (Ask c o) (stepped_at config t (Ask c o) (after config log)).outcome (followed_by config (Ask c o) (stepped_at config t (Ask c o) (after config log)).outcome (after config log) h)
+      go : (t : Option Terms) → terms_at config c ≡ t → IsCounted (Ask c o) (stepped_at config t (Ask c o) (after config log)).outcome
+          (followed_by config (Ask c o) (stepped_at config t (Ask c o) (after config log)).outcome (after config log) h)
       go None e = record { requests = refl; releases = refl }
       go (Some terms) e = balance-asked config log h (after config log) terms c o matched e (client_below config c terms e)

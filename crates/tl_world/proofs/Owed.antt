@@ -4,7 +4,7 @@ use Rattle.std.specs.Prelude.{◌==◌, length}
 use Rattle.std.proofs.lemmas.Bool.{cases_eq}
 use Rattle.tl_beat.specs.Width.{IsWidth}
 use Rattle.tl_beat.specs.declared.beat.Beat.{Beat}
-use Rattle.tl_beat.specs.declared.opcode.Channel.{Channel}
+use Rattle.tl_beat.specs.declared.channel.Channel.{Channel}
 use Rattle.tl_burst.specs.declared.message.MessageA.{MessageA}
 use Rattle.tl_burst.specs.Burst.{beats_of}
 use Rattle.tl_burst.specs.Part.{completes}
@@ -36,7 +36,8 @@ pub left-matched : {w : ℕ} (config : Config) (log : Log w) (mail : Mail w) (re
 left-matched config log mail request s sys width matched = is-left config (is_caching config) mail s (unfinished_at sys) width matched.invariant matched.sourced
 
 -- what is owed is at most a block's beats and 33 for each open request, a block's beats and one for each open Release
-pub owed-few : {w : ℕ} (config : Config) (log : Log w) (mail : Mail w) (request : ℕ → MessageA w) (s : State (List ℕ)) (sys : System w) → IsWidth w → IsMatched config log mail request s sys → length config.clients.items ≤ 16
+pub owed-few : {w : ℕ} (config : Config) (log : Log w) (mail : Mail w) (request : ℕ → MessageA w) (s : State (List ℕ)) (sys : System w) → IsWidth w
+    → IsMatched config log mail request s sys → length config.clients.items ≤ 16
     → owed config mail s sys ≤ (64 / w + 33) * open_requests config s + (64 / w + 1) * open_releases config s
 owed-few {w} config log mail request s sys width matched sixteen =
     potential-few (is_caching config) s matched.invariant (64 / w) (beats_left mail s (unfinished_at sys)) (answer_to mail) (left-matched config log mail request s sys width matched)
@@ -50,12 +51,15 @@ not_last b k n e f lt = go (cases_eq (k + 1) n)
     go (inr differs) = omega (arith, lt, differs)
 
 -- a beat that isn't the last of its message is taken
-pub owed-begun : {w : ℕ} (config : Config) (log : Log w) (mail : Mail w) (request : ℕ → MessageA w) (s : State (List ℕ)) (sys' : System w) (ch : Channel) (c : ℕ) (x : Beat w) (queue : List (Beat w)) → IsWidth w
-    → IsMatched config log mail request s (after config log) → c < length config.clients.items → (after config log).channels c ch ≡ x ∷ queue → completes x (unfinished_at (after config log) c ch) ≡ false
+pub owed-begun : {w : ℕ} (config : Config) (log : Log w) (mail : Mail w) (request : ℕ → MessageA w) (s : State (List ℕ)) (sys' : System w) (ch : Channel)
+    (c : ℕ) (x : Beat w) (queue : List (Beat w)) → IsWidth w
+    → IsMatched config log mail request s (after config log) → c < length config.clients.items → (after config log).channels c ch ≡ x ∷ queue
+    → completes x (unfinished_at (after config log) c ch) ≡ false
     → IsBegun c ch x (unfinished_at (after config log)) (unfinished_at sys') → owed config mail s sys' + 1 ≤ owed config mail s (after config log)
 owed-begun {w} config log mail request s sys' ch c x queue width matched lt beats part begun =
     beat-falls config (is_caching config) ch c mail s (after config log) sys' x queue (64 / w) (answer_to mail) first
-    (not_last (completes x (unfinished_at (after config log) c ch)) first.next.k (beats_of (message_of_kind first.kind mail s c first.number)) first.next.completes_is part first.next.within) begun matched.invariant
+    (not_last (completes x (unfinished_at (after config log) c ch)) first.next.k
+    (beats_of (message_of_kind first.kind mail s c first.number)) first.next.completes_is part first.next.within) begun matched.invariant
     (are-clients config log mail request s matched width) lt
   where
     first : IsFirst ch c mail s (after config log) x queue

@@ -2,7 +2,7 @@
 use Rattle.std.proofs.Common.{◌≡◌, ℕ, ◌+◌, ◌<◌, ◌≤◌, Bool, true, false, List, ◌∷◌, refl, sym, ◌∙◌, ap, subst}
 use Rattle.std.specs.Prelude.{if◌then◌else◌, length}
 use Rattle.tl_beat.specs.Width.{IsWidth}
-use Rattle.tl_beat.specs.declared.opcode.Channel.TheVariants as channel
+use Rattle.tl_beat.specs.declared.channel.Channel.TheVariants as channel
 use Rattle.tl_params.specs.declared.config.Config.{Config}
 use Rattle.tl_params.specs.declared.param.Grow.{Grow}
 use Rattle.tl_world.specs.Follow.{Shadow, kind_taken, taken_by_client, acquire_taken, some_below, gift, is_unheld, is_whole}
@@ -17,14 +17,16 @@ use Rattle.tl_world.specs.Token.{Kind, Acquire, Probe, Release, Answer, Grant, R
 use Rattle.tl_world.specs.Whole.{IsMatched, is_caching}
 use Rattle.tl_world.proofs.EventFalls.{shown-first}
 use Rattle.tl_world.proofs.Owed.{owed}
-use Rattle.tl_world.proofs.OwedAfter.{IsKeptAfter, grant_taken-owed, acquire_served-owed, acquire_granted-owed, probe_taken-owed, release_taken-owed, answer_taken-owed, release_ack_taken-owed, grant_ack_taken-owed}
+use Rattle.tl_world.proofs.OwedAfter.{IsKeptAfter, grant_taken-owed, acquire_served-owed, acquire_granted-owed, probe_taken-owed, release_taken-owed}
+use Rattle.tl_world.proofs.OwedAfter.{answer_taken-owed, release_ack_taken-owed, grant_ack_taken-owed}
 use Rattle.tl_world.proofs.Due.{IsGrantDue, grant-due}
 use Rattle.tl_world.proofs.HeardAll.{bare}
 use Rattle.tl_world.proofs.Phases.{and_left}
 use Rattle.tl_world.proofs.Popped.{IsReceived}
 use Rattle.tl_world.proofs.BothParts.{sent-is, acknowledging-is}
 
-module _ {w : ℕ} (config : Config) (log : Log w) (h : Shadow w) (sys' : System w) (width : IsWidth w) (matched : IsMatched config log h.mail h.request h.state (after config log)) (tracker c n : ℕ) (rest : List Token)
+module _ {w : ℕ} (config : Config) (log : Log w) (h : Shadow w) (sys' : System w) (width : IsWidth w)
+    (matched : IsMatched config log h.mail h.request h.state (after config log)) (tracker c n : ℕ) (rest : List Token)
     (lt : c < length config.clients.items) where
   -- less is owed than before, where this token was taken
   abbrev pub TakenFalls : Kind → Type 0
@@ -57,7 +59,8 @@ module _ {w : ℕ} (config : Config) (log : Log w) (h : Shadow w) (sys' : System
   pub grant-owed : (h.state.link c).d ≡ token Grant n ∷ rest → IsReceived c channel.D (after config log) sys' → Kept Grant → TakenFalls Grant
   grant-owed first received kept =
       subst (λ (z : Shadow w). owed config z.mail z.state sys' + 1 ≤ owed config h.mail h.state (after config log)) (sym same)
-      (grant_taken-owed config log h.mail h.request h.state sys' width matched c n rest lt due.whole due.data_too due.k first due.service (bare (is_caching config) c n h due matched.invariant) received
+      (grant_taken-owed config log h.mail h.request h.state sys' width matched c n rest lt due.whole due.data_too due.k first due.service
+      (bare (is_caching config) c n h due matched.invariant) received
       (subst (λ (z : Shadow w). IsKeptAfter config z.mail z.state) same kept))
     where
       due : IsGrantDue c n h.state
@@ -67,7 +70,8 @@ module _ {w : ℕ} (config : Config) (log : Log w) (h : Shadow w) (sys' : System
       same = ap (λ (v : Service). taken_by_client c n v rest h) due.service ∙ ap (λ (a : Acquiring). record h { state = grant_taken c n (is_whole a) due.data_too due.k rest h.state }) due.wants
 
   -- an Acquire of a block that is free
-  pub acquire-owed : length config.clients.items ≤ 16 → (h.state.link c).a ≡ token Acquire n ∷ rest → (h.state.block n).service ≡ Free → IsReceived c channel.A (after config log) sys' → Kept Acquire → TakenFalls Acquire
+  pub acquire-owed : length config.clients.items ≤ 16 → (h.state.link c).a ≡ token Acquire n ∷ rest → (h.state.block n).service ≡ Free
+      → IsReceived c channel.A (after config log) sys' → Kept Acquire → TakenFalls Acquire
   acquire-owed sixteen first free received kept = go ((h.state.block n).pair c).acquiring refl kept
     where
       b : Block (List ℕ)
@@ -84,11 +88,14 @@ module _ {w : ℕ} (config : Config) (log : Log w) (h : Shadow w) (sys' : System
           then acquire_served c n (b.source c) tracker (cap_asked (Wants whole g)) rest h.state
           else acquire_granted c n tracker (is_granted_data whole g (b.pair c).recorded) (gift config.profile whole g (is_unheld (length config.clients.items) b.pair)) rest h.state
 
-      each : (whole : Bool) (g : Grow) (probes : Bool) → IsKeptAfter config h.mail (state_of whole g probes) → owed config h.mail (state_of whole g probes) sys' + 1 ≤ owed config h.mail h.state (after config log)
+      each : (whole : Bool) (g : Grow) (probes : Bool) → IsKeptAfter config h.mail (state_of whole g probes)
+          → owed config h.mail (state_of whole g probes) sys' + 1 ≤ owed config h.mail h.state (after config log)
       each whole g true is = acquire_served-owed config log h.mail h.request h.state sys' width matched c n rest lt (b.source c) tracker (cap_asked (Wants whole g)) sixteen first free received is
       each whole g false is =
-          acquire_granted-owed config log h.mail h.request h.state sys' width matched c n rest lt tracker (is_granted_data whole g (b.pair c).recorded) (gift config.profile whole g (is_unheld (length config.clients.items) b.pair)) first free received is
+          acquire_granted-owed config log h.mail h.request h.state sys' width matched c n rest lt tracker (is_granted_data whole g (b.pair c).recorded)
+          (gift config.profile whole g (is_unheld (length config.clients.items) b.pair)) first free received is
 
-      go : (x : Acquiring) → (b.pair c).acquiring ≡ x → IsKeptAfter config (taken x).mail (taken x).state → owed config (taken x).mail (taken x).state sys' + 1 ≤ owed config h.mail h.state (after config log)
+      go : (x : Acquiring) → (b.pair c).acquiring ≡ x → IsKeptAfter config (taken x).mail (taken x).state
+          → owed config (taken x).mail (taken x).state sys' + 1 ≤ owed config h.mail h.state (after config log)
       go Calm e is = absurd (let no : false ≡ true = rw e at wants in cc)
       go (Wants whole g) e is = each whole g (some_below (length config.clients.items) (λ d. is_probed c true (cap_asked (Wants whole g)) (b.pair d).recorded d)) is

@@ -2,7 +2,7 @@
 use Rattle.std.proofs.Common.{◌≡◌, ℕ, ◌+◌, ◌<◌, ◌≤◌, Bool, true, false, List, ◌∷◌, refl, sym, subst}
 use Rattle.std.specs.Prelude.{Option, Some, None, length}
 use Rattle.tl_beat.specs.Width.{IsWidth}
-use Rattle.tl_beat.specs.declared.opcode.Channel.TheVariants as channel
+use Rattle.tl_beat.specs.declared.channel.Channel.TheVariants as channel
 use Rattle.tl_burst.specs.declared.message.Message.{Message}
 use Rattle.tl_burst.specs.declared.message.Message.TheVariants as message
 use Rattle.tl_burst.specs.declared.message.MessageA.{MessageA}
@@ -24,13 +24,16 @@ use Rattle.tl_world.proofs.Owed.{owed}
 use Rattle.tl_world.proofs.OwedAfter.{IsKeptAfter, access_answered-owed, access_served-owed}
 use Rattle.tl_world.proofs.Popped.{IsReceived}
 
-pub request-owed : {w : ℕ} (config : Config) (log : Log w) (h : Shadow w) (sys' : System w) (tracker c source : ℕ) (rest : List Token) (m : MessageA w) → IsWidth w → IsMatched config log h.mail h.request h.state (after config log)
-    → c < length config.clients.items → length config.clients.items ≤ 16 → (h.state.link c).a ≡ token Request source ∷ rest → h.mail.request c source ≡ message.A m → is_acquire m.opcode ≡ false → (h.state.block (block_at m.address)).service ≡ Free
+pub request-owed : {w : ℕ} (config : Config) (log : Log w) (h : Shadow w) (sys' : System w) (tracker c source : ℕ) (rest : List Token) (m : MessageA w)
+    → IsWidth w → IsMatched config log h.mail h.request h.state (after config log)
+    → c < length config.clients.items → length config.clients.items ≤ 16 → (h.state.link c).a ≡ token Request source ∷ rest
+    → h.mail.request c source ≡ message.A m → is_acquire m.opcode ≡ false → (h.state.block (block_at m.address)).service ≡ Free
     → IsReceived c channel.A (after config log) sys' → IsKeptAfter config (kind_taken config tracker c Request source rest h).mail (kind_taken config tracker c Request source rest h).state
     → owed config (kind_taken config tracker c Request source rest h).mail (kind_taken config tracker c Request source rest h).state sys' + 1 ≤ owed config h.mail h.state (after config log)
 request-owed {w} config log h sys' tracker c source rest m width matched lt sixteen first is_it access free received kept =
     subst (λ (i : Message w). Falls (request_taken clients c source i tracker rest h)) (sym is_it)
-    (go (probes_some clients c false (cap_probed m.opcode m.param) b.pair) (cap_probed m.opcode m.param) refl refl (subst (λ (i : Message w). Kept (request_taken clients c source i tracker rest h)) is_it kept))
+    (go (probes_some clients c false (cap_probed m.opcode m.param) b.pair) (cap_probed m.opcode m.param) refl refl
+    (subst (λ (i : Message w). Kept (request_taken clients c source i tracker rest h)) is_it kept))
   where
     n : ℕ
     n = block_at m.address
@@ -50,12 +53,15 @@ request-owed {w} config log h sys' tracker c source rest m width matched lt sixt
     used : h.state.uses c source ≡ Asked
     used = request_named (is_caching config) h.state c source matched.invariant (shown-first (is_caching config) channel.A c Request source rest h.state matched.invariant refl first)
 
-    answered : probes_some clients c false (cap_probed m.opcode m.param) b.pair ≡ false → Kept (access_taken c source m tracker false None rest h) → Falls (access_taken c source m tracker false None rest h)
+    answered : probes_some clients c false (cap_probed m.opcode m.param) b.pair ≡ false → Kept (access_taken c source m tracker false None rest h)
+        → Falls (access_taken c source m tracker false None rest h)
     answered none is =
-        access_answered-owed config log h.mail h.request h.state sys' width matched c n rest lt source (performs m) (answers m b.memory) first used (unread-bytes config log h.mail h.request h.state (after config log) c n m matched access none)
+        access_answered-owed config log h.mail h.request h.state sys' width matched c n rest lt source (performs m) (answers m b.memory) first used
+        (unread-bytes config log h.mail h.request h.state (after config log) c n m matched access none)
         (answer_on_d m (answer_of (message.A m) (effect (message.A m) (bytes_at n b.memory)).1)) received is
 
-    go : (p : Bool) (o : Option Cap) → probes_some clients c false (cap_probed m.opcode m.param) b.pair ≡ p → cap_probed m.opcode m.param ≡ o → Kept (access_taken c source m tracker p o rest h) → Falls (access_taken c source m tracker p o rest h)
+    go : (p : Bool) (o : Option Cap) → probes_some clients c false (cap_probed m.opcode m.param) b.pair ≡ p → cap_probed m.opcode m.param ≡ o
+        → Kept (access_taken c source m tracker p o rest h) → Falls (access_taken c source m tracker p o rest h)
     go true None f g is = absurd (let no : false ≡ true = rw g at f in cc)
     go false None f g is = answered f is
     go false (Some j) f g is = answered f is

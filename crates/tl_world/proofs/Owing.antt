@@ -3,7 +3,7 @@ use Rattle.std.proofs.Common.{◌≡◌, ℕ, ◌+◌, ◌<◌, ◌≤◌, Bool,
 use Rattle.std.specs.Prelude.{◌==◌, if◌then◌else◌, Some, length}
 use Rattle.std.proofs.lemmas.Bool.{cases_eq, eqb-true}
 use Rattle.tl_beat.specs.declared.beat.Beat.{Beat}
-use Rattle.tl_beat.specs.declared.opcode.Channel.{Channel}
+use Rattle.tl_beat.specs.declared.channel.Channel.{Channel}
 use Rattle.tl_params.specs.declared.config.Config.{Config}
 use Rattle.tl_params.specs.declared.param.Cap.{Cap}
 use Rattle.tl_world.specs.Delivery.{sources_of}
@@ -50,7 +50,8 @@ pub record IsAsking {X : Type 0} (n q : ℕ) (own : Bool) (source : ℕ) (s : St
   pub at : ℕ
   pub used : s.uses q at ≡ (if own then Acquires n else InService n)
 
-pub asking : {X : Type 0} (caching : ℕ → Bool) (s : State X) (n q : ℕ) (own : Bool) (source : ℕ) (k : Cap) → IsInvariant caching s → (s.block n).service ≡ Waits q own source k → IsAsking n q own source s
+pub asking : {X : Type 0} (caching : ℕ → Bool) (s : State X) (n q : ℕ) (own : Bool) (source : ℕ) (k : Cap) → IsInvariant caching s
+    → (s.block n).service ≡ Waits q own source k → IsAsking n q own source s
 asking caching s n q true source k inv e =
     let viewed : view (s.block n).service q ≡ Own = rw (e, same_number q) refl in
     record { at = (s.block n).source q; used = source_of_acquire caching s q n inv (owns_ask ((s.block n).pair q) (view (s.block n).service q) ((inv.blocks n).phases q) (rw viewed refl)) }
@@ -79,7 +80,8 @@ module _ {w : ℕ} (config : Config) (caching : ℕ → Bool) (n : ℕ) (moves :
       → probes_weight number size left' n (s'.block n) + 1 ≤ probes_weight number size left n (s.block n)
       → potential config size left' answer s' + 1 ≤ potential config size left answer s
   service-falls q own source k waits served uses lets acks acquiring letting less =
-      use-falls config size left left' answer answer s s' q who.at (all.clients q who.at (open_use own n _ who.used)) (all.sources q who.at (open_use own n _ who.used)) none_more (strict own who.used waits)
+      use-falls config size left left' answer answer s s' q who.at (all.clients q who.at (open_use own n _ who.used))
+      (all.sources q who.at (open_use own n _ who.used)) none_more (strict own who.used waits)
     where
       who : IsAsking n q own source s
       who = asking caching s n q own source k showing.before waits
@@ -90,7 +92,8 @@ module _ {w : ℕ} (config : Config) (caching : ℕ → Bool) (n : ℕ) (moves :
       block : IsBlockNoMore config caching n moves mail mail' s s' showing c ch rest rest' popped size answer
       block = record {
         serves = λ d i e f. no_more;
-        acquires = λ d i e f. acquire-stays config caching n moves mail mail' s s' showing c ch rest rest' popped size answer d n (wants-used caching s showing.before d i n e) (acquiring d) (ap (λ (x : Service). view x d) served) no_more;
+        acquires = λ d i e f. acquire-stays config caching n moves mail mail' s s' showing c ch rest rest' popped size answer d n
+            (wants-used caching s showing.before d i n e) (acquiring d) (ap (λ (x : Service). view x d) served) no_more;
         lets = λ d i e f. letting d i e;
       }
 
@@ -141,14 +144,16 @@ module _ {w : ℕ} (config : Config) (caching : ℕ → Bool) (n : ℕ) (moves :
     (c : ℕ) (ch : Channel) (rest rest' : ℕ → Channel → List (Beat w)) (popped : IsPopped c ch moves rest rest' s s') (size : ℕ) (answer : ℕ → ℕ → ℕ) (all : AreClients config s) where
   -- one client's pair owes one less, and the others' are as before
   pub pair-falls : c < length config.clients.items → is_quiet ((s.block n).pair c).probing ≡ false → (s'.block n).service ≡ (s.block n).service
-      → ((d : ℕ) → (d ≡ c → ⊥) → (s'.block n).pair d ≡ (s.block n).pair d) → ((s'.block n).pair c).acquiring ≡ ((s.block n).pair c).acquiring → ((s'.block n).pair c).letting ≡ ((s.block n).pair c).letting
+      → ((d : ℕ) → (d ≡ c → ⊥) → (s'.block n).pair d ≡ (s.block n).pair d) → ((s'.block n).pair c).acquiring ≡ ((s.block n).pair c).acquiring
+      → ((s'.block n).pair c).letting ≡ ((s.block n).pair c).letting
       → ((d i : ℕ) → s'.uses d i ≡ s.uses d i) → ((d i : ℕ) → s'.lets d i ≡ s.lets d i) → ((d : ℕ) → length (s'.link d).e ≤ length (s.link d).e)
       → pair_weight size (beats_left mail' s' rest') n c ((s'.block n).pair c) + 1 ≤ pair_weight size (beats_left mail s rest) n c ((s.block n).pair c)
       → potential config size (beats_left mail' s' rest') answer s' + 1 ≤ potential config size (beats_left mail s rest) answer s
   pair-falls lt probed served others acquiring letting uses lets acks less =
       service-falls config caching n moves mail mail' s s' showing c ch rest rest' popped size answer all who.client who.own who.source who.cap who.is served uses lets acks
       (λ d. wanted d (cases_eq d c)) (λ d i e. let-stays config caching n moves mail mail' s s' showing c ch rest rest' popped size answer d n (let_as d (cases_eq d c)))
-      (total-falls (length config.clients.items) c 1 (λ d. pair_weight size (beats_left mail s rest) n d ((s.block n).pair d)) (λ d. pair_weight size (beats_left mail' s' rest') n d ((s'.block n).pair d)) lt (λ d h. each d (cases_eq d c)) less)
+      (total-falls (length config.clients.items) c 1 (λ d. pair_weight size (beats_left mail s rest) n d ((s.block n).pair d))
+      (λ d. pair_weight size (beats_left mail' s' rest') n d ((s'.block n).pair d)) lt (λ d h. each d (cases_eq d c)) less)
     where
       who : IsWaited (s.block n).service
       who = waited-probing caching s c n showing.before probed
@@ -171,12 +176,14 @@ module _ {w : ℕ} (config : Config) (caching : ℕ → Bool) (n : ℕ) (moves :
   pub block-same : (s'.block n ≡ s.block n) → IsBlockNoMore config caching n moves mail mail' s s' showing c ch rest rest' popped size answer
   block-same same = record {
     serves = λ d i e f. probes;
-    acquires = λ d i e f. acquire-stays config caching n moves mail mail' s s' showing c ch rest rest' popped size answer d n (wants-used caching s showing.before d i n e) (rw same refl) (rw same refl) probes;
+    acquires = λ d i e f. acquire-stays config caching n moves mail mail' s s' showing c ch rest rest' popped size answer d n
+        (wants-used caching s showing.before d i n e) (rw same refl) (rw same refl) probes;
     lets = λ d i e f. let-stays config caching n moves mail mail' s s' showing c ch rest rest' popped size answer d n (rw same refl);
   }
     where
       probes : probes_weight (length config.clients.items) size (beats_left mail' s' rest') n (s'.block n) ≤ probes_weight (length config.clients.items) size (beats_left mail s rest) n (s.block n)
-      probes = total-le (length config.clients.items) (λ d. pair_weight size (beats_left mail' s' rest') n d ((s'.block n).pair d)) (λ d. pair_weight size (beats_left mail s rest) n d ((s.block n).pair d))
+      probes = total-le (length config.clients.items) (λ d. pair_weight size (beats_left mail' s' rest') n d ((s'.block n).pair d))
+          (λ d. pair_weight size (beats_left mail s rest) n d ((s.block n).pair d))
           (λ d lt. pair-stays config caching n moves mail mail' s s' showing c ch rest rest' popped size answer d n (rw same refl) (rw same refl))
 
   module _ (block : IsBlockNoMore config caching n moves mail mail' s s' showing c ch rest rest' popped size answer) where

@@ -4,7 +4,7 @@ use Rattle.std.specs.Prelude.{◌++◌, ◌==◌, ◌&&◌, if◌then◌else◌,
 use Rattle.std.proofs.lemmas.Bool.{cases_eq, ne_eqb}
 use Rattle.std.proofs.lemmas.List.{append_assoc, reverse-append}
 use Rattle.tl_beat.specs.declared.beat.Beat.{Beat}
-use Rattle.tl_beat.specs.declared.opcode.Channel.{Channel}
+use Rattle.tl_beat.specs.declared.channel.Channel.{Channel}
 use Rattle.tl_burst.specs.declared.message.Message.{Message}
 use Rattle.tl_burst.specs.declared.message.Message.TheVariants as message
 use Rattle.tl_burst.specs.Burst.{beat_of, beats_of, begun, burst_of}
@@ -29,17 +29,20 @@ push_order : {w : ℕ} (b : Bool) (m : Message w) (sent queue own taken : List (
     → IsInOrder (if b then burst_of m ++ sent else sent) (if b then own ++ beats_from m 0 (beats_of m) else queue) taken
 push_order true m sent queue own taken same is =
     ap (λ xs. burst_of m ++ xs) is ∙ sym (append_assoc (burst_of m) (reverse queue) taken)
-    ∙ ap (λ xs. xs ++ taken) (ap (λ xs. xs ++ reverse queue) (sym (reverse-beats_from m (beats_of m))) ∙ sym (reverse-append queue (beats_from m 0 (beats_of m))) ∙ ap (λ xs. reverse (xs ++ beats_from m 0 (beats_of m))) (sym (same refl)))
+    ∙ ap (λ xs. xs ++ taken) (ap (λ xs. xs ++ reverse queue) (sym (reverse-beats_from m (beats_of m)))
+    ∙ sym (reverse-append queue (beats_from m 0 (beats_of m))) ∙ ap (λ xs. reverse (xs ++ beats_from m 0 (beats_of m))) (sym (same refl)))
 push_order false m sent queue own taken same is = is
 
-pop_order : {w : ℕ} (b : Bool) (x : Beat w) (rest sent queue taken : List (Beat w)) → (b ≡ true → queue ≡ x ∷ rest) → IsInOrder sent queue taken → IsInOrder sent (if b then rest else queue) (if b then x ∷ taken else taken)
+pop_order : {w : ℕ} (b : Bool) (x : Beat w) (rest sent queue taken : List (Beat w)) → (b ≡ true → queue ≡ x ∷ rest) → IsInOrder sent queue taken
+    → IsInOrder sent (if b then rest else queue) (if b then x ∷ taken else taken)
 pop_order true x rest sent queue taken first is =
     is ∙ ap (λ xs. reverse xs ++ taken) (first refl) ∙ ap (λ xs. xs ++ taken) (reverse-append (x ∷ []) rest) ∙ append_assoc (reverse rest) (x ∷ []) taken
 pop_order false x rest sent queue taken first is = is
 
 -- ---- the beats of a channel
 
-carried-begun : {w : ℕ} (m : Message w) (k : ℕ) (at : Channel) (t : History w) → carried_on at (begun m k ++ t) ≡ (if same_channel at (channel_of_message m) then begun m k ++ carried_on at t else carried_on at t)
+carried-begun : {w : ℕ} (m : Message w) (k : ℕ) (at : Channel) (t : History w)
+    → carried_on at (begun m k ++ t) ≡ (if same_channel at (channel_of_message m) then begun m k ++ carried_on at t else carried_on at t)
 unfolding carried_on
 carried-begun {w} m zero at t = go (same_channel at (channel_of_message m))
   where
@@ -117,7 +120,9 @@ popped_at c ch queue q d at = if (d == c) && same_channel at ch then queue else 
 said_here : {w : ℕ} (l : ℕ) (m : Message w) (p : ℕ → History w) (q : ℕ → Channel → List (Beat w)) (d : ℕ) (at : Channel) (taken : List (Beat w)) → IsInOrder (carried_on at (p d)) (q d at) taken
     → IsInOrder (carried_on at (said_at l m p d)) (queued_at l m q d at) taken
 said_here {w} l m p q d at taken is = elim (cases_eq d l) [
-  | inl same ↦ rw (same, same_number l, carried-begun m (beats_of m) at (p l)) (push_order (same_channel at (channel_of_message m)) m (carried_on at (p l)) (q l at) (q l (channel_of_message m)) taken (λ e. ap (q l) (sym (same_channel-is at (channel_of_message m) e))) (rw same at is))
+  | inl same ↦ rw (same, same_number l, carried-begun m (beats_of m) at (p l))
+      (push_order (same_channel at (channel_of_message m)) m (carried_on at (p l)) (q l at) (q l (channel_of_message m)) taken
+      (λ e. ap (q l) (sym (same_channel-is at (channel_of_message m) e))) (rw same at is))
   | inr other ↦ rw (ne_eqb d l other, ne_eqb l d (λ e. other (sym e))) is
 ]
 
@@ -137,7 +142,8 @@ unsaid_queue {w} l m q d at differs = go (d == l) (same_channel at (channel_of_m
     go false false e = refl
     go a true e = absurd cc
 
-pub client-says : {w : ℕ} (l : ℕ) (m : Message w) (p t : ℕ → History w) (q : ℕ → Channel → List (Beat w)) (f : ℕ → History w) → is_from_client (beat_of m 0) ≡ true → ArePassing p t q f → ArePassing (said_at l m p) t (queued_at l m q) f
+pub client-says : {w : ℕ} (l : ℕ) (m : Message w) (p t : ℕ → History w) (q : ℕ → Channel → List (Beat w)) (f : ℕ → History w)
+    → is_from_client (beat_of m 0) ≡ true → ArePassing p t q f → ArePassing (said_at l m p) t (queued_at l m q) f
 client-says {w} l m p t q f ours is = record {
   down = λ d at e.
       let differs = apart at (channel_of_message m) true e (sends m false ours) in
@@ -145,7 +151,8 @@ client-says {w} l m p t q f ours is = record {
   up = λ d at e. (said_here l m p q d at (carried_on at (t d)) (is.up d at e).0, (is.up d at e).1);
 }
 
-pub manager-says : {w : ℕ} (l : ℕ) (m : Message w) (p t : ℕ → History w) (q : ℕ → Channel → List (Beat w)) (f : ℕ → History w) → is_from_client (beat_of m 0) ≡ false → ArePassing p t q f → ArePassing p (said_at l m t) (queued_at l m q) f
+pub manager-says : {w : ℕ} (l : ℕ) (m : Message w) (p t : ℕ → History w) (q : ℕ → Channel → List (Beat w)) (f : ℕ → History w)
+    → is_from_client (beat_of m 0) ≡ false → ArePassing p t q f → ArePassing p (said_at l m t) (queued_at l m q) f
 manager-says {w} l m p t q f ours is = record {
   up = λ d at e.
       let differs = apart at (channel_of_message m) false e (sends m true ours) in
@@ -154,21 +161,24 @@ manager-says {w} l m p t q f ours is = record {
 }
 
 -- the taking end hears a beat
-heard_history : {w : ℕ} (c : ℕ) (ch : Channel) (x : Beat w) (p : ℕ → History w) (d : ℕ) (at : Channel) → IsOn ch x → carried_on at (heard_at c x p d) ≡ (if (c == d) && same_channel at ch then x ∷ carried_on at (p d) else carried_on at (p d))
+heard_history : {w : ℕ} (c : ℕ) (ch : Channel) (x : Beat w) (p : ℕ → History w) (d : ℕ) (at : Channel) → IsOn ch x
+    → carried_on at (heard_at c x p d) ≡ (if (c == d) && same_channel at ch then x ∷ carried_on at (p d) else carried_on at (p d))
 heard_history {w} c ch x p d at is = go (c == d)
   where
     go : (b : Bool) → carried_on at (if b then x ∷ p d else p d) ≡ (if b && same_channel at ch then x ∷ carried_on at (p d) else carried_on at (p d))
     go true = carried-beat x ch at (p d) is
     go false = refl
 
-heard_here : {w : ℕ} (c : ℕ) (ch : Channel) (x : Beat w) (queue : List (Beat w)) (p : ℕ → History w) (q : ℕ → Channel → List (Beat w)) (f : ℕ → History w) (d : ℕ) (at : Channel) (sent : List (Beat w)) → IsOn ch x → q c ch ≡ x ∷ queue
+heard_here : {w : ℕ} (c : ℕ) (ch : Channel) (x : Beat w) (queue : List (Beat w)) (p : ℕ → History w) (q : ℕ → Channel → List (Beat w)) (f : ℕ → History w)
+    (d : ℕ) (at : Channel) (sent : List (Beat w)) → IsOn ch x → q c ch ≡ x ∷ queue
     → IsInOrder sent (q d at) (carried_on at (p d)) × (carried_on at (p d) ≡ carried_on at (f d))
     → IsInOrder sent (popped_at c ch queue q d at) (carried_on at (heard_at c x p d)) × (carried_on at (heard_at c x p d) ≡ carried_on at (heard_at c x f d))
 heard_here {w} c ch x queue p q f d at sent on first is = (order, same)
   where
     order : IsInOrder sent (popped_at c ch queue q d at) (carried_on at (heard_at c x p d))
     order = elim (cases_eq d c) [
-      | inl here ↦ rw (here, heard_history c ch x p c at on, same_number c) (pop_order (same_channel at ch) x queue sent (q c at) (carried_on at (p c)) (λ e. ap (q c) (same_channel-is at ch e) ∙ first) (rw here at is.0))
+      | inl here ↦ rw (here, heard_history c ch x p c at on, same_number c)
+          (pop_order (same_channel at ch) x queue sent (q c at) (carried_on at (p c)) (λ e. ap (q c) (same_channel-is at ch e) ∙ first) (rw here at is.0))
       | inr other ↦ rw (heard_history c ch x p d at on, ne_eqb d c other, ne_eqb c d (λ e. other (sym e))) is.0
     ]
 
@@ -191,7 +201,8 @@ unpopped {w} c ch queue q d at differs = go (d == c) (same_channel at ch) differ
     go false false e = refl
     go a true e = absurd cc
 
-pub client-hears : {w : ℕ} (c : ℕ) (ch : Channel) (x : Beat w) (queue : List (Beat w)) (p t : ℕ → History w) (q : ℕ → Channel → List (Beat w)) (f : ℕ → History w) → is_to_client ch ≡ true → IsOn ch x → q c ch ≡ x ∷ queue
+pub client-hears : {w : ℕ} (c : ℕ) (ch : Channel) (x : Beat w) (queue : List (Beat w)) (p t : ℕ → History w) (q : ℕ → Channel → List (Beat w))
+    (f : ℕ → History w) → is_to_client ch ≡ true → IsOn ch x → q c ch ≡ x ∷ queue
     → ArePassing p t q f → ArePassing (heard_at c x p) t (popped_at c ch queue q) (heard_at c x f)
 client-hears {w} c ch x queue p t q f theirs on first is = record {
   down = λ d at e. heard_here c ch x queue p q f d at (carried_on at (t d)) on first (is.down d at e);
@@ -200,7 +211,8 @@ client-hears {w} c ch x queue p t q f theirs on first is = record {
       rw (unheard c ch x p d at on differs, unheard c ch x f d at on differs, unpopped c ch queue q d at differs) (is.up d at e);
 }
 
-pub manager-hears : {w : ℕ} (c : ℕ) (ch : Channel) (x : Beat w) (queue : List (Beat w)) (p t : ℕ → History w) (q : ℕ → Channel → List (Beat w)) (f : ℕ → History w) → is_to_client ch ≡ false → IsOn ch x → q c ch ≡ x ∷ queue
+pub manager-hears : {w : ℕ} (c : ℕ) (ch : Channel) (x : Beat w) (queue : List (Beat w)) (p t : ℕ → History w) (q : ℕ → Channel → List (Beat w))
+    (f : ℕ → History w) → is_to_client ch ≡ false → IsOn ch x → q c ch ≡ x ∷ queue
     → ArePassing p t q f → ArePassing p (heard_at c x t) (popped_at c ch queue q) (heard_at c x f)
 manager-hears {w} c ch x queue p t q f theirs on first is = record {
   up = λ d at e. heard_here c ch x queue t q f d at (carried_on at (p d)) on first (is.up d at e);
@@ -210,7 +222,8 @@ manager-hears {w} c ch x queue p t q f theirs on first is = record {
 }
 
 -- the same histories and channels
-pub passing-same : {w : ℕ} (p t p' t' : ℕ → History w) (q q' : ℕ → Channel → List (Beat w)) (f f' : ℕ → History w) → ((d : ℕ) → p' d ≡ p d) → ((d : ℕ) → t' d ≡ t d) → ((d : ℕ) (at : Channel) → q' d at ≡ q d at) → ((d : ℕ) → f' d ≡ f d)
+pub passing-same : {w : ℕ} (p t p' t' : ℕ → History w) (q q' : ℕ → Channel → List (Beat w)) (f f' : ℕ → History w) → ((d : ℕ) → p' d ≡ p d)
+    → ((d : ℕ) → t' d ≡ t d) → ((d : ℕ) (at : Channel) → q' d at ≡ q d at) → ((d : ℕ) → f' d ≡ f d)
     → ArePassing p t q f → ArePassing p' t' q' f'
 passing-same p t p' t' q q' f f' ps ts qs fs is = record {
   down = λ d at e. rw (ps d, ts d, qs d at, fs d) (is.down d at e);

@@ -5,7 +5,7 @@ use Rattle.std.specs.Prelude.{if◌then◌else◌, unwrap_or}
 use Rattle.std.proofs.lemmas.Bool.{cases_eq, ne_eqb}
 use Rattle.tl_burst.proofs.Splitting.{beats-positive}
 use Rattle.tl_beat.specs.declared.beat.Beat.TheVariants as beat
-use Rattle.tl_beat.specs.declared.opcode.Channel.TheVariants as channel
+use Rattle.tl_beat.specs.declared.channel.Channel.TheVariants as channel
 use Rattle.tl_burst.specs.declared.message.Message.{Message}
 use Rattle.tl_burst.specs.declared.message.Message.TheVariants.{A, D}
 use Rattle.tl_burst.specs.declared.message.MessageA.{MessageA}
@@ -121,7 +121,8 @@ traced-answered {w} {X} config request c k n f m s u memory e blocks is known = 
     recorded_same d i = ap (recorded d i) after_is ∙ recorded-reply c reply.0 t d i is.comes.width whole reply.2 ∙ recorded-beat c k m e.trace d i
 
     missing_same : (d i : ℕ) → pending (ProbeOf i) (on_link d after) ≡ pending (ProbeOf i) (on_link d e.trace)
-    missing_same d i = ap (λ (v : Trace w). pending (ProbeOf i) (on_link d v)) after_is ∙ reply-quiet (ProbeOf i) (link_of c) reply.0 t d is.comes.width (whole c) (λ g. (refl, refl)) ∙ missing-beat c k m e.trace d i
+    missing_same d i = ap (λ (v : Trace w). pending (ProbeOf i) (on_link d v)) after_is
+        ∙ reply-quiet (ProbeOf i) (link_of c) reply.0 t d is.comes.width (whole c) (λ g. (refl, refl)) ∙ missing-beat c k m e.trace d i
 
     asked_same : (r src : ℕ) → request_of src (on_link r after) ≡ request_of src (on_link r t)
     asked_same r src = ap (λ (v : Trace w). request_of src (on_link r v)) after_is ∙ request-reply (link_of c) reply.0 t r src
@@ -140,7 +141,8 @@ pub record IsGranting {w : ℕ} {X : Type 0} (config : Config) (c k n : ℕ) (j 
   pub unwaited : IsUnwaited c m.source s
 
 -- a Grant, with the cap that it names
-grant_of_d : {w : ℕ} (config : Config) (n : ℕ) (j : Cap) (s : Service w) (t : Trace w) (memory : Memory) → block_at s.request.address ≡ n → cap_granted config.profile s.request.opcode s.request.param (holders.is_unheld config n t) ≡ j
+grant_of_d : {w : ℕ} (config : Config) (n : ℕ) (j : Cap) (s : Service w) (t : Trace w) (memory : Memory) → block_at s.request.address ≡ n
+    → cap_granted config.profile s.request.opcode s.request.param (holders.is_unheld config n t) ≡ j
     → (m : MessageD w) × (grant config s t memory ≡ D m) × (is_grant m.opcode ≡ true) × (m.source ≡ s.request.source) × (capped m.param ≡ cap_right j)
 grant_of_d config n j s t memory block given =
     (_, refl, grants-so (is_granted_data s.request.opcode s.request.param (recorded s.link.0 (block_at s.request.address) t)), refl, rw (block, given) (cap-gives j))
@@ -157,7 +159,8 @@ traced-granted {w} {X} config request c k n b j m s u memory e blocks is known =
   probes_else = λ d i ne. missing_same d i;
   serving_here =
       served n ∙ serving-last config c k n m e is.comes is.last is.block
-      ∙ sym (ap (λ (y : Block X). service_with (client_in y.service) y.tracker (set n m request n)) here ∙ ap (λ (r : MessageA w). Some (record { tracker = tracker; link = link_of c; request = r })) (set-same n m request));
+      ∙ sym (ap (λ (y : Block X). service_with (client_in y.service) y.tracker (set n m request n)) here
+      ∙ ap (λ (r : MessageA w). Some (record { tracker = tracker; link = link_of c; request = r })) (set-same n m request));
   serving_else = λ i ne. served i ∙ serving-others config c k n i m e is.comes is.last is.block ne;
   request_here = rw (here, set-same n m request) (is.acquires, is.block);
   asked_here = λ r src o l g. absurd (let no : GrantSent c b j ≡ Waits r o src l = ap (λ (y : Block X). y.service) (sym here) ∙ g in cc);
@@ -219,7 +222,8 @@ traced-granted {w} {X} config request c k n b j m s u memory e blocks is known =
         ]
 
     missing_same : (d i : ℕ) → pending (ProbeOf i) (on_link d after) ≡ pending (ProbeOf i) (on_link d e.trace)
-    missing_same d i = ap (λ (v : Trace w). pending (ProbeOf i) (on_link d v)) after_is ∙ reply-quiet (ProbeOf i) (link_of c) reply.0 t d is.comes.width (whole c) (λ g. (refl, refl)) ∙ missing-beat c k m e.trace d i
+    missing_same d i = ap (λ (v : Trace w). pending (ProbeOf i) (on_link d v)) after_is
+        ∙ reply-quiet (ProbeOf i) (link_of c) reply.0 t d is.comes.width (whole c) (λ g. (refl, refl)) ∙ missing-beat c k m e.trace d i
 
     quiet_same : (d : ℕ) → is_quiet (set c (after_grant_sent j ((s.block n).pair c)) (s.block n).pair d).probing ≡ is_quiet ((s.block n).pair d).probing
     quiet_same d = set-part (λ (p : Pair). is_quiet p.probing) c (after_grant_sent j ((s.block n).pair c)) (s.block n).pair refl d

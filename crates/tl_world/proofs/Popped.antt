@@ -4,8 +4,8 @@ use Rattle.std.specs.Prelude.{◌==◌, ◌&&◌, if◌then◌else◌, Option, S
 use Rattle.std.proofs.lemmas.Bool.{eqb-true}
 use Rattle.tl_beat.specs.Width.{IsWidth}
 use Rattle.tl_beat.specs.declared.beat.Beat.{Beat}
-use Rattle.tl_beat.specs.declared.opcode.Channel.{Channel}
-use Rattle.tl_beat.specs.declared.opcode.Channel.TheVariants as channel
+use Rattle.tl_beat.specs.declared.channel.Channel.{Channel}
+use Rattle.tl_beat.specs.declared.channel.Channel.TheVariants as channel
 use Rattle.tl_burst.specs.declared.message.Message.{Message}
 use Rattle.tl_burst.specs.declared.message.MessageA.{MessageA}
 use Rattle.tl_burst.specs.Burst.{beats_of}
@@ -73,8 +73,10 @@ elsewhere c d ch at ne = go (d == c) (same_channel at ch) refl refl
 fits_by : {w : ℕ} (a b : Bool) (push : Option (Message w)) (move : Move) (render : Kind → ℕ → Message w) → a ≡ b → Fits a push move render → Fits b push move render
 fits_by a b push move render e fits = rw (← e) fits
 
-pub popped-received : {w : ℕ} (c : ℕ) (ch : Channel) (pushes : ℕ → Channel → Option (Message w)) (moves : ℕ → Channel → Move) (render : ℕ → Kind → ℕ → Message w) (s s' : State (List ℕ)) (sys sys' : System w) → IsReceived c ch sys sys'
-    → ((d : ℕ) (at : Channel) → Fits ((d == c) && same_channel at ch) (pushes d at) (moves d at) (render d)) → ((d : ℕ) → AreMoved (moves d) (s.link d) (s'.link d)) → IsPopped c ch moves (unfinished_at sys) (unfinished_at sys') s s'
+pub popped-received : {w : ℕ} (c : ℕ) (ch : Channel) (pushes : ℕ → Channel → Option (Message w)) (moves : ℕ → Channel → Move)
+    (render : ℕ → Kind → ℕ → Message w) (s s' : State (List ℕ)) (sys sys' : System w) → IsReceived c ch sys sys'
+    → ((d : ℕ) (at : Channel) → Fits ((d == c) && same_channel at ch) (pushes d at) (moves d at) (render d))
+    → ((d : ℕ) → AreMoved (moves d) (s.link d) (s'.link d)) → IsPopped c ch moves (unfinished_at sys) (unfinished_at sys') s s'
 popped-received {w} c ch pushes moves render s s' sys sys' received fits moved = record {
   first = head.first;
   tokens = head.is;
@@ -87,11 +89,13 @@ popped-received {w} c ch pushes moves render s s' sys sys' received fits moved =
     here = rw (same_number c, same_channel-refl ch) refl
 
     head : IsHead (tokens_on ch (s.link c)) (tokens_on ch (s'.link c))
-    head = popped_first (pushes c ch) (moves c ch) (render c) (tokens_on ch (s.link c)) (tokens_on ch (s'.link c)) (fits_by ((c == c) && same_channel ch ch) true (pushes c ch) (moves c ch) (render c) here (fits c ch)) (moved c ch)
+    head = popped_first (pushes c ch) (moves c ch) (render c) (tokens_on ch (s.link c)) (tokens_on ch (s'.link c))
+        (fits_by ((c == c) && same_channel ch ch) true (pushes c ch) (moves c ch) (render c) here (fits c ch)) (moved c ch)
 
 -- ---- who has something open
 
-module _ {w : ℕ} (config : Config) (log : Log w) (mail : Mail w) (request : ℕ → MessageA w) (s : State (List ℕ)) (matched : IsMatched config log mail request s (after config log)) (width : IsWidth w) where
+module _ {w : ℕ} (config : Config) (log : Log w) (mail : Mail w) (request : ℕ → MessageA w) (s : State (List ℕ))
+    (matched : IsMatched config log mail request s (after config log)) (width : IsWidth w) where
   pub are-clients : AreClients config s
   are-clients = record {
     clients = λ d i used. user d i (terms_at config d) refl used;
@@ -128,6 +132,7 @@ pub first-left : {w : ℕ} (ch : Channel) (c : ℕ) (mail : Mail w) (s : State (
     → beats_left mail s (unfinished_at sys) c first.kind first.number + first.next.k ≡ beats_of (message_of_kind first.kind mail s c first.number)
 first-left {w} ch c mail s sys x queue first =
     let taken : taken_of (unfinished_at sys c (channel_for first.kind)) (is_front first.kind first.number (tokens_on (channel_for first.kind) (s.link c))) ≡ first.next.k =
-    rw (kind_channel ch first.kind first.own, first.tokens, same_kind_again first.kind, same_number first.number, first.next.rest_is) (length-begun (message_of_kind first.kind mail s c first.number) first.next.k) in
+    rw (kind_channel ch first.kind first.own, first.tokens, same_kind_again first.kind, same_number first.number, first.next.rest_is)
+    (length-begun (message_of_kind first.kind mail s c first.number) first.next.k) in
     let within = first.next.within in
     omega (arith, taken, within)

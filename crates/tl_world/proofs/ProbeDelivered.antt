@@ -7,7 +7,7 @@ use Rattle.tl_beat.specs.Width.{IsWidth}
 use Rattle.tl_beat.specs.declared.beat.Beat.{Beat}
 use Rattle.tl_beat.specs.declared.beat.Beat.TheVariants as beat
 use Rattle.tl_beat.specs.declared.beat.BeatA.{BeatA}
-use Rattle.tl_beat.specs.declared.opcode.Channel.TheVariants as channel
+use Rattle.tl_beat.specs.declared.channel.Channel.TheVariants as channel
 use Rattle.tl_beat.specs.declared.opcode.OpD.{OpD}
 use Rattle.tl_burst.specs.declared.message.Message.{Message}
 use Rattle.tl_burst.specs.declared.message.Message.TheVariants as message
@@ -75,7 +75,8 @@ comes_else n asked m k rest e is = ap (comes_granting n asked) e ∙ ap (λ y. c
     go (suc i) = is.2
 
 -- a client that is probed has no Grant of the block coming
-not_granted : (caching : ℕ → Bool) (c n i : ℕ) (rest : List Token) (s : State (List ℕ)) → IsInvariant caching s → (s.link c).d ≡ token Grant i ∷ rest → is_sent ((s.block n).pair c).probing ≡ true → (i == n) ≡ false
+not_granted : (caching : ℕ → Bool) (c n i : ℕ) (rest : List Token) (s : State (List ℕ)) → IsInvariant caching s → (s.link c).d ≡ token Grant i ∷ rest
+    → is_sent ((s.block n).pair c).probing ≡ true → (i == n) ≡ false
 not_granted caching c n i rest s inv first sent = go (i == n) refl
   where
     go : (z : Bool) → (i == n) ≡ z → z ≡ false
@@ -90,27 +91,34 @@ not_granted caching c n i rest s inv first sent = go (i == n) refl
 plain : {w : ℕ} (n : ℕ) (asked : ℕ → Option (BeatA w)) (o : OpD) (source : ℕ) → is_grant o ≡ false → (is_grant o && asks_for n (asked source)) ≡ false
 plain n asked o source e = rw e refl
 
-else_answer : {w : ℕ} (config : Config) (log : Log w) (mail : Mail w) (request : ℕ → MessageA w) (s : State (List ℕ)) (sys : System w) (c n i : ℕ) (rest : List Token) → IsMatched config log mail request s sys → (s.link c).d ≡ token Answer i ∷ rest
+else_answer : {w : ℕ} (config : Config) (log : Log w) (mail : Mail w) (request : ℕ → MessageA w) (s : State (List ℕ)) (sys : System w) (c n i : ℕ)
+    (rest : List Token) → IsMatched config log mail request s sys → (s.link c).d ≡ token Answer i ∷ rest
     → IsElse n (asked_by mail s c) (mail.answer c i)
 unfolding IsElse
 else_answer config log mail request s sys c n i rest h first =
     let due = answer-due (is_caching config) c i rest mail s h.invariant (h.answered c i) first in
     (due.answer, due.answer_is, plain n (asked_by mail s c) due.answer.opcode due.answer.source (access_kind due.answer.opcode due.answers_access).0)
 
-else_grant : {w : ℕ} (config : Config) (log : Log w) (mail : Mail w) (request : ℕ → MessageA w) (s : State (List ℕ)) (sys : System w) (c n i : ℕ) (rest : List Token) → IsMatched config log mail request s sys → (s.link c).d ≡ token Grant i ∷ rest
+else_grant : {w : ℕ} (config : Config) (log : Log w) (mail : Mail w) (request : ℕ → MessageA w) (s : State (List ℕ)) (sys : System w) (c n i : ℕ)
+    (rest : List Token) → IsMatched config log mail request s sys → (s.link c).d ≡ token Grant i ∷ rest
     → is_sent ((s.block n).pair c).probing ≡ true → IsElse n (asked_by mail s c) (rendered Grant c i (s.block i))
 unfolding IsElse
 else_grant {w} config log mail request s sys c n i rest h first sent =
     let due = grant-due (is_caching config) c i rest s h.invariant first in
     let asks = asks-acquire c ((s.block i).source c) i ((s.block i).source c) due.whole due.g mail s due.used due.wants refl in
-    let elsewhere : asks_for n (asked_by mail s c ((s.block i).source c)) ≡ false = ap (asks_for n) asks ∙ ap (λ (j : ℕ). j == n) (same_block i) ∙ not_granted (is_caching config) c n i rest s h.invariant first sent in
-    (grant_message due.data_too due.k ((s.block i).source c) (s.block i).tracker (s.block i).truth, grant-rendered c i s due, and_right (is_grant (grant_opcode due.data_too)) (asks_for n (asked_by mail s c ((s.block i).source c))) elsewhere)
+    let elsewhere : asks_for n (asked_by mail s c ((s.block i).source c)) ≡ false = ap (asks_for n) asks ∙ ap (λ (j : ℕ). j == n) (same_block i)
+    ∙ not_granted (is_caching config) c n i rest s h.invariant first sent in (
+      grant_message due.data_too due.k ((s.block i).source c) (s.block i).tracker (s.block i).truth,
+      grant-rendered c i s due,
+      and_right (is_grant (grant_opcode due.data_too)) (asks_for n (asked_by mail s c ((s.block i).source c))) elsewhere,
+    )
 
 else_ack : {w : ℕ} (mail : Mail w) (s : State (List ℕ)) (c n i : ℕ) → IsElse n (asked_by mail s c) (rendered ReleaseAck c i (s.block i))
 unfolding IsElse rendered
 else_ack mail s c n i = (ack_message ((s.block i).release_source c), refl, refl)
 
-pub not_coming : {w : ℕ} (config : Config) (log : Log w) (mail : Mail w) (request : ℕ → MessageA w) (s : State (List ℕ)) (sys : System w) (c n : ℕ) → IsMatched config log mail request s sys → is_sent ((s.block n).pair c).probing ≡ true
+pub not_coming : {w : ℕ} (config : Config) (log : Log w) (mail : Mail w) (request : ℕ → MessageA w) (s : State (List ℕ)) (sys : System w) (c n : ℕ)
+    → IsMatched config log mail request s sys → is_sent ((s.block n).pair c).probing ≡ true
     → comes_granting n (asked_by mail s c) (unfinished channel.D (sys.clients c).past) ≡ false
 not_coming {w} config log mail request s sys c n h sent = go (s.link c).d refl (h.carried c channel.D)
   where
@@ -130,12 +138,14 @@ not_coming {w} config log mail request s sys c n h sent = go (s.link c).d refl (
 
     go : (xs : List Token) → (s.link c).d ≡ xs → IsCarried rest_now (map (message_of mail s c) (s.link c).d) (sys.channels c channel.D) → comes_granting n (asked_by mail s c) rest_now ≡ false
     go [] first carried =
-        let none : IsCarried rest_now [] (sys.channels c channel.D) = subst (λ (ms : List (Message w)). IsCarried rest_now ms (sys.channels c channel.D)) (ap (map (message_of mail s c)) first) carried in
+        let none : IsCarried rest_now [] (sys.channels c channel.D) = subst (λ (ms : List (Message w)). IsCarried rest_now ms (sys.channels c channel.D))
+        (ap (map (message_of mail s c)) first) carried in
         ap (comes_granting n (asked_by mail s c)) none.0
     go (x ∷ xs) first carried =
         let some : IsCarried rest_now (message_of mail s c x ∷ map (message_of mail s c) xs) (sys.channels c channel.D) =
         subst (λ (ms : List (Message w)). IsCarried rest_now ms (sys.channels c channel.D)) (ap (map (message_of mail s c)) first) carried in
-        comes_else n (asked_by mail s c) (message_of mail s c x) some.0 rest_now some.2 (elses x.kind x.number xs first (own_kind (is_caching config) s c channel.D x.kind x.number xs h.invariant first))
+        comes_else n (asked_by mail s c) (message_of mail s c x) some.0 rest_now some.2
+        (elses x.kind x.number xs first (own_kind (is_caching config) s c channel.D x.kind x.number xs h.invariant first))
 
 -- ---- the Probe
 
@@ -175,7 +185,8 @@ probe-beat {w} c n s x rest ms queue next =
     let here : IsNext x rest (probe_of_block n k) ms queue = subst (λ (m : Message w). IsNext x rest m ms queue) (probe_rendered c n s) next in
     here.beat_is ∙ ap (beat_of (probe_of_block n k)) (first_beat here.k (beats_of (probe_of_block {w = w} n k)) here.within (one_beat w n k))
 
-pub probe-delivered : {w : ℕ} (config : Config) (log : Log w) (mail : Mail w) (request : ℕ → MessageA w) (s : State (List ℕ)) (sys : System w) (terms : Terms) (tracker c n : ℕ) (rest : List Token) (ms : List (Message w)) (x : Beat w) (queue : List (Beat w))
+pub probe-delivered : {w : ℕ} (config : Config) (log : Log w) (mail : Mail w) (request : ℕ → MessageA w) (s : State (List ℕ)) (sys : System w) (terms : Terms)
+    (tracker c n : ℕ) (rest : List Token) (ms : List (Message w)) (x : Beat w) (queue : List (Beat w))
     → IsWidth w → IsMatched config log mail request s sys → terms_at config c ≡ Some terms → sys.channels c channel.B ≡ x ∷ queue → (s.link c).b ≡ token Probe n ∷ rest
     → IsNext x (unfinished channel.B (sys.clients c).past) (rendered Probe c n (s.block n)) ms queue
     → IsProbed config terms tracker c n (shadow_of mail request s) x (sys.clients c)
@@ -206,7 +217,8 @@ probe-delivered {w} config log mail request s sys terms tracker c n rest ms x qu
     is : AreTermsOf config c terms
     is = terms-are config c terms at
 
-    lawful_at : level_of config c ≡ Some terms.level → manager.illegal_at (level_of config c) x ≡ None → x ≡ beat.B (probe_beat n k) → illegal terms.level channel.B (beat.B (probe_beat {w = w} n k)) ≡ None
+    lawful_at : level_of config c ≡ Some terms.level → manager.illegal_at (level_of config c) x ≡ None → x ≡ beat.B (probe_beat n k)
+        → illegal terms.level channel.B (beat.B (probe_beat {w = w} n k)) ≡ None
     lawful_at f g i = sym (ap (λ (l : Option Level). manager.illegal_at l (beat.B (probe_beat {w = w} n k))) f) ∙ sym (ap (λ (y : Beat w). manager.illegal_at (level_of config c) y) i) ∙ g
 
     lawful : illegal terms.level channel.B (beat.B (probe_beat {w = w} n k)) ≡ None
@@ -224,7 +236,8 @@ probe-delivered {w} config log mail request s sys terms tracker c n rest ms x qu
         ∙ (sound-beat config log mail request s sys c channel.B x queue h beats).inside
 
     taken_is : is_kept ((s.block n).pair c).letting ≡ true → offered terms channel.B (beat.B (probe_beat n k)) e ≡ probed (probe_beat n k) n (held_at e n) e
-    taken_is kept = probe-taken terms n k e (h.live c) lawful inside end.kept.b_whole (end.known.releases n ∙ ap not kept) (end.known.probes n) (end.known.grants n ∙ not_coming config log mail request s sys c n h sent)
+    taken_is kept = probe-taken terms n k e (h.live c) lawful inside end.kept.b_whole (end.known.releases n ∙ ap not kept) (end.known.probes n)
+        (end.known.grants n ∙ not_coming config log mail request s sys c n h sent)
 
     same_taken : taken (beat.B (probe_beat n k)) e ≡ probed (probe_beat n k) n (held_at e n) e
     same_taken = ap (λ (i : ℕ). probed (probe_beat n k) i (held_at e i) e) (same_block n)
@@ -234,16 +247,22 @@ probe-delivered {w} config log mail request s sys terms tracker c n rest ms x qu
 
     well : is_kept ((s.block n).pair c).letting ≡ true → IsWellKept (probed (probe_beat n k) n (held_at e n) e).after
     well kept = subst (λ (o : Offered w). IsWellKept o.after) (taken_is kept)
-        (record { kept = kept-offered terms channel.B (beat.B (probe_beat n k)) e width end.kept; accounted = accounted-offered terms channel.B (beat.B (probe_beat n k)) e width end.kept end.accounted })
+        (record {
+          kept = kept-offered terms channel.B (beat.B (probe_beat n k)) e width end.kept;
+          accounted =
+              accounted-offered terms channel.B (beat.B (probe_beat n k)) e width end.kept end.accounted;
+        })
 
     last : is_kept ((s.block n).pair c).letting ≡ true → IsEndOf c (token_taken config tracker c (s.link c).b (shadow_of mail request s)) (taken x e).after
     last kept =
         subst (λ (xs : List Token). IsEndOf c (token_taken config tracker c xs (shadow_of mail request s)) (taken x e).after) (sym first)
-        (subst (λ (o : Offered w). IsEndOf c (kind_taken config tracker c Probe n rest (shadow_of mail request s)) o.after) (sym (ap (λ (y : Beat w). taken y e) beat_is ∙ same_taken)) (end-probe_taken c n k rest mail s e width (well kept) end))
+        (subst (λ (o : Offered w). IsEndOf c (kind_taken config tracker c Probe n rest (shadow_of mail request s)) o.after)
+        (sym (ap (λ (y : Beat w). taken y e) beat_is ∙ same_taken)) (end-probe_taken c n k rest mail s e width (well kept) end))
 
 -- ---- all of channel B
 
-pub delivered-b : {w : ℕ} (config : Config) (log : Log w) (mail : Mail w) (request : ℕ → MessageA w) (s : State (List ℕ)) (sys : System w) (terms : Terms) (tracker c : ℕ) (x : Beat w) (queue : List (Beat w)) → IsWidth w
+pub delivered-b : {w : ℕ} (config : Config) (log : Log w) (mail : Mail w) (request : ℕ → MessageA w) (s : State (List ℕ)) (sys : System w) (terms : Terms)
+    (tracker c : ℕ) (x : Beat w) (queue : List (Beat w)) → IsWidth w
     → IsMatched config log mail request s sys → terms_at config c ≡ Some terms → sys.channels c channel.B ≡ x ∷ queue
     → (n : ℕ) × IsProbed config terms tracker c n (shadow_of mail request s) x (sys.clients c)
 delivered-b {w} config log mail request s sys terms tracker c x queue width h at beats = go first.kind first.number first.tokens first.own first.next

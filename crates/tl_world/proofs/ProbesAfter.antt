@@ -6,7 +6,7 @@ use Rattle.tl_beat.specs.declared.beat.Beat.{Beat}
 use Rattle.tl_beat.specs.declared.beat.Beat.TheVariants as beat
 use Rattle.tl_beat.specs.declared.beat.BeatB.{BeatB}
 use Rattle.tl_beat.specs.declared.beat.Link.{Link}
-use Rattle.tl_beat.specs.declared.opcode.Channel.TheVariants as channel
+use Rattle.tl_beat.specs.declared.channel.Channel.TheVariants as channel
 use Rattle.tl_beat.specs.declared.opcode.OpB.TheVariants as opb
 use Rattle.tl_burst.specs.declared.message.Message.{Message}
 use Rattle.tl_burst.specs.Messages.{unfinished}
@@ -88,7 +88,8 @@ ack_quiet w c perm.Branch r n x = refl
 ack_quiet w c perm.Trunk r n x = refl
 
 -- what is rendered after it
-rendered_probed : {w : ℕ} (c n : ℕ) (k : Cap) (b : Block (List ℕ)) → rendered {w = w} ProbeAck c n (probed_block c k b) ≡ probe_ack opb.ProbeBlock (b.pair c).held (report_at k (b.pair c).held) n b.truth
+rendered_probed : {w : ℕ} (c n : ℕ) (k : Cap) (b : Block (List ℕ))
+    → rendered {w = w} ProbeAck c n (probed_block c k b) ≡ probe_ack opb.ProbeBlock (b.pair c).held (report_at k (b.pair c).held) n b.truth
 unfolding rendered
 rendered_probed {w} c n k b = rw (set-same c (after_probe k (b.pair c)) b.pair, left_is k (b.pair c).held) refl
 
@@ -109,8 +110,10 @@ on_b y channel.E = refl
 taken_stalls : verdict.Taken ≡ verdict.Stalled → ⊥
 taken_stalls f = absurd cc
 
-pub delivered-b : {w : ℕ} (config : Config) (log : Log w) (link : Link) (h : Shadow w) (terms : client.Terms) (x : Beat w) (queue : List (Beat w)) → IsWidth w → IsMatched config log h.mail h.request h.state (after config log)
-    → terms_at config link.0 ≡ Some terms → (after config log).channels link.0 channel.B ≡ x ∷ queue → is_moving (stepped config (Deliver link channel.B) (after config log)).outcome ≡ true → IsDelivered config log link channel.B h
+pub delivered-b : {w : ℕ} (config : Config) (log : Log w) (link : Link) (h : Shadow w) (terms : client.Terms) (x : Beat w) (queue : List (Beat w)) → IsWidth w
+    → IsMatched config log h.mail h.request h.state (after config log)
+    → terms_at config link.0 ≡ Some terms → (after config log).channels link.0 channel.B ≡ x ∷ queue
+    → is_moving (stepped config (Deliver link channel.B) (after config log)).outcome ≡ true → IsDelivered config log link channel.B h
 unfolding performing
 delivered-b {w} config log link h terms x queue width is known beats moving = kinds first.kind first.number first.tokens first.own first.next
   where
@@ -129,7 +132,9 @@ delivered-b {w} config log link h terms x queue width is known beats moving = ki
     t : IsTakenByClient terms c channel.B x queue sys (stepped config (Deliver link channel.B) sys)
     t = client-moves config link channel.B sys terms x queue known beats refl moving
 
-    probe : (n : ℕ) → (h.state.link c).b ≡ token Probe n ∷ first.rest → IsNext x (unfinished channel.B e.past) (rendered Probe c n (h.state.block n)) (map (message_of h.mail h.state c) first.rest) queue → IsDelivered config log link channel.B h
+    probe : (n : ℕ) → (h.state.link c).b ≡ token Probe n ∷ first.rest
+        → IsNext x (unfinished channel.B e.past) (rendered Probe c n (h.state.block n)) (map (message_of h.mail h.state c) first.rest) queue
+        → IsDelivered config log link channel.B h
     probe n tokens next = by_letting (is_kept b_pair.letting) refl
       where
         b_pair : Pair
@@ -181,24 +186,31 @@ delivered-b {w} config log link h terms x queue width is known beats moving = ki
         taken : IsTaken c channel.B x queue (pushes_at c (pushes_of (Some ack))) sys now.after
         taken =
             taken-landed c channel.B x queue (pushes_at c (pushes_of (Some ack))) sys now.after
-            (landed-client c channel.B x queue (Some ack) (offer.taken x e).after sys refl beats (subst (λ (z : Beat w). IsOn channel.B z) (sym probed.beat_is) (on_b y)) (client-heard terms c channel.B x queue sys (stepped config (Deliver link channel.B) sys) width (is.kept c) t))
+            (landed-client c channel.B x queue (Some ack) (offer.taken x e).after sys refl beats
+            (subst (λ (z : Beat w). IsOn channel.B z) (sym probed.beat_is) (on_b y))
+            (client-heard terms c channel.B x queue sys (stepped config (Deliver link channel.B) sys) width (is.kept c) t))
             probed.whole
 
         follows : followed config (Deliver link channel.B) sys h ≡ kind_taken config (next_tracker sys) c Probe n first.rest h
         follows =
             followed-moving config link channel.B sys h x queue moving beats
-            ∙ ap (λ (b : Bool). if b then token_taken config (next_tracker sys) c (h.state.link c).b h else h) probed.whole ∙ ap (λ (l : List Token). token_taken config (next_tracker sys) c l h) tokens
+            ∙ ap (λ (b : Bool). if b then token_taken config (next_tracker sys) c (h.state.link c).b h else h) probed.whole
+            ∙ ap (λ (l : List Token). token_taken config (next_tracker sys) c l h) tokens
 
         by_letting : (b : Bool) → is_kept b_pair.letting ≡ b → IsDelivered config log link channel.B h
         by_letting true kept =
             let inv = invariant-taken config log h sys c Probe n first.rest is tokens (kept-is b_pair.letting kept) in
             delivered_as config log link channel.B h (kind_taken config (next_tracker sys) c Probe n first.rest h) follows
             (subst (λ (z : Step w). AreCarried h.mail (probe_taken c n k first.rest h.state) z.after) (sym step_is)
-            (probe_taken-carried (is_caching config) c n k first.rest ack h.mail h.state sys now.after x queue width is.invariant inv tokens sent (ack_channel w b_pair.held (report_at k b_pair.held) n (h.state.block n).truth)
+            (probe_taken-carried (is_caching config) c n k first.rest ack h.mail h.state sys now.after x queue width is.invariant inv tokens sent
+            (ack_channel w b_pair.held (report_at k b_pair.held) n (h.state.block n).truth)
             (rendered_probed c n k (h.state.block n)) taken is.carried))
             (subst (λ (m : Machine w). IsBeside h.mail (probe_taken c n k first.rest h.state) m)
-            (sym (remembered_after config log link channel.B now step_is ∙ ap (λ (l : List (ℕ × ℕ)). performing l (moved (Deliver link channel.B) now.outcome (remembered config log))) (ack_quiet w c b_pair.held (report_at k b_pair.held) n (h.state.block n).truth)))
-            (beside_block n (probed_block c k (h.state.block n)) h.mail h.state (probe_taken c n k first.rest h.state) (remembered config log) (λ i. refl) (λ d i. refl) (λ d i. refl) refl (λ d. same_acquiring c (after_probe k b_pair) (h.state.block n).pair refl d) (λ d. refl) is.beside))
+            (sym (remembered_after config log link channel.B now step_is
+            ∙ ap (λ (l : List (ℕ × ℕ)). performing l (moved (Deliver link channel.B) now.outcome (remembered config log)))
+            (ack_quiet w c b_pair.held (report_at k b_pair.held) n (h.state.block n).truth)))
+            (beside_block n (probed_block c k (h.state.block n)) h.mail h.state (probe_taken c n k first.rest h.state) (remembered config log) (λ i. refl)
+            (λ d i. refl) (λ d i. refl) refl (λ d. same_acquiring c (after_probe k b_pair) (h.state.block n).pair refl d) (λ d. refl) is.beside))
         by_letting false open_ =
             let stalled : (offer.taken x e).answer ≡ Ok (verdict.Stalled, None) = ap (λ (o : offer.Offered w). o.answer) (sym t.takes ∙ probed.waits_for open_) in
             let differ = (same_answers verdict.Taken verdict.Stalled (Some (handed_for y e)) None (offer.taken x e).answer answers stalled).0 in

@@ -33,10 +33,13 @@ some_tracker : (n : ℕ) → trackers_fit n ≡ true → 0 < n
 some_tracker n e = grind (arith, nat_tests, e)
 
 tracked : (config : Config) → config_fault config ≡ None → 0 < config.trackers
-tracked config e = some_tracker config.trackers (limits-fit (is_from_to 1 16 (length config.clients.items)) (blocks_fit config.blocks) (trackers_fit config.trackers) (all_sources_fit config.clients.items) e).2
+tracked config e = some_tracker config.trackers (limits-fit (is_from_to 1 16 (length config.clients.items)) (blocks_fit config.blocks)
+    (trackers_fit config.trackers) (all_sources_fit config.clients.items) e).2
 
 -- a delivery is next exactly while something is outstanding
 pub moving : {w : ℕ} (config : Config) (log : Log w) → IsGiven config log → is_none (next_delivery config (after config log)) ≡ (outstanding log == 0)
 moving config log given =
-    next-while-outstanding config log (shadow config log).mail (shadow config log).request (shadow config log).state (matched-given config log given) (coherent config log given) (tracked config given.fits)
-    (λ c terms ch x rest at beats. first-of config log (shadow config log) c terms ch x rest given.width (matched-given config log given) at beats) given.width (counted config log given.width given.typed given.is_log)
+    next-while-outstanding config log (shadow config log).mail (shadow config log).request (shadow config log).state (matched-given config log given)
+    (coherent config log given) (tracked config given.fits)
+    (λ c terms ch x rest at beats. first-of config log (shadow config log) c terms ch x rest given.width (matched-given config log given) at beats) given.width
+    (counted config log given.width given.typed given.is_log)

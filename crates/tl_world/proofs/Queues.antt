@@ -9,8 +9,8 @@ use Rattle.circular_buffer.specs.Buffer.{Buffer, buffer}
 use Rattle.tl_beat.specs.Width.{IsWidth}
 use Rattle.tl_beat.specs.declared.beat.Beat.{Beat}
 use Rattle.tl_beat.specs.declared.beat.Link.{Link}
-use Rattle.tl_beat.specs.declared.opcode.Channel.{Channel}
-use Rattle.tl_beat.specs.declared.opcode.Channel.TheVariants as channel
+use Rattle.tl_beat.specs.declared.channel.Channel.{Channel}
+use Rattle.tl_beat.specs.declared.channel.Channel.TheVariants as channel
 use Rattle.tl_burst.specs.declared.message.Message.{Message}
 use Rattle.tl_burst.specs.Burst.{beats_of}
 use Rattle.tl_burst.specs.Part.{is_empty}
@@ -74,7 +74,8 @@ module _ {w : ℕ} where
   -- of one channel
   pub moved-one : (n : ℕ) (old new : Rings w) (s : System w) (k : ℕ) (ch : Channel) (beats : List (Beat w)) → Carries n old s → length new.all.items ≡ length old.all.items
       → ((d : Ring w) → k < n → (slice_index_or new.all.items (place k ch) d).beats.items ≡ beats)
-      → ((d : Ring w) → (slice_index_or new.all.items (place k ch) d).deepest ≡ max (slice_index_or old.all.items (place k ch) d).deepest (length (slice_index_or new.all.items (place k ch) d).beats.items))
+      → ((d : Ring w) → (slice_index_or new.all.items (place k ch) d).deepest ≡ max (slice_index_or old.all.items (place k ch) d).deepest
+      (length (slice_index_or new.all.items (place k ch) d).beats.items))
       → ((i : ℕ) (d : Ring w) → i ≢ place k ch → slice_index_or new.all.items i d ≡ slice_index_or old.all.items i d)
       → (k < n → bit_at (word_of new.occupied ch) k ≡ bit_if (not (is_empty beats)))
       → ((j : ℕ) (c : Channel) → place j c ≢ place k ch → bit_at (word_of new.occupied c) j ≡ bit_at (word_of old.occupied c) j)
@@ -103,7 +104,8 @@ module _ {w : ℕ} where
   -- whose first beat is taken away: its bit is cleared where it was the last
   pub moved-dropped : (n : ℕ) (old new : Rings w) (s : System w) (k : ℕ) (ch : Channel) (x : Beat w) (rest : List (Beat w)) → Carries n old s → k < n → s.channels k ch ≡ x ∷ rest
       → length new.all.items ≡ length old.all.items
-      → ((d : Ring w) → (slice_index_or new.all.items (place k ch) d).beats ≡ buffer (drop 1 (slice_index_or old.all.items (place k ch) d).beats.items) (slice_index_or old.all.items (place k ch) d).beats.capacity)
+      → ((d : Ring w) → (slice_index_or new.all.items (place k ch) d).beats ≡ buffer (drop 1 (slice_index_or old.all.items (place k ch) d).beats.items)
+      (slice_index_or old.all.items (place k ch) d).beats.capacity)
       → ((d : Ring w) → (slice_index_or new.all.items (place k ch) d).deepest ≡ (slice_index_or old.all.items (place k ch) d).deepest)
       → ((i : ℕ) (d : Ring w) → i ≢ place k ch → slice_index_or new.all.items i d ≡ slice_index_or old.all.items i d)
       → (d : Ring w) → bit_at (word_of new.occupied ch) k ≡ bit_if (not (length (slice_index_or new.all.items (place k ch) d).beats.items == 0))
@@ -115,7 +117,8 @@ module _ {w : ℕ} where
       left : (e : Ring w) → (slice_index_or new.all.items (place k ch) e).beats.items ≡ rest
       left e = ap (λ (b : Buffer (Beat w)). b.items) (dropped e) ∙ ap (λ (xs : List (Beat w)). drop 1 xs) (carried.beats k ch e inside ∙ first)
 
-      deeper : (e : Ring w) → (slice_index_or new.all.items (place k ch) e).deepest ≡ max (slice_index_or old.all.items (place k ch) e).deepest (length (slice_index_or new.all.items (place k ch) e).beats.items)
+      deeper : (e : Ring w) → (slice_index_or new.all.items (place k ch) e).deepest ≡ max (slice_index_or old.all.items (place k ch) e).deepest
+          (length (slice_index_or new.all.items (place k ch) e).beats.items)
       deeper e =
           let now = ap (λ (xs : List (Beat w)). length xs) (left e) in
           let before = ap (λ (xs : List (Beat w)). length xs) (carried.beats k ch e inside ∙ first) in
@@ -178,9 +181,12 @@ module _ {w : ℕ} where
 
   -- a message that fits behind its channel
   pub moved-sent : (n : ℕ) (old new : Rings w) (s : System w) (l : ℕ) (m : Message w) → IsWidth w → Carries n old s → Fit n old (with_message l m s) → length new.all.items ≡ length old.all.items
-      → ((d : Ring w) → length (slice_index_or old.all.items (place l (channel_of_message m)) d).beats.items + beats_of m ≤ (slice_index_or old.all.items (place l (channel_of_message m)) d).beats.capacity
+      → ((d : Ring w) → length (slice_index_or old.all.items (place l (channel_of_message m)) d).beats.items + beats_of m
+      ≤ (slice_index_or old.all.items (place l (channel_of_message m)) d).beats.capacity
       → (slice_index_or new.all.items (place l (channel_of_message m)) d).beats.items ≡ (slice_index_or old.all.items (place l (channel_of_message m)) d).beats.items ++ beats_from m 0 (beats_of m))
-      → ((d : Ring w) → (slice_index_or new.all.items (place l (channel_of_message m)) d).deepest ≡ max (slice_index_or old.all.items (place l (channel_of_message m)) d).deepest (length (slice_index_or new.all.items (place l (channel_of_message m)) d).beats.items))
+      → ((d : Ring w) → (slice_index_or new.all.items (place l (channel_of_message m)) d).deepest ≡ max
+      (slice_index_or old.all.items (place l (channel_of_message m)) d).deepest
+      (length (slice_index_or new.all.items (place l (channel_of_message m)) d).beats.items))
       → ((i : ℕ) (d : Ring w) → i ≢ place l (channel_of_message m) → slice_index_or new.all.items i d ≡ slice_index_or old.all.items i d)
       → bit_at (word_of new.occupied (channel_of_message m)) l ≡ 1
       → ((j : ℕ) (c : Channel) → place j c ≢ place l (channel_of_message m) → bit_at (word_of new.occupied c) j ≡ bit_at (word_of old.occupied c) j)

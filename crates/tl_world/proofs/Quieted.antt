@@ -7,7 +7,7 @@ use Rattle.tl_beat.specs.Width.{IsWidth}
 use Rattle.tl_beat.specs.declared.beat.Beat.TheVariants as beat
 use Rattle.tl_beat.specs.declared.beat.BeatC.{BeatC}
 use Rattle.tl_beat.specs.declared.beat.Link.{Link}
-use Rattle.tl_beat.specs.declared.opcode.Channel.TheVariants as channel
+use Rattle.tl_beat.specs.declared.channel.Channel.TheVariants as channel
 use Rattle.tl_burst.specs.declared.message.Message.TheVariants.{D}
 use Rattle.tl_burst.specs.declared.message.MessageA.{MessageA}
 use Rattle.tl_burst.specs.declared.message.MessageD.{MessageD}
@@ -78,7 +78,9 @@ quiet-c link x t = record {
 
 -- what is recorded after it
 recorded-c : {w : ℕ} (link : Link) (x : BeatC w) (t : Trace w) (d i : ℕ)
-    → recorded d i ((link, beat.C x) ∷ t) ≡ unwrap_or (if (link.0 == d) && (ends (beat.C x) (on_link d t) && ((is_probe_ack x.opcode || is_release x.opcode) && (block_at x.address == i))) then Some (reported x.param) else None) (recorded d i t)
+    → recorded d i ((link, beat.C x) ∷ t) ≡ unwrap_or (if (link.0 == d)
+    && (ends (beat.C x) (on_link d t) && ((is_probe_ack x.opcode || is_release x.opcode) && (block_at x.address == i))) then Some
+    (reported x.param) else None) (recorded d i t)
 recorded-c link x t d i = recorded-taken d link i (beat.C x) t refl
 
 -- the last beat of a ProbeAck or Release of a block
@@ -113,11 +115,15 @@ recorded-part c x t part d i = recorded-c (record { 0 = c }) x t d i ∙ elim (c
 -- ---- which ProbeAcks are missing after it
 
 missing-c : {w : ℕ} (c : ℕ) (x : BeatC w) (t : Trace w) (d i : ℕ)
-    → pending (key.ProbeOf i) (on_link d ((record { 0 = c }, beat.C x) ∷ t)) ≡ (if (c == d) && (ends (beat.C x) (on_link d t) && (is_probe_ack x.opcode && (block_at x.address == i))) then false else pending (key.ProbeOf i) (on_link d t))
+    → pending (key.ProbeOf i) (on_link d ((record { 0 = c }, beat.C x) ∷ t))
+    ≡ (if (c == d) && (ends (beat.C x) (on_link d t) && (is_probe_ack x.opcode && (block_at x.address == i))) then false else pending (key.ProbeOf i)
+    (on_link d t))
 missing-c {w} c x t d i = go (c == d) refl
   where
     go : (b : Bool) → (c == d) ≡ b
-        → pending (key.ProbeOf i) (on_link d ((record { 0 = c }, beat.C x) ∷ t)) ≡ (if b && (ends (beat.C x) (on_link d t) && (is_probe_ack x.opcode && (block_at x.address == i))) then false else pending (key.ProbeOf i) (on_link d t))
+        → pending (key.ProbeOf i) (on_link d ((record { 0 = c }, beat.C x) ∷ t))
+        ≡ (if b && (ends (beat.C x) (on_link d t) && (is_probe_ack x.opcode && (block_at x.address == i))) then false else pending (key.ProbeOf i)
+        (on_link d t))
     go true e = ap (pending (key.ProbeOf i)) (own_beat d (record { 0 = c }) (beat.C x) t e) ∙ pending-closed (key.ProbeOf i) (beat.C x) (on_link d t) refl
     go false e = ap (pending (key.ProbeOf i)) (other_beat d (record { 0 = c }) (beat.C x) t e)
 
@@ -133,14 +139,16 @@ none_or true true p = refl
 none_or true false p = refl
 none_or false b p = refl
 
-pub missing-release : {w : ℕ} (c : ℕ) (x : BeatC w) (t : Trace w) → is_probe_ack x.opcode ≡ false → (d i : ℕ) → pending (key.ProbeOf i) (on_link d ((record { 0 = c }, beat.C x) ∷ t)) ≡ pending (key.ProbeOf i) (on_link d t)
+pub missing-release : {w : ℕ} (c : ℕ) (x : BeatC w) (t : Trace w) → is_probe_ack x.opcode ≡ false → (d i : ℕ)
+    → pending (key.ProbeOf i) (on_link d ((record { 0 = c }, beat.C x) ∷ t)) ≡ pending (key.ProbeOf i) (on_link d t)
 missing-release {w} c x t kind d i = missing-c c x t d i ∙ rw kind (none_or (c == d) (ends (beat.C x) (on_link d t)) (pending (key.ProbeOf i) (on_link d t)))
 
 pub part_none : (a b : Bool) → (if a && false then false else b) ≡ b
 part_none true b = refl
 part_none false b = refl
 
-pub missing-part : {w : ℕ} (c : ℕ) (x : BeatC w) (t : Trace w) → ends (beat.C x) (on_link c t) ≡ false → (d i : ℕ) → pending (key.ProbeOf i) (on_link d ((record { 0 = c }, beat.C x) ∷ t)) ≡ pending (key.ProbeOf i) (on_link d t)
+pub missing-part : {w : ℕ} (c : ℕ) (x : BeatC w) (t : Trace w) → ends (beat.C x) (on_link c t) ≡ false → (d i : ℕ)
+    → pending (key.ProbeOf i) (on_link d ((record { 0 = c }, beat.C x) ∷ t)) ≡ pending (key.ProbeOf i) (on_link d t)
 missing-part {w} c x t part d i = missing-c c x t d i ∙ elim (cases_eq c d) [
   | inl same ↦ rw (← same, part) (part_none (c == c) (pending (key.ProbeOf i) (on_link c t)))
   | inr other ↦ rw (ne_eqb c d other) refl
@@ -168,7 +176,8 @@ recorded-answer {w} link m t width none other d i = go (link.0 == d) refl
   where
     go : (b : Bool) → (link.0 == d) ≡ b → recorded d i (after_sent link (D m) t) ≡ recorded d i t
     go true e =
-        ap (held i) (own_link d link (D m) t e) ∙ held-sent_d i m (on_link d t) (subst (λ (j : ℕ). unfinished channel.D (on_link j t) ≡ []) (eqb-true link.0 d e) none) (beats-positive (D m) width) ∙ rw other refl
+        ap (held i) (own_link d link (D m) t e) ∙ held-sent_d i m (on_link d t)
+        (subst (λ (j : ℕ). unfinished channel.D (on_link j t) ≡ []) (eqb-true link.0 d e) none) (beats-positive (D m) width) ∙ rw other refl
     go false e = ap (held i) (other_link d link (D m) t e)
 
 -- ---- the protocol: no service, source or tracker changes
@@ -230,7 +239,8 @@ pair-part {X} {A} part c n p new block is d i = elim (cases_eq i n) [
     never false = refl
 
 -- a part that it has as before
-pub pair-still : {X A : Type 0} (part : Pair → A) (c n : ℕ) (p : Pair) (new : Block X) (block : ℕ → Block X) → ((d : ℕ) → new.pair d ≡ set c p (block n).pair d) → part p ≡ part ((block n).pair c) → (d i : ℕ)
+pub pair-still : {X A : Type 0} (part : Pair → A) (c n : ℕ) (p : Pair) (new : Block X) (block : ℕ → Block X) → ((d : ℕ) → new.pair d ≡ set c p (block n).pair d)
+    → part p ≡ part ((block n).pair c) → (d i : ℕ)
     → part ((set n new block i).pair d) ≡ part ((block i).pair d)
 pair-still {X} {A} part c n p new block is same d i = pair-part part c n p new block is d i ∙ go (c == d) (n == i) refl refl
   where

@@ -5,7 +5,7 @@ use Rattle.std.specs.Prelude.{not, ◌==◌, ◌||◌, if◌then◌else◌, Opti
 use Rattle.std.proofs.lemmas.Bool.{eqb-true, not-false}
 use Rattle.tl_beat.specs.Width.{IsWidth}
 use Rattle.tl_beat.specs.declared.beat.Beat.{Beat}
-use Rattle.tl_beat.specs.declared.opcode.Channel.{Channel}
+use Rattle.tl_beat.specs.declared.channel.Channel.{Channel}
 use Rattle.tl_beat.specs.declared.opcode.OpA.{OpA}
 use Rattle.tl_beat.specs.declared.opcode.OpA.TheVariants as a
 use Rattle.tl_beat.specs.declared.opcode.OpB.TheVariants as opb
@@ -61,7 +61,8 @@ answer_to mail c source = answer_beats (mail.request c source)
 
 -- data have at most a block's beats
 data-few : {w : ℕ} (m : MessageA w) → IsWidth w → data_beats w m.size ≤ 64 / w
-data-few {w} m width = beats-few (message.D (record { opcode = d.AccessAckData; param = 0; size = m.size; source = 0; sink = 0; denied = false; payload = m.payload; corrupt = 0; small = m.small })) width
+data-few {w} m width = beats-few (message.D (record
+    { opcode = d.AccessAckData; param = 0; size = m.size; source = 0; sink = 0; denied = false; payload = m.payload; corrupt = 0; small = m.small })) width
 
 -- a block has four beats or more
 pub wide-block : (w : ℕ) → IsWidth w → 4 ≤ 64 / w
@@ -117,7 +118,8 @@ atomic-few w size width e = go (size == 2) (size == 3) refl refl e
     go false true f g h = rw (eqb-true size 3 g) (by_width w width).1
     go false false f g h = absurd cc
 
-both-few : (w size : ℕ) (l : Level) (o : OpA) → IsWidth w → a_has_size w l o size ≡ true → data_beats w size ≤ 64 / w → (if a_carries_data o then data_beats w size else 1) + (if is_read o then data_beats w size else 1) ≤ 64 / w + 1
+both-few : (w size : ℕ) (l : Level) (o : OpA) → IsWidth w → a_has_size w l o size ≡ true → data_beats w size ≤ 64 / w
+    → (if a_carries_data o then data_beats w size else 1) + (if is_read o then data_beats w size else 1) ≤ 64 / w + 1
 both-few w size l a.PutFullData width e few = omega (arith, few)
 both-few w size l a.PutPartialData width e few = omega (arith, few)
 both-few w size l a.ArithmeticData width e few = let two = atomic-few w size width e in let four = wide-block w width in omega (arith, two, four)
@@ -192,7 +194,8 @@ module _ {w : ℕ} (config : Config) (caching : ℕ → Bool) (mail : Mail w) (s
   }
 
   -- what is left of an answer
-  pub answer-left : (c source : ℕ) → IsAnswered source (mail.request c source) (mail.answer c source) (s.uses c source) → s.uses c source ≡ Replied → beats_left mail s rest c Answer source ≤ answer_to mail c source
+  pub answer-left : (c source : ℕ) → IsAnswered source (mail.request c source) (mail.answer c source) (s.uses c source) → s.uses c source ≡ Replied
+      → beats_left mail s rest c Answer source ≤ answer_to mail c source
   answer-left c source answered replied =
       let all = left-few mail s rest c Answer source in
       let it : IsAnswered source (mail.request c source) (mail.answer c source) Replied = rw replied at answered in

@@ -3,7 +3,7 @@ use Rattle.std.proofs.Common.{◌≡◌, ℕ, zero, suc, ◌+◌, ◌<◌, ◌�
 use Rattle.std.specs.Prelude.{if◌then◌else◌, length}
 use Rattle.std.proofs.lemmas.Bool.{cases_eq, ne_eqb}
 use Rattle.tl_beat.specs.declared.beat.Beat.{Beat}
-use Rattle.tl_beat.specs.declared.opcode.Channel.{Channel}
+use Rattle.tl_beat.specs.declared.channel.Channel.{Channel}
 use Rattle.tl_params.specs.declared.config.Config.{Config}
 use Rattle.tl_params.specs.declared.param.Cap.{Cap}
 use Rattle.tl_params.specs.declared.param.Report.{Report}
@@ -16,7 +16,8 @@ use Rattle.tl_world.specs.Move.{Move}
 use Rattle.tl_world.specs.Phase.{Pair, Own, Granting, Probing, Quiet, Sent, Answered, is_quiet}
 use Rattle.tl_world.specs.PhaseSteps.{after_probe, after_report, after_grant_sent}
 use Rattle.tl_world.specs.Potential.{total, Left, probing_weight, pair_weight, probes_weight, acquire_weight, letting_weight, potential}
-use Rattle.tl_world.specs.Protocol.{Service, Free, Waits, GrantSent, GrantTaken, Block, State, Closed, InService, Replied, Acquires, view, is_unserved, probed_block, reported_block, ended_block, granted_block}
+use Rattle.tl_world.specs.Protocol.{Service, Free, Waits, GrantSent, GrantTaken, Block, State, Closed, InService, Replied, Acquires, view, is_unserved}
+use Rattle.tl_world.specs.Protocol.{probed_block, reported_block, ended_block, granted_block}
 use Rattle.tl_world.specs.Render.{Mail}
 use Rattle.tl_world.specs.Token.{ProbeAck, Acquire, Grant, Release, Answer, set}
 use Rattle.tl_world.proofs.Channels.{IsShowing}
@@ -28,7 +29,8 @@ use Rattle.tl_world.proofs.Weights.{IsLeft}
 
 -- ---- one client's pair
 
-probed-less : (size l l' : ℕ) (recorded : Perm) (k : Cap) (r : Report) → (same_perm recorded perm.Trunk ≡ false → l' ≤ 1) → l' ≤ size → probing_weight size l' recorded (Answered r) + 1 ≤ probing_weight size l recorded (Sent k)
+probed-less : (size l l' : ℕ) (recorded : Perm) (k : Cap) (r : Report) → (same_perm recorded perm.Trunk ≡ false → l' ≤ 1) → l' ≤ size
+    → probing_weight size l' recorded (Answered r) + 1 ≤ probing_weight size l recorded (Sent k)
 probed-less size l l' recorded k r one few = go (same_perm recorded perm.Trunk) one
   where
     go : (b : Bool) → (b ≡ false → l' ≤ 1) → l' + 1 ≤ 1 + (if b then size else 1)
@@ -83,7 +85,8 @@ module _ {w : ℕ} (config : Config) (caching : ℕ → Bool) (n : ℕ) (moves :
   number = length config.clients.items
 
   -- a part of pairs that an event leaves alone
-  kept_at : {A : Type 0} (part : Pair → A) (p : Pair) → part p ≡ part ((s.block n).pair c) → (s'.block n).pair ≡ set c p (s.block n).pair → (d : ℕ) → part ((s'.block n).pair d) ≡ part ((s.block n).pair d)
+  kept_at : {A : Type 0} (part : Pair → A) (p : Pair) → part p ≡ part ((s.block n).pair c) → (s'.block n).pair ≡ set c p (s.block n).pair → (d : ℕ)
+      → part ((s'.block n).pair d) ≡ part ((s.block n).pair d)
   kept_at part p e new d = ap (λ (f : ℕ → Pair). part (f d)) new ∙ set-part part c p (s.block n).pair e d
 
   other_at : (p : Pair) → (s'.block n).pair ≡ set c p (s.block n).pair → (d : ℕ) → (d ≡ c → ⊥) → (s'.block n).pair d ≡ (s.block n).pair d
@@ -151,10 +154,12 @@ module _ {w : ℕ} (config : Config) (caching : ℕ → Bool) (n : ℕ) (moves :
       ≤ acquire_weight size (left d Acquire n) (left d Grant n) (probes_weight number size left n (s.block n)) (view (s.block n).service d)
   unserved d i e f before after = unserved-stays config caching n moves mail mail' s s' showing c ch rest rest' popped size answer d i n e f before after
 
-  lets-kept : (d : ℕ) → ((s'.block n).pair d).letting ≡ ((s.block n).pair d).letting → letting_weight (left' d Release n) ((s'.block n).pair d).letting ≤ letting_weight (left d Release n) ((s.block n).pair d).letting
+  lets-kept : (d : ℕ) → ((s'.block n).pair d).letting ≡ ((s.block n).pair d).letting
+      → letting_weight (left' d Release n) ((s'.block n).pair d).letting ≤ letting_weight (left d Release n) ((s.block n).pair d).letting
   lets-kept d e = let-stays config caching n moves mail mail' s s' showing c ch rest rest' popped size answer d n e
 
-  pub answering-falls : (q source : ℕ) (k : Cap) (told r : Report) (f : List ℕ → List ℕ) → c < number → ((s.block n).pair c).probing ≡ Answered told → 1 ≤ left c ProbeAck n → (s.block n).service ≡ Waits q false source k
+  pub answering-falls : (q source : ℕ) (k : Cap) (told r : Report) (f : List ℕ → List ℕ) → c < number → ((s.block n).pair c).probing ≡ Answered told
+      → 1 ≤ left c ProbeAck n → (s.block n).service ≡ Waits q false source k
       → s.uses q source ≡ InService n → left' q Answer source ≤ answer q source → s'.block n ≡ ended_block c r f (s.block n) → s'.uses q source ≡ Replied
       → ((d i : ℕ) → (d ≡ q → i ≡ source → ⊥) → s'.uses d i ≡ s.uses d i) → ((d i : ℕ) → s'.lets d i ≡ s.lets d i) → ((d : ℕ) → length (s'.link d).e ≤ length (s.link d).e)
       → potential config size left' answer s' + 1 ≤ potential config size left answer s
@@ -184,7 +189,8 @@ module _ {w : ℕ} (config : Config) (caching : ℕ → Bool) (n : ℕ) (moves :
         lets = λ d i e g. lets-kept d (kept_at (λ p. p.letting) (after_report r was) refl pairs d);
       }
 
-  pub granting-falls : (q source at : ℕ) (k gift : Cap) (told r : Report) (data_too : Bool) → c < number → ((s.block n).pair c).probing ≡ Answered told → 1 ≤ left c ProbeAck n → (s.block n).service ≡ Waits q true at k
+  pub granting-falls : (q source at : ℕ) (k gift : Cap) (told r : Report) (data_too : Bool) → c < number → ((s.block n).pair c).probing ≡ Answered told
+      → 1 ≤ left c ProbeAck n → (s.block n).service ≡ Waits q true at k
       → s.uses q source ≡ Acquires n → IsLeft size left' answer s' → s'.block n ≡ granted_block c q r data_too gift (s.block n)
       → ((d i : ℕ) → s'.uses d i ≡ s.uses d i) → ((d i : ℕ) → s'.lets d i ≡ s.lets d i) → ((d : ℕ) → length (s'.link d).e ≤ length (s.link d).e)
       → potential config size left' answer s' + 1 ≤ potential config size left answer s
@@ -229,7 +235,8 @@ module _ {w : ℕ} (config : Config) (caching : ℕ → Bool) (n : ℕ) (moves :
       letting : (d : ℕ) → ((s'.block n).pair d).letting ≡ ((s.block n).pair d).letting
       letting d =
           ap (λ (b : Block (List ℕ)). (b.pair d).letting) new
-          ∙ (set-part (λ p. p.letting) q (after_grant_sent gift ((s.block n).pair q)) (set c (after_report r was) (s.block n).pair) (sym (set-part (λ p. p.letting) c (after_report r was) (s.block n).pair refl q)) d
+          ∙ (set-part (λ p. p.letting) q (after_grant_sent gift ((s.block n).pair q)) (set c (after_report r was) (s.block n).pair)
+          (sym (set-part (λ p. p.letting) c (after_report r was) (s.block n).pair refl q)) d
           ∙ set-part (λ p. p.letting) c (after_report r was) (s.block n).pair refl d)
 
       block : IsBlockNoMore config caching n moves mail mail' s s' showing c ch rest rest' popped size answer

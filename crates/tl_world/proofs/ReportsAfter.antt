@@ -4,7 +4,7 @@ use Rattle.std.specs.Prelude.{◌==◌, if◌then◌else◌, length, map}
 use Rattle.tl_beat.specs.Width.{IsWidth}
 use Rattle.tl_beat.specs.declared.beat.Beat.{Beat}
 use Rattle.tl_beat.specs.declared.beat.Link.{Link}
-use Rattle.tl_beat.specs.declared.opcode.Channel.TheVariants as channel
+use Rattle.tl_beat.specs.declared.channel.Channel.TheVariants as channel
 use Rattle.tl_burst.specs.declared.message.Message.{Message}
 use Rattle.tl_burst.specs.Messages.{unfinished}
 use Rattle.tl_burst.specs.Part.{completes}
@@ -81,17 +81,21 @@ unfolding accesses_answered
 report-answered {w} config c n r rest h for = go (some_below (length config.clients.items) (others_probed c (h.state.block n).pair))
   where
     go : (y : Bool)
-        → accesses_answered (if y then [] else pushed_last n (h.state.block n).service (if y then with_state (report_taken c n r rest h.state) h else last_taken (length config.clients.items) config.profile c n r (h.state.block n).service rest h))
+        → accesses_answered (if y then [] else pushed_last n (h.state.block n).service
+        (if y then with_state (report_taken c n r rest h.state) h else last_taken (length config.clients.items) config.profile c n r
+        (h.state.block n).service rest h))
         ≡ (if y then [] else last_accesses (h.state.block n).service)
     go true = refl
     go false = last-answered config c n r (h.state.block n).service rest h for
 
 -- ---- the access that waits can be performed
 
-served-open : {w : ℕ} (q source n : ℕ) (h : Shadow w) (m : Machine w) (u : Use) → u ≡ InService n → IsOpened q source h.mail h.state u (m.opened q Requests source) → IsAccess source (h.mail.request q source) None (m.opened q Requests source)
+served-open : {w : ℕ} (q source n : ℕ) (h : Shadow w) (m : Machine w) (u : Use) → u ≡ InService n
+    → IsOpened q source h.mail h.state u (m.opened q Requests source) → IsAccess source (h.mail.request q source) None (m.opened q Requests source)
 served-open q source n h m u e is = rw e at is
 
-waiting-one : {w : ℕ} (config : Config) (log : Log w) (h : Shadow w) (sys : System w) (n : ℕ) (m : Machine w) (service : Service) → IsWidth w → IsMatched config log h.mail h.request h.state sys → IsBeside h.mail h.state m
+waiting-one : {w : ℕ} (config : Config) (log : Log w) (h : Shadow w) (sys : System w) (n : ℕ) (m : Machine w) (service : Service) → IsWidth w
+    → IsMatched config log h.mail h.request h.state sys → IsBeside h.mail h.state m
     → (h.state.block n).service ≡ service → IsFor service n (h.request n) → IsServedWith h.mail service (h.request n) → IsWaiting config n service h m
 waiting-one config log h sys n m Free width is beside e for with = tt
 waiting-one config log h sys n m (GrantSent q d k) width is beside e for with = tt
@@ -112,13 +116,15 @@ waiting-one {w} config log h sys n m (Waits q false source k) width is beside e 
 
 -- ---- any beat
 
-by-place : {w : ℕ} (h h' : Shadow w) (pushes handed : Handed w) (m : Machine w) (b : Bool) → handed ≡ (if b then pushes else []) → IsBeside h.mail h.state m → (IsBeside h'.mail h'.state (performing (accesses_answered pushes) m))
+by-place : {w : ℕ} (h h' : Shadow w) (pushes handed : Handed w) (m : Machine w) (b : Bool) → handed ≡ (if b then pushes else []) → IsBeside h.mail h.state m
+    → (IsBeside h'.mail h'.state (performing (accesses_answered pushes) m))
     → IsBeside (if b then h' else h).mail (if b then h' else h).state (performing (accesses_answered handed) m)
 unfolding performing accesses_answered
 by-place h h' pushes handed m true e before last = rw e last
 by-place h h' pushes handed m false e before last = rw e before
 
-pub beside-followed_c : {w : ℕ} (config : Config) (log : Log w) (h : Shadow w) (sys : System w) (c : ℕ) (x : Beat w) (queue : List (Beat w)) (m : Machine w) → IsWidth w → IsMatched config log h.mail h.request h.state sys → sys.channels c channel.C ≡ x ∷ queue → IsBeside h.mail h.state m
+pub beside-followed_c : {w : ℕ} (config : Config) (log : Log w) (h : Shadow w) (sys : System w) (c : ℕ) (x : Beat w) (queue : List (Beat w)) (m : Machine w)
+    → IsWidth w → IsMatched config log h.mail h.request h.state sys → sys.channels c channel.C ≡ x ∷ queue → IsBeside h.mail h.state m
     → IsBeside (if completes x (unfinished channel.C (on_link c sys.manager.trace)) then token_taken config (next_tracker sys) c (h.state.link c).c h else h).mail
     (if completes x (unfinished channel.C (on_link c sys.manager.trace)) then token_taken config (next_tracker sys) c (h.state.link c).c h else h).state
     (performing (accesses_answered (deed config (record { 0 = c }) x sys.manager).handed) m)
@@ -144,10 +150,13 @@ beside-followed_c {w} config log h sys c x queue m width is beats beside =
     reported n rest tokens =
         let b : Block (List ℕ) = h.state.block n in
         let r : Report = report_told (b.pair c).probing in
-        let answered : (b.pair c).probing ≡ Answered r = answered-is (b.pair c).probing (holds-first ProbeAck (h.state.link c).c rest (token ProbeAck n) (λ i. shown ProbeAck c (h.state.block i)) tokens refl (is.invariant.transfers c ProbeAck refl)) in
+        let answered : (b.pair c).probing ≡ Answered r = answered-is (b.pair c).probing
+        (holds-first ProbeAck (h.state.link c).c rest (token ProbeAck n) (λ i. shown ProbeAck c (h.state.block i)) tokens refl
+        (is.invariant.transfers c ProbeAck refl)) in
         subst (λ (l : List (ℕ × ℕ)). IsBeside (kind_taken config (next_tracker sys) c ProbeAck n rest h).mail (kind_taken config (next_tracker sys) c ProbeAck n rest h).state (performing l m))
         (sym (report-answered config c n r rest h (is.served.requests n)))
-        (beside-report (is_caching config) config c n r rest h m is.invariant answered (settled_all (length config.clients.items) (is_caching config) c b.pair (plain-past config) (is.invariant.blocks n).outside)
+        (beside-report (is_caching config) config c n r rest h m is.invariant answered
+        (settled_all (length config.clients.items) (is_caching config) c b.pair (plain-past config) (is.invariant.blocks n).outside)
         (waiting-one config log h sys n m b.service width is beside refl (is.served.requests n) (is.served_with n)) beside)
 
     released : (n : ℕ) (rest : List Token)
@@ -157,10 +166,12 @@ beside-followed_c {w} config log h sys c x queue m width is beats beside =
         let b : Block (List ℕ) = h.state.block n in
         let p : Prune = prune_told (b.pair c).letting in
         subst (λ (l : List (ℕ × ℕ)). IsBeside h.mail (release_taken c n p rest h.state) (performing l m)) (sym (ack-quiet w (record { 0 = c }) c n ((release_taken c n p rest h.state).block n)))
-        (beside_block n (let_block c p b) h.mail h.state (release_taken c n p rest h.state) m (λ i. refl) (λ d i. refl) (λ d i. refl) refl (λ d. same_acquiring c (after_release_taken p (b.pair c)) b.pair refl d) (λ d. refl) beside)
+        (beside_block n (let_block c p b) h.mail h.state (release_taken c n p rest h.state) m (λ i. refl) (λ d i. refl) (λ d i. refl) refl
+        (λ d. same_acquiring c (after_release_taken p (b.pair c)) b.pair refl d) (λ d. refl) beside)
 
 -- at most one access is answered then, and it can be performed
-report-once : {w : ℕ} (config : Config) (log : Log w) (h : Shadow w) (sys : System w) (c n : ℕ) (m : Machine w) → IsWidth w → IsMatched config log h.mail h.request h.state sys → IsBeside h.mail h.state m → IsOnce (accesses_by config c ProbeAck n h) h m
+report-once : {w : ℕ} (config : Config) (log : Log w) (h : Shadow w) (sys : System w) (c n : ℕ) (m : Machine w) → IsWidth w
+    → IsMatched config log h.mail h.request h.state sys → IsBeside h.mail h.state m → IsOnce (accesses_by config c ProbeAck n h) h m
 report-once {w} config log h sys c n m width is beside = go (some_below (length config.clients.items) (λ d. not (d == c) && not (is_quiet ((h.state.block n).pair d).probing)))
   where
     of_service : (service : Service) → IsWaiting config n service h m → IsOnce (last_accesses service) h m
@@ -174,19 +185,23 @@ report-once {w} config log h sys c n m width is beside = go (some_below (length 
     go true = inl refl
     go false = of_service (h.state.block n).service (waiting-one config log h sys n m (h.state.block n).service width is beside refl (is.served.requests n) (is.served_with n))
 
-once-place : {w : ℕ} (h : Shadow w) (pushes handed : Handed w) (m : Machine w) (b : Bool) → handed ≡ (if b then pushes else []) → IsOnce (accesses_answered pushes) h m → IsOnce (accesses_answered handed) h m
+once-place : {w : ℕ} (h : Shadow w) (pushes handed : Handed w) (m : Machine w) (b : Bool) → handed ≡ (if b then pushes else [])
+    → IsOnce (accesses_answered pushes) h m → IsOnce (accesses_answered handed) h m
 unfolding accesses_answered
 once-place h pushes handed m true e last = rw e last
 once-place h pushes handed m false e last = rw e (inl refl)
 
-pub once-followed_c : {w : ℕ} (config : Config) (log : Log w) (h : Shadow w) (sys : System w) (c : ℕ) (x : Beat w) (queue : List (Beat w)) (m : Machine w) → IsWidth w → IsMatched config log h.mail h.request h.state sys → sys.channels c channel.C ≡ x ∷ queue → IsBeside h.mail h.state m
+pub once-followed_c : {w : ℕ} (config : Config) (log : Log w) (h : Shadow w) (sys : System w) (c : ℕ) (x : Beat w) (queue : List (Beat w)) (m : Machine w)
+    → IsWidth w → IsMatched config log h.mail h.request h.state sys → sys.channels c channel.C ≡ x ∷ queue → IsBeside h.mail h.state m
     → IsOnce (accesses_answered (deed config (record { 0 = c }) x sys.manager).handed) h m
 once-followed_c {w} config log h sys c x queue m width is beats beside =
-    by-first_c (λ i. IsOnce (accesses_answered (deed config (record { 0 = c }) x sys.manager).handed) h m) c h.mail h.state sys x queue (first-token (is_caching config) channel.C c h.mail h.state sys x queue width is.invariant is.carried beats)
+    by-first_c (λ i. IsOnce (accesses_answered (deed config (record { 0 = c }) x sys.manager).handed) h m) c h.mail h.state sys x queue
+    (first-token (is_caching config) channel.C c h.mail h.state sys x queue width is.invariant is.carried beats)
     (λ n rest tokens next.
     let d = reports-delivered config log h sys c n rest x queue (map (message_of h.mail h.state c) rest) width is beats tokens next in
     once-place h _ (deed config (record { 0 = c }) x sys.manager).handed m (completes x (unfinished channel.C (on_link c sys.manager.trace))) d.handed
-    (subst (λ (l : List (ℕ × ℕ)). IsOnce l h m) (sym (report-answered config c n (report_told ((h.state.block n).pair c).probing) rest h (is.served.requests n))) (report-once config log h sys c n m width is beside)))
+    (subst (λ (l : List (ℕ × ℕ)). IsOnce l h m) (sym (report-answered config c n (report_told ((h.state.block n).pair c).probing) rest h
+    (is.served.requests n))) (report-once config log h sys c n m width is beside)))
     (λ n rest tokens next.
     let d = releases-delivered config log h sys c n rest x queue (map (message_of h.mail h.state c) rest) width is beats tokens next in
     once-place h _ (deed config (record { 0 = c }) x sys.manager).handed m (completes x (unfinished channel.C (on_link c sys.manager.trace))) d.handed

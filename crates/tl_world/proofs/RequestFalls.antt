@@ -3,7 +3,7 @@ use Rattle.std.proofs.Common.{◌≡◌, ℕ, ◌+◌, ◌≤◌, Bool, true, fa
 use Rattle.std.specs.Prelude.{◌&&◌, ◌==◌, if◌then◌else◌, length}
 use Rattle.std.proofs.lemmas.Bool.{cases_eq, ne_eqb}
 use Rattle.tl_beat.specs.declared.beat.Beat.{Beat}
-use Rattle.tl_beat.specs.declared.opcode.Channel.{Channel}
+use Rattle.tl_beat.specs.declared.channel.Channel.{Channel}
 use Rattle.tl_params.specs.declared.config.Config.{Config}
 use Rattle.tl_params.specs.declared.param.Cap.{Cap}
 use Rattle.tl_world.specs.Invariant.{IsInvariant}
@@ -11,7 +11,8 @@ use Rattle.tl_world.specs.Move.{Move}
 use Rattle.tl_world.specs.Phase.{Pair, Idle, Own, Granting, is_quiet}
 use Rattle.tl_world.specs.PhaseSteps.{after_served, after_grant_sent}
 use Rattle.tl_world.specs.Potential.{Left, pair_weight, probes_weight, acquire_weight, potential}
-use Rattle.tl_world.specs.Protocol.{Service, Free, Waits, GrantSent, Block, State, Closed, Asked, InService, Replied, Acquires, view, is_unserved, performed_block, granted_at_once, served_block, served_pair}
+use Rattle.tl_world.specs.Protocol.{Service, Free, Waits, GrantSent, Block, State, Closed, Asked, InService, Replied, Acquires, view, is_unserved}
+use Rattle.tl_world.specs.Protocol.{performed_block, granted_at_once, served_block, served_pair}
 use Rattle.tl_world.specs.Render.{Mail}
 use Rattle.tl_world.specs.Token.{Request, Acquire, Grant, Answer}
 use Rattle.tl_world.proofs.Channels.{IsShowing}
@@ -65,19 +66,22 @@ module _ {w : ℕ} (config : Config) (caching : ℕ → Bool) (n : ℕ) (moves :
   block-alike pairs service = record {
     serves = λ d i e f. probes;
     acquires = λ d i e f.
-        acquire-stays config caching n moves mail mail' s s' showing c ch rest rest' popped size answer d n (wants-used caching s showing.before d i n e) (ap (λ (p : ℕ → Pair). (p d).acquiring) pairs) (ap (λ (u : Service). view u d) service) probes;
+        acquire-stays config caching n moves mail mail' s s' showing c ch rest rest' popped size answer d n (wants-used caching s showing.before d i n e)
+        (ap (λ (p : ℕ → Pair). (p d).acquiring) pairs) (ap (λ (u : Service). view u d) service) probes;
     lets = λ d i e f. let-stays config caching n moves mail mail' s s' showing c ch rest rest' popped size answer d n (ap (λ (p : ℕ → Pair). (p d).letting) pairs);
   }
     where
       probes : probes_weight number size left' n (s'.block n) ≤ probes_weight number size left n (s.block n)
       probes = total-le number (λ d. pair_weight size left' n d ((s'.block n).pair d)) (λ d. pair_weight size left n d ((s.block n).pair d))
-          (λ d lt. pair-stays config caching n moves mail mail' s s' showing c ch rest rest' popped size answer d n (ap (λ (p : ℕ → Pair). (p d).probing) pairs) (ap (λ (p : ℕ → Pair). (p d).recorded) pairs))
+          (λ d lt. pair-stays config caching n moves mail mail' s s' showing c ch rest rest' popped size answer d n (ap (λ (p : ℕ → Pair). (p d).probing) pairs)
+          (ap (λ (p : ℕ → Pair). (p d).recorded) pairs))
 
   pub answered-falls : (source : ℕ) (f : List ℕ → List ℕ) → s.uses c source ≡ Asked → s'.uses c source ≡ Replied → left' c Answer source ≤ answer c source → s'.block n ≡ performed_block f (s.block n)
       → ((d i : ℕ) → (d ≡ c → i ≡ source → ⊥) → s'.uses d i ≡ s.uses d i) → ((d i : ℕ) → s'.lets d i ≡ s.lets d i) → ((d : ℕ) → length (s'.link d).e ≤ length (s.link d).e)
       → potential config size left' answer s' + 1 ≤ potential config size left answer s
   answered-falls source f asked replied few new unlike lets acks =
-      request-falls config caching n moves mail mail' s s' showing c ch rest rest' popped size answer all (block-alike (ap (λ (b : Block (List ℕ)). b.pair) new) (ap (λ (b : Block (List ℕ)). b.service) new))
+      request-falls config caching n moves mail mail' s s' showing c ch rest rest' popped size answer all
+      (block-alike (ap (λ (b : Block (List ℕ)). b.pair) new) (ap (λ (b : Block (List ℕ)). b.service) new))
       c source opened unlike lets acks (rw (asked, replied) (omega (arith, few)))
     where
       opened : s.uses c source ≡ Closed → ⊥
@@ -90,7 +94,8 @@ module _ {w : ℕ} (config : Config) (caching : ℕ → Bool) (n : ℕ) (moves :
     none_before = ap is_for_access free
 
     -- where it owes no more to those who acquire it
-    come-into-service : ((d : ℕ) → (is_unserved (view (s'.block n).service d) ≡ true) ⊎ (owed_for' d ≤ owed_for d)) → IsBlockNoMore config caching n moves mail mail' s s' showing c ch rest rest' popped size answer
+    come-into-service : ((d : ℕ) → (is_unserved (view (s'.block n).service d) ≡ true) ⊎ (owed_for' d ≤ owed_for d))
+        → IsBlockNoMore config caching n moves mail mail' s s' showing c ch rest rest' popped size answer
     come-into-service each = record {
       serves = λ d i e f. absurd (nobody-serving caching s n d i showing.before none_before e);
       acquires = λ d i e f. acquire d i e f (each d);
@@ -98,7 +103,8 @@ module _ {w : ℕ} (config : Config) (caching : ℕ → Bool) (n : ℕ) (moves :
     }
       where
         acquire : (d i : ℕ) → s.uses d i ≡ Acquires n → s'.uses d i ≡ Acquires n → (is_unserved (view (s'.block n).service d) ≡ true) ⊎ (owed_for' d ≤ owed_for d) → owed_for' d ≤ owed_for d
-        acquire d i e f (inl waits) = unserved-stays config caching n moves mail mail' s s' showing c ch rest rest' popped size answer d i n e f (ap (λ (u : Service). is_unserved (view u d)) free) waits
+        acquire d i e f (inl waits) = unserved-stays config caching n moves mail mail' s s' showing c ch rest rest' popped size answer d i n e f
+            (ap (λ (u : Service). is_unserved (view u d)) free) waits
         acquire d i e f (inr less) = less
 
     idle : (d : ℕ) → view (s.block n).service d ≡ Idle
@@ -138,7 +144,8 @@ module _ {w : ℕ} (config : Config) (caching : ℕ → Bool) (n : ℕ) (moves :
         at d (inl e) = inr (let l = less d e in omega (arith, l))
         at d (inr ne) = inl (rw (given, ne_eqb d c ne) refl)
 
-    pub acquire-served-falls : (source at : ℕ) (k : Cap) → 1 ≤ size → size ≤ 16 → number ≤ 16 → (s'.block n).service ≡ Waits c true at k → s.uses c source ≡ Acquires n → 1 ≤ left c Acquire n → IsLeft size left' answer s'
+    pub acquire-served-falls : (source at : ℕ) (k : Cap) → 1 ≤ size → size ≤ 16 → number ≤ 16 → (s'.block n).service ≡ Waits c true at k
+        → s.uses c source ≡ Acquires n → 1 ≤ left c Acquire n → IsLeft size left' answer s'
         → ((d i : ℕ) → s'.uses d i ≡ s.uses d i) → ((d i : ℕ) → s'.lets d i ≡ s.lets d i) → ((d : ℕ) → length (s'.link d).e ≤ length (s.link d).e)
         → potential config size left' answer s' + 1 ≤ potential config size left answer s
     acquire-served-falls source at k wide narrow sixteen waits used some is uses lets acks =
@@ -162,8 +169,10 @@ module _ {w : ℕ} (config : Config) (caching : ℕ → Bool) (n : ℕ) (moves :
         each d (inr ne) = inl (rw (waits, ne_eqb d c ne) refl)
 
   -- the parts of Releases, in a block that is served or granted
-  pub served-letting : (own : Bool) (source tracker : ℕ) (k : Cap) → s'.block n ≡ served_block c own source tracker k (s.block n) → (d : ℕ) → ((s'.block n).pair d).letting ≡ ((s.block n).pair d).letting
+  pub served-letting : (own : Bool) (source tracker : ℕ) (k : Cap) → s'.block n ≡ served_block c own source tracker k (s.block n) → (d : ℕ)
+      → ((s'.block n).pair d).letting ≡ ((s.block n).pair d).letting
   served-letting own source tracker k new d = ap (λ (b : Block (List ℕ)). (b.pair d).letting) new ∙ served_letting c own k (s.block n).pair d
 
-  pub granted-letting : (tracker : ℕ) (data_too : Bool) (k : Cap) → s'.block n ≡ granted_at_once c tracker data_too k (s.block n) → (d : ℕ) → ((s'.block n).pair d).letting ≡ ((s.block n).pair d).letting
+  pub granted-letting : (tracker : ℕ) (data_too : Bool) (k : Cap) → s'.block n ≡ granted_at_once c tracker data_too k (s.block n) → (d : ℕ)
+      → ((s'.block n).pair d).letting ≡ ((s.block n).pair d).letting
   granted-letting tracker data_too k new d = ap (λ (b : Block (List ℕ)). (b.pair d).letting) new ∙ set-part (λ p. p.letting) c (after_grant_sent k ((s.block n).pair c)) (s.block n).pair refl d

@@ -53,23 +53,27 @@ IsUnwaited c source s = (i src : ℕ) (own : Bool) (k : Cap) → (s.block i).ser
 pub services-more : {w : ℕ} (config : Config) (c k : ℕ) (m : MessageA w) (e : End w) → IsComing config c k m e → k + 1 < beats_of (A m) → services (with_beat c m k e.trace) ≡ services e.trace
 services-more config c k m e is more = services-part (link_of c, beat.A (a_beat_of m k)) e.trace (ends-coming config c k m e is ∙ not_last k (beats_of (A m)) more)
 
-pub traced-more : {w : ℕ} {X : Type 0} (config : Config) (request : ℕ → MessageA w) (s : State X) (c k : ℕ) (m : MessageA w) (e : End w) → IsComing config c k m e → k + 1 < beats_of (A m) → IsUnwaited c m.source s
+pub traced-more : {w : ℕ} {X : Type 0} (config : Config) (request : ℕ → MessageA w) (s : State X) (c k : ℕ) (m : MessageA w) (e : End w)
+    → IsComing config c k m e → k + 1 < beats_of (A m) → IsUnwaited c m.source s
     → IsTraced request s e.trace → IsTraced request s (with_beat c m k e.trace)
 traced-more {w} {X} config request s c k m e is more unwaited known = record {
   recorded_is = λ d i. recorded-beat c k m e.trace d i ∙ known.recorded_is d i;
   probes = λ d i. missing-beat c k m e.trace d i ∙ known.probes d i;
   serving_is = λ i. ap (service_of_block i) (services-more config c k m e is more) ∙ known.serving_is i;
   requests = known.requests;
-  asked = λ i r src own j f. request-beat c k m e.trace r src (λ same g. unwaited i src own j (ap (λ z. (s.block i).service) same ∙ f ∙ ap (λ z. Waits z own src j) same) g) ∙ known.asked i r src own j f;
+  asked = λ i r src own j f. request-beat c k m e.trace r src
+      (λ same g. unwaited i src own j (ap (λ z. (s.block i).service) same ∙ f ∙ ap (λ z. Waits z own src j) same) g) ∙ known.asked i r src own j f;
 }
 
 -- ---- the last beat
 
 -- one service more
-pub services-last : {w : ℕ} (config : Config) (c k : ℕ) (m : MessageA w) (e : End w) → IsComing config c k m e → beats_of (A m) ≡ suc k → services (with_beat c m k e.trace) ≡ service_for c m e.trace ∷ services e.trace
+pub services-last : {w : ℕ} (config : Config) (c k : ℕ) (m : MessageA w) (e : End w) → IsComing config c k m e → beats_of (A m) ≡ suc k
+    → services (with_beat c m k e.trace) ≡ service_for c m e.trace ∷ services e.trace
 services-last config c k m e is last = services-request (link_of c) (a_beat_of m k) (service_for c m e.trace) e.trace (served-last config c k m e is last)
 
-pub serving-last : {w : ℕ} (config : Config) (c k n : ℕ) (m : MessageA w) (e : End w) → IsComing config c k m e → beats_of (A m) ≡ suc k → block_at m.address ≡ n → service_of_block n (services (with_beat c m k e.trace)) ≡ Some (service_for c m e.trace)
+pub serving-last : {w : ℕ} (config : Config) (c k n : ℕ) (m : MessageA w) (e : End w) → IsComing config c k m e → beats_of (A m) ≡ suc k
+    → block_at m.address ≡ n → service_of_block n (services (with_beat c m k e.trace)) ≡ Some (service_for c m e.trace)
 serving-last config c k n m e is last block = ap (service_of_block n) (services-last config c k m e is last) ∙ rw (block, same_number n) refl
 
 pub serving-others : {w : ℕ} (config : Config) (c k n i : ℕ) (m : MessageA w) (e : End w) → IsComing config c k m e → beats_of (A m) ≡ suc k → block_at m.address ≡ n → (i ≡ n → ⊥)

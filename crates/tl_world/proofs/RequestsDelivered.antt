@@ -5,7 +5,7 @@ use Rattle.std.proofs.lemmas.Bool.{cases_eq, eqb-true, or_parts}
 use Rattle.tl_beat.specs.Width.{IsWidth}
 use Rattle.tl_beat.specs.declared.beat.Beat.{Beat}
 use Rattle.tl_beat.specs.declared.beat.Beat.TheVariants as beat
-use Rattle.tl_beat.specs.declared.opcode.Channel.TheVariants as channel
+use Rattle.tl_beat.specs.declared.channel.Channel.TheVariants as channel
 use Rattle.tl_burst.specs.declared.message.Message.TheVariants as message
 use Rattle.tl_burst.specs.declared.message.MessageA.{MessageA}
 use Rattle.tl_burst.specs.Burst.{a_beat_of, beats_of, begun, IsBlankAfter}
@@ -64,11 +64,14 @@ pub record IsOnLink {w : ℕ} (config : Config) (h : Shadow w) (sys : System w) 
   pub on_it : on kind (h.state.link c) ≡ token kind i ∷ rest
   pub renders : message_of h.mail h.state c (token kind i) ≡ message.A m
   pub blank : IsBlankAfter (beats_of (message.A m)) (message.A m)
-  pub order : (k : ℕ) → k < beats_of (message.A m) → unfinished channel.A (on_link c sys.manager.trace) ≡ begun (message.A m) k → must_wait config (link_of c) (beat.A (a_beat_of m k)) sys.manager.trace ≡ false
+  pub order : (k : ℕ) → k < beats_of (message.A m) → unfinished channel.A (on_link c sys.manager.trace) ≡ begun (message.A m) k
+      → must_wait config (link_of c) (beat.A (a_beat_of m k)) sys.manager.trace ≡ false
       → broken_in_order config.profile (beat.A (a_beat_of m k)) (on_link c sys.manager.trace) ≡ None
-  pub early : (k : ℕ) → unfinished channel.A (on_link c sys.manager.trace) ≡ begun (message.A m) k → before_stall (broken_in_order config.profile (beat.A (a_beat_of m k)) (on_link c sys.manager.trace)) ≡ None
+  pub early : (k : ℕ) → unfinished channel.A (on_link c sys.manager.trace) ≡ begun (message.A m) k
+      → before_stall (broken_in_order config.profile (beat.A (a_beat_of m k)) (on_link c sys.manager.trace)) ≡ None
   pub unwaited : (k : ℕ) → k + 1 < beats_of (message.A m) → IsUnwaited c m.source h.state
-  pub ready : (k : ℕ) → IsComing config c k m sys.manager → beats_of (message.A m) ≡ suc k → must_wait config (link_of c) (beat.A (a_beat_of m k)) sys.manager.trace ≡ false → IsReady (next_tracker sys) c kind i h
+  pub ready : (k : ℕ) → IsComing config c k m sys.manager → beats_of (message.A m) ≡ suc k
+      → must_wait config (link_of c) (beat.A (a_beat_of m k)) sys.manager.trace ≡ false → IsReady (next_tracker sys) c kind i h
   pub after : (k : ℕ) → IsComing config c k m sys.manager → beats_of (message.A m) ≡ suc k → must_wait config (link_of c) (beat.A (a_beat_of m k)) sys.manager.trace ≡ false
       → IsManagerOf config (kind_taken config (next_tracker sys) c kind i rest h) (end_after config c k m sys.manager)
   pub carried : (k : ℕ) (queue : List (Beat w)) → IsComing config c k m sys.manager → sys.channels c channel.A ≡ beat.A (a_beat_of m k) ∷ queue → beats_of (message.A m) ≡ suc k
@@ -80,10 +83,12 @@ pub record IsOnLink {w : ℕ} (config : Config) (h : Shadow w) (sys : System w) 
   pub once : (k : ℕ) (machine : Machine w) → IsComing config c k m sys.manager → beats_of (message.A m) ≡ suc k → IsBeside h.mail h.state machine
       → IsOnce (accesses_answered (deed config (link_of c) (beat.A (a_beat_of m k)) sys.manager).handed) h machine
 
-pub ends-burst : {w : ℕ} (c k : ℕ) (m : MessageA w) (e : End w) → unfinished channel.A (on_link c e.trace) ≡ begun (message.A m) k → ends (beat.A (a_beat_of m k)) (on_link c e.trace) ≡ (k + 1 == beats_of (message.A m))
+pub ends-burst : {w : ℕ} (c k : ℕ) (m : MessageA w) (e : End w) → unfinished channel.A (on_link c e.trace) ≡ begun (message.A m) k
+    → ends (beat.A (a_beat_of m k)) (on_link c e.trace) ≡ (k + 1 == beats_of (message.A m))
 ends-burst c k m e burst = rw (burst, length-begun (message.A m) k) refl
 
-on_link-access : {w : ℕ} (config : Config) (log : Log w) (h : Shadow w) (sys : System w) (c source : ℕ) (rest : List Token) → IsMatched config log h.mail h.request h.state sys → (h.state.link c).a ≡ token Request source ∷ rest
+on_link-access : {w : ℕ} (config : Config) (log : Log w) (h : Shadow w) (sys : System w) (c source : ℕ) (rest : List Token)
+    → IsMatched config log h.mail h.request h.state sys → (h.state.link c).a ≡ token Request source ∷ rest
     → (asked : IsAsked config c source h.mail h.state) → IsOnLink config h sys c Request source rest asked.request
 on_link-access {w} config log h sys c source rest is first asked = record {
   tokens = first;
@@ -100,7 +105,8 @@ on_link-access {w} config log h sys c source rest is first asked = record {
   once = λ k machine comes last beside. request-once config log h sys c source k machine is asked comes last beside;
 }
 
-on_link-acquire : {w : ℕ} (config : Config) (log : Log w) (h : Shadow w) (sys : System w) (c n : ℕ) (rest : List Token) → IsWidth w → IsMatched config log h.mail h.request h.state sys → (h.state.link c).a ≡ token Acquire n ∷ rest
+on_link-acquire : {w : ℕ} (config : Config) (log : Log w) (h : Shadow w) (sys : System w) (c n : ℕ) (rest : List Token) → IsWidth w
+    → IsMatched config log h.mail h.request h.state sys → (h.state.link c).a ≡ token Acquire n ∷ rest
     → (asked : IsWanted w c n h.state) → IsOnLink config h sys c Acquire n rest (acquire_wanted c n h.state asked)
 on_link-acquire {w} config log h sys c n rest width is first asked = record {
   tokens = first;
@@ -120,12 +126,15 @@ on_link-acquire {w} config log h sys c n rest width is first asked = record {
     m : MessageA w
     m = acquire_wanted c n h.state asked
 
-    free : (k : ℕ) → k < beats_of (message.A m) → unfinished channel.A (on_link c sys.manager.trace) ≡ begun (message.A m) k → must_wait config (link_of c) (beat.A (a_beat_of m k)) sys.manager.trace ≡ false
+    free : (k : ℕ) → k < beats_of (message.A m) → unfinished channel.A (on_link c sys.manager.trace) ≡ begun (message.A m) k
+        → must_wait config (link_of c) (beat.A (a_beat_of m k)) sys.manager.trace ≡ false
         → (h.state.block n).service ≡ Free
     free k lt burst moves =
         let one = acquisition_beats w asked.whole asked.grow ((h.state.block n).source c) n in
         let ended : ends (beat.A (a_beat_of m k)) (on_link c sys.manager.trace) ≡ true = ends-burst c k m sys.manager burst ∙ is_last k (beats_of (message.A m)) (omega (arith, lt, one)) in
-        let free_at = unserved-free h.request h.state sys.manager.trace (block_at m.address) is.managed (or_parts (is_in_service (block_at m.address) (services sys.manager.trace)) (nat_le config.trackers (length (services sys.manager.trace))) (rw ended at moves)).0 in
+        let free_at = unserved-free h.request h.state sys.manager.trace (block_at m.address) is.managed
+        (or_parts (is_in_service (block_at m.address) (services sys.manager.trace)) (nat_le config.trackers (length (services sys.manager.trace)))
+        (rw ended at moves)).0 in
         ap (λ i. (h.state.block i).service) (sym (same_block n)) ∙ free_at
 
 -- ---- what is first on the channel
@@ -183,8 +192,10 @@ arrival-first {w} config log h sys c x queue width is beats = go (h.state.link c
 
 -- ---- it is taken, or has to wait
 
-pub coming-arrival : {w : ℕ} (config : Config) (log : Log w) (h : Shadow w) (sys : System w) (c : ℕ) (x : Beat w) (queue : List (Beat w)) → IsWidth w → IsMatched config log h.mail h.request h.state sys
-    → sys.channels c channel.A ≡ x ∷ queue → (arrives : IsArrival config h sys c x queue) → must_wait config (link_of c) x sys.manager.trace ≡ false → IsComing config c arrives.next.k arrives.request sys.manager
+pub coming-arrival : {w : ℕ} (config : Config) (log : Log w) (h : Shadow w) (sys : System w) (c : ℕ) (x : Beat w) (queue : List (Beat w)) → IsWidth w
+    → IsMatched config log h.mail h.request h.state sys
+    → sys.channels c channel.A ≡ x ∷ queue → (arrives : IsArrival config h sys c x queue) → must_wait config (link_of c) x sys.manager.trace ≡ false
+    → IsComing config c arrives.next.k arrives.request sys.manager
 coming-arrival {w} config log h sys c x queue width is beats arrives moves =
     let y = a_beat_of arrives.request arrives.next.k in
     let first = first-beat config log h.mail h.request h.state sys c y queue is (beats ∙ ap (λ (z : Beat w). z ∷ queue) arrives.next.beat_is) in
@@ -215,11 +226,13 @@ request-stalled {w} config log h sys c x queue is beats arrives waits =
     let y = a_beat_of arrives.request arrives.next.k in
     let first = first-beat config log h.mail h.request h.state sys c y queue is (beats ∙ ap (λ (z : Beat w). z ∷ queue) arrives.next.beat_is) in
     let waits_so : must_wait config (link_of c) (beat.A y) sys.manager.trace ≡ true = rw arrives.next.beat_is at waits in
-    rw arrives.next.beat_is (offered-stalled config (link_of c) channel.A (beat.A y) sys.manager (waits-first config c y sys is.all_live first (arrives.is_it.early arrives.next.k arrives.next.rest_is) waits_so))
+    rw arrives.next.beat_is (offered-stalled config (link_of c) channel.A (beat.A y) sys.manager
+    (waits-first config c y sys is.all_live first (arrives.is_it.early arrives.next.k arrives.next.rest_is) waits_so))
 
 -- ---- what a delivery on channel A comes to
 
-token_taken-first : {w : ℕ} (config : Config) (tracker c : ℕ) (kind : Kind) (i : ℕ) (rest xs : List Token) (h : Shadow w) → xs ≡ token kind i ∷ rest → token_taken config tracker c xs h ≡ kind_taken config tracker c kind i rest h
+token_taken-first : {w : ℕ} (config : Config) (tracker c : ℕ) (kind : Kind) (i : ℕ) (rest xs : List Token) (h : Shadow w) → xs ≡ token kind i ∷ rest
+    → token_taken config tracker c xs h ≡ kind_taken config tracker c kind i rest h
 token_taken-first config tracker c kind i rest xs h e = rw e refl
 
 more_beats : (k n : ℕ) → (k + 1 == n) ≡ false → k < n → k + 1 < n
@@ -229,10 +242,13 @@ more_beats k n e lt = elim (cases_eq (k + 1) n) [
 ]
 
 -- The protocol after a beat that is taken: with the last one the request is, and with any other one nothing changes.
-pub moved-a : {w : ℕ} (config : Config) (h : Shadow w) (sys : System w) (c : ℕ) (x : Beat w) (queue : List (Beat w)) (P : Shadow w → Type 0) → sys.channels c channel.A ≡ x ∷ queue → (arrives : IsArrival config h sys c x queue)
-    → (beats_of (message.A arrives.request) ≡ suc arrives.next.k → P (kind_taken config (next_tracker sys) c arrives.kind arrives.number arrives.rest h)) → (arrives.next.k + 1 < beats_of (message.A arrives.request) → P h)
+pub moved-a : {w : ℕ} (config : Config) (h : Shadow w) (sys : System w) (c : ℕ) (x : Beat w) (queue : List (Beat w)) (P : Shadow w → Type 0)
+    → sys.channels c channel.A ≡ x ∷ queue → (arrives : IsArrival config h sys c x queue)
+    → (beats_of (message.A arrives.request) ≡ suc arrives.next.k → P (kind_taken config (next_tracker sys) c arrives.kind arrives.number arrives.rest h))
+    → (arrives.next.k + 1 < beats_of (message.A arrives.request) → P h)
     → P (delivered config c channel.A (outcome.Moved x) sys h)
-moved-a {w} config h sys c x queue P beats arrives last more = subst (λ (b : Bool). P (if b then token_taken config (next_tracker sys) c (h.state.link c).a h else h)) (sym last_is) (go (completes x rest) refl)
+moved-a {w} config h sys c x queue P beats arrives last more =
+    subst (λ (b : Bool). P (if b then token_taken config (next_tracker sys) c (h.state.link c).a h else h)) (sym last_is) (go (completes x rest) refl)
   where
     k : ℕ
     k = arrives.next.k
@@ -255,8 +271,11 @@ step_moved config c k m x queue sys =
     handing (outcome.Moved x) (deed config (link_of c) x sys.manager).handed (with_manager (end_after config c k m sys.manager) (with_channel c channel.A queue sys))
 
 -- A delivery finds no beat, or one that has to wait, or one that is taken.
-pub delivery-a : {w : ℕ} (config : Config) (log : Log w) (h : Shadow w) (sys : System w) (c : ℕ) (terms : Terms) (P : Step w → Type 0) → IsWidth w → IsMatched config log h.mail h.request h.state sys → terms_at config c ≡ Some terms
-    → (sys.channels c channel.A ≡ [] → P (only outcome.Empty sys)) → ((x : Beat w) (queue : List (Beat w)) → sys.channels c channel.A ≡ x ∷ queue → must_wait config (link_of c) x sys.manager.trace ≡ true → P (only outcome.Stalled sys))
+pub delivery-a : {w : ℕ} (config : Config) (log : Log w) (h : Shadow w) (sys : System w) (c : ℕ) (terms : Terms) (P : Step w → Type 0) → IsWidth w
+    → IsMatched config log h.mail h.request h.state sys → terms_at config c ≡ Some terms
+    → (sys.channels c channel.A ≡ [] → P (only outcome.Empty sys))
+    → ((x : Beat w) (queue : List (Beat w)) → sys.channels c channel.A ≡ x ∷ queue → must_wait config (link_of c) x sys.manager.trace ≡ true
+    → P (only outcome.Stalled sys))
     → ((x : Beat w) (queue : List (Beat w)) → sys.channels c channel.A ≡ x ∷ queue → (arrives : IsArrival config h sys c x queue) → must_wait config (link_of c) x sys.manager.trace ≡ false
     → P (step_moved config c arrives.next.k arrives.request x queue sys))
     → P (stepped config (Deliver (link_of c) channel.A) sys)
@@ -265,14 +284,17 @@ delivery-a {w} config log h sys c terms P width is client empty stalled moved = 
     step : Step w
     step = stepped config (Deliver (link_of c) channel.A) sys
 
-    taken_or_not : (x : Beat w) (queue : List (Beat w)) → sys.channels c channel.A ≡ x ∷ queue → IsArrival config h sys c x queue → (b : Bool) → must_wait config (link_of c) x sys.manager.trace ≡ b → P step
+    taken_or_not : (x : Beat w) (queue : List (Beat w)) → sys.channels c channel.A ≡ x ∷ queue → IsArrival config h sys c x queue → (b : Bool)
+        → must_wait config (link_of c) x sys.manager.trace ≡ b → P step
     taken_or_not x queue e arrives true waits =
         subst P
-        (sym (stepped-to-manager config (link_of c) channel.A sys terms x queue client e refl ∙ ap (λ p. manager_took c channel.A x queue p sys) (request-stalled config log h sys c x queue is e arrives waits)))
+        (sym (stepped-to-manager config (link_of c) channel.A sys terms x queue client e refl
+        ∙ ap (λ p. manager_took c channel.A x queue p sys) (request-stalled config log h sys c x queue is e arrives waits)))
         (stalled x queue e waits)
     taken_or_not x queue e arrives false moves =
         subst P
-        (sym (stepped-to-manager config (link_of c) channel.A sys terms x queue client e refl ∙ ap (λ p. manager_took c channel.A x queue p sys) (request-taken config log h sys c x queue width is e arrives moves)))
+        (sym (stepped-to-manager config (link_of c) channel.A sys terms x queue client e refl
+        ∙ ap (λ p. manager_took c channel.A x queue p sys) (request-taken config log h sys c x queue width is e arrives moves)))
         (moved x queue e arrives moves)
 
     go : (xs : List (Beat w)) → sys.channels c channel.A ≡ xs → P step
@@ -280,23 +302,29 @@ delivery-a {w} config log h sys c terms P width is client empty stalled moved = 
     go (x ∷ queue) e = taken_or_not x queue e (arrival-first config log h sys c x queue width is e) (must_wait config (link_of c) x sys.manager.trace) refl
 
 -- and what the manager knows is what the protocol says then
-pub at_manager-delivered_a : {w : ℕ} (config : Config) (log : Log w) (h : Shadow w) (sys : System w) (c : ℕ) (terms : Terms) → IsWidth w → IsMatched config log h.mail h.request h.state sys → terms_at config c ≡ Some terms
+pub at_manager-delivered_a : {w : ℕ} (config : Config) (log : Log w) (h : Shadow w) (sys : System w) (c : ℕ) (terms : Terms) → IsWidth w
+    → IsMatched config log h.mail h.request h.state sys → terms_at config c ≡ Some terms
     → IsManagerOf config (followed config (Deliver (link_of c) channel.A) sys h) (stepped config (Deliver (link_of c) channel.A) sys).after.manager
 at_manager-delivered_a {w} config log h sys c terms width is client =
     let known = at_manager-matched config log h.mail h.request h.state sys is in
-    delivery-a config log h sys c terms (λ (step : Step w). IsManagerOf config (delivered config c channel.A step.outcome sys h) step.after.manager) width is client (λ e. known) (λ x queue e waits. known) (λ x queue beats arrives moves.
+    delivery-a config log h sys c terms (λ (step : Step w). IsManagerOf config (delivered config c channel.A step.outcome sys h) step.after.manager) width is
+    client (λ e. known) (λ x queue e waits. known) (λ x queue beats arrives moves.
     let comes = coming-arrival config log h sys c x queue width is beats arrives moves in
     let k : ℕ = arrives.next.k in
     let after : End w = end_after config c k arrives.request sys.manager in
-    subst (IsManagerOf config (delivered config c channel.A (outcome.Moved x) sys h)) (sym (manager-with_messages (deed config (link_of c) x sys.manager).handed (with_manager after (with_channel c channel.A queue sys))))
+    subst (IsManagerOf config (delivered config c channel.A (outcome.Moved x) sys h))
+    (sym (manager-with_messages (deed config (link_of c) x sys.manager).handed (with_manager after (with_channel c channel.A queue sys))))
     (moved-a config h sys c x queue (λ (i : Shadow w). IsManagerOf config i after) beats arrives (λ last. arrives.is_it.after k comes last (rw arrives.next.beat_is at moves))
     (λ more. at_manager-more (is_caching config) config h.mail h.request h.state c k arrives.request sys.manager is.invariant comes more (arrives.is_it.unwaited k more) known)))
 
 -- and the channels carry the messages of the tokens
-pub carried-delivered_a : {w : ℕ} (config : Config) (log : Log w) (h : Shadow w) (sys : System w) (c : ℕ) (terms : Terms) → IsWidth w → IsMatched config log h.mail h.request h.state sys → terms_at config c ≡ Some terms
+pub carried-delivered_a : {w : ℕ} (config : Config) (log : Log w) (h : Shadow w) (sys : System w) (c : ℕ) (terms : Terms) → IsWidth w
+    → IsMatched config log h.mail h.request h.state sys → terms_at config c ≡ Some terms
     → AreCarried (followed config (Deliver (link_of c) channel.A) sys h).mail (followed config (Deliver (link_of c) channel.A) sys h).state (stepped config (Deliver (link_of c) channel.A) sys).after
 carried-delivered_a {w} config log h sys c terms width is client =
-    delivery-a config log h sys c terms (λ (step : Step w). AreCarried (delivered config c channel.A step.outcome sys h).mail (delivered config c channel.A step.outcome sys h).state step.after) width is client (λ e. is.carried) (λ x queue e waits. is.carried) (λ x queue beats arrives moves.
+    delivery-a config log h sys c terms (λ (step : Step w).
+    AreCarried (delivered config c channel.A step.outcome sys h).mail (delivered config c channel.A step.outcome sys h).state step.after) width is client
+    (λ e. is.carried) (λ x queue e waits. is.carried) (λ x queue beats arrives moves.
     let comes = coming-arrival config log h sys c x queue width is beats arrives moves in
     let k : ℕ = arrives.next.k in
     let m : MessageA w = arrives.request in
@@ -304,30 +332,35 @@ carried-delivered_a {w} config log h sys c terms width is client =
     let same : system_after config c k m queue sys ≡ (step_moved config c k m x queue sys).after = ap (λ (y : Beat w). (step_moved config c k m y queue sys).after) (sym arrives.next.beat_is) in
     moved-a config h sys c x queue (λ (i : Shadow w). AreCarried i.mail i.state (step_moved config c k m x queue sys).after) beats arrives
     (λ last.
-    subst (AreCarried (kind_taken config (next_tracker sys) c arrives.kind arrives.number arrives.rest h).mail (kind_taken config (next_tracker sys) c arrives.kind arrives.number arrives.rest h).state) same
+    subst (AreCarried (kind_taken config (next_tracker sys) c arrives.kind arrives.number arrives.rest h).mail
+    (kind_taken config (next_tracker sys) c arrives.kind arrives.number arrives.rest h).state) same
     (arrives.is_it.carried k queue comes first last (rw arrives.next.beat_is at moves)))
     (λ more.
     subst (AreCarried h.mail h.state) same
     (carried-more config log h.mail h.request h.state sys c k m queue is comes first (ends-coming config c k m sys.manager comes ∙ not_last k (beats_of (message.A m)) more))))
 
 -- and the one-memory machine is beside the protocol, once the accesses that are answered are performed
-pub beside-delivered_a : {w : ℕ} (config : Config) (log : Log w) (h : Shadow w) (sys : System w) (c : ℕ) (terms : Terms) (machine : Machine w) → IsWidth w → IsMatched config log h.mail h.request h.state sys → terms_at config c ≡ Some terms
+pub beside-delivered_a : {w : ℕ} (config : Config) (log : Log w) (h : Shadow w) (sys : System w) (c : ℕ) (terms : Terms) (machine : Machine w) → IsWidth w
+    → IsMatched config log h.mail h.request h.state sys → terms_at config c ≡ Some terms
     → IsBeside h.mail h.state machine
     → IsBeside (followed config (Deliver (link_of c) channel.A) sys h).mail (followed config (Deliver (link_of c) channel.A) sys h).state
     (performing (accesses_answered (stepped config (Deliver (link_of c) channel.A) sys).handed) machine)
 unfolding performing accesses_answered
 beside-delivered_a {w} config log h sys c terms machine width is client beside =
     delivery-a config log h sys c terms
-    (λ (step : Step w). IsBeside (delivered config c channel.A step.outcome sys h).mail (delivered config c channel.A step.outcome sys h).state (performing (accesses_answered step.handed) machine)) width is client (λ e. beside)
+    (λ (step : Step w). IsBeside (delivered config c channel.A step.outcome sys h).mail (delivered config c channel.A step.outcome sys h).state
+    (performing (accesses_answered step.handed) machine)) width is client (λ e. beside)
     (λ x queue e waits. beside) (λ x queue beats arrives moves.
     let comes = coming-arrival config log h sys c x queue width is beats arrives moves in
     let k : ℕ = arrives.next.k in
     let m : MessageA w = arrives.request in
-    let same : (deed config (link_of c) (beat.A (a_beat_of m k)) sys.manager).handed ≡ (deed config (link_of c) x sys.manager).handed = ap (λ (y : Beat w). (deed config (link_of c) y sys.manager).handed) (sym arrives.next.beat_is) in
+    let same : (deed config (link_of c) (beat.A (a_beat_of m k)) sys.manager).handed ≡ (deed config (link_of c) x sys.manager).handed =
+    ap (λ (y : Beat w). (deed config (link_of c) y sys.manager).handed) (sym arrives.next.beat_is) in
     moved-a config h sys c x queue (λ (i : Shadow w). IsBeside i.mail i.state (performing (accesses_answered (deed config (link_of c) x sys.manager).handed) machine)) beats arrives
     (λ last.
     subst
-    (λ (i : Handed w). IsBeside (kind_taken config (next_tracker sys) c arrives.kind arrives.number arrives.rest h).mail (kind_taken config (next_tracker sys) c arrives.kind arrives.number arrives.rest h).state (performing (accesses_answered i) machine))
+    (λ (i : Handed w). IsBeside (kind_taken config (next_tracker sys) c arrives.kind arrives.number arrives.rest h).mail
+    (kind_taken config (next_tracker sys) c arrives.kind arrives.number arrives.rest h).state (performing (accesses_answered i) machine))
     same (arrives.is_it.beside k machine comes last beside))
     (λ more.
     let part : (deed config (link_of c) (beat.A (a_beat_of m k)) sys.manager).handed ≡ [] =
@@ -335,15 +368,18 @@ beside-delivered_a {w} config log h sys c terms machine width is client beside =
     subst (λ (i : Handed w). IsBeside h.mail h.state (performing (accesses_answered i) machine)) (sym part ∙ same) beside))
 
 -- at most one access is answered then, and it can be performed
-pub once-delivered_a : {w : ℕ} (config : Config) (log : Log w) (h : Shadow w) (sys : System w) (c : ℕ) (terms : Terms) (machine : Machine w) → IsWidth w → IsMatched config log h.mail h.request h.state sys → terms_at config c ≡ Some terms
+pub once-delivered_a : {w : ℕ} (config : Config) (log : Log w) (h : Shadow w) (sys : System w) (c : ℕ) (terms : Terms) (machine : Machine w) → IsWidth w
+    → IsMatched config log h.mail h.request h.state sys → terms_at config c ≡ Some terms
     → IsBeside h.mail h.state machine → IsOnce (accesses_answered (stepped config (Deliver (link_of c) channel.A) sys).handed) h machine
 unfolding accesses_answered
 once-delivered_a {w} config log h sys c terms machine width is client beside =
-    delivery-a config log h sys c terms (λ (step : Step w). IsOnce (accesses_answered step.handed) h machine) width is client (λ e. inl refl) (λ x queue e waits. inl refl) (λ x queue beats arrives moves.
+    delivery-a config log h sys c terms (λ (step : Step w). IsOnce (accesses_answered step.handed) h machine) width is client (λ e. inl refl)
+    (λ x queue e waits. inl refl) (λ x queue beats arrives moves.
     let comes = coming-arrival config log h sys c x queue width is beats arrives moves in
     let k : ℕ = arrives.next.k in
     let m : MessageA w = arrives.request in
-    let same : (deed config (link_of c) (beat.A (a_beat_of m k)) sys.manager).handed ≡ (deed config (link_of c) x sys.manager).handed = ap (λ (y : Beat w). (deed config (link_of c) y sys.manager).handed) (sym arrives.next.beat_is) in
+    let same : (deed config (link_of c) (beat.A (a_beat_of m k)) sys.manager).handed ≡ (deed config (link_of c) x sys.manager).handed =
+    ap (λ (y : Beat w). (deed config (link_of c) y sys.manager).handed) (sym arrives.next.beat_is) in
     moved-a config h sys c x queue (λ (i : Shadow w). IsOnce (accesses_answered (deed config (link_of c) x sys.manager).handed) h machine) beats arrives
     (λ last. subst (λ (i : Handed w). IsOnce (accesses_answered i) h machine) same (arrives.is_it.once k machine comes last beside))
     (λ more.

@@ -46,7 +46,8 @@ use Rattle.tl_world.proofs.Codes.{acquires-so, gives-some, data-same}
 
 -- ---- an access that is answered
 
-pub handed-answered : {w : ℕ} (config : Config) (log : Log w) (mail : Mail w) (request : ℕ → MessageA w) (s : State (List ℕ)) (sys : System w) (c source k : ℕ) → IsMatched config log mail request s sys → (asked : IsAsked config c source mail s)
+pub handed-answered : {w : ℕ} (config : Config) (log : Log w) (mail : Mail w) (request : ℕ → MessageA w) (s : State (List ℕ)) (sys : System w) (c source k : ℕ)
+    → IsMatched config log mail request s sys → (asked : IsAsked config c source mail s)
     → IsComing config c k asked.request sys.manager → beats_of (message.A asked.request) ≡ suc k
     → probes_some (length config.clients.items) c false (cap_probed asked.request.opcode asked.request.param) (s.block (block_at asked.request.address)).pair ≡ false
     → (deed config (link_of c) (beat.A (a_beat_of asked.request k)) sys.manager).handed ≡ (link_of c, answers asked.request (s.block (block_at asked.request.address)).memory) ∷ []
@@ -55,14 +56,16 @@ handed-answered {w} config log mail request s sys c source k is asked comes last
     let n : ℕ = block_at m.address in
     let e : End w = sys.manager in
     let bytes_are : bytes_from e.memory (64 * n) 64 ≡ (s.block n).memory = is.memory n in
-    ap (λ (d : Deed w). d.handed) (deed-performed config log mail request s sys c k n false m is comes last asked.access refl none ∙ performed-access config (service_for c m e.trace) (with_beat c m k e.trace) e.memory asked.access)
+    ap (λ (d : Deed w). d.handed) (deed-performed config log mail request s sys c k n false m is comes last asked.access refl none
+    ∙ performed-access config (service_for c m e.trace) (with_beat c m k e.trace) e.memory asked.access)
     ∙ ap (λ (i : Message w). (link_of c, i) ∷ [])
     (ap (λ (r : memory.AccessResult). access_answer m (answer_of (message.A m) r)) (performed-reply (level_of config c) m e.memory comes.width asked.lawful) ∙ ap (answers m) bytes_are)
 
 -- ---- a Grant
 
 -- who is granted a block is recorded with what it is given, so that nobody else has it to write: the memory is its truth
-pub memory-granted : (caching : ℕ → Bool) (q : ℕ) (d : Bool) (k : Cap) (new : Block (List ℕ)) → IsWell caching new → new.service ≡ GrantSent q d k → (new.pair q).recorded ≡ cap_right k → same_perm (cap_right k) perm.None ≡ false
+pub memory-granted : (caching : ℕ → Bool) (q : ℕ) (d : Bool) (k : Cap) (new : Block (List ℕ)) → IsWell caching new → new.service ≡ GrantSent q d k
+    → (new.pair q).recorded ≡ cap_right k → same_perm (cap_right k) perm.None ≡ false
     → new.memory ≡ new.truth
 memory-granted caching q d k new well granted given some = well.memory nobody
   where
@@ -86,23 +89,32 @@ payload-same : (d : Bool) (f : Memory) (n : ℕ) (truth : List ℕ) → bytes_fr
 payload-same true f n truth e = e
 payload-same false f n truth e = refl
 
-grant-is : {w : ℕ} (v : manager.Service w) (q n source tracker : ℕ) (d : Bool) (k : Cap) (f : Memory) (truth : List ℕ) → v.request.source ≡ source → v.tracker ≡ tracker → block_at v.request.address ≡ n → bytes_from f (64 * n) 64 ≡ truth
+grant-is : {w : ℕ} (v : manager.Service w) (q n source tracker : ℕ) (d : Bool) (k : Cap) (f : Memory) (truth : List ℕ) → v.request.source ≡ source
+    → v.tracker ≡ tracker → block_at v.request.address ≡ n → bytes_from f (64 * n) 64 ≡ truth
     → grant_with v k d f ≡ grant_of (GrantSent q d k) source tracker truth
 grant-is v q n source tracker d k f truth sourced tracked block bytes = rw (sourced, tracked, block, payload-same d f n truth bytes) refl
 
 -- the Grant is that of the token, where the block is well afterwards
-pub handed-granted : {w : ℕ} (config : Config) (log : Log w) (mail : Mail w) (request : ℕ → MessageA w) (s : State (List ℕ)) (sys : System w) (caching : ℕ → Bool) (c n k : ℕ) → IsMatched config log mail request s sys → (asked : IsWanted w c n s)
+pub handed-granted : {w : ℕ} (config : Config) (log : Log w) (mail : Mail w) (request : ℕ → MessageA w) (s : State (List ℕ)) (sys : System w)
+    (caching : ℕ → Bool) (c n k : ℕ) → IsMatched config log mail request s sys → (asked : IsWanted w c n s)
     → IsComing config c k (acquire_wanted c n s asked) sys.manager → beats_of (message.A (acquire_wanted c n s asked)) ≡ suc k
     → probes_some (length config.clients.items) c true (cap_probed (acquire_wanted {w = w} c n s asked).opcode (acquire_wanted {w = w} c n s asked).param) (s.block n).pair ≡ false
-    → IsWell caching (granted_at_once c (next_tracker sys) (is_granted_data asked.whole asked.grow ((s.block n).pair c).recorded) (gift config.profile asked.whole asked.grow (is_unheld (length config.clients.items) (s.block n).pair)) (s.block n))
+    → IsWell caching (granted_at_once c (next_tracker sys) (is_granted_data asked.whole asked.grow ((s.block n).pair c).recorded)
+    (gift config.profile asked.whole asked.grow (is_unheld (length config.clients.items) (s.block n).pair)) (s.block n))
     → (deed config (link_of c) (beat.A (a_beat_of (acquire_wanted c n s asked) k)) sys.manager).handed
-    ≡ (link_of c, rendered Grant c n (granted_at_once c (next_tracker sys) (is_granted_data asked.whole asked.grow ((s.block n).pair c).recorded) (gift config.profile asked.whole asked.grow (is_unheld (length config.clients.items) (s.block n).pair)) (s.block n))) ∷ []
+    ≡ (
+      link_of c,
+      rendered Grant c n (granted_at_once c (next_tracker sys) (is_granted_data asked.whole asked.grow ((s.block n).pair c).recorded)
+          (gift config.profile asked.whole asked.grow (is_unheld (length config.clients.items) (s.block n).pair)) (s.block n)),
+    ) ∷ []
 unfolding rendered
 handed-granted {w} config log mail request s sys caching c n k is asked comes last none well =
-    ap (λ (d : Deed w). d.handed) (deed-performed config log mail request s sys c k n true m is comes last (acquires-so asked.whole) (same_block n) none ∙ performed-acquire config (service_for c m e.trace) u e.memory (acquires-so asked.whole))
+    ap (λ (d : Deed w). d.handed) (deed-performed config log mail request s sys c k n true m is comes last (acquires-so asked.whole) (same_block n) none
+    ∙ performed-acquire config (service_for c m e.trace) u e.memory (acquires-so asked.whole))
     ∙ ap (λ (i : Message w). (link_of c, i) ∷ [])
     (ap₂ (λ (j : Cap) (d : Bool). grant_with (service_for c m e.trace) j d e.memory) given carried
-    ∙ grant-is (service_for c m e.trace) c n (b.source c) (next_tracker sys) data_too gift_is e.memory b.truth refl refl (same_block n) (is.memory n ∙ memory-granted caching c data_too gift_is new well refl recorded_now (gives-some config.profile asked.whole asked.grow unheld)))
+    ∙ grant-is (service_for c m e.trace) c n (b.source c) (next_tracker sys) data_too gift_is e.memory b.truth refl refl (same_block n)
+    (is.memory n ∙ memory-granted caching c data_too gift_is new well refl recorded_now (gives-some config.profile asked.whole asked.grow unheld)))
   where
     b : Block (List ℕ)
     b = s.block n
@@ -132,9 +144,11 @@ handed-granted {w} config log mail request s sys caching c n k is asked comes la
     recorded_now = ap (λ (p : Pair). p.recorded) (set-same c (after_grant_sent gift_is (b.pair c)) b.pair)
 
     given : cap_granted config.profile m.opcode m.param (holders.is_unheld config (block_at m.address) u) ≡ gift_is
-    given = ap (λ i. cap_granted config.profile m.opcode m.param (holders.is_unheld config i u)) (same_block n) ∙ ap (cap_granted config.profile m.opcode m.param) (unheld-same config log mail request s sys c k n m is)
+    given = ap (λ i. cap_granted config.profile m.opcode m.param (holders.is_unheld config i u)) (same_block n)
+        ∙ ap (cap_granted config.profile m.opcode m.param) (unheld-same config log mail request s sys c k n m is)
 
     carried : handing.is_granted_data m.opcode m.param (recorded c (block_at m.address) u) ≡ data_too
     carried =
-        ap (λ i. handing.is_granted_data m.opcode m.param (recorded c i u)) (same_block n) ∙ ap (handing.is_granted_data m.opcode m.param) (recorded-beat c k m e.trace c n ∙ is.managed.recorded_is c n)
+        ap (λ i. handing.is_granted_data m.opcode m.param (recorded c i u)) (same_block n)
+        ∙ ap (handing.is_granted_data m.opcode m.param) (recorded-beat c k m e.trace c n ∙ is.managed.recorded_is c n)
         ∙ data-same asked.whole asked.grow (b.pair c).recorded

@@ -63,9 +63,12 @@ pub free-last : {w : ℕ} (config : Config) (log : Log w) (mail : Mail w) (reque
     → (s.block (block_at m.address)).service ≡ Free
 free-last {w} config log mail request s sys c k m is comes last moves =
     let ended : ends (beat.A (a_beat_of m k)) (on_link c sys.manager.trace) ≡ true = ends-coming config c k m sys.manager comes ∙ rw last (is_last k (suc k) (omega arith)) in
-    unserved-free request s sys.manager.trace (block_at m.address) is.managed (or_parts (is_in_service (block_at m.address) (services sys.manager.trace)) (nat_le config.trackers (length (services sys.manager.trace))) (rw ended at moves)).0
+    unserved-free request s sys.manager.trace (block_at m.address) is.managed
+    (or_parts (is_in_service (block_at m.address) (services sys.manager.trace)) (nat_le config.trackers (length (services sys.manager.trace)))
+    (rw ended at moves)).0
 
-pub untracked-next : {w : ℕ} (config : Config) (log : Log w) (mail : Mail w) (request : ℕ → MessageA w) (s : State (List ℕ)) (sys : System w) → IsMatched config log mail request s sys → s.tracked (next_tracker sys) ≡ None
+pub untracked-next : {w : ℕ} (config : Config) (log : Log w) (mail : Mail w) (request : ℕ → MessageA w) (s : State (List ℕ)) (sys : System w)
+    → IsMatched config log mail request s sys → s.tracked (next_tracker sys) ≡ None
 untracked-next config log mail request s sys is = free-untracked (is_caching config) request s sys.manager.trace is.invariant is.managed
 
 -- the access that has a block in service
@@ -76,24 +79,29 @@ serving-for (Waits r false source k) n m for = (for.0, for.3)
 serving-for (GrantSent q d k) n m for = tt
 serving-for (GrantTaken q) n m for = tt
 
-pub serving-matched : {w : ℕ} (config : Config) (log : Log w) (mail : Mail w) (request : ℕ → MessageA w) (s : State (List ℕ)) (sys : System w) → IsMatched config log mail request s sys → (n : ℕ) → IsServing (s.block n).service (request n)
+pub serving-matched : {w : ℕ} (config : Config) (log : Log w) (mail : Mail w) (request : ℕ → MessageA w) (s : State (List ℕ)) (sys : System w)
+    → IsMatched config log mail request s sys → (n : ℕ) → IsServing (s.block n).service (request n)
 serving-matched config log mail request s sys is n = serving-for (s.block n).service n (request n) (is.served.requests n)
 
 -- the invariant is kept
 pub invariant-taken : {w : ℕ} (config : Config) (log : Log w) (h : Shadow w) (sys : System w) (c : ℕ) (k : Kind) (i : ℕ) (rest : List Token) → IsMatched config log h.mail h.request h.state sys
     → on k (h.state.link c) ≡ token k i ∷ rest → IsReady (next_tracker sys) c k i h → IsInvariant (is_caching config) (kind_taken config (next_tracker sys) c k i rest h).state
 invariant-taken config log h sys c k i rest is first ready =
-    kind_taken-kept (is_caching config) config (next_tracker sys) c k i rest h is.invariant (plain-past config) (λ n. (is.sized n).truth) (serving-matched config log h.mail h.request h.state sys is) first ready
+    kind_taken-kept (is_caching config) config (next_tracker sys) c k i rest h is.invariant (plain-past config) (λ n. (is.sized n).truth)
+    (serving-matched config log h.mail h.request h.state sys is) first ready
 
 -- ---- who is probed
 
 -- somebody is probed, as the manager's record says, where the protocol says so
 pub probed-some : {w : ℕ} (config : Config) (log : Log w) (mail : Mail w) (request : ℕ → MessageA w) (s : State (List ℕ)) (sys : System w) (c k n : ℕ) (own : Bool) (j : Cap) (m : MessageA w)
     → IsMatched config log mail request s sys → is_acquire m.opcode ≡ own → block_at m.address ≡ n
-    → is_nobody (probed config (service_for c m sys.manager.trace) j (with_beat c m k sys.manager.trace)) ≡ not (some_below (length config.clients.items) (λ d. is_probed c own j ((s.block n).pair d).recorded d))
+    → is_nobody (probed config (service_for c m sys.manager.trace) j (with_beat c m k sys.manager.trace))
+    ≡ not (some_below (length config.clients.items) (λ d. is_probed c own j ((s.block n).pair d).recorded d))
 probed-some {w} config log mail request s sys c k n own j m is kind block =
-    nobody-same config (λ d. holders.is_above j (recorded d (block_at m.address) (with_beat c m k sys.manager.trace)) && not (is_spared (service_for c m sys.manager.trace) d)) (λ d. is_probed c own j ((s.block n).pair d).recorded d)
-    (λ d. rw (block, recorded-beat c k m sys.manager.trace d n, is.managed.recorded_is d n, kind, same_above j ((s.block n).pair d).recorded, swapped c d) (and_comm (is_above j ((s.block n).pair d).recorded) (not (own && (d == c)))))
+    nobody-same config (λ d. holders.is_above j (recorded d (block_at m.address) (with_beat c m k sys.manager.trace))
+    && not (is_spared (service_for c m sys.manager.trace) d)) (λ d. is_probed c own j ((s.block n).pair d).recorded d)
+    (λ d. rw (block, recorded-beat c k m sys.manager.trace d n, is.managed.recorded_is d n, kind, same_above j ((s.block n).pair d).recorded, swapped c d)
+    (and_comm (is_above j ((s.block n).pair d).recorded) (not (own && (d == c)))))
 
 copies_so : (p : Perm) → holders.has_copy p ≡ not (same_perm p perm.None)
 copies_so perm.None = refl
@@ -101,14 +109,16 @@ copies_so perm.Branch = refl
 copies_so perm.Trunk = refl
 
 -- nobody has a copy, as the manager's record says, where the protocol says so
-pub unheld-same : {w : ℕ} (config : Config) (log : Log w) (mail : Mail w) (request : ℕ → MessageA w) (s : State (List ℕ)) (sys : System w) (c k n : ℕ) (m : MessageA w) → IsMatched config log mail request s sys
+pub unheld-same : {w : ℕ} (config : Config) (log : Log w) (mail : Mail w) (request : ℕ → MessageA w) (s : State (List ℕ)) (sys : System w) (c k n : ℕ)
+    (m : MessageA w) → IsMatched config log mail request s sys
     → holders.is_unheld config n (with_beat c m k sys.manager.trace) ≡ is_unheld (length config.clients.items) (s.block n).pair
 unheld-same {w} config log mail request s sys c k n m is =
     nobody-same config (λ d. holders.has_copy (recorded d n (with_beat c m k sys.manager.trace))) (λ d. not (same_perm ((s.block n).pair d).recorded perm.None))
     (λ d. rw (recorded-beat c k m sys.manager.trace d n, is.managed.recorded_is d n) (copies_so ((s.block n).pair d).recorded))
 
 -- nothing is under way of a block that is free
-quiet-free : {w : ℕ} (config : Config) (log : Log w) (mail : Mail w) (request : ℕ → MessageA w) (s : State (List ℕ)) (sys : System w) (n : ℕ) → IsMatched config log mail request s sys → (s.block n).service ≡ Free
+quiet-free : {w : ℕ} (config : Config) (log : Log w) (mail : Mail w) (request : ℕ → MessageA w) (s : State (List ℕ)) (sys : System w) (n : ℕ)
+    → IsMatched config log mail request s sys → (s.block n).service ≡ Free
     → (d : ℕ) → is_quiet ((s.block n).pair d).probing ≡ true
 quiet-free config log mail request s sys n is free d = quiet_at_rest ((s.block n).pair d) (view (s.block n).service d) ((is.invariant.blocks n).phases d) (rw free refl)
 
@@ -119,8 +129,10 @@ beyond-none config log mail request s sys n is d past = ap (λ (p : Pair). p.rec
 -- ---- what is done
 
 -- nobody is probed: the request is performed
-pub deed-performed : {w : ℕ} (config : Config) (log : Log w) (mail : Mail w) (request : ℕ → MessageA w) (s : State (List ℕ)) (sys : System w) (c k n : ℕ) (own : Bool) (m : MessageA w) → IsMatched config log mail request s sys
-    → IsComing config c k m sys.manager → beats_of (message.A m) ≡ suc k → is_acquire m.opcode ≡ own → block_at m.address ≡ n → probes_some (length config.clients.items) c own (cap_probed m.opcode m.param) (s.block n).pair ≡ false
+pub deed-performed : {w : ℕ} (config : Config) (log : Log w) (mail : Mail w) (request : ℕ → MessageA w) (s : State (List ℕ)) (sys : System w) (c k n : ℕ)
+    (own : Bool) (m : MessageA w) → IsMatched config log mail request s sys
+    → IsComing config c k m sys.manager → beats_of (message.A m) ≡ suc k → is_acquire m.opcode ≡ own → block_at m.address ≡ n
+    → probes_some (length config.clients.items) c own (cap_probed m.opcode m.param) (s.block n).pair ≡ false
     → deed config (link_of c) (beat.A (a_beat_of m k)) sys.manager ≡ performed config (service_for c m sys.manager.trace) (with_beat c m k sys.manager.trace) sys.manager.memory
 deed-performed {w} config log mail request s sys c k n own m is comes last kind block none = go (cap_probed m.opcode m.param) refl
   where
@@ -130,22 +142,27 @@ deed-performed {w} config log mail request s sys c k n own m is comes last kind 
     go : (o : Option Cap) → cap_probed m.opcode m.param ≡ o → deed config (link_of c) (beat.A (a_beat_of m k)) e ≡ performed config (service_for c m e.trace) (with_beat c m k e.trace) e.memory
     go None f = deed-intent config (link_of c) (a_beat_of m k) (service_for c m e.trace) e (served-last config c k m e comes last) f
     go (Some j) f =
-        let nobody : is_nobody (probed config (service_for c m e.trace) j (with_beat c m k e.trace)) ≡ true = probed-some config log mail request s sys c k n own j m is kind block ∙ ap not (rw f at none) in
-        deed-unprobed config (link_of c) (a_beat_of m k) (service_for c m e.trace) j e (served-last config c k m e comes last) f (no-clients (probed config (service_for c m e.trace) j (with_beat c m k e.trace)) nobody)
+        let nobody : is_nobody (probed config (service_for c m e.trace) j (with_beat c m k e.trace)) ≡ true =
+        probed-some config log mail request s sys c k n own j m is kind block ∙ ap not (rw f at none) in
+        deed-unprobed config (link_of c) (a_beat_of m k) (service_for c m e.trace) j e (served-last config c k m e comes last) f
+        (no-clients (probed config (service_for c m e.trace) j (with_beat c m k e.trace)) nobody)
 
 -- somebody is, with this cap
-pub somebody-probed : {w : ℕ} (config : Config) (log : Log w) (mail : Mail w) (request : ℕ → MessageA w) (s : State (List ℕ)) (sys : System w) (c k n : ℕ) (own : Bool) (m : MessageA w) → IsMatched config log mail request s sys
+pub somebody-probed : {w : ℕ} (config : Config) (log : Log w) (mail : Mail w) (request : ℕ → MessageA w) (s : State (List ℕ)) (sys : System w) (c k n : ℕ)
+    (own : Bool) (m : MessageA w) → IsMatched config log mail request s sys
     → is_acquire m.opcode ≡ own → block_at m.address ≡ n → probes_some (length config.clients.items) c own (cap_probed m.opcode m.param) (s.block n).pair ≡ true
     → (j : Cap) × (cap_probed m.opcode m.param ≡ Some j) × (is_nobody (probed config (service_for c m sys.manager.trace) j (with_beat c m k sys.manager.trace)) ≡ false)
 somebody-probed {w} config log mail request s sys c k n own m is kind block some = go (cap_probed m.opcode m.param) refl
   where
-    go : (o : Option Cap) → cap_probed m.opcode m.param ≡ o → (j : Cap) × (cap_probed m.opcode m.param ≡ Some j) × (is_nobody (probed config (service_for c m sys.manager.trace) j (with_beat c m k sys.manager.trace)) ≡ false)
+    go : (o : Option Cap) → cap_probed m.opcode m.param ≡ o → (j : Cap) × (cap_probed m.opcode m.param ≡ Some j)
+        × (is_nobody (probed config (service_for c m sys.manager.trace) j (with_beat c m k sys.manager.trace)) ≡ false)
     go None f = absurd (let no : false ≡ true = rw f at some in cc)
     go (Some j) f = (j, f, probed-some config log mail request s sys c k n own j m is kind block ∙ ap not (rw f at some))
 
 -- ---- an access
 
-pub unwaited-asked : {w : ℕ} (config : Config) (log : Log w) (mail : Mail w) (request : ℕ → MessageA w) (s : State (List ℕ)) (sys : System w) (c source : ℕ) → IsMatched config log mail request s sys → s.uses c source ≡ Asked → IsUnwaited c source s
+pub unwaited-asked : {w : ℕ} (config : Config) (log : Log w) (mail : Mail w) (request : ℕ → MessageA w) (s : State (List ℕ)) (sys : System w) (c source : ℕ)
+    → IsMatched config log mail request s sys → s.uses c source ≡ Asked → IsUnwaited c source s
 unwaited-asked {w} config log mail request s sys c source is used i src own j e same = go own (waits-used (is_caching config) s i c src own j is.invariant e)
   where
     here : s.uses c src ≡ Asked
@@ -163,7 +180,8 @@ with-same mail after (GrantSent q d k) m same ok = tt
 with-same mail after (GrantTaken q) m same ok = tt
 
 -- other answers change nothing
-pub at_manager-answers : {w : ℕ} (config : Config) (mail after : Mail w) (request : ℕ → MessageA w) (s : State (List ℕ)) (e : End w) → after.request ≡ mail.request → IsAtManager config mail request s e → IsAtManager config after request s e
+pub at_manager-answers : {w : ℕ} (config : Config) (mail after : Mail w) (request : ℕ → MessageA w) (s : State (List ℕ)) (e : End w)
+    → after.request ≡ mail.request → IsAtManager config mail request s e → IsAtManager config after request s e
 at_manager-answers config mail after request s e same is = record {
   managed = is.managed;
   served = is.served;
@@ -173,7 +191,8 @@ at_manager-answers config mail after request s e same is = record {
   all_live = is.all_live;
 }
 
-pub ready-request : {w : ℕ} (config : Config) (log : Log w) (h : Shadow w) (sys : System w) (c source k : ℕ) → IsMatched config log h.mail h.request h.state sys → (asked : IsAsked config c source h.mail h.state)
+pub ready-request : {w : ℕ} (config : Config) (log : Log w) (h : Shadow w) (sys : System w) (c source k : ℕ) → IsMatched config log h.mail h.request h.state sys
+    → (asked : IsAsked config c source h.mail h.state)
     → IsComing config c k asked.request sys.manager → beats_of (message.A asked.request) ≡ suc k → must_wait config (link_of c) (beat.A (a_beat_of asked.request k)) sys.manager.trace ≡ false
     → IsReady (next_tracker sys) c Request source h
 ready-request config log h sys c source k is asked comes last moves =
@@ -222,7 +241,8 @@ at_manager-request_taken {w} config log h sys c source k rest is first asked com
     answering : IsAnswering config c k n m h.state e
     answering = record { comes = comes; last = last; access = asked.access; block = refl; free = free; unwaited = λ i src own j f same. unwaited i src own j f (sym asked.source_is ∙ same) }
 
-    answered : (p : Bool) (o : Option Cap) → IsInvariant (is_caching config) (access_taken c source m tracker p o rest h).state → access_taken c source m tracker p o rest h ≡ access_taken c source m tracker false None rest h
+    answered : (p : Bool) (o : Option Cap) → IsInvariant (is_caching config) (access_taken c source m tracker p o rest h).state
+        → access_taken c source m tracker p o rest h ≡ access_taken c source m tracker false None rest h
         → deed config (link_of c) (beat.A (a_beat_of m k)) e ≡ performed config (service_for c m e.trace) (with_beat c m k e.trace) e.memory
         → IsManagerOf config (access_taken c source m tracker p o rest h) after
     answered p o kept same done =
@@ -231,7 +251,8 @@ at_manager-request_taken {w} config log h sys c source k rest is first asked com
         (subst (λ (i : Shadow w). IsInvariant (is_caching config) i.state) same kept) (λ i. refl) answering asked.lawful done
         (at_manager-answers config h.mail (access_taken c source m tracker false None rest h).mail h.request h.state e refl (at_manager-matched config log h.mail h.request h.state sys is)))
 
-    done : probes_some clients c false (cap_probed m.opcode m.param) b.pair ≡ false → deed config (link_of c) (beat.A (a_beat_of m k)) e ≡ performed config (service_for c m e.trace) (with_beat c m k e.trace) e.memory
+    done : probes_some clients c false (cap_probed m.opcode m.param) b.pair ≡ false
+        → deed config (link_of c) (beat.A (a_beat_of m k)) e ≡ performed config (service_for c m e.trace) (with_beat c m k e.trace) e.memory
     done none = deed-performed config log h.mail h.request h.state sys c k n false m is comes last asked.access refl none
 
     some_cap : (x y : Option Cap) (i j : Cap) → x ≡ Some i → x ≡ y → y ≡ Some j → i ≡ j
@@ -259,7 +280,8 @@ at_manager-request_taken {w} config log h sys c source k rest is first asked com
 
 -- ---- an Acquire
 
-unwaited-acquires : {w : ℕ} (config : Config) (log : Log w) (mail : Mail w) (request : ℕ → MessageA w) (s : State (List ℕ)) (sys : System w) (c source n : ℕ) → IsMatched config log mail request s sys → s.uses c source ≡ Acquires n
+unwaited-acquires : {w : ℕ} (config : Config) (log : Log w) (mail : Mail w) (request : ℕ → MessageA w) (s : State (List ℕ)) (sys : System w) (c source n : ℕ)
+    → IsMatched config log mail request s sys → s.uses c source ≡ Acquires n
     → (s.block n).service ≡ Free → IsUnwaited c source s
 unwaited-acquires {w} config log mail request s sys c source n is used free i src own j e same = go own e (waits-used (is_caching config) s i c src own j is.invariant e)
   where
@@ -273,7 +295,9 @@ unwaited-acquires {w} config log mail request s sys c source n is used free i sr
     go true f g = let at_n : i ≡ n = number_is n i (sym here ∙ g) in let no : Free ≡ Waits c true src j = sym free ∙ ap (λ l. (s.block l).service) (sym at_n) ∙ f in cc
     go false f g = let no : Acquires n ≡ InService i = sym here ∙ g in cc
 
-pub caps_asked : (w : ℕ) (whole : Bool) (g : Grow) (source n : ℕ) → cap_probed (acquisition {w = w} (acquire_opcode whole) g source n).opcode (acquisition {w = w} (acquire_opcode whole) g source n).param ≡ Some (cap_asked (Wants whole g))
+pub caps_asked : (w : ℕ) (whole : Bool) (g : Grow) (source n : ℕ)
+    → cap_probed (acquisition {w = w} (acquire_opcode whole) g source n).opcode (acquisition {w = w} (acquire_opcode whole) g source n).param ≡ Some
+    (cap_asked (Wants whole g))
 caps_asked w true grow.NtoB source n = refl
 caps_asked w true grow.NtoT source n = refl
 caps_asked w true grow.BtoT source n = refl
@@ -286,15 +310,20 @@ abbrev pub acquire_wanted : {w : ℕ} (c n : ℕ) (s : State (List ℕ)) → IsW
 acquire_wanted c n s is = acquisition (acquire_opcode is.whole) is.grow ((s.block n).source c) n
 
 pub ready-acquire : {w : ℕ} (config : Config) (log : Log w) (h : Shadow w) (sys : System w) (c n k : ℕ) → IsMatched config log h.mail h.request h.state sys → (asked : IsWanted w c n h.state)
-    → IsComing config c k (acquire_wanted c n h.state asked) sys.manager → beats_of (message.A (acquire_wanted c n h.state asked)) ≡ suc k → must_wait config (link_of c) (beat.A (a_beat_of (acquire_wanted c n h.state asked) k)) sys.manager.trace ≡ false
+    → IsComing config c k (acquire_wanted c n h.state asked) sys.manager → beats_of (message.A (acquire_wanted c n h.state asked)) ≡ suc k
+    → must_wait config (link_of c) (beat.A (a_beat_of (acquire_wanted c n h.state asked) k)) sys.manager.trace ≡ false
     → IsReady (next_tracker sys) c Acquire n h
-ready-acquire config log h sys c n k is asked comes last moves =
-    (ap (λ i. (h.state.block i).service) (sym (same_block n)) ∙ free-last config log h.mail h.request h.state sys c k (acquire_wanted c n h.state asked) is comes last moves, untracked-next config log h.mail h.request h.state sys is)
+ready-acquire config log h sys c n k is asked comes last moves = (
+  ap (λ i. (h.state.block i).service) (sym (same_block n))
+      ∙ free-last config log h.mail h.request h.state sys c k (acquire_wanted c n h.state asked) is comes last moves,
+  untracked-next config log h.mail h.request h.state sys is,
+)
 
 -- after an Acquire that was taken
 pub at_manager-acquire_taken : {w : ℕ} (config : Config) (log : Log w) (h : Shadow w) (sys : System w) (c n k : ℕ) (rest : List Token) → IsMatched config log h.mail h.request h.state sys
     → (h.state.link c).a ≡ token Acquire n ∷ rest → (asked : IsWanted w c n h.state)
-    → IsComing config c k (acquire_wanted c n h.state asked) sys.manager → beats_of (message.A (acquire_wanted c n h.state asked)) ≡ suc k → must_wait config (link_of c) (beat.A (a_beat_of (acquire_wanted c n h.state asked) k)) sys.manager.trace ≡ false
+    → IsComing config c k (acquire_wanted c n h.state asked) sys.manager → beats_of (message.A (acquire_wanted c n h.state asked)) ≡ suc k
+    → must_wait config (link_of c) (beat.A (a_beat_of (acquire_wanted c n h.state asked) k)) sys.manager.trace ≡ false
     → IsManagerOf config (kind_taken config (next_tracker sys) c Acquire n rest h) (end_after config c k (acquire_wanted c n h.state asked) sys.manager)
 at_manager-acquire_taken {w} config log h sys c n k rest is first asked comes last moves =
     subst (λ (i : Acquiring). IsManagerOf config (acquire_taken clients config.profile c n i tracker rest h) after) (sym asked.wants)
@@ -347,7 +376,8 @@ at_manager-acquire_taken {w} config log h sys c n k rest is first asked comes la
     state_of : Bool → State (List ℕ)
     state_of x = if x then acquire_served c n (b.source c) tracker j rest h.state else acquire_granted c n tracker (is_granted_data asked.whole asked.grow (b.pair c).recorded) given rest h.state
 
-    go : (x : Bool) → some_below clients (λ d. is_probed c true j (b.pair d).recorded d) ≡ x → IsInvariant (is_caching config) (state_of x) → IsAtManager config h.mail (set n m h.request) (state_of x) after
+    go : (x : Bool) → some_below clients (λ d. is_probed c true j (b.pair d).recorded d) ≡ x → IsInvariant (is_caching config) (state_of x)
+        → IsAtManager config h.mail (set n m h.request) (state_of x) after
     go true f kept =
         at_manager-probing (is_caching config) config h.mail h.request c k n true m.source j m h.state (state_of true) e kept (λ i. refl)
         (record {

@@ -3,7 +3,7 @@ use Rattle.std.proofs.Common.{◌≡◌, ℕ, ◌+◌, ◌<◌, ◌≤◌, Bool,
 use Rattle.std.specs.Prelude.{◌==◌, if◌then◌else◌, Some, None, length}
 use Rattle.std.proofs.lemmas.Bool.{cases_eq, ne_eqb, eqb-true}
 use Rattle.tl_beat.specs.declared.beat.Beat.{Beat}
-use Rattle.tl_beat.specs.declared.opcode.Channel.{Channel}
+use Rattle.tl_beat.specs.declared.channel.Channel.{Channel}
 use Rattle.tl_params.specs.declared.config.Config.{Config}
 use Rattle.tl_params.specs.declared.param.Cap.{Cap}
 use Rattle.tl_params.specs.declared.param.Prune.{Prune}
@@ -17,7 +17,8 @@ use Rattle.tl_world.specs.Move.{Move}
 use Rattle.tl_world.specs.Phase.{Pair, Granting, Acknowledging, GrantedOther, Probing, Quiet, Sent, Answered, Kept, Releasing, Acked}
 use Rattle.tl_world.specs.PhaseSteps.{after_release_taken, after_release_ack, after_grant}
 use Rattle.tl_world.specs.Potential.{Left, probing_weight, pair_weight, probes_weight, acquire_weight, letting_weight, potential}
-use Rattle.tl_world.specs.Protocol.{Service, Free, GrantSent, GrantTaken, Block, State, Closed, Replied, Acquires, view, is_unserved, is_wanting, is_answered, taken_block, let_block, let_go_block, freed_block}
+use Rattle.tl_world.specs.Protocol.{Service, Free, GrantSent, GrantTaken, Block, State, Closed, Replied, Acquires, view, is_unserved, is_wanting, is_answered}
+use Rattle.tl_world.specs.Protocol.{taken_block, let_block, let_go_block, freed_block}
 use Rattle.tl_world.specs.Render.{Mail}
 use Rattle.tl_world.specs.Token.{Acquire, Grant, ProbeAck, Release, Answer, set}
 use Rattle.tl_world.proofs.Channels.{IsShowing}
@@ -70,23 +71,27 @@ module _ {w : ℕ} (config : Config) (caching : ℕ → Bool) (n : ℕ) (moves :
   number = length config.clients.items
 
   -- a part of pairs that an event leaves alone
-  kept_at : {A : Type 0} (part : Pair → A) (p : Pair) → part p ≡ part ((s.block n).pair c) → (s'.block n).pair ≡ set c p (s.block n).pair → (d : ℕ) → part ((s'.block n).pair d) ≡ part ((s.block n).pair d)
+  kept_at : {A : Type 0} (part : Pair → A) (p : Pair) → part p ≡ part ((s.block n).pair c) → (s'.block n).pair ≡ set c p (s.block n).pair → (d : ℕ)
+      → part ((s'.block n).pair d) ≡ part ((s.block n).pair d)
   kept_at part p e new d = ap (λ (f : ℕ → Pair). part (f d)) new ∙ set-part part c p (s.block n).pair e d
 
-  letting_stays : (d : ℕ) → ((s'.block n).pair d).letting ≡ ((s.block n).pair d).letting → letting_weight (left' d Release n) ((s'.block n).pair d).letting ≤ letting_weight (left d Release n) ((s.block n).pair d).letting
+  letting_stays : (d : ℕ) → ((s'.block n).pair d).letting ≡ ((s.block n).pair d).letting
+      → letting_weight (left' d Release n) ((s'.block n).pair d).letting ≤ letting_weight (left d Release n) ((s.block n).pair d).letting
   letting_stays d e = let-stays config caching n moves mail mail' s s' showing c ch rest rest' popped size answer d n e
 
   pub answer-falls : (source : ℕ) → s.uses c source ≡ Replied → s'.uses c source ≡ Closed → 1 ≤ left c Answer source → s'.block n ≡ s.block n
       → ((d i : ℕ) → (d ≡ c → i ≡ source → ⊥) → s'.uses d i ≡ s.uses d i) → ((d i : ℕ) → s'.lets d i ≡ s.lets d i) → ((d : ℕ) → length (s'.link d).e ≤ length (s.link d).e)
       → potential config size left' answer s' + 1 ≤ potential config size left answer s
   answer-falls source replied closed some same unlike lets acks =
-      request-falls config caching n moves mail mail' s s' showing c ch rest rest' popped size answer all (block-same config caching n moves mail mail' s s' showing c ch rest rest' popped size answer all same)
+      request-falls config caching n moves mail mail' s s' showing c ch rest rest' popped size answer all
+      (block-same config caching n moves mail mail' s s' showing c ch rest rest' popped size answer all same)
       c source opened unlike lets acks (rw (replied, closed) (omega (arith, some)))
     where
       opened : s.uses c source ≡ Closed → ⊥
       opened e = absurd (let both : Replied ≡ Closed = sym replied ∙ e in cc)
 
-  pub grant-taken-falls : (data_too was_data whole : Bool) (k cap : Cap) → (s.block n).service ≡ GrantSent c was_data cap → s.uses c ((s.block n).source c) ≡ Acquires n → s'.uses c ((s.block n).source c) ≡ Closed
+  pub grant-taken-falls : (data_too was_data whole : Bool) (k cap : Cap) → (s.block n).service ≡ GrantSent c was_data cap
+      → s.uses c ((s.block n).source c) ≡ Acquires n → s'.uses c ((s.block n).source c) ≡ Closed
       → 1 ≤ left c Grant n → s'.block n ≡ taken_block c whole data_too k (s.block n)
       → ((d i : ℕ) → (d ≡ c → i ≡ (s.block n).source c → ⊥) → s'.uses d i ≡ s.uses d i) → ((d i : ℕ) → s'.lets d i ≡ s.lets d i)
       → ((d : ℕ) → (d ≡ c → ⊥) → length (s'.link d).e ≤ length (s.link d).e) → length (s'.link c).e ≡ length (s.link c).e + 1
@@ -119,7 +124,8 @@ module _ {w : ℕ} (config : Config) (caching : ℕ → Bool) (n : ℕ) (moves :
           let still : s'.uses c i ≡ Acquires n = rw same at f in
           absurd (let both : Acquires n ≡ Closed = sym still ∙ end in cc)
       acquire d i e f (inr other) =
-          unserved-stays config caching n moves mail mail' s s' showing c ch rest rest' popped size answer d i n e f (waiting d other) (ap (λ (u : Service). is_unserved (view u d)) taken ∙ granted_unserved c d)
+          unserved-stays config caching n moves mail mail' s s' showing c ch rest rest' popped size answer d i n e f (waiting d other)
+          (ap (λ (u : Service). is_unserved (view u d)) taken ∙ granted_unserved c d)
 
       block : IsBlockNoMore config caching n moves mail mail' s s' showing c ch rest rest' popped size answer
       block = record {
@@ -128,7 +134,8 @@ module _ {w : ℕ} (config : Config) (caching : ℕ → Bool) (n : ℕ) (moves :
         lets = λ d i e f. letting_stays d (kept_at (λ p. p.letting) (after_grant k ((s.block n).pair c)) refl (ap (λ (b : Block (List ℕ)). b.pair) new) d);
       }
 
-  pub release-taken-falls : (source : ℕ) (told r : Prune) → 1 ≤ size → s.lets c source ≡ Some n → ((s.block n).pair c).letting ≡ Releasing told → 1 ≤ left c Release n → s'.block n ≡ let_block c r (s.block n)
+  pub release-taken-falls : (source : ℕ) (told r : Prune) → 1 ≤ size → s.lets c source ≡ Some n → ((s.block n).pair c).letting ≡ Releasing told
+      → 1 ≤ left c Release n → s'.block n ≡ let_block c r (s.block n)
       → ((d i : ℕ) → s'.uses d i ≡ s.uses d i) → ((d i : ℕ) → s'.lets d i ≡ s.lets d i) → ((d : ℕ) → length (s'.link d).e ≤ length (s.link d).e)
       → potential config size left' answer s' + 1 ≤ potential config size left answer s
   release-taken-falls source told r wide used releasing some new uses lets acks =
@@ -203,7 +210,8 @@ module _ {w : ℕ} (config : Config) (caching : ℕ → Bool) (n : ℕ) (moves :
 
       probes : probes_weight number size left' n (s'.block n) ≤ probes_weight number size left n (s.block n)
       probes = total-le number (λ d. pair_weight size left' n d ((s'.block n).pair d)) (λ d. pair_weight size left n d ((s.block n).pair d))
-          (λ d lt. pair-stays config caching n moves mail mail' s s' showing c ch rest rest' popped size answer d n (kept_at (λ p. p.probing) (after_release_ack was) refl pairs d) (kept_at (λ p. p.recorded) (after_release_ack was) refl pairs d))
+          (λ d lt. pair-stays config caching n moves mail mail' s s' showing c ch rest rest' popped size answer d n
+          (kept_at (λ p. p.probing) (after_release_ack was) refl pairs d) (kept_at (λ p. p.recorded) (after_release_ack was) refl pairs d))
 
       letting : (d : ℕ) → (d ≡ c) ⊎ (d ≡ c → ⊥) → letting_weight (left' d Release n) ((s'.block n).pair d).letting ≤ letting_weight (left d Release n) ((s.block n).pair d).letting
       letting d (inl same) = rw (same, kept) (omega arith)
@@ -231,6 +239,7 @@ module _ {w : ℕ} (config : Config) (caching : ℕ → Bool) (n : ℕ) (moves :
       block = record {
         serves = λ d i e f. absurd (nobody-serving caching s n d i showing.before (ap is_for_access taken) e);
         acquires = λ d i e f.
-            unserved-stays config caching n moves mail mail' s s' showing c ch rest rest' popped size answer d i n e f (ap (λ (u : Service). is_unserved (view u d)) taken ∙ granted_unserved q d) (ap (λ (u : Service). is_unserved (view u d)) free);
+            unserved-stays config caching n moves mail mail' s s' showing c ch rest rest' popped size answer d i n e f
+            (ap (λ (u : Service). is_unserved (view u d)) taken ∙ granted_unserved q d) (ap (λ (u : Service). is_unserved (view u d)) free);
         lets = λ d i e f. letting_stays d (ap (λ (b : Block (List ℕ)). (b.pair d).letting) new);
       }

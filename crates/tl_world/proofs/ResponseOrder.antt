@@ -7,7 +7,7 @@ use Rattle.tl_beat.specs.declared.beat.Beat.TheVariants as beat
 use Rattle.tl_beat.specs.declared.beat.BeatA.{BeatA}
 use Rattle.tl_beat.specs.declared.beat.BeatC.{BeatC}
 use Rattle.tl_beat.specs.declared.beat.BeatD.{BeatD}
-use Rattle.tl_beat.specs.declared.opcode.Channel.TheVariants as channel
+use Rattle.tl_beat.specs.declared.channel.Channel.TheVariants as channel
 use Rattle.tl_beat.specs.declared.opcode.OpD.{OpD}
 use Rattle.tl_beat.specs.declared.opcode.OpD.TheVariants as opd
 use Rattle.tl_beat.specs.First.{first_if}
@@ -16,18 +16,22 @@ use Rattle.tl_params.specs.declared.key.Key.TheVariants.{RequestSource, ReleaseS
 use Rattle.tl_params.specs.declared.perm.Perm.TheVariants as perm
 use Rattle.tl_params.specs.declared.profile.Profile.{Profile}
 use Rattle.tl_params.specs.declared.rule.Rule.TheVariants.{H2, H3, H6, H7}
-use Rattle.tl_rules.specs.Conformance.{answers, comes_in_request, comes_in_release, fits_grow, has_request, misgrants, same_perm, is_acquire_block, is_grant_without_data, size_asked, size_of_release, broken_order, broken_in_order}
+use Rattle.tl_rules.specs.Conformance.{answers, comes_in_request, comes_in_release, fits_grow, has_request, misgrants, same_perm, is_acquire_block}
+use Rattle.tl_rules.specs.Conformance.{is_grant_without_data, size_asked, size_of_release, broken_order, broken_in_order}
 use Rattle.tl_rules.specs.History.{block_at, held, is_grant, is_release_ack, pending, request_of, release_of}
 use Rattle.tl_world.proofs.Tokens.{same_number}
 
-rules : (asked sized amiss twice : Bool) → asked ≡ true → sized ≡ true → amiss ≡ false → twice ≡ false → first_if (not asked) H2 (first_if (not sized) H3 (first_if amiss H6 (first_if twice H7 None))) ≡ None
+rules : (asked sized amiss twice : Bool) → asked ≡ true → sized ≡ true → amiss ≡ false → twice ≡ false
+    → first_if (not asked) H2 (first_if (not sized) H3 (first_if amiss H6 (first_if twice H7 None))) ≡ None
 rules asked sized amiss twice e f g h = rw (e, f, g, h) refl
 
-begun : {w : ℕ} (p : Profile) (x : BeatD w) (t : History w) → unfinished channel.D t ≡ [] → has_request x t ≡ true → (x.size == size_asked x t) ≡ true → (is_grant x.opcode && misgrants p x (request_of x.source t) t) ≡ false
+begun : {w : ℕ} (p : Profile) (x : BeatD w) (t : History w) → unfinished channel.D t ≡ [] → has_request x t ≡ true → (x.size == size_asked x t) ≡ true
+    → (is_grant x.opcode && misgrants p x (request_of x.source t) t) ≡ false
     → (is_grant x.opcode && pending (GrantSink x.sink) t) ≡ false
     → broken_in_order p (beat.D x) t ≡ None
 unfolding broken_order
-begun p x t none asked sized fits once = rw none (rules (has_request x t) (x.size == size_asked x t) (is_grant x.opcode && misgrants p x (request_of x.source t) t) (is_grant x.opcode && pending (GrantSink x.sink) t) asked sized fits once)
+begun p x t none asked sized fits once = rw none (rules (has_request x t) (x.size == size_asked x t)
+    (is_grant x.opcode && misgrants p x (request_of x.source t) t) (is_grant x.opcode && pending (GrantSink x.sink) t) asked sized fits once)
 
 -- ---- requests
 
@@ -70,7 +74,8 @@ release_size : {w : ℕ} (n : ℕ) (o : Option (BeatC w)) → option_map (λ (y 
 release_size n None e = absurd cc
 release_size n (Some y) e = same_Some y.size n e
 
-pub ack-legal : {w : ℕ} (p : Profile) (x : BeatD w) (t : History w) → unfinished channel.D t ≡ [] → comes_in_release x.source (unfinished channel.C t) ≡ false → x.opcode ≡ opd.ReleaseAck → pending (ReleaseSource x.source) t ≡ true
+pub ack-legal : {w : ℕ} (p : Profile) (x : BeatD w) (t : History w) → unfinished channel.D t ≡ [] → comes_in_release x.source (unfinished channel.C t) ≡ false
+    → x.opcode ≡ opd.ReleaseAck → pending (ReleaseSource x.source) t ≡ true
     → option_map (λ (y : BeatC w). y.size) (release_of x.source t) ≡ Some x.size
     → broken_in_order p (beat.D x) t ≡ None
 ack-legal {w} p x t none complete opcode live size = begun p x t none asked sized (rw plain refl) (rw plain refl)

@@ -2,7 +2,7 @@
 use Rattle.std.proofs.Common.{◌≡◌, ◌<◌, ◌≤◌, ℕ, List, Option, None, ◌∙◌, inl, inr, length, arith}
 use Rattle.std.proofs.lemmas.Bool.{cases_lt, lt-ltb, le-ltb}
 use Rattle.std.specs.Prelude.{if◌then◌else◌, nat_lt, slice_index_or}
-use Rattle.tl_beat.specs.declared.opcode.Channel.{Channel}
+use Rattle.tl_beat.specs.declared.channel.Channel.{Channel}
 use Rattle.tl_params.specs.declared.config.Config.{Config}
 use Rattle.tl_params.specs.declared.perm.Perm.{Perm}
 use Rattle.tl_params.specs.declared.perm.Perm.TheVariants as perm
@@ -16,7 +16,8 @@ use Rattle.tl_world.specs.World.{IsReached, held_by, copy_by, deepest_by}
 use Rattle.tl_world.proofs.Queues.{number-below}
 use Rattle.tl_world.proofs.Stepping.{member}
 
-module _ {w : ℕ} {A M : Type 0} (knows : A → End w → Type 0) (terms : A → Terms) (perm_of : M → ℕ → ℕ → Perm) (config : Config) (contents : Contents w A M) (log : Log w) (r : IsReached knows terms perm_of config contents log) where
+module _ {w : ℕ} {A M : Type 0} (knows : A → End w → Type 0) (terms : A → Terms) (perm_of : M → ℕ → ℕ → Perm) (config : Config) (contents : Contents w A M)
+    (log : Log w) (r : IsReached knows terms perm_of config contents log) where
   -- of a client, if there is one
   seen : {B : Type 0} (client : ℕ) (f : End w → B) (result none : B)
       → ((e : End w) (d : A) → client < length contents.parts.clients.items → knows (slice_index_or contents.parts.clients.items client d) e → result ≡ f e)

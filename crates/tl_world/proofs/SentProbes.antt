@@ -57,6 +57,7 @@ probe-sent {w} n old now new s block given test i below set kept first next fits
     let before = probes {w = w} block given first_ones in
     let later = probes {w = w} block given (clients_from (i + 1) (15 - i) test) in
     let probe : Link × Message w = (record { 0 = i }, probe_of_block block given) in
-    let handed : probes {w = w} block given (clients_from 0 16 test) ≡ before ++ probe ∷ later = ap (probes {w = w} block given) all ∙ map-append _ first_ones (i ∷ clients_from (i + 1) (15 - i) test) in
+    let handed : probes {w = w} block given (clients_from 0 16 test) ≡ before ++ probe ∷ later = ap (probes {w = w} block given) all
+    ∙ map-append _ first_ones (i ∷ clients_from (i + 1) (15 - i) test) in
     let so_far : probes {w = w} block given (clients_from 0 (i + 1) test) ≡ before ++ probe ∷ [] = ap (probes {w = w} block given) more ∙ map-append _ first_ones (i ∷ []) in
     rw so_far (moved-more n old now new s before later probe kept first next (subst (λ (h : Handed w). Fit n old (with_messages h s)) handed fits))

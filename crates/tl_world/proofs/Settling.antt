@@ -3,7 +3,7 @@ use Rattle.std.proofs.Common.{◌≡◌, ℕ, zero, suc, ◌+◌, ◌≤◌, Boo
 use Rattle.std.specs.Prelude.{All, if◌then◌else◌, filter}
 use Rattle.std.proofs.lemmas.List.Elements.{All-head, All-tail}
 use Rattle.tl_beat.specs.declared.beat.Link.{Link}
-use Rattle.tl_beat.specs.declared.opcode.Channel.{Channel}
+use Rattle.tl_beat.specs.declared.channel.Channel.{Channel}
 use Rattle.tl_params.specs.declared.config.Config.{Config}
 use Rattle.tl_manager.proofs.Placing.{limits}
 use Rattle.tl_world.specs.declared.event.Event.{Event}
@@ -37,7 +37,8 @@ sixteen config log given = (limits config given.fits).0
 -- it is at most the load
 owed-load : {w : ℕ} (config : Config) (log : Log w) → IsGiven config log → owed_after config log ≤ load log
 owed-load {w} config log given =
-    let few = owed-few config log (shadow config log).mail (shadow config log).request (shadow config log).state (after config log) given.width (matched-given config log given) (sixteen config log given) in
+    let few = owed-few config log (shadow config log).mail (shadow config log).request (shadow config log).state (after config log) given.width
+    (matched-given config log given) (sixteen config log given) in
     subst (λ (n : ℕ). owed_after config log ≤ n) (sym (load-open config log (shadow config log).state (counted config log given.width given.typed given.is_log))) few
 
 -- ---- logs
@@ -60,27 +61,33 @@ given-delivering config link ch log given = record { width = given.width; fits =
 
 -- ---- one delivery
 
-owed-moved : {w : ℕ} (config : Config) (link : Link) (ch : Channel) (o : Outcome w) (log : Log w) → IsGiven config log → is_moving (stepped config (Deliver link ch) (after config log)).outcome ≡ true → owed_after config ((Deliver link ch, o) ∷ log) + 1 ≤ owed_after config log
+owed-moved : {w : ℕ} (config : Config) (link : Link) (ch : Channel) (o : Outcome w) (log : Log w) → IsGiven config log
+    → is_moving (stepped config (Deliver link ch) (after config log)).outcome ≡ true
+    → owed_after config ((Deliver link ch, o) ∷ log) + 1 ≤ owed_after config log
 unfolding shadow after
 owed-moved config link ch o log given moves = moving-owed config log (shadow config log) given.width (matched-given config log given) link ch (sixteen config log given) moves
 
-owed-unmoved : {w : ℕ} (config : Config) (link : Link) (ch : Channel) (o : Outcome w) (log : Log w) → IsGiven config log → is_moving (stepped config (Deliver link ch) (after config log)).outcome ≡ false → owed_after config ((Deliver link ch, o) ∷ log) ≤ owed_after config log
+owed-unmoved : {w : ℕ} (config : Config) (link : Link) (ch : Channel) (o : Outcome w) (log : Log w) → IsGiven config log
+    → is_moving (stepped config (Deliver link ch) (after config log)).outcome ≡ false → owed_after config ((Deliver link ch, o) ∷ log) ≤ owed_after config log
 unfolding shadow after
 owed-unmoved config link ch o log given still = still-owed config log (shadow config log) given.width (matched-given config log given) link ch still
 
 -- it takes one off what is owed, where it moves a beat
-owed-delivered : {w : ℕ} (config : Config) (x : Event w × Outcome w) (log : Log w) → IsGiven config (x ∷ log) → is_delivery x.0 ≡ true → one_if (is_moving x.1) + owed_after config (x ∷ log) ≤ owed_after config log
+owed-delivered : {w : ℕ} (config : Config) (x : Event w × Outcome w) (log : Log w) → IsGiven config (x ∷ log) → is_delivery x.0 ≡ true
+    → one_if (is_moving x.1) + owed_after config (x ∷ log) ≤ owed_after config log
 unfolding IsLog
 owed-delivered {w} config x log given is = go x.0 x.1 refl given.is_log.0 is
   where
     before : IsGiven config log
     before = given-before config x log given
 
-    at : (link : Link) (ch : Channel) (o : Outcome w) (b : Bool) → o ≡ (stepped config (Deliver link ch) (after config log)).outcome → is_moving o ≡ b → one_if b + owed_after config ((Deliver link ch, o) ∷ log) ≤ owed_after config log
+    at : (link : Link) (ch : Channel) (o : Outcome w) (b : Bool) → o ≡ (stepped config (Deliver link ch) (after config log)).outcome → is_moving o ≡ b
+        → one_if b + owed_after config ((Deliver link ch, o) ∷ log) ≤ owed_after config log
     at link ch o true e f = let less = owed-moved config link ch o log before (sym (ap is_moving e) ∙ f) in omega (arith, less)
     at link ch o false e f = let less = owed-unmoved config link ch o log before (sym (ap is_moving e) ∙ f) in omega (arith, less)
 
-    go : (event : Event w) (o : Outcome w) → x ≡ (event, o) → o ≡ (stepped config event (after config log)).outcome → is_delivery event ≡ true → one_if (is_moving o) + owed_after config ((event, o) ∷ log) ≤ owed_after config log
+    go : (event : Event w) (o : Outcome w) → x ≡ (event, o) → o ≡ (stepped config event (after config log)).outcome → is_delivery event ≡ true
+        → one_if (is_moving o) + owed_after config ((event, o) ∷ log) ≤ owed_after config log
     go (Ask c op) o e f g = absurd cc
     go (Deliver link ch) o e f g = at link ch o (is_moving o) f refl
 
@@ -93,7 +100,8 @@ moved-more {w} x more = go (is_moving x.1)
     go true = omega arith
     go false = omega arith
 
-bounding : {w : ℕ} (config : Config) (more log : Log w) → IsGiven config (more ++ log) → All (λ x. is_delivery x.0 ≡ true) more → beats_moved more + owed_after config (more ++ log) ≤ owed_after config log
+bounding : {w : ℕ} (config : Config) (more log : Log w) → IsGiven config (more ++ log) → All (λ x. is_delivery x.0 ≡ true) more
+    → beats_moved more + owed_after config (more ++ log) ≤ owed_after config log
 bounding config [] log given all = omega arith
 bounding config (x ∷ more) log given all =
     let rest = bounding config more log (given-before config x (more ++ log) given) (All-tail (λ y. is_delivery y.0 ≡ true) x more all) in
@@ -117,7 +125,8 @@ record IsStanding {w : ℕ} (config : Config) (log : Log w) (n : ℕ) : Type 0 w
   given : IsGiven config (drained config n log)
 
 -- the next delivery moves a beat
-next-moves : {w : ℕ} (config : Config) (log : Log w) (d : Link × Channel) → IsGiven config log → next_delivery config (after config log) ≡ Some d → is_moving (stepped config (Deliver d.0 d.1) (after config log)).outcome ≡ true
+next-moves : {w : ℕ} (config : Config) (log : Log w) (d : Link × Channel) → IsGiven config log → next_delivery config (after config log) ≡ Some d
+    → is_moving (stepped config (Deliver d.0 d.1) (after config log)).outcome ≡ true
 next-moves config log d given is = movable-moves config log d.0.0 d.1 (λ client. stalls config log given d.0.0 d.1 client) (next-movable config (after config log) d is)
 
 standing : {w : ℕ} (config : Config) (log : Log w) (o : Option (Link × Channel)) → IsGiven config log → next_delivery config (after config log) ≡ o

@@ -2,7 +2,7 @@
 use Rattle.std.proofs.Common.{◌≡◌, ℕ, Bool, true, false, not, ◌&&◌, ◌||◌, List, refl, sym, ◌∙◌, ap, ◌⊎◌, inl, inr}
 use Rattle.std.proofs.lemmas.Bool.{not-true, or_parts}
 use Rattle.std.specs.Prelude.{◌==◌, if◌then◌else◌, ⊤}
-use Rattle.tl_beat.specs.declared.opcode.Channel.{Channel}
+use Rattle.tl_beat.specs.declared.channel.Channel.{Channel}
 use Rattle.tl_beat.specs.declared.opcode.OpB.TheVariants as opb
 use Rattle.tl_params.specs.declared.param.Prune.{Prune}
 use Rattle.tl_params.specs.declared.param.Prune.TheVariants as prune
@@ -84,7 +84,8 @@ rendered-alike w GrantAck d n b b' same bytes = rw same refl
 abbrev pub AreAlike : ℕ → Block (List ℕ) → Block (List ℕ) → Type 0
 AreAlike d b b' = (k : Kind) → shown k d b ≡ true → shown k d b' ≡ true → IsAlike k d b b' × ((carries k d b ≡ false) ⊎ (b'.truth ≡ b.truth))
 
-pub showing-block : {w : ℕ} (caching : ℕ → Bool) (n : ℕ) (b' : Block (List ℕ)) (moves : ℕ → Channel → Move) (mail mail' : Mail w) (s s' : State (List ℕ)) → IsInvariant caching s → IsInvariant caching s'
+pub showing-block : {w : ℕ} (caching : ℕ → Bool) (n : ℕ) (b' : Block (List ℕ)) (moves : ℕ → Channel → Move) (mail mail' : Mail w) (s s' : State (List ℕ))
+    → IsInvariant caching s → IsInvariant caching s'
     → ((d : ℕ) → AreMoved (moves d) (s.link d) (s'.link d)) → ((i : ℕ) → s'.block i ≡ set n b' s.block i) → ((d : ℕ) → AreAlike d (s.block n) b')
     → ((d i : ℕ) → is_asked (s.uses d i) ≡ true → is_asked (s'.uses d i) ≡ true → mail'.request d i ≡ mail.request d i)
     → ((d i : ℕ) → is_replied (s.uses d i) ≡ true → is_replied (s'.uses d i) ≡ true → mail'.answer d i ≡ mail.answer d i)
@@ -149,7 +150,8 @@ uncarried Answer d b told given = refl
 uncarried ReleaseAck d b told given = refl
 uncarried GrantAck d b told given = refl
 
-pub none-carried : (caching : ℕ → Bool) (b : Block (List ℕ)) → IsWell caching b → ((d : ℕ) → (same_perm (b.pair d).held perm.Trunk || same_perm (b.pair d).recorded perm.None) ≡ true) → (k : Kind) (d : ℕ) → carries k d b ≡ false
+pub none-carried : (caching : ℕ → Bool) (b : Block (List ℕ)) → IsWell caching b
+    → ((d : ℕ) → (same_perm (b.pair d).held perm.Trunk || same_perm (b.pair d).recorded perm.None) ≡ true) → (k : Kind) (d : ℕ) → carries k d b ≡ false
 none-carried caching b well low k d =
     uncarried k d b (not-true (is_told (b.pair d)) (and_left (not (is_told (b.pair d))) (not (is_granting (view b.service d))) (is d)))
     (ungiven b.service (λ i. not-true (is_granting (view b.service i)) (and_right (not (is_told (b.pair i))) (not (is_granting (view b.service i))) (is i))))

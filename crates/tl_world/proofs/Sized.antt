@@ -50,13 +50,15 @@ strange_used : (config : Config) (c source : ℕ) (u : Use) (uses : ℕ → ℕ 
 strange_used config c source u uses used before d i =
     each-set_at (λ j k v. terms_at config j ≡ None → v ≡ Closed) c source u uses (λ none. absurd (used (before c source none))) before d i
 
-strange_access : {w : ℕ} (config : Config) (c source : ℕ) (m : MessageA w) (tracker : ℕ) (p : Bool) (o : Option Cap) (rest : List Token) (h : Shadow w) (terms : Terms) → terms_at config c ≡ Some terms → AreStrange config h.state.uses
+strange_access : {w : ℕ} (config : Config) (c source : ℕ) (m : MessageA w) (tracker : ℕ) (p : Bool) (o : Option Cap) (rest : List Token) (h : Shadow w)
+    (terms : Terms) → terms_at config c ≡ Some terms → AreStrange config h.state.uses
     → AreStrange config (access_taken c source m tracker p o rest h).state.uses
 strange_access config c source m tracker true (Some k) rest h terms known before = strange_set config c source (InService (block_at m.address)) h.state.uses terms known before
 strange_access config c source m tracker true None rest h terms known before = strange_set config c source Replied h.state.uses terms known before
 strange_access config c source m tracker false o rest h terms known before = strange_set config c source Replied h.state.uses terms known before
 
-strange_request : {w : ℕ} (config : Config) (clients c source : ℕ) (m : Message w) (tracker : ℕ) (rest : List Token) (h : Shadow w) (terms : Terms) → terms_at config c ≡ Some terms → AreStrange config h.state.uses
+strange_request : {w : ℕ} (config : Config) (clients c source : ℕ) (m : Message w) (tracker : ℕ) (rest : List Token) (h : Shadow w) (terms : Terms)
+    → terms_at config c ≡ Some terms → AreStrange config h.state.uses
     → AreStrange config (request_taken clients c source m tracker rest h).state.uses
 strange_request config clients c source (message.A m) tracker rest h terms known before = strange_access config c source m tracker _ _ rest h terms known before
 strange_request config clients c source (message.B m) tracker rest h terms known before = before
@@ -78,7 +80,8 @@ strange_granted : {w : ℕ} (config : Config) (clients : ℕ) (p : Profile) (c q
 strange_granted config clients p c q n r Calm rest h before = before
 strange_granted config clients p c q n r (Wants whole g) rest h before = before
 
-strange_last : {w : ℕ} (config : Config) (clients : ℕ) (p : Profile) (c n : ℕ) (r : Report) (v : Service) (rest : List Token) (h : Shadow w) → ((q source : ℕ) (k : Cap) → v ≡ Waits q false source k → h.state.uses q source ≡ Closed → ⊥)
+strange_last : {w : ℕ} (config : Config) (clients : ℕ) (p : Profile) (c n : ℕ) (r : Report) (v : Service) (rest : List Token) (h : Shadow w)
+    → ((q source : ℕ) (k : Cap) → v ≡ Waits q false source k → h.state.uses q source ≡ Closed → ⊥)
     → AreStrange config h.state.uses → AreStrange config (last_taken clients p c n r v rest h).state.uses
 strange_last config clients p c n r Free rest h used before = before
 strange_last config clients p c n r (Waits q true source k) rest h used before = strange_granted config clients p c q n r ((h.state.block n).pair q).acquiring rest h before
@@ -92,13 +95,15 @@ strange_taken config c n (Waits q own source k) rest h before = before
 strange_taken config c n (GrantSent q d k) rest h before = strange_closed config c ((h.state.block n).source c) h.state.uses before
 strange_taken config c n (GrantTaken q) rest h before = before
 
-pub strangers-kind_taken : {w : ℕ} (caching : ℕ → Bool) (config : Config) (tracker c : ℕ) (k : Kind) (i : ℕ) (rest : List Token) (h : Shadow w) (terms : Terms) → IsInvariant caching h.state → terms_at config c ≡ Some terms
+pub strangers-kind_taken : {w : ℕ} (caching : ℕ → Bool) (config : Config) (tracker c : ℕ) (k : Kind) (i : ℕ) (rest : List Token) (h : Shadow w) (terms : Terms)
+    → IsInvariant caching h.state → terms_at config c ≡ Some terms
     → AreStrange config h.state.uses → AreStrange config (kind_taken config tracker c k i rest h).state.uses
 strangers-kind_taken caching config tracker c Request i rest h terms inv known before = strange_request config _ c i (h.mail.request c i) tracker rest h terms known before
 strangers-kind_taken caching config tracker c Acquire i rest h terms inv known before = strange_acquire config _ config.profile c i ((h.state.block i).pair c).acquiring tracker rest h before
 strangers-kind_taken caching config tracker c Probe i rest h terms inv known before = before
 strangers-kind_taken {w} caching config tracker c ProbeAck i rest h terms inv known before = either _ _ _ before
-    (strange_last config _ config.profile c i _ (h.state.block i).service rest h (λ q source j e f. absurd (let g : InService i ≡ Closed = sym (serving-use caching h.state i q source j inv e) ∙ f in cc)) before)
+    (strange_last config _ config.profile c i _ (h.state.block i).service rest h
+    (λ q source j e f. absurd (let g : InService i ≡ Closed = sym (serving-use caching h.state i q source j inv e) ∙ f in cc)) before)
   where
     either : (b : Bool) (s t : Shadow w) → AreStrange config s.state.uses → AreStrange config t.state.uses → AreStrange config (if b then s else t).state.uses
     either true s t f g = f
@@ -109,7 +114,8 @@ strangers-kind_taken caching config tracker c Grant i rest h terms inv known bef
 strangers-kind_taken caching config tracker c ReleaseAck i rest h terms inv known before = before
 strangers-kind_taken caching config tracker c GrantAck i rest h terms inv known before = before
 
-pub strangers-asked : {w : ℕ} (config : Config) (c : ℕ) (o : Op w) (r : Reply) (h : Shadow w) (terms : Terms) → terms_at config c ≡ Some terms → AreStrange config h.state.uses → AreStrange config (asked c o r h).state.uses
+pub strangers-asked : {w : ℕ} (config : Config) (c : ℕ) (o : Op w) (r : Reply) (h : Shadow w) (terms : Terms) → terms_at config c ≡ Some terms
+    → AreStrange config h.state.uses → AreStrange config (asked c o r h).state.uses
 strangers-asked config c (op.Load address size) r h terms known before = before
 strangers-asked config c (op.Store address size value) reply.Stored h terms known before = before
 strangers-asked config c (op.Store address size value) (reply.Value v) h terms known before = before

@@ -26,7 +26,9 @@ use Rattle.tl_world.specs.Headline.{IsTypedOp}
 use Rattle.tl_world.specs.Invariant.{is_asked, IsInvariant}
 use Rattle.tl_world.specs.Phase.{Pair, Acquiring, Calm, Wants}
 use Rattle.tl_world.specs.PhaseSteps.{after_acquire, after_release, after_served, after_grant_sent, after_probe, after_report, after_release_taken, after_release_ack, after_grant}
-use Rattle.tl_world.specs.Protocol.{Service, Free, Waits, GrantSent, GrantTaken, Block, State, Use, Closed, Asked, InService, Replied, Acquires, token, on, acquiring_block, stored_block, performed_block, served_block, ended_block, granted_block, granted_pair, taken_block, granted_truth, freed_block}
+use Rattle.tl_world.specs.Protocol.{Service, Free, Waits, GrantSent, GrantTaken, Block, State, Use, Closed, Asked, InService, Replied, Acquires, token, on}
+use Rattle.tl_world.specs.Protocol.{acquiring_block, stored_block, performed_block, served_block, ended_block, granted_block, granted_pair, taken_block}
+use Rattle.tl_world.specs.Protocol.{granted_truth, freed_block}
 use Rattle.tl_world.specs.Token.{Kind, Request, Acquire, Probe, ProbeAck, Release, Answer, Grant, ReleaseAck, GrantAck, Token, set, set_at}
 use Rattle.tl_world.specs.Whole.{AreSized, IsRequest, IsSourced, is_storing}
 use Rattle.tl_world.proofs.Sized.{each-set_at}
@@ -40,7 +42,8 @@ use Rattle.tl_world.proofs.Owing.{serving-use}
 abbrev pub AreSourced : {w : ℕ} → Config → (ℕ → ℕ → Message w) → (ℕ → ℕ → Use) → Type 0
 AreSourced config request uses = (c source : ℕ) → IsSourced config c source (request c source) (uses c source)
 
-sourced_set : {w : ℕ} (config : Config) (request : ℕ → ℕ → Message w) (c source : ℕ) (u : Use) (uses : ℕ → ℕ → Use) → IsSourced config c source (request c source) u → AreSourced config request uses → AreSourced config request (set_at c source u uses)
+sourced_set : {w : ℕ} (config : Config) (request : ℕ → ℕ → Message w) (c source : ℕ) (u : Use) (uses : ℕ → ℕ → Use)
+    → IsSourced config c source (request c source) u → AreSourced config request uses → AreSourced config request (set_at c source u uses)
 sourced_set config request c source u uses here before d i = each-set_at (λ j k v. IsSourced config j k (request j k) v) c source u uses here before d i
 
 -- a source that is asked with has its request
@@ -51,14 +54,21 @@ asked_request config c source m u e h = rw e at h
 pub served-request : {w : ℕ} (config : Config) (q source n : ℕ) (m : Message w) (u : Use) → u ≡ InService n → IsSourced config q source m u → IsRequest config q source m
 served-request config q source n m u e h = rw e at h
 
-sourced_access : {w : ℕ} (config : Config) (c source : ℕ) (m : MessageA w) (tracker : ℕ) (p : Bool) (o : Option Cap) (rest : List Token) (h : Shadow w) → h.state.uses c source ≡ Asked → AreSourced config h.mail.request h.state.uses
+sourced_access : {w : ℕ} (config : Config) (c source : ℕ) (m : MessageA w) (tracker : ℕ) (p : Bool) (o : Option Cap) (rest : List Token) (h : Shadow w)
+    → h.state.uses c source ≡ Asked → AreSourced config h.mail.request h.state.uses
     → AreSourced config (access_taken c source m tracker p o rest h).mail.request (access_taken c source m tracker p o rest h).state.uses
 sourced_access config c source m tracker true (Some k) rest h used before =
-    sourced_set config h.mail.request c source (InService (block_at m.address)) h.state.uses (asked_request config c source (h.mail.request c source) (h.state.uses c source) used (before c source)) before
-sourced_access config c source m tracker true None rest h used before = sourced_set config h.mail.request c source Replied h.state.uses (asked_request config c source (h.mail.request c source) (h.state.uses c source) used (before c source)) before
-sourced_access config c source m tracker false o rest h used before = sourced_set config h.mail.request c source Replied h.state.uses (asked_request config c source (h.mail.request c source) (h.state.uses c source) used (before c source)) before
+    sourced_set config h.mail.request c source (InService (block_at m.address)) h.state.uses
+    (asked_request config c source (h.mail.request c source) (h.state.uses c source) used (before c source)) before
+sourced_access config c source m tracker true None rest h used before =
+    sourced_set config h.mail.request c source Replied h.state.uses
+    (asked_request config c source (h.mail.request c source) (h.state.uses c source) used (before c source)) before
+sourced_access config c source m tracker false o rest h used before =
+    sourced_set config h.mail.request c source Replied h.state.uses
+    (asked_request config c source (h.mail.request c source) (h.state.uses c source) used (before c source)) before
 
-sourced_request : {w : ℕ} (config : Config) (clients c source : ℕ) (m : Message w) (tracker : ℕ) (rest : List Token) (h : Shadow w) → h.state.uses c source ≡ Asked → AreSourced config h.mail.request h.state.uses
+sourced_request : {w : ℕ} (config : Config) (clients c source : ℕ) (m : Message w) (tracker : ℕ) (rest : List Token) (h : Shadow w)
+    → h.state.uses c source ≡ Asked → AreSourced config h.mail.request h.state.uses
     → AreSourced config (request_taken clients c source m tracker rest h).mail.request (request_taken clients c source m tracker rest h).state.uses
 sourced_request config clients c source (message.A m) tracker rest h used before = sourced_access config c source m tracker _ _ rest h used before
 sourced_request config clients c source (message.B m) tracker rest h used before = before
@@ -80,7 +90,8 @@ sourced_granted : {w : ℕ} (config : Config) (clients : ℕ) (p : Profile) (c q
 sourced_granted config clients p c q n r Calm rest h before = before
 sourced_granted config clients p c q n r (Wants whole g) rest h before = before
 
-sourced_last : {w : ℕ} (config : Config) (clients : ℕ) (p : Profile) (c n : ℕ) (r : Report) (v : Service) (rest : List Token) (h : Shadow w) → ((q source : ℕ) (k : Cap) → v ≡ Waits q false source k → h.state.uses q source ≡ InService n) → AreSourced config h.mail.request h.state.uses
+sourced_last : {w : ℕ} (config : Config) (clients : ℕ) (p : Profile) (c n : ℕ) (r : Report) (v : Service) (rest : List Token) (h : Shadow w)
+    → ((q source : ℕ) (k : Cap) → v ≡ Waits q false source k → h.state.uses q source ≡ InService n) → AreSourced config h.mail.request h.state.uses
     → AreSourced config (last_taken clients p c n r v rest h).mail.request (last_taken clients p c n r v rest h).state.uses
 sourced_last config clients p c n r Free rest h used before = before
 sourced_last config clients p c n r (Waits q true source k) rest h used before = sourced_granted config clients p c q n r ((h.state.block n).pair q).acquiring rest h before
@@ -96,17 +107,22 @@ sourced_taken config c n (Waits q own source k) rest h before = before
 sourced_taken config c n (GrantSent q d k) rest h before = sourced_set config h.mail.request c ((h.state.block n).source c) Closed h.state.uses tt before
 sourced_taken config c n (GrantTaken q) rest h before = before
 
-pub first-asked : {w : ℕ} (caching : ℕ → Bool) (c i : ℕ) (rest : List Token) (h : Shadow w) → IsInvariant caching h.state → on Request (h.state.link c) ≡ token Request i ∷ rest → h.state.uses c i ≡ Asked
+pub first-asked : {w : ℕ} (caching : ℕ → Bool) (c i : ℕ) (rest : List Token) (h : Shadow w) → IsInvariant caching h.state
+    → on Request (h.state.link c) ≡ token Request i ∷ rest → h.state.uses c i ≡ Asked
 first-asked caching c i rest h inv first = is_asked-is (h.state.uses c i) (holds-first Request (h.state.link c).a rest (token Request i) (λ j. is_asked (h.state.uses c j)) first refl (inv.requests c))
 
-pub sourced-kind_taken : {w : ℕ} (caching : ℕ → Bool) (config : Config) (tracker c : ℕ) (k : Kind) (i : ℕ) (rest : List Token) (h : Shadow w) → IsInvariant caching h.state → on k (h.state.link c) ≡ token k i ∷ rest
+pub sourced-kind_taken : {w : ℕ} (caching : ℕ → Bool) (config : Config) (tracker c : ℕ) (k : Kind) (i : ℕ) (rest : List Token) (h : Shadow w)
+    → IsInvariant caching h.state → on k (h.state.link c) ≡ token k i ∷ rest
     → AreSourced config h.mail.request h.state.uses → AreSourced config (kind_taken config tracker c k i rest h).mail.request (kind_taken config tracker c k i rest h).state.uses
 sourced-kind_taken caching config tracker c Request i rest h inv first before = sourced_request config _ c i (h.mail.request c i) tracker rest h (first-asked caching c i rest h inv first) before
 sourced-kind_taken caching config tracker c Acquire i rest h inv first before = sourced_acquire config _ config.profile c i ((h.state.block i).pair c).acquiring tracker rest h before
 sourced-kind_taken caching config tracker c Probe i rest h inv first before = before
-sourced-kind_taken {w} caching config tracker c ProbeAck i rest h inv first before = either _ _ _ before (sourced_last config _ config.profile c i _ (h.state.block i).service rest h (λ q source k e. serving-use caching h.state i q source k inv e) before)
+sourced-kind_taken {w} caching config tracker c ProbeAck i rest h inv first before =
+    either _ _ _ before (sourced_last config _ config.profile c i _ (h.state.block i).service rest h
+    (λ q source k e. serving-use caching h.state i q source k inv e) before)
   where
-    either : (b : Bool) (s t : Shadow w) → AreSourced config s.mail.request s.state.uses → AreSourced config t.mail.request t.state.uses → AreSourced config (if b then s else t).mail.request (if b then s else t).state.uses
+    either : (b : Bool) (s t : Shadow w) → AreSourced config s.mail.request s.state.uses → AreSourced config t.mail.request t.state.uses
+        → AreSourced config (if b then s else t).mail.request (if b then s else t).state.uses
     either true s t f g = f
     either false s t f g = g
 sourced-kind_taken caching config tracker c Release i rest h inv first before = before
@@ -145,7 +161,8 @@ sourced-asked config c (op.Release n p) reply.Miss h ask before = before
 sourced-asked config c (op.Release n p) (reply.Busy why) h ask before = before
 sourced-asked {w} config c (op.Access (message.A m)) (reply.Started source) h ask before = λ d i. elim (cases_eq d c) [
   | inl same ↦ elim (cases_eq i source) [
-    | inl also ↦ rw (same, also) (now _ _ (ap (λ (f : ℕ → Message w). f source) (set-same c (set source (access source m) (h.mail.request c)) h.mail.request) ∙ set-same source (access source m) (h.mail.request c))
+    | inl also ↦ rw (same, also) (now _ _ (ap (λ (f : ℕ → Message w). f source) (set-same c (set source (access source m) (h.mail.request c)) h.mail.request)
+        ∙ set-same source (access source m) (h.mail.request c))
         (ap (λ (f : ℕ → Use). f source) (set-same c (set source Asked (h.state.uses c)) h.state.uses) ∙ set-same source Asked (h.state.uses c)))
     | inr other ↦ rw (same, same_number c, ne_eqb i source other) (before c i)
   ]
@@ -172,16 +189,19 @@ sized_block : (n : ℕ) (new : Block (List ℕ)) (block : ℕ → Block (List �
 sized_block n new block here before = λ i. set-each (λ j b. AreSized b) n new block here (λ j ne. before j) i
 
 -- where no more bytes wait than before
-sized_same : (old new : Block (List ℕ)) → length new.truth ≡ 64 → ((c : ℕ) → new.waiting c ≡ old.waiting c) → ((c : ℕ) → is_storing (new.pair c).acquiring ≡ true → is_storing (old.pair c).acquiring ≡ true) → AreSized old → AreSized new
+sized_same : (old new : Block (List ℕ)) → length new.truth ≡ 64 → ((c : ℕ) → new.waiting c ≡ old.waiting c)
+    → ((c : ℕ) → is_storing (new.pair c).acquiring ≡ true → is_storing (old.pair c).acquiring ≡ true) → AreSized old → AreSized new
 sized_same old new long waiting storing h = record { truth = long; waiting = λ c e. ap length (waiting c) ∙ h.waiting c (storing c e) }
 
 -- one client's pair changes, and not what it acquires
 still_acquires : (c : ℕ) (p : Pair) (f : ℕ → Pair) → p.acquiring ≡ (f c).acquiring → (d : ℕ) → is_storing (set c p f d).acquiring ≡ true → is_storing (f d).acquiring ≡ true
 still_acquires c p f same d e = sym (ap is_storing (set-part (λ (q : Pair). q.acquiring) c p f same d)) ∙ e
 
-sized_pair : (c : ℕ) (p : Pair) (old new : Block (List ℕ)) → new.pair ≡ set c p old.pair → p.acquiring ≡ (old.pair c).acquiring → new.truth ≡ old.truth → new.waiting ≡ old.waiting → AreSized old → AreSized new
+sized_pair : (c : ℕ) (p : Pair) (old new : Block (List ℕ)) → new.pair ≡ set c p old.pair → p.acquiring ≡ (old.pair c).acquiring → new.truth ≡ old.truth
+    → new.waiting ≡ old.waiting → AreSized old → AreSized new
 sized_pair c p old new pairs same truth waiting h =
-    sized_same old new (ap length truth ∙ h.truth) (λ d. ap (λ (f : ℕ → List ℕ). f d) waiting) (λ d e. still_acquires c p old.pair same d (ap (λ (f : ℕ → Pair). is_storing (f d).acquiring) (sym pairs) ∙ e)) h
+    sized_same old new (ap length truth ∙ h.truth) (λ d. ap (λ (f : ℕ → List ℕ). f d) waiting)
+    (λ d e. still_acquires c p old.pair same d (ap (λ (f : ℕ → Pair). is_storing (f d).acquiring) (sym pairs) ∙ e)) h
 
 sized_served : (r : ℕ) (own : Bool) (source tracker : ℕ) (k : Cap) (b : Block (List ℕ)) → AreSized b → AreSized (served_block r own source tracker k b)
 sized_served r own source tracker k b h = sized_same b (served_block r own source tracker k b) h.truth (λ c. refl) (λ c e. go c (own && (c == r)) e) h
@@ -197,9 +217,11 @@ sized_granted_block c q r d k b h = sized_same b (granted_block c q r d k b) h.t
     reported = set c (after_report r (b.pair c)) b.pair
 
     storing : (i : ℕ) → (i ≡ q) ⊎ (i ≡ q → ⊥) → is_storing (granted_pair c q r k b.pair i).acquiring ≡ true → is_storing (b.pair i).acquiring ≡ true
-    storing i (inl same) e = let f : (set q (after_grant_sent k (b.pair q)) reported q).acquiring ≡ (b.pair q).acquiring = ap (λ (p : Pair). p.acquiring) (set-same q (after_grant_sent k (b.pair q)) reported) in
+    storing i (inl same) e = let f : (set q (after_grant_sent k (b.pair q)) reported q).acquiring ≡ (b.pair q).acquiring =
+        ap (λ (p : Pair). p.acquiring) (set-same q (after_grant_sent k (b.pair q)) reported) in
         ap (λ (j : ℕ). is_storing (b.pair j).acquiring) same ∙ sym (ap is_storing f) ∙ ap (λ (j : ℕ). is_storing (set q (after_grant_sent k (b.pair q)) reported j).acquiring) (sym same) ∙ e
-    storing i (inr other) e = still_acquires c (after_report r (b.pair c)) b.pair refl i (sym (ap (λ (p : Pair). is_storing p.acquiring) (set-other q i (after_grant_sent k (b.pair q)) reported other)) ∙ e)
+    storing i (inr other) e = still_acquires c (after_report r (b.pair c)) b.pair refl i
+        (sym (ap (λ (p : Pair). is_storing p.acquiring) (set-other q i (after_grant_sent k (b.pair q)) reported other)) ∙ e)
 
 sized_taken_block : (c : ℕ) (d : Bool) (k : Cap) (b : Block (List ℕ)) → AreSized b → AreSized (taken_block c (is_whole (b.pair c).acquiring) d k b)
 sized_taken_block c d k b h = sized_same b (taken_block c (is_whole (b.pair c).acquiring) d k b) (bytes (b.pair c).acquiring refl) (λ i. refl) (λ i e. storing i (cases_eq i c) e) h
@@ -210,12 +232,14 @@ sized_taken_block c d k b h = sized_same b (taken_block c (is_whole (b.pair c).a
     bytes (Wants false g) e = h.truth
 
     storing : (i : ℕ) → (i ≡ c) ⊎ (i ≡ c → ⊥) → is_storing (set c (after_grant k (b.pair c)) b.pair i).acquiring ≡ true → is_storing (b.pair i).acquiring ≡ true
-    storing i (inl same) e = absurd (let f : is_storing (set c (after_grant k (b.pair c)) b.pair c).acquiring ≡ true = rw same at e in let g : false ≡ true = sym (ap (λ (p : Pair). is_storing p.acquiring) (set-same c (after_grant k (b.pair c)) b.pair)) ∙ f in cc)
+    storing i (inl same) e = absurd (let f : is_storing (set c (after_grant k (b.pair c)) b.pair c).acquiring ≡ true = rw same at e in let g : false ≡ true =
+        sym (ap (λ (p : Pair). is_storing p.acquiring) (set-same c (after_grant k (b.pair c)) b.pair)) ∙ f in cc)
     storing i (inr other) e = sym (ap (λ (p : Pair). is_storing p.acquiring) (set-other c i (after_grant k (b.pair c)) b.pair other)) ∙ e
 
 -- ---- messages that are taken
 
-sized_access : {w : ℕ} (c source : ℕ) (m : MessageA w) (tracker : ℕ) (p : Bool) (o : Option Cap) (rest : List Token) (h : Shadow w) → AllSized h.state → AllSized (access_taken c source m tracker p o rest h).state
+sized_access : {w : ℕ} (c source : ℕ) (m : MessageA w) (tracker : ℕ) (p : Bool) (o : Option Cap) (rest : List Token) (h : Shadow w) → AllSized h.state
+    → AllSized (access_taken c source m tracker p o rest h).state
 sized_access {w} c source m tracker p o rest h before = go p o
   where
     n : ℕ
@@ -239,7 +263,8 @@ sized_request clients c source (message.C m) tracker rest h before = before
 sized_request clients c source (message.D m) tracker rest h before = before
 sized_request clients c source (message.E m) tracker rest h before = before
 
-sized_acquire : {w : ℕ} (clients : ℕ) (p : Profile) (c n : ℕ) (x : Acquiring) (tracker : ℕ) (rest : List Token) (h : Shadow w) → AllSized h.state → AllSized (acquire_taken clients p c n x tracker rest h).state
+sized_acquire : {w : ℕ} (clients : ℕ) (p : Profile) (c n : ℕ) (x : Acquiring) (tracker : ℕ) (rest : List Token) (h : Shadow w) → AllSized h.state
+    → AllSized (acquire_taken clients p c n x tracker rest h).state
 sized_acquire clients p c n Calm tracker rest h before = before
 sized_acquire {w} clients p c n (Wants whole g) tracker rest h before =
     either _ _ _ (λ i. sized_block n _ h.state.block (sized_served c true (b.source c) tracker _ b (before n)) before i)
@@ -252,7 +277,8 @@ sized_acquire {w} clients p c n (Wants whole g) tracker rest h before =
     either true s t f g = f
     either false s t f g = g
 
-sized_granted : {w : ℕ} (clients : ℕ) (p : Profile) (c q n : ℕ) (r : Report) (x : Acquiring) (rest : List Token) (h : Shadow w) → AllSized h.state → AllSized (granted_after clients p c q n r x rest h).state
+sized_granted : {w : ℕ} (clients : ℕ) (p : Profile) (c q n : ℕ) (r : Report) (x : Acquiring) (rest : List Token) (h : Shadow w) → AllSized h.state
+    → AllSized (granted_after clients p c q n r x rest h).state
 sized_granted clients p c q n r Calm rest h before = before
 sized_granted clients p c q n r (Wants whole g) rest h before = λ i. sized_block n _ h.state.block (sized_granted_block c q r _ _ (h.state.block n) (before n)) before i
 
@@ -261,7 +287,8 @@ sized_last clients p c n r Free rest h before = before
 sized_last clients p c n r (Waits q true source k) rest h before = sized_granted clients p c q n r ((h.state.block n).pair q).acquiring rest h before
 sized_last clients p c n r (Waits q false source k) rest h before = λ i.
     sized_block n (ended_block c r (performs (h.request n)) (h.state.block n)) h.state.block
-    (sized_same (h.state.block n) (ended_block c r (performs (h.request n)) (h.state.block n)) (length-bytes _ (64 * block_at (h.request n).address) 64) (λ j. refl) (λ j e. still_acquires c (after_report r ((h.state.block n).pair c)) (h.state.block n).pair refl j e) (before n)) before i
+    (sized_same (h.state.block n) (ended_block c r (performs (h.request n)) (h.state.block n)) (length-bytes _ (64 * block_at (h.request n).address) 64)
+    (λ j. refl) (λ j e. still_acquires c (after_report r ((h.state.block n).pair c)) (h.state.block n).pair refl j e) (before n)) before i
 sized_last clients p c n r (GrantSent q d k) rest h before = before
 sized_last clients p c n r (GrantTaken q) rest h before = before
 
@@ -274,7 +301,8 @@ sized_taken c n (GrantTaken q) rest h before = before
 pub sized-kind_taken : {w : ℕ} (config : Config) (tracker c : ℕ) (k : Kind) (i : ℕ) (rest : List Token) (h : Shadow w) → AllSized h.state → AllSized (kind_taken config tracker c k i rest h).state
 sized-kind_taken config tracker c Request i rest h before = sized_request _ c i (h.mail.request c i) tracker rest h before
 sized-kind_taken config tracker c Acquire i rest h before = sized_acquire _ config.profile c i ((h.state.block i).pair c).acquiring tracker rest h before
-sized-kind_taken config tracker c Probe i rest h before = λ j. sized_block i _ h.state.block (sized_pair c (after_probe _ ((h.state.block i).pair c)) (h.state.block i) _ refl refl refl refl (before i)) before j
+sized-kind_taken config tracker c Probe i rest h before = λ j.
+    sized_block i _ h.state.block (sized_pair c (after_probe _ ((h.state.block i).pair c)) (h.state.block i) _ refl refl refl refl (before i)) before j
 sized-kind_taken {w} config tracker c ProbeAck i rest h before =
     either _ _ _ (λ j. sized_block i _ h.state.block (sized_pair c (after_report _ ((h.state.block i).pair c)) (h.state.block i) _ refl refl refl refl (before i)) before j)
     (sized_last _ config.profile c i _ (h.state.block i).service rest h before)
@@ -282,11 +310,15 @@ sized-kind_taken {w} config tracker c ProbeAck i rest h before =
     either : (b : Bool) (s t : Shadow w) → AllSized s.state → AllSized t.state → AllSized (if b then s else t).state
     either true s t f g = f
     either false s t f g = g
-sized-kind_taken config tracker c Release i rest h before = λ j. sized_block i _ h.state.block (sized_pair c (after_release_taken _ ((h.state.block i).pair c)) (h.state.block i) _ refl refl refl refl (before i)) before j
+sized-kind_taken config tracker c Release i rest h before = λ j.
+    sized_block i _ h.state.block (sized_pair c (after_release_taken _ ((h.state.block i).pair c)) (h.state.block i) _ refl refl refl refl (before i)) before j
 sized-kind_taken config tracker c Answer i rest h before = before
 sized-kind_taken config tracker c Grant i rest h before = sized_taken c i (h.state.block i).service rest h before
-sized-kind_taken config tracker c ReleaseAck i rest h before = λ j. sized_block i _ h.state.block (sized_pair c (after_release_ack ((h.state.block i).pair c)) (h.state.block i) _ refl refl refl refl (before i)) before j
-sized-kind_taken config tracker c GrantAck i rest h before = λ j. sized_block i (freed_block (h.state.block i)) h.state.block (sized_same (h.state.block i) (freed_block (h.state.block i)) (before i).truth (λ d. refl) (λ d e. e) (before i)) before j
+sized-kind_taken config tracker c ReleaseAck i rest h before = λ j.
+    sized_block i _ h.state.block (sized_pair c (after_release_ack ((h.state.block i).pair c)) (h.state.block i) _ refl refl refl refl (before i)) before j
+sized-kind_taken config tracker c GrantAck i rest h before = λ j.
+    sized_block i (freed_block (h.state.block i)) h.state.block
+    (sized_same (h.state.block i) (freed_block (h.state.block i)) (before i).truth (λ d. refl) (λ d e. e) (before i)) before j
 
 -- ---- operations that are asked
 
@@ -307,14 +339,16 @@ sized_acquiring c source whole g bytes b long h = record { truth = h.truth; wait
         rw same (ap length (set-same c bytes b.waiting) ∙ long f)
     go d (inr other) e = ap length (set-other c d bytes b.waiting other) ∙ h.waiting d (sym (ap (λ (p : Pair). is_storing p.acquiring) (set-other c d after b.pair other)) ∙ e)
 
-pub sized-asked : {w : ℕ} (caching : ℕ → Bool) (c : ℕ) (o : Op w) (r : Reply) (h : Shadow w) → IsInvariant caching h.state → IsTypedOp o → IsSizedAsk c o r h → AllSized h.state → AllSized (asked c o r h).state
+pub sized-asked : {w : ℕ} (caching : ℕ → Bool) (c : ℕ) (o : Op w) (r : Reply) (h : Shadow w) → IsInvariant caching h.state → IsTypedOp o → IsSizedAsk c o r h
+    → AllSized h.state → AllSized (asked c o r h).state
 sized-asked caching c (op.Load address size) r h inv typed ask before = before
 sized-asked caching c (op.Store address size value) reply.Stored h inv typed ask before = λ i.
     let n : ℕ = block_at address in
     let b : Block (List ℕ) = h.state.block n in
     let long : length (b.copy c) ≡ 64 = ap length ((inv.blocks n).copies c (trunk-some (b.pair c).held ask.1)) ∙ (before n).truth in
     sized_block n (stored_block c (copy_stored address size value (b.copy c)) b) h.state.block
-    (sized_same b (stored_block c (copy_stored address size value (b.copy c)) b) (length-stored address size value (b.copy c) long (word_room address size ask.0)) (λ d. refl) (λ d e. e) (before n)) before i
+    (sized_same b (stored_block c (copy_stored address size value (b.copy c)) b)
+    (length-stored address size value (b.copy c) long (word_room address size ask.0)) (λ d. refl) (λ d e. e) (before n)) before i
 sized-asked caching c (op.Store address size value) (reply.Value v) h inv typed ask before = before
 sized-asked caching c (op.Store address size value) reply.Miss h inv typed ask before = before
 sized-asked caching c (op.Store address size value) (reply.Started source) h inv typed ask before = before
@@ -325,7 +359,8 @@ sized-asked caching c (op.Acquire n g) (reply.Value v) h inv typed ask before = 
 sized-asked caching c (op.Acquire n g) reply.Stored h inv typed ask before = before
 sized-asked caching c (op.Acquire n g) reply.Miss h inv typed ask before = before
 sized-asked caching c (op.Acquire n g) (reply.Busy why) h inv typed ask before = before
-sized-asked caching c (op.AcquireWhole n bytes) (reply.Started source) h inv typed ask before = λ i. sized_block n _ h.state.block (sized_acquiring c source true _ bytes (h.state.block n) (λ e. typed) (before n)) before i
+sized-asked caching c (op.AcquireWhole n bytes) (reply.Started source) h inv typed ask before = λ i.
+    sized_block n _ h.state.block (sized_acquiring c source true _ bytes (h.state.block n) (λ e. typed) (before n)) before i
 sized-asked caching c (op.AcquireWhole n bytes) (reply.Value v) h inv typed ask before = before
 sized-asked caching c (op.AcquireWhole n bytes) reply.Stored h inv typed ask before = before
 sized-asked caching c (op.AcquireWhole n bytes) reply.Miss h inv typed ask before = before

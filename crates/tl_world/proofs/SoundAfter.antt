@@ -5,7 +5,7 @@ use Rattle.std.proofs.lemmas.List.Elements.{All-head}
 use Rattle.tl_beat.specs.Width.{IsWidth}
 use Rattle.tl_beat.specs.declared.beat.Beat.{Beat}
 use Rattle.tl_beat.specs.declared.beat.Link.{Link}
-use Rattle.tl_beat.specs.declared.opcode.Channel.{Channel}
+use Rattle.tl_beat.specs.declared.channel.Channel.{Channel}
 use Rattle.tl_burst.specs.declared.message.Message.{Message}
 use Rattle.tl_burst.specs.declared.message.MessageA.{MessageA}
 use Rattle.tl_params.specs.declared.config.Config.{Config}
@@ -48,7 +48,8 @@ copy_of : (o : Option (List ℕ)) → is_some o ≡ false → length (unwrap_or 
 copy_of None e = refl
 copy_of (Some bytes) e = absurd cc
 
-pub copy-long : {w : ℕ} (config : Config) (log : Log w) (mail : Mail w) (request : ℕ → MessageA w) (s : State (List ℕ)) (sys : System w) → IsMatched config log mail request s sys → (c n : ℕ) → length (copy_at (sys.clients c) n) ≡ 64
+pub copy-long : {w : ℕ} (config : Config) (log : Log w) (mail : Mail w) (request : ℕ → MessageA w) (s : State (List ℕ)) (sys : System w)
+    → IsMatched config log mail request s sys → (c n : ℕ) → length (copy_at (sys.clients c) n) ≡ 64
 copy-long {w} config log mail request s sys h c n = go ((s.block n).pair c).held refl
   where
     there : same_perm ((s.block n).pair c).held perm.None ≡ false → length (copy_at (sys.clients c) n) ≡ 64
@@ -64,14 +65,17 @@ copy-long {w} config log mail request s sys h c n = go ((s.block n).pair c).held
 abbrev AllGood : {w : ℕ} → Config → System w → Type 0
 AllGood config sys = (d : ℕ) (at : Channel) → All (IsGood config d) (sys.channels d at)
 
-one_good : {w : ℕ} (config : Config) (c : ℕ) (m : Option (Message w)) (sys : System w) (terms : client.Terms) → IsWidth w → terms_at config c ≡ Some terms → IsSoundIfAny terms.level m → IsFitIfAny config.blocks m → AllGood config sys
+one_good : {w : ℕ} (config : Config) (c : ℕ) (m : Option (Message w)) (sys : System w) (terms : client.Terms) → IsWidth w → terms_at config c ≡ Some terms
+    → IsSoundIfAny terms.level m → IsFitIfAny config.blocks m → AllGood config sys
     → AllGood config (with_messages (handed_by c m) sys)
 one_good {w} config c None sys terms width known sound fit before d at = all-messages (IsGood config) [] sys tt before d at
 one_good {w} config c (Some m) sys terms width known sound fit before d at =
     all-messages (IsGood config) (handed_by c (Some m)) sys (good-message config c terms.level m width (level-terms config c terms known).0 sound fit.ours fit.inside fit.long, tt) before d at
 
-judged_good : {w : ℕ} (config : Config) (c : ℕ) (ch : Channel) (x : Beat w) (queue : List (Beat w)) (a : Result (Verdict × Option (Message w)) Rule) (e : client.End w) (sys : System w) (terms : client.Terms) → IsWidth w
-    → terms_at config c ≡ Some terms → IsSoundAnswer terms.level a → IsFitAnswer config.blocks a → sys.channels c ch ≡ x ∷ queue → AllGood config sys → AllGood config (judged a c ch x queue e sys).after
+judged_good : {w : ℕ} (config : Config) (c : ℕ) (ch : Channel) (x : Beat w) (queue : List (Beat w)) (a : Result (Verdict × Option (Message w)) Rule)
+    (e : client.End w) (sys : System w) (terms : client.Terms) → IsWidth w
+    → terms_at config c ≡ Some terms → IsSoundAnswer terms.level a → IsFitAnswer config.blocks a → sys.channels c ch ≡ x ∷ queue → AllGood config sys
+    → AllGood config (judged a c ch x queue e sys).after
 judged_good config c ch x queue (Err rule) e sys terms width known sound fit first before d at = before d at
 judged_good config c ch x queue (Ok (verdict.Stalled, m)) e sys terms width known sound fit first before d at = before d at
 judged_good config c ch x queue (Ok (verdict.Taken, m)) e sys terms width known sound fit first before d at =
@@ -79,7 +83,8 @@ judged_good config c ch x queue (Ok (verdict.Taken, m)) e sys terms width known 
 judged_good config c ch x queue (Ok (verdict.Done source finish, m)) e sys terms width known sound fit first before d at =
     one_good config c m (with_client c e (with_channel c ch queue sys)) terms width known sound fit (all-popped (IsGood config) c ch x queue sys first before) d at
 
-manager_good : {w : ℕ} (config : Config) (link : Link) (ch : Channel) (x : Beat w) (queue : List (Beat w)) (j : slave.Judgement) (e : manager_end.End w) (sys : System w) → IsWidth w → manager.IsSound config (link, x)
+manager_good : {w : ℕ} (config : Config) (link : Link) (ch : Channel) (x : Beat w) (queue : List (Beat w)) (j : slave.Judgement) (e : manager_end.End w)
+    (sys : System w) → IsWidth w → manager.IsSound config (link, x)
     → Each (manager.IsSound config) e.trace → sys.channels link.0 ch ≡ x ∷ queue → AllGood config sys → AllGood config (manager_took link.0 ch x queue (slave.offered_as j config link x e) sys).after
 manager_good config link ch x queue (slave.Breaks rule) e sys width sound trace first before d at = before d at
 manager_good config link ch x queue slave.Waits e sys width sound trace first before d at = before d at
@@ -90,7 +95,8 @@ manager_good {w} config link ch x queue slave.Passes e sys width sound trace fir
 
 -- ---- an event
 
-pub good-after : {w : ℕ} (config : Config) (log : Log w) (mail : Mail w) (request : ℕ → MessageA w) (s : State (List ℕ)) (sys : System w) → IsWidth w → IsMatched config log mail request s sys → (event : Event w) → IsTyped event
+pub good-after : {w : ℕ} (config : Config) (log : Log w) (mail : Mail w) (request : ℕ → MessageA w) (s : State (List ℕ)) (sys : System w) → IsWidth w
+    → IsMatched config log mail request s sys → (event : Event w) → IsTyped event
     → AllGood config (stepped config event sys).after
 unfolding stepped slave.offered
 good-after {w} config log mail request s sys width h event typed = go (terms_at config (client_of event)) refl event refl typed
@@ -98,7 +104,9 @@ good-after {w} config log mail request s sys width h event typed = go (terms_at 
     before : AllGood config sys
     before d at k y lt = record { sound = h.sound d at k y lt; lanes = h.typed d at k y lt }
 
-    asked_good : (c : ℕ) (o : Op w) (terms : client.Terms) → terms_at config c ≡ Some terms → IsTypedOp o → AllGood config (with_messages (handed_by c (ask.asked terms o (sys.clients c)).message) (with_client c (ask.asked terms o (sys.clients c)).after sys))
+    asked_good : (c : ℕ) (o : Op w) (terms : client.Terms) → terms_at config c ≡ Some terms → IsTypedOp o
+        → AllGood config (with_messages (handed_by c (ask.asked terms o (sys.clients c)).message)
+        (with_client c (ask.asked terms o (sys.clients c)).after sys))
     asked_good c o terms known typed_op =
         one_good config c (ask.asked terms o (sys.clients c)).message (with_client c (ask.asked terms o (sys.clients c)).after sys) terms width known (asked-sound terms o (sys.clients c) width)
         (fitted (level-terms config c terms known).1 (fit-asked terms o (sys.clients c) typed_op (copy-long config log mail request s sys h c))) before
@@ -109,17 +117,22 @@ good-after {w} config log mail request s sys width h event typed = go (terms_at 
     offered_fit : (c : ℕ) (ch : Channel) (x : Beat w) (terms : client.Terms) → terms_at config c ≡ Some terms → IsFitAnswer config.blocks (offer.offered terms ch x (sys.clients c)).answer
     offered_fit c ch x terms known =
         let same = (level-terms config c terms known).1 in
-        fitted same (offered-cases terms ch x (sys.clients c) (λ o. IsFitAnswer terms.blocks o.answer) (λ rule. tt) tt (λ passed. fit-taken terms.blocks x (sys.clients c) passed.inside (copy-long config log mail request s sys h c)))
+        fitted same (offered-cases terms ch x (sys.clients c) (λ o. IsFitAnswer terms.blocks o.answer) (λ rule. tt) tt
+        (λ passed. fit-taken terms.blocks x (sys.clients c) passed.inside (copy-long config log mail request s sys h c)))
       where
         fitted : terms.blocks ≡ config.blocks → IsFitAnswer terms.blocks (offer.offered terms ch x (sys.clients c)).answer → IsFitAnswer config.blocks (offer.offered terms ch x (sys.clients c)).answer
         fitted e f = subst (λ (n : ℕ). IsFitAnswer n (offer.offered terms ch x (sys.clients c)).answer) e f
 
-    delivered_good : (c : ℕ) (ch : Channel) (terms : client.Terms) (beats : List (Beat w)) → sys.channels c ch ≡ beats → terms_at config c ≡ Some terms → AllGood config (delivered config terms c ch beats sys).after
+    delivered_good : (c : ℕ) (ch : Channel) (terms : client.Terms) (beats : List (Beat w)) → sys.channels c ch ≡ beats → terms_at config c ≡ Some terms
+        → AllGood config (delivered config terms c ch beats sys).after
     delivered_good c ch terms [] first known = before
     delivered_good c ch terms (x ∷ queue) first known = to (is_to_client ch)
       where
-        to : (y : Bool) → AllGood config (if y then client_took c ch x queue (offer.offered terms ch x (sys.clients c)) sys else manager_took c ch x queue (slave.offered config (record { 0 = c }) ch x sys.manager) sys).after
-        to true = judged_good config c ch x queue (offer.offered terms ch x (sys.clients c)).answer (offer.offered terms ch x (sys.clients c)).after sys terms width known (offered-sound terms ch x (sys.clients c)) (offered_fit c ch x terms known) first before
+        to : (y : Bool) → AllGood config (if y then client_took c ch x queue (offer.offered terms ch x (sys.clients c)) sys else manager_took c ch x queue
+            (slave.offered config (record { 0 = c }) ch x sys.manager) sys).after
+        to true = judged_good config c ch x queue (offer.offered terms ch x (sys.clients c)).answer
+            (offer.offered terms ch x (sys.clients c)).after sys terms width known (offered-sound terms ch x (sys.clients c))
+            (offered_fit c ch x terms known) first before
         to false =
             let head : IsGood config c x = All-head (IsGood config c) x queue (same first (before c ch)) in
             manager_good config (record { 0 = c }) ch x queue (slave.judged config (record { 0 = c }) ch x sys.manager) sys.manager sys width head.sound h.manager_kept.sound first before
@@ -132,10 +145,12 @@ good-after {w} config log mail request s sys width h event typed = go (terms_at 
     go (Some terms) e (Ask c o) f ty = asked_good c o terms (rw (← f) at e) ty
     go (Some terms) e (Deliver link ch) f ty = delivered_good link.0 ch terms (sys.channels link.0 ch) refl (rw (← f) at e)
 
-pub sound-after : {w : ℕ} (config : Config) (log : Log w) (mail : Mail w) (request : ℕ → MessageA w) (s : State (List ℕ)) (sys : System w) → IsWidth w → IsMatched config log mail request s sys → (event : Event w) → IsTyped event → (c : ℕ) (ch : Channel)
+pub sound-after : {w : ℕ} (config : Config) (log : Log w) (mail : Mail w) (request : ℕ → MessageA w) (s : State (List ℕ)) (sys : System w) → IsWidth w
+    → IsMatched config log mail request s sys → (event : Event w) → IsTyped event → (c : ℕ) (ch : Channel)
     → All (λ x. manager.IsSound config (record { 0 = c }, x)) ((stepped config event sys).after.channels c ch)
 sound-after config log mail request s sys width h event typed c ch k y lt = (good-after config log mail request s sys width h event typed c ch k y lt).sound
 
-pub typed-after : {w : ℕ} (config : Config) (log : Log w) (mail : Mail w) (request : ℕ → MessageA w) (s : State (List ℕ)) (sys : System w) → IsWidth w → IsMatched config log mail request s sys → (event : Event w) → IsTyped event → (c : ℕ) (ch : Channel)
+pub typed-after : {w : ℕ} (config : Config) (log : Log w) (mail : Mail w) (request : ℕ → MessageA w) (s : State (List ℕ)) (sys : System w) → IsWidth w
+    → IsMatched config log mail request s sys → (event : Event w) → IsTyped event → (c : ℕ) (ch : Channel)
     → All AreLanes ((stepped config event sys).after.channels c ch)
 typed-after config log mail request s sys width h event typed c ch k y lt = (good-after config log mail request s sys width h event typed c ch k y lt).lanes

@@ -7,8 +7,8 @@ use Rattle.std.proofs.lemmas.Bool.{not-true, not-false}
 use Rattle.tl_beat.specs.declared.beat.Beat.{Beat}
 use Rattle.tl_beat.specs.declared.beat.Beat.TheVariants as beat
 use Rattle.tl_beat.specs.declared.beat.BeatB.{BeatB}
-use Rattle.tl_beat.specs.declared.opcode.Channel.{Channel}
-use Rattle.tl_beat.specs.declared.opcode.Channel.TheVariants as channel
+use Rattle.tl_beat.specs.declared.channel.Channel.{Channel}
+use Rattle.tl_beat.specs.declared.channel.Channel.TheVariants as channel
 use Rattle.tl_burst.specs.declared.message.MessageA.{MessageA}
 use Rattle.tl_burst.specs.Messages.{channel_of}
 use Rattle.tl_burst.specs.Part.{is_empty}
@@ -148,12 +148,15 @@ emptiness {w} config terms link ch (x ∷ rest) s = go (is_to_client ch)
     of_manager (manager.Stalled, e) = refl
     of_manager (manager.Sent handed, e) = refl
 
-    go : (b : Bool) → is_emptiness (if b then judged (offered terms ch x (s.clients link)).answer link ch x rest (offered terms ch x (s.clients link)).after s else manager_took link ch x rest (manager.offered config (record { 0 = link }) ch x s.manager) s).outcome ≡ false
+    go : (b : Bool) → is_emptiness (if b then judged (offered terms ch x (s.clients link)).answer link ch x rest
+        (offered terms ch x (s.clients link)).after s else manager_took link ch x rest
+        (manager.offered config (record { 0 = link }) ch x s.manager) s).outcome ≡ false
     go true = of_client (offered terms ch x (s.clients link)).answer _
     go false = of_manager _
 
 -- one that is neither empty nor stalled moves a beat
-moving-else : {w : ℕ} (config : Config) (terms : Terms) (link : ℕ) (ch : Channel) (beats : List (Beat w)) (s : System w) → is_emptiness (delivered config terms link ch beats s).outcome ≡ false → is_stall (delivered config terms link ch beats s).outcome ≡ false
+moving-else : {w : ℕ} (config : Config) (terms : Terms) (link : ℕ) (ch : Channel) (beats : List (Beat w)) (s : System w)
+    → is_emptiness (delivered config terms link ch beats s).outcome ≡ false → is_stall (delivered config terms link ch beats s).outcome ≡ false
     → is_moving (delivered config terms link ch beats s).outcome ≡ true
 moving-else config terms link ch [] s some unstalled = absurd cc
 moving-else {w} config terms link ch (x ∷ rest) s some unstalled = go (is_to_client ch) unstalled
@@ -170,28 +173,33 @@ moving-else {w} config terms link ch (x ∷ rest) s some unstalled = go (is_to_c
     of_manager (manager.Sent handed, e) f = refl
 
     step : Bool → Step w
-    step b = if b then judged (offered terms ch x (s.clients link)).answer link ch x rest (offered terms ch x (s.clients link)).after s else manager_took link ch x rest (manager.offered config (record { 0 = link }) ch x s.manager) s
+    step b = if b then judged (offered terms ch x (s.clients link)).answer link ch x rest
+        (offered terms ch x (s.clients link)).after s else manager_took link ch x rest (manager.offered config (record { 0 = link }) ch x s.manager) s
 
     go : (b : Bool) → is_stall (step b).outcome ≡ false → is_moving (step b).outcome ≡ true
     go true f = of_client (offered terms ch x (s.clients link)).answer _ f
     go false f = of_manager _ f
 
 -- a movable delivery moves a beat, where empty and stalled ones are what they should be
-pub movable-moves : {w : ℕ} (config : Config) (log : Log w) (c : ℕ) (ch : Channel) → (is_client config c ≡ true → IsExact config log c ch) → is_movable config c ch (after config log) ≡ true → is_moving (outcome_of_delivery config log c ch) ≡ true
+pub movable-moves : {w : ℕ} (config : Config) (log : Log w) (c : ℕ) (ch : Channel) → (is_client config c ≡ true → IsExact config log c ch)
+    → is_movable config c ch (after config log) ≡ true → is_moving (outcome_of_delivery config log c ch) ≡ true
 unfolding is_movable stepped
 movable-moves {w} config log c ch exactly movable = go (terms_at config c) refl ((after config log).channels c ch) refl movable
   where
     sys : System w
     sys = after config log
 
-    go : (o : Option Terms) → terms_at config c ≡ o → (beats : List (Beat w)) → sys.channels c ch ≡ beats → moves config o c ch beats sys ≡ true → is_moving (outcome_of_delivery config log c ch) ≡ true
+    go : (o : Option Terms) → terms_at config c ≡ o → (beats : List (Beat w)) → sys.channels c ch ≡ beats → moves config o c ch beats sys ≡ true
+        → is_moving (outcome_of_delivery config log c ch) ≡ true
     go None e beats f g = absurd cc
     go (Some terms) e [] f g = absurd cc
     go (Some terms) e (x ∷ rest) f g =
         let is : IsExact config log c ch = exactly (ap is_some e) in
-        let same : outcome_of_delivery config log c ch ≡ (delivered config terms c ch (sys.channels c ch) sys).outcome = ap (λ (o : Option Terms). (stepped_at config o (Deliver (record { 0 = c }) ch) sys).outcome) e in
+        let same : outcome_of_delivery config log c ch ≡ (delivered config terms c ch (sys.channels c ch) sys).outcome =
+        ap (λ (o : Option Terms). (stepped_at config o (Deliver (record { 0 = c }) ch) sys).outcome) e in
         let some : is_emptiness (outcome_of_delivery config log c ch) ≡ false = is.empty ∙ ap is_empty f in
-        let unstalled : is_stall (outcome_of_delivery config log c ch) ≡ false = is.stalled ∙ ap (λ (b : Bool). not (is_empty (sys.channels c ch)) && not b) movable ∙ and-false (not (is_empty (sys.channels c ch))) in
+        let unstalled : is_stall (outcome_of_delivery config log c ch) ≡ false = is.stalled
+        ∙ ap (λ (b : Bool). not (is_empty (sys.channels c ch)) && not b) movable ∙ and-false (not (is_empty (sys.channels c ch))) in
         ap is_moving same ∙ moving-else config terms c ch (sys.channels c ch) sys (sym (ap is_emptiness same) ∙ some) (sym (ap is_stall same) ∙ unstalled)
 
 -- ---- exact stalls
@@ -204,7 +212,8 @@ pub record IsFirst {w : ℕ} (config : Config) (terms : Terms) (c : ℕ) (ch : C
 
 module _ {w : ℕ} (config : Config) (log : Log w) (mail : Mail w) (request : ℕ → MessageA w) (s : State (List ℕ)) (matched : IsMatched config log mail request s (after config log))
     (coherent : IsCoherent (after config log) log (remembered config log)) (c : ℕ) (terms : Terms) (is : terms_at config c ≡ Some terms) where
-  movable-is : (ch : Channel) (x : Beat w) (rest : List (Beat w)) → (after config log).channels c ch ≡ x ∷ rest → is_movable config c ch (after config log) ≡ not (stalls config terms c ch x (after config log))
+  movable-is : (ch : Channel) (x : Beat w) (rest : List (Beat w)) → (after config log).channels c ch ≡ x ∷ rest
+      → is_movable config c ch (after config log) ≡ not (stalls config terms c ch x (after config log))
   unfolding is_movable
   movable-is ch x rest e = rw (is, e) refl
 
@@ -244,7 +253,10 @@ module _ {w : ℕ} (config : Config) (log : Log w) (mail : Mail w) (request : �
       not_not true = refl
       not_not false = refl
 
-      stall : (beats : List (Beat w)) → (after config log).channels c ch ≡ beats → is_stall (outcome_of_delivery config log c ch) ≡ not (is_empty ((after config log).channels c ch)) && not (is_movable config c ch (after config log))
+      stall : (beats : List (Beat w)) → (after config log).channels c ch ≡ beats
+          → is_stall (outcome_of_delivery config log c ch) ≡ not (is_empty ((after config log).channels c ch))
+          && not (is_movable config c ch (after config log))
       stall [] e = rw (outcome-is ch, e) refl
       stall (x ∷ rest) e =
-          ap is_stall (outcome-is ch) ∙ rw (movable-is ch x rest e, e) (stall-delivered config terms c ch x rest (after config log) (firsts x rest e).taken ∙ not_not (stalls config terms c ch x (after config log)))
+          ap is_stall (outcome-is ch) ∙ rw (movable-is ch x rest e, e)
+          (stall-delivered config terms c ch x rest (after config log) (firsts x rest e).taken ∙ not_not (stalls config terms c ch x (after config log)))

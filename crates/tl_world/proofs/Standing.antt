@@ -4,8 +4,8 @@ use Rattle.std.specs.Prelude.{if◌then◌else◌, length, Option, Some, None, o
 use Rattle.std.proofs.lemmas.Bool.{cases_eq}
 use Rattle.std.proofs.lemmas.Option.{same_Some, slice_get_within}
 use Rattle.tl_beat.specs.declared.beat.Link.{Link}
-use Rattle.tl_beat.specs.declared.opcode.Channel.{Channel}
-use Rattle.tl_beat.specs.declared.opcode.Channel.TheVariants as channel
+use Rattle.tl_beat.specs.declared.channel.Channel.{Channel}
+use Rattle.tl_beat.specs.declared.channel.Channel.TheVariants as channel
 use Rattle.tl_params.specs.declared.config.ClientConfig.{ClientConfig}
 use Rattle.tl_params.specs.declared.config.Config.{Config}
 use Rattle.tl_client.specs.End.{Terms}
@@ -35,7 +35,9 @@ first-none config ch link (suc n) s none = rw (none link) (first-none config ch 
 pub client_below : (config : Config) (c : ℕ) (terms : Terms) → terms_at config c ≡ Some terms → c < length config.clients.items
 client_below config c terms is = go (slice_get config.clients.items c) refl is
   where
-    go : (o : Option ClientConfig) → slice_get config.clients.items c ≡ o → option_map (λ x. record { level = x.level; profile = config.profile; sources = x.sources; blocks = config.blocks }) o ≡ Some terms → c < length config.clients.items
+    go : (o : Option ClientConfig) → slice_get config.clients.items c ≡ o
+        → option_map (λ x. record { level = x.level; profile = config.profile; sources = x.sources; blocks = config.blocks }) o ≡ Some terms
+        → c < length config.clients.items
     go None e f = absurd cc
     go (Some x) e f = slice_get_within config.clients.items c x e
 

@@ -5,7 +5,7 @@ use Rattle.std.proofs.lemmas.Option.{slice_get_past}
 use Rattle.std.specs.Prelude.{not, ◌≢◌, Result, Ok, Err, slice_get, slice_index_or}
 use Rattle.tl_beat.specs.declared.beat.Beat.{Beat}
 use Rattle.tl_beat.specs.declared.beat.Link.{Link}
-use Rattle.tl_beat.specs.declared.opcode.Channel.{Channel}
+use Rattle.tl_beat.specs.declared.channel.Channel.{Channel}
 use Rattle.tl_burst.specs.Part.{is_empty}
 use Rattle.tl_burst.specs.declared.message.Message.{Message}
 use Rattle.tl_params.specs.declared.config.Config.{Config}
@@ -76,7 +76,8 @@ module _ {w : ℕ} {A M : Type 0} (knows : A → End w → Type 0) (terms : A �
   room-after event s step is room = subst (λ (x : Step w). HasRoom config x.after) is room
 
   -- a step that is known
-  stepped-by : (old new : Parts w A M) (event : Event w) (s : System w) (step : Step w) (o : Outcome w) → stepped config event s ≡ step → o ≡ step.outcome → Holds knows terms perm_of config new step.after
+  stepped-by : (old new : Parts w A M) (event : Event w) (s : System w) (step : Step w) (o : Outcome w) → stepped config event s ≡ step → o ≡ step.outcome
+      → Holds knows terms perm_of config new step.after
       → Deepen (clients_of config) old.rings new.rings → IsStepped knows terms perm_of config old new event o s
   stepped-by old new event s step o is same h deepen = record {
     outcome_is = same ∙ sym (ap (λ (x : Step w). x.outcome) is);
@@ -174,8 +175,10 @@ module _ {w : ℕ} {A M : Type 0} (knows : A → End w → Type 0) (terms : A �
 
   -- ---- a beat is brought to a client
 
-  module _ (old new : Parts w A M) (s : System w) (link : Link) (ch : Channel) (x : Beat w) (rest : List (Beat w)) (answer : Result (Verdict × Option (Message w)) Rule) (h : Holds knows terms perm_of config old s)
-      (inside : link.0 < length old.clients.items) (first : s.channels link.0 ch ≡ x ∷ rest) (up : is_to_client ch ≡ true) (is : IsOffered knows terms old.clients.items new.clients.items link.0 ch x answer)
+  module _ (old new : Parts w A M) (s : System w) (link : Link) (ch : Channel) (x : Beat w) (rest : List (Beat w))
+      (answer : Result (Verdict × Option (Message w)) Rule) (h : Holds knows terms perm_of config old s)
+      (inside : link.0 < length old.clients.items) (first : s.channels link.0 ch ≡ x ∷ rest) (up : is_to_client ch ≡ true)
+      (is : IsOffered knows terms old.clients.items new.clients.items link.0 ch x answer)
       (same_manager : new.manager ≡ old.manager) where
     below : link.0 < clients_of config
     below = omega (arith, inside, h.one_client_each)
@@ -193,7 +196,8 @@ module _ {w : ℕ} {A M : Type 0} (knows : A → End w → Type 0) (terms : A �
     answer_is = is.answer_is (s.clients link.0) one (h.clients link.0 one below)
 
     known : (d : A) → knows (slice_index_or new.clients.items link.0 d) end
-    known d = subst (λ (u : Terms). knows (slice_index_or new.clients.items link.0 d) (offered u ch x (s.clients link.0)).after) (made-for old s link.0 d one h below) (is.after (s.clients link.0) d (h.clients link.0 d below))
+    known d = subst (λ (u : Terms). knows (slice_index_or new.clients.items link.0 d) (offered u ch x (s.clients link.0)).after)
+        (made-for old s link.0 d one h below) (is.after (s.clients link.0) d (h.clients link.0 d below))
 
     taken-up : stepped config (Deliver link ch) s ≡ judged (offered t ch x (s.clients link.0)).answer link.0 ch x rest end s
     taken-up = stepped-to-client config link ch s t x rest (h.terms_are link.0 one below) first up
@@ -223,7 +227,8 @@ module _ {w : ℕ} {A M : Type 0} (knows : A → End w → Type 0) (terms : A �
           | inr other ↦ rw (ne_eqb k link.0 other) refl
         ]
 
-    pub steps-stayed : (v : Verdict) (m : Option (Message w)) → answer ≡ Ok (v, m) → is_stay v ≡ true → new.rings ≡ old.rings → IsStepped knows terms perm_of config old new (Deliver link ch) outcome.Stalled s
+    pub steps-stayed : (v : Verdict) (m : Option (Message w)) → answer ≡ Ok (v, m) → is_stay v ≡ true → new.rings ≡ old.rings
+        → IsStepped knows terms perm_of config old new (Deliver link ch) outcome.Stalled s
     steps-stayed v m stayed stays same =
         let again : end ≡ s.clients link.0 = stayed-client t ch x (s.clients link.0) v m (sym stayed ∙ answer_is) stays in
         stepped-by old new (Deliver link ch) s (only outcome.Stalled s) outcome.Stalled
@@ -273,7 +278,8 @@ module _ {w : ℕ} {A M : Type 0} (knows : A → End w → Type 0) (terms : A �
 
   -- ---- a beat is brought to the manager
 
-  manager-holds : (old new : Parts w A M) (s s' : System w) → Holds knows terms perm_of config old s → new.clients.items ≡ old.clients.items → ((k : ℕ) → s'.clients k ≡ s.clients k) → Knows perm_of new.manager config s'.manager
+  manager-holds : (old new : Parts w A M) (s s' : System w) → Holds knows terms perm_of config old s → new.clients.items ≡ old.clients.items
+      → ((k : ℕ) → s'.clients k ≡ s.clients k) → Knows perm_of new.manager config s'.manager
       → AreKept old.rings new.rings → Carries (clients_of config) new.rings s' → Holds knows terms perm_of config new s'
   manager-holds old new s s' h same_clients clients_are knowing as_made carrying = record {
     one_client_each = ap (λ (c : List A). length c) same_clients ∙ h.one_client_each;
@@ -323,7 +329,9 @@ module _ {w : ℕ} {A M : Type 0} (knows : A → End w → Type 0) (terms : A �
         let again : taken.1 ≡ s.manager = stayed-manager config link ch x s.manager (sym answered ∙ stalled) in
         stepped-by old new (Deliver link ch) s (only outcome.Stalled s) outcome.Stalled
         (taken-in ∙ took-stalled taken link.0 ch x rest s (sym answered ∙ stalled)) refl
-        (manager-holds old new s s h same_clients (λ k. refl) (subst (λ (e : manager_end.End w). Knows perm_of new.manager config e) again (knowing config s.manager h.manager)) (as_made same) (carrying s (λ k c. refl) same))
+        (manager-holds old new s s h same_clients (λ k. refl)
+        (subst (λ (e : manager_end.End w). Knows perm_of new.manager config e) again (knowing config s.manager h.manager)) (as_made same)
+        (carrying s (λ k c. refl) same))
         (as_deep same)
 
     -- the first beat is taken away, and messages sent
@@ -367,7 +375,8 @@ module _ {w : ℕ} {A M : Type 0} (knows : A → End w → Type 0) (terms : A �
   pub steps-nobody : (parts : Parts w A M) (s : System w) (event : Event w) → Holds knows terms perm_of config parts s → length parts.clients.items ≤ client_of event
       → IsStepped knows terms perm_of config parts parts event outcome.NoSuchClient s
   steps-nobody parts s event h past =
-      stepped-by parts parts event s (only outcome.NoSuchClient s) outcome.NoSuchClient (stepped-nobody config event s (rw (slice_get_past config.clients.items (client_of event) (omega (arith, past, h.one_client_each))) refl)) refl h
+      stepped-by parts parts event s (only outcome.NoSuchClient s) outcome.NoSuchClient
+      (stepped-nobody config event s (rw (slice_get_past config.clients.items (client_of event) (omega (arith, past, h.one_client_each))) refl)) refl h
       (moved-still (clients_of config) parts.rings s h.channels).deepen
 
   pub steps-empty : (parts : Parts w A M) (s : System w) (link : Link) (ch : Channel) → Holds knows terms perm_of config parts s → link.0 < length parts.clients.items
@@ -377,5 +386,6 @@ module _ {w : ℕ} {A M : Type 0} (knows : A → End w → Type 0) (terms : A �
       let under : link.0 < clients_of config = omega (arith, inside, h.one_client_each) in
       let some = member parts.clients.items link.0 inside in
       stepped-by parts parts (Deliver link ch) s (only outcome.Empty s) outcome.Empty
-      (stepped-empty config link ch s (terms (slice_index_or parts.clients.items link.0 some)) (h.terms_are link.0 some under) (none-left (s.channels link.0 ch) (first (clients_of config) s h.channels under))) refl h
+      (stepped-empty config link ch s (terms (slice_index_or parts.clients.items link.0 some)) (h.terms_are link.0 some under)
+      (none-left (s.channels link.0 ch) (first (clients_of config) s h.channels under))) refl h
       (moved-still (clients_of config) parts.rings s h.channels).deepen

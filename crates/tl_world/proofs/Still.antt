@@ -2,8 +2,8 @@
 -- a channel.
 use Rattle.std.proofs.Common.{◌≡◌, ℕ, ◌<◌, Bool, true, false, List, [], ◌∷◌, refl, sym, ◌∙◌, arith}
 use Rattle.std.specs.Prelude.{not, ◌==◌, ◌||◌, Option, Some, None}
-use Rattle.tl_beat.specs.declared.opcode.Channel.{Channel}
-use Rattle.tl_beat.specs.declared.opcode.Channel.TheVariants as channel
+use Rattle.tl_beat.specs.declared.channel.Channel.{Channel}
+use Rattle.tl_beat.specs.declared.channel.Channel.TheVariants as channel
 use Rattle.tl_world.specs.Phase.{Pair, View, Own, Letting, Kept, Releasing, Acked, is_quiet, is_kept, ok}
 use Rattle.tl_world.specs.Token.{Kind, Request, Acquire, Probe, ProbeAck, Release, Answer, Grant, ReleaseAck, GrantAck, Token, one_if, count}
 use Rattle.tl_world.specs.Protocol.{Service, Free, Waits, GrantSent, GrantTaken, State, Use, Closed, Asked, InService, Replied, Acquires, view, on, tokens_on, is_on, is_transfer, is_wanting, shown}

@@ -3,7 +3,7 @@ use Rattle.std.proofs.Common.{◌≡◌, ℕ, ◌<◌, Bool, true, false, List, 
 use Rattle.std.specs.Prelude.{◌==◌, ◌&&◌, if◌then◌else◌, Option, Some, None, option_map, slice_get}
 use Rattle.std.proofs.lemmas.Bool.{eqb-true}
 use Rattle.tl_beat.specs.Width.{IsWidth}
-use Rattle.tl_beat.specs.declared.opcode.Channel.{Channel}
+use Rattle.tl_beat.specs.declared.channel.Channel.{Channel}
 use Rattle.tl_burst.specs.declared.message.Message.{Message}
 use Rattle.tl_burst.specs.declared.message.Message.TheVariants as message
 use Rattle.tl_burst.specs.declared.message.MessageA.{MessageA}
@@ -31,7 +31,8 @@ use Rattle.tl_world.proofs.Owned.{sources-own}
 no_level : (config : Config) (c : ℕ) → terms_at config c ≡ None → level_of config c ≡ None
 no_level config c is = go (slice_get config.clients.items c) is
   where
-    go : (o : Option ClientConfig) → option_map {U = Terms} (λ x. record { level = x.level; profile = config.profile; sources = x.sources; blocks = config.blocks }) o ≡ None → option_map (λ x. x.level) o ≡ None
+    go : (o : Option ClientConfig) → option_map {U = Terms}
+        (λ x. record { level = x.level; profile = config.profile; sources = x.sources; blocks = config.blocks }) o ≡ None → option_map (λ x. x.level) o ≡ None
     go None e = refl
     go (Some x) e = absurd cc
 
@@ -95,9 +96,11 @@ module _ {w : ℕ} (config : Config) (log : Log w) (mail : Mail w) (request : �
   nothing_shown ch ReleaseAck n on_it there =
       absurd (let e = release_ack_named _ s c n matched.invariant (shown_there _ s c ch ReleaseAck n matched.invariant on_it there) in let both = sym e ∙ no_let _ in cc)
   nothing_shown ch Probe n on_it there =
-      absurd (let it = shown_there _ s c ch Probe n matched.invariant on_it there in let none : shown Probe c (s.block n) ≡ false = rw (at_rest n) refl in let both : true ≡ false = sym it ∙ none in cc)
+      absurd (let it = shown_there _ s c ch Probe n matched.invariant on_it there in let none : shown Probe c (s.block n) ≡ false =
+      rw (at_rest n) refl in let both : true ≡ false = sym it ∙ none in cc)
   nothing_shown ch ProbeAck n on_it there =
-      absurd (let it = shown_there _ s c ch ProbeAck n matched.invariant on_it there in let none : shown ProbeAck c (s.block n) ≡ false = rw (at_rest n) refl in let both : true ≡ false = sym it ∙ none in cc)
+      absurd (let it = shown_there _ s c ch ProbeAck n matched.invariant on_it there in let none : shown ProbeAck c (s.block n) ≡ false =
+      rw (at_rest n) refl in let both : true ≡ false = sym it ∙ none in cc)
   nothing_shown ch GrantAck n on_it there = not_acknowledging n (shown_there _ s c ch GrantAck n matched.invariant on_it there)
 
   pub no_tokens : (ch : Channel) → tokens_on ch (s.link c) ≡ []

@@ -57,7 +57,9 @@ one-at-most (suc n) m v = go (cases_eq n m) (one-at-most n m v)
   where
     go : (n ≡ m) ⊎ (n ≡ m → ⊥) → total n (λ i. if i == m then v else 0) ≤ v → total n (λ i. if i == m then v else 0) + (if n == m then v else 0) ≤ v
     go (inl same) rest =
-        let none : total n (λ i. if i == m then v else 0) ≡ 0 = total-zero n (λ i. if i == m then v else 0) (λ i lt. let ne : i ≡ m → ⊥ = λ e. absurd (omega (arith, e, lt, same)) in rw (ne_eqb i m ne) refl) in
+        let none : total n (λ i. if i == m then v else 0) ≡ 0 =
+        total-zero n (λ i. if i == m then v else 0) (λ i lt. let ne : i ≡ m → ⊥ = λ e. absurd (omega (arith, e, lt, same)) in rw (ne_eqb i m ne) refl)
+        in
         rw (same, same_number m) (let z : total m (λ i. if i == m then v else 0) ≡ 0 = rw same at none in omega (arith, z))
     go (inr differs) rest = rw (ne_eqb n m differs) (omega (arith, rest))
 

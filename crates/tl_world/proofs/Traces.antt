@@ -43,7 +43,9 @@ traced-at {w} {X} n request after s u t v at is = record {
   ];
   serving_is = λ i. elim (cases_eq i n) [
     | inl same ↦ rw same at.serving_here
-    | inr other ↦ at.serving_else i other ∙ is.serving_is i ∙ ap₂ (λ (b : Block X) (m : MessageA w). service_with (client_in b.service) b.tracker m) (sym (at.other_blocks i other)) (sym (at.other_requests i other))
+    | inr other ↦ at.serving_else i other ∙ is.serving_is i
+        ∙ ap₂ (λ (b : Block X) (m : MessageA w). service_with (client_in b.service) b.tracker m) (sym (at.other_blocks i other))
+        (sym (at.other_requests i other))
   ];
   requests = λ i. elim (cases_eq i n) [
     | inl same ↦ rw same at.request_here
@@ -102,7 +104,8 @@ pub traced-same : {w : ℕ} {X : Type 0} (request : ℕ → MessageA w) (s u : S
 traced-same {w} {X} request s u t same is = record {
   recorded_is = λ c n. is.recorded_is c n ∙ sym (same.recorded_same c n);
   probes = λ c n. is.probes c n ∙ ap not (sym (same.quiet_same c n));
-  serving_is = λ n. is.serving_is n ∙ ap₂ (λ (o : Option ℕ) (i : ℕ). service_with o i (request n)) (sym (same_client (s.block n).service (u.block n).service (same.service_same n))) (sym (same.tracker_same n));
+  serving_is = λ n. is.serving_is n ∙ ap₂ (λ (o : Option ℕ) (i : ℕ). service_with o i (request n))
+      (sym (same_client (s.block n).service (u.block n).service (same.service_same n))) (sym (same.tracker_same n));
   requests = λ n. same_for (s.block n).service (u.block n).service n (request n) (same.service_same n) (is.requests n);
   asked = λ n r source own k e. is.asked n r source own k (same_waits (s.block n).service (u.block n).service r source own k (same.service_same n) e);
 }

@@ -3,7 +3,7 @@ use Rattle.std.proofs.Common.{◌≡◌, ℕ, Bool, true, false, cond, List, Opt
 use Rattle.std.specs.Prelude.{Result, Ok, Err}
 use Rattle.tl_beat.specs.declared.beat.Beat.{Beat}
 use Rattle.tl_beat.specs.declared.beat.Link.{Link}
-use Rattle.tl_beat.specs.declared.opcode.Channel.{Channel}
+use Rattle.tl_beat.specs.declared.channel.Channel.{Channel}
 use Rattle.tl_burst.specs.declared.message.Message.{Message}
 use Rattle.tl_params.specs.declared.config.Config.{Config}
 use Rattle.tl_params.specs.declared.rule.Rule.{Rule}
@@ -45,7 +45,8 @@ module _ {w : ℕ} where
   is_stalled-stay verdict.Taken m e = absurd cc
   is_stalled-stay (verdict.Done source finish) m e = absurd cc
 
-  pub stayed-client : (terms : Terms) (ch : Channel) (x : Beat w) (e : End w) (v : Verdict) (m : Option (Message w)) → Ok (v, m) ≡ (offered terms ch x e).answer → is_stay v ≡ true → (offered terms ch x e).after ≡ e
+  pub stayed-client : (terms : Terms) (ch : Channel) (x : Beat w) (e : End w) (v : Verdict) (m : Option (Message w)) → Ok (v, m) ≡ (offered terms ch x e).answer
+      → is_stay v ≡ true → (offered terms ch x e).after ≡ e
   unfolding offered
   stayed-client terms ch x e v m answer stay = before (broken_before terms ch x e) terms x e (ap is_stalled (sym answer) ∙ is_stalled-stay v m stay)
 
@@ -53,7 +54,8 @@ module _ {w : ℕ} where
       → judged answer link ch x rest e s ≡ only outcome.Stalled (with_client link e s)
   judged-refused answer rule link ch x rest e s is = rw (← is) refl
 
-  pub judged-stayed : (answer : Result (Verdict × Option (Message w)) Rule) (v : Verdict) (m : Option (Message w)) (link : ℕ) (ch : Channel) (x : Beat w) (rest : List (Beat w)) (e : End w) (s : System w) → Ok (v, m) ≡ answer
+  pub judged-stayed : (answer : Result (Verdict × Option (Message w)) Rule) (v : Verdict) (m : Option (Message w)) (link : ℕ) (ch : Channel) (x : Beat w)
+      (rest : List (Beat w)) (e : End w) (s : System w) → Ok (v, m) ≡ answer
       → is_stay v ≡ true → judged answer link ch x rest e s ≡ only outcome.Stalled s
   judged-stayed answer v m link ch x rest e s is stay = rw (← is) (go v stay)
     where
@@ -62,7 +64,8 @@ module _ {w : ℕ} where
       go verdict.Taken f = absurd cc
       go (verdict.Done source finish) f = absurd cc
 
-  pub judged-taken : (answer : Result (Verdict × Option (Message w)) Rule) (v : Verdict) (m : Option (Message w)) (link : ℕ) (ch : Channel) (x : Beat w) (rest : List (Beat w)) (e : End w) (s : System w) → Ok (v, m) ≡ answer
+  pub judged-taken : (answer : Result (Verdict × Option (Message w)) Rule) (v : Verdict) (m : Option (Message w)) (link : ℕ) (ch : Channel) (x : Beat w)
+      (rest : List (Beat w)) (e : End w) (s : System w) → Ok (v, m) ≡ answer
       → is_stay v ≡ false → judged answer link ch x rest e s ≡ handing (outcome_of x v) (handed_by link m) (with_client link e (with_channel link ch rest s))
   judged-taken answer v m link ch x rest e s is moves = rw (← is) (go v moves)
     where
@@ -81,7 +84,8 @@ module _ {w : ℕ} where
   stood-as manager.Waits config link x e f = refl
   stood-as manager.Passes config link x e f = absurd cc
 
-  pub stayed-manager : (config : Config) (link : Link) (ch : Channel) (x : Beat w) (e : manager_end.End w) → (manager.offered config link ch x e).0 ≡ manager.Stalled → (manager.offered config link ch x e).1 ≡ e
+  pub stayed-manager : (config : Config) (link : Link) (ch : Channel) (x : Beat w) (e : manager_end.End w)
+      → (manager.offered config link ch x e).0 ≡ manager.Stalled → (manager.offered config link ch x e).1 ≡ e
   unfolding manager.offered
   stayed-manager config link ch x e f = stood-as (manager.judged config link ch x e) config link x e f
 

@@ -20,7 +20,9 @@ use Rattle.tl_world.specs.Follow.{Shadow, asked, is_whole, taken_by_client, kind
 use Rattle.tl_world.specs.Invariant.{IsInvariant}
 use Rattle.tl_world.specs.Phase.{Pair, Sent, is_quiet}
 use Rattle.tl_world.specs.PhaseSteps.{after_acquire, after_release, after_probe, after_grant, after_release_ack}
-use Rattle.tl_world.specs.Protocol.{Service, Free, Waits, GrantSent, GrantTaken, Block, State, Closed, InService, on, token, shown, view, is_granting, acquiring_block, releasing_block, stored_block, probed_block, taken_block, let_go_block, access_asked, acquire_asked, release_asked, block_stored, probe_taken, answer_taken, grant_taken, release_ack_taken}
+use Rattle.tl_world.specs.Protocol.{Service, Free, Waits, GrantSent, GrantTaken, Block, State, Closed, InService, on, token, shown, view, is_granting}
+use Rattle.tl_world.specs.Protocol.{acquiring_block, releasing_block, stored_block, probed_block, taken_block, let_go_block, access_asked, acquire_asked}
+use Rattle.tl_world.specs.Protocol.{release_asked, block_stored, probe_taken, answer_taken, grant_taken, release_ack_taken}
 use Rattle.tl_world.specs.Render.{Mail, cap_sent}
 use Rattle.tl_world.specs.Token.{Kind, Request, Acquire, Probe, ProbeAck, Release, Answer, Grant, ReleaseAck, GrantAck, Token, set, set_at}
 use Rattle.tl_world.specs.Whole.{IsServedWith}
@@ -48,7 +50,8 @@ pub record IsSameBlock {X : Type 0} (b new : Block X) : Type 0 where
   pub service_same : SameService b.service new.service
   pub memory_same : new.memory ≡ b.memory
 
-pub same-blocks : {X : Type 0} (n : ℕ) (new : Block X) (s u : State X) → ((i : ℕ) → u.block i ≡ set n new s.block i) → IsSameBlock (s.block n) new → IsSameToManager s u × ((i : ℕ) → (u.block i).memory ≡ (s.block i).memory)
+pub same-blocks : {X : Type 0} (n : ℕ) (new : Block X) (s u : State X) → ((i : ℕ) → u.block i ≡ set n new s.block i) → IsSameBlock (s.block n) new
+    → IsSameToManager s u × ((i : ℕ) → (u.block i).memory ≡ (s.block i).memory)
 same-blocks {X} n new s u blocks is = (
   record {
     recorded_same = λ c i. same (λ (b : Block X). (b.pair c).recorded) (is.recorded_same c) i;
@@ -66,14 +69,16 @@ same-blocks {X} n new s u blocks is = (
     same part e i = ap part (blocks i) ∙ set-part part n new s.block e i
 
 -- and what is kept of the manager's end stays
-pub at_manager-unseen : {w : ℕ} (caching : ℕ → Bool) (config : Config) (mail : Mail w) (request : ℕ → MessageA w) (n : ℕ) (new : Block (List ℕ)) (s u : State (List ℕ)) (e : End w) → IsInvariant caching u
+pub at_manager-unseen : {w : ℕ} (caching : ℕ → Bool) (config : Config) (mail : Mail w) (request : ℕ → MessageA w) (n : ℕ) (new : Block (List ℕ))
+    (s u : State (List ℕ)) (e : End w) → IsInvariant caching u
     → ((i : ℕ) → u.block i ≡ set n new s.block i) → IsSameBlock (s.block n) new → IsAtManager config mail request s e → IsAtManager config mail request u e
 at_manager-unseen caching config mail request n new s u e inv blocks same is =
     let all = same-blocks n new s u blocks same in
     at_manager-same caching config mail request s u e inv all.0 all.1 is
 
 -- where no block changes at all
-pub at_manager-untouched : {w : ℕ} (caching : ℕ → Bool) (config : Config) (mail : Mail w) (request : ℕ → MessageA w) (s u : State (List ℕ)) (e : End w) → IsInvariant caching u → ((i : ℕ) → u.block i ≡ s.block i)
+pub at_manager-untouched : {w : ℕ} (caching : ℕ → Bool) (config : Config) (mail : Mail w) (request : ℕ → MessageA w) (s u : State (List ℕ)) (e : End w)
+    → IsInvariant caching u → ((i : ℕ) → u.block i ≡ s.block i)
     → IsAtManager config mail request s e → IsAtManager config mail request u e
 at_manager-untouched caching config mail request s u e inv blocks is =
     at_manager-same caching config mail request s u e inv
@@ -86,7 +91,8 @@ at_manager-untouched caching config mail request s u e inv blocks is =
     (λ i. ap (λ (b : Block (List ℕ)). b.memory) (blocks i)) is
 
 -- a client's pair in place of one that is the same to the manager
-same-pair : {X : Type 0} (c : ℕ) (p : Pair) (b : Block X) → p.recorded ≡ (b.pair c).recorded → is_quiet p.probing ≡ is_quiet (b.pair c).probing → (new : Block X) → new.pair ≡ set c p b.pair → new.tracker ≡ b.tracker
+same-pair : {X : Type 0} (c : ℕ) (p : Pair) (b : Block X) → p.recorded ≡ (b.pair c).recorded → is_quiet p.probing ≡ is_quiet (b.pair c).probing
+    → (new : Block X) → new.pair ≡ set c p b.pair → new.tracker ≡ b.tracker
     → SameService b.service new.service → new.memory ≡ b.memory → IsSameBlock b new
 same-pair c p b recorded quiet new pairs tracker service memory = record {
   recorded_same = λ d. ap (λ (f : ℕ → Pair). (f d).recorded) pairs ∙ set-part (λ (q : Pair). q.recorded) c p b.pair recorded d;
@@ -126,17 +132,20 @@ asked_with {w} caching c source n i mail s m inv closed (Waits r false src k) e 
     | inl number ↦
         absurd (let used : s.uses r src ≡ InService n = waits-used caching s n r src false k inv e in let no : Closed ≡ InService n = sym closed ∙ ap₂ s.uses (sym client) (sym number) ∙ used in cc)
     | inr other ↦
-        rw client (ap (λ (f : ℕ → Message w). f src) (set-same c (set source i (mail.request c)) mail.request) ∙ set-other source src i (mail.request c) other ∙ ap (λ j. mail.request j src) (sym client) ∙ ok)
+        rw client (ap (λ (f : ℕ → Message w). f src) (set-same c (set source i (mail.request c)) mail.request) ∙ set-other source src i (mail.request c) other
+        ∙ ap (λ j. mail.request j src) (sym client) ∙ ok)
   ]
   | inr other ↦ ap (λ (f : ℕ → Message w). f src) (set-other c r (set source i (mail.request c)) mail.request other) ∙ ok
 ]
 asked_with caching c source n i mail s m inv closed (GrantSent q d k) e ok = tt
 asked_with caching c source n i mail s m inv closed (GrantTaken q) e ok = tt
 
-at_manager-access : {w : ℕ} (caching : ℕ → Bool) (config : Config) (c source : ℕ) (m : MessageA w) (h : Shadow w) (e : End w) → IsInvariant caching h.state → h.state.uses c source ≡ Closed → IsInvariant caching (access_asked c source h.state)
+at_manager-access : {w : ℕ} (caching : ℕ → Bool) (config : Config) (c source : ℕ) (m : MessageA w) (h : Shadow w) (e : End w) → IsInvariant caching h.state
+    → h.state.uses c source ≡ Closed → IsInvariant caching (access_asked c source h.state)
     → IsManagerOf config h e → IsManagerOf config (asked c (op.Access (message.A m)) (reply.Started source) h) e
 at_manager-access {w} caching config c source m h e inv closed after is =
-    let now : IsAtManager config h.mail h.request (access_asked c source h.state) e = at_manager-untouched caching config h.mail h.request h.state (access_asked c source h.state) e after (λ i. refl) is in
+    let now : IsAtManager config h.mail h.request (access_asked c source h.state) e =
+    at_manager-untouched caching config h.mail h.request h.state (access_asked c source h.state) e after (λ i. refl) is in
     record {
       managed = now.managed;
       served = now.served;
@@ -147,24 +156,28 @@ at_manager-access {w} caching config c source m h e inv closed after is =
     }
 
 -- what is kept of the manager's end stays as a client is asked
-pub at_manager-asked : {w : ℕ} (caching : ℕ → Bool) (config : Config) (c : ℕ) (o : Op w) (r : Reply) (h : Shadow w) (e : End w) → IsInvariant caching h.state → IsAskable caching c o r h → IsManagerOf config h e → IsManagerOf config (asked c o r h) e
+pub at_manager-asked : {w : ℕ} (caching : ℕ → Bool) (config : Config) (c : ℕ) (o : Op w) (r : Reply) (h : Shadow w) (e : End w) → IsInvariant caching h.state
+    → IsAskable caching c o r h → IsManagerOf config h e → IsManagerOf config (asked c o r h) e
 at_manager-asked {w} caching config c o r h e inv may is = go o r may (asked-kept caching c o r h inv may)
   where
     go : (o : Op w) (r : Reply) → IsAskable caching c o r h → IsInvariant caching (asked c o r h).state → IsManagerOf config (asked c o r h) e
     go (op.Load address size) r may after = is
     go (op.Store address size value) reply.Stored may after =
         let bytes = copy_stored address size value ((h.state.block (block_at address)).copy c) in
-        at_manager-unseen caching config h.mail h.request (block_at address) (stored_block c bytes (h.state.block (block_at address))) h.state (block_stored c (block_at address) bytes h.state) e after (λ i. refl)
+        at_manager-unseen caching config h.mail h.request (block_at address) (stored_block c bytes (h.state.block (block_at address))) h.state
+        (block_stored c (block_at address) bytes h.state) e after (λ i. refl)
         (same-stored c bytes (h.state.block (block_at address))) is
     go (op.Acquire n g) (reply.Started source) may after =
-        at_manager-unseen caching config h.mail h.request n (acquiring_block c source false g ((h.state.block n).waiting c) (h.state.block n)) h.state (acquire_asked c n source false g ((h.state.block n).waiting c) h.state) e after (λ i. refl)
+        at_manager-unseen caching config h.mail h.request n (acquiring_block c source false g ((h.state.block n).waiting c) (h.state.block n)) h.state
+        (acquire_asked c n source false g ((h.state.block n).waiting c) h.state) e after (λ i. refl)
         (same-acquiring c source false g ((h.state.block n).waiting c) (h.state.block n)) is
     go (op.AcquireWhole n bytes) (reply.Started source) may after =
         let g = whole_grow ((h.state.block n).pair c).held in
         at_manager-unseen caching config h.mail h.request n (acquiring_block c source true g bytes (h.state.block n)) h.state (acquire_asked c n source true g bytes h.state) e after (λ i. refl)
         (same-acquiring c source true g bytes (h.state.block n)) is
     go (op.Release n p) (reply.Started source) may after =
-        at_manager-unseen caching config h.mail h.request n (releasing_block c source p (h.state.block n)) h.state (release_asked c n source p h.state) e after (λ i. refl) (same-releasing c source p (h.state.block n)) is
+        at_manager-unseen caching config h.mail h.request n (releasing_block c source p (h.state.block n)) h.state (release_asked c n source p h.state) e after
+        (λ i. refl) (same-releasing c source p (h.state.block n)) is
     go (op.Access (message.A m)) (reply.Started source) may after = at_manager-access caching config c source m h e inv may after is
     go (op.Store address size value) (reply.Value v) may after = is
     go (op.Store address size value) reply.Miss may after = is
@@ -202,8 +215,10 @@ is_to_clients ReleaseAck = true
 is_to_clients _ = false
 
 -- what is kept of the manager's end stays as a client takes a message
-pub at_manager-client_taken : {w : ℕ} (caching : ℕ → Bool) (config : Config) (tracker c : ℕ) (kind : Kind) (n : ℕ) (rest : List Token) (h : Shadow w) (e : End w) → is_to_clients kind ≡ true → IsInvariant caching h.state
-    → on kind (h.state.link c) ≡ token kind n ∷ rest → IsInvariant caching (kind_taken config tracker c kind n rest h).state → IsManagerOf config h e → IsManagerOf config (kind_taken config tracker c kind n rest h) e
+pub at_manager-client_taken : {w : ℕ} (caching : ℕ → Bool) (config : Config) (tracker c : ℕ) (kind : Kind) (n : ℕ) (rest : List Token) (h : Shadow w)
+    (e : End w) → is_to_clients kind ≡ true → IsInvariant caching h.state
+    → on kind (h.state.link c) ≡ token kind n ∷ rest → IsInvariant caching (kind_taken config tracker c kind n rest h).state → IsManagerOf config h e
+    → IsManagerOf config (kind_taken config tracker c kind n rest h) e
 at_manager-client_taken caching config tracker c Request n rest h e kind inv first after is = absurd cc
 at_manager-client_taken caching config tracker c Acquire n rest h e kind inv first after is = absurd cc
 at_manager-client_taken caching config tracker c ProbeAck n rest h e kind inv first after is = absurd cc
@@ -224,7 +239,10 @@ at_manager-client_taken {w} caching config tracker c Grant n rest h e kind inv f
     go (Waits r own source k) f kept = is
     go (GrantTaken q) f kept = is
     go (GrantSent q d k) f kept =
-        let seen : is_granting (view (GrantSent q d k) c) ≡ true = rw f at (holds-first Grant (h.state.link c).d rest (token Grant n) (λ i. shown Grant c (h.state.block i)) first refl (inv.transfers c Grant refl)) in
+        let seen : is_granting (view (GrantSent q d k) c) ≡ true =
+        rw f at (holds-first Grant (h.state.link c).d rest (token Grant n) (λ i. shown Grant c (h.state.block i)) first refl
+        (inv.transfers c Grant refl)) in
         let same : c ≡ q = eqb-true c q (granting-own (c == q) d k seen) in
         let whole = is_whole ((h.state.block n).pair c).acquiring in
-        at_manager-unseen caching config h.mail h.request n (taken_block c whole d k (h.state.block n)) h.state (grant_taken c n whole d k rest h.state) e kept (λ i. refl) (same-taken c whole d k k (h.state.block n) (f ∙ rw same refl)) is
+        at_manager-unseen caching config h.mail h.request n (taken_block c whole d k (h.state.block n)) h.state (grant_taken c n whole d k rest h.state) e kept
+        (λ i. refl) (same-taken c whole d k k (h.state.block n) (f ∙ rw same refl)) is

@@ -5,8 +5,8 @@ use Rattle.std.proofs.lemmas.Bool.{true_from_ne_false}
 use Rattle.std.specs.Prelude.{if◌then◌else◌, Result, Ok, Err}
 use Rattle.tl_beat.specs.declared.beat.Beat.{Beat}
 use Rattle.tl_beat.specs.declared.beat.Link.{Link}
-use Rattle.tl_beat.specs.declared.opcode.Channel.{Channel}
-use Rattle.tl_beat.specs.declared.opcode.Channel.TheVariants as channel
+use Rattle.tl_beat.specs.declared.channel.Channel.{Channel}
+use Rattle.tl_beat.specs.declared.channel.Channel.TheVariants as channel
 use Rattle.tl_burst.specs.declared.message.Message.{Message}
 use Rattle.tl_burst.specs.Messages.{unfinished}
 use Rattle.tl_params.specs.declared.config.Config.{Config}
@@ -42,7 +42,8 @@ use Rattle.tl_world.proofs.ManagerAfter.{IsManagerOf}
 
 -- ---- there is no client of this number
 
-pub at_manager-nobody : {w : ℕ} (config : Config) (log : Log w) (h : Shadow w) (sys : System w) (event : Event w) → IsMatched config log h.mail h.request h.state sys → terms_at config (client_of event) ≡ None
+pub at_manager-nobody : {w : ℕ} (config : Config) (log : Log w) (h : Shadow w) (sys : System w) (event : Event w)
+    → IsMatched config log h.mail h.request h.state sys → terms_at config (client_of event) ≡ None
     → IsManagerOf config (followed config event sys h) (stepped config event sys).after.manager
 unfolding stepped
 at_manager-nobody {w} config log h sys event is none = rw none (go event)
@@ -53,7 +54,8 @@ at_manager-nobody {w} config log h sys event is none = rw none (go event)
 
 -- ---- a client is asked
 
-pub at_manager-ask : {w : ℕ} (config : Config) (log : Log w) (h : Shadow w) (sys : System w) (c : ℕ) (o : Op w) (terms : client.Terms) → IsMatched config log h.mail h.request h.state sys → terms_at config c ≡ Some terms
+pub at_manager-ask : {w : ℕ} (config : Config) (log : Log w) (h : Shadow w) (sys : System w) (c : ℕ) (o : Op w) (terms : client.Terms)
+    → IsMatched config log h.mail h.request h.state sys → terms_at config c ≡ Some terms
     → IsAskable (is_caching config) c o (client_ask.asked terms o (sys.clients c)).reply h
     → IsManagerOf config (followed config (Ask c o) sys h) (stepped config (Ask c o) sys).after.manager
 at_manager-ask {w} config log h sys c o terms is there may =
@@ -64,13 +66,15 @@ at_manager-ask {w} config log h sys c o terms is there may =
 
 -- ---- a delivery to a client
 
-manager-judged : {w : ℕ} (r : Result (Verdict × Option (Message w)) Rule) (link : ℕ) (ch : Channel) (x : Beat w) (rest : List (Beat w)) (e : client.End w) (s : System w) → (judged r link ch x rest e s).after.manager ≡ s.manager
+manager-judged : {w : ℕ} (r : Result (Verdict × Option (Message w)) Rule) (link : ℕ) (ch : Channel) (x : Beat w) (rest : List (Beat w)) (e : client.End w)
+    (s : System w) → (judged r link ch x rest e s).after.manager ≡ s.manager
 manager-judged (Err rule) link ch x rest e s = refl
 manager-judged (Ok (verdict.Stalled, m)) link ch x rest e s = refl
 manager-judged (Ok (verdict.Taken, m)) link ch x rest e s = manager-with_messages (handed_by link m) (with_client link e (with_channel link ch rest s))
 manager-judged (Ok (verdict.Done source f, m)) link ch x rest e s = manager-with_messages (handed_by link m) (with_client link e (with_channel link ch rest s))
 
-pub manager-to-client : {w : ℕ} (config : Config) (link : Link) (ch : Channel) (sys : System w) (terms : client.Terms) → terms_at config link.0 ≡ Some terms → is_to_client ch ≡ true → (stepped config (Deliver link ch) sys).after.manager ≡ sys.manager
+pub manager-to-client : {w : ℕ} (config : Config) (link : Link) (ch : Channel) (sys : System w) (terms : client.Terms) → terms_at config link.0 ≡ Some terms
+    → is_to_client ch ≡ true → (stepped config (Deliver link ch) sys).after.manager ≡ sys.manager
 manager-to-client {w} config link ch sys terms there up = go (sys.channels link.0 ch) refl
   where
     go : (xs : List (Beat w)) → sys.channels link.0 ch ≡ xs → (stepped config (Deliver link ch) sys).after.manager ≡ sys.manager
@@ -117,7 +121,8 @@ on-channel channel.E GrantAck l e = refl
 on-channel ch k l e = absurd cc
 
 -- where the invariant is kept, so is what is kept of the manager's end
-pub at_manager-to_client : {w : ℕ} (config : Config) (log : Log w) (h : Shadow w) (sys : System w) (link : Link) (ch : Channel) (terms : client.Terms) → IsMatched config log h.mail h.request h.state sys → terms_at config link.0 ≡ Some terms → is_to_client ch ≡ true
+pub at_manager-to_client : {w : ℕ} (config : Config) (log : Log w) (h : Shadow w) (sys : System w) (link : Link) (ch : Channel) (terms : client.Terms)
+    → IsMatched config log h.mail h.request h.state sys → terms_at config link.0 ≡ Some terms → is_to_client ch ≡ true
     → IsInvariant (is_caching config) (followed config (Deliver link ch) sys h).state
     → IsManagerOf config (followed config (Deliver link ch) sys h) (stepped config (Deliver link ch) sys).after.manager
 at_manager-to_client {w} config log h sys link ch terms is there up kept =
@@ -130,7 +135,8 @@ at_manager-to_client {w} config log h sys link ch terms is there up kept =
     known : IsManagerOf config h sys.manager
     known = at_manager-matched config log h.mail h.request h.state sys is
 
-    taken : (xs : List Token) → tokens_on ch (h.state.link c) ≡ xs → IsInvariant (is_caching config) (token_taken config (next_tracker sys) c xs h).state → IsManagerOf config (token_taken config (next_tracker sys) c xs h) sys.manager
+    taken : (xs : List Token) → tokens_on ch (h.state.link c) ≡ xs → IsInvariant (is_caching config) (token_taken config (next_tracker sys) c xs h).state
+        → IsManagerOf config (token_taken config (next_tracker sys) c xs h) sys.manager
     taken [] e inv = known
     taken (y ∷ ys) e inv =
         at_manager-client_taken (is_caching config) config (next_tracker sys) c y.kind y.number ys h sys.manager (to_clients ch y.kind up here) is.invariant first inv known

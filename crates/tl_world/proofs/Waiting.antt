@@ -18,11 +18,14 @@ use Rattle.tl_client.specs.declared.reply.Reply.TheVariants as reply
 use Rattle.tl_client.specs.Ask.{copy_stored, whole_grow}
 use Rattle.tl_client.specs.Send.{acquisition}
 use Rattle.tl_manager.specs.Holders.{cap_probed}
-use Rattle.tl_world.specs.Follow.{Shadow, access_taken, acquire_opcode, acquire_taken, ack_taken, asked, gift, granted_after, is_unheld, is_whole, kind_taken, last_taken, performs, probes_some, request_taken, some_below, taken_by_client, with_state}
+use Rattle.tl_world.specs.Follow.{Shadow, access_taken, acquire_opcode, acquire_taken, ack_taken, asked, gift, granted_after, is_unheld, is_whole, kind_taken}
+use Rattle.tl_world.specs.Follow.{last_taken, performs, probes_some, request_taken, some_below, taken_by_client, with_state}
 use Rattle.tl_world.specs.Invariant.{IsInvariant, cap_asked}
 use Rattle.tl_world.specs.Phase.{Pair, Acquiring, Calm, Wants, is_calm, is_quiet}
 use Rattle.tl_world.specs.PhaseSteps.{after_acquire, after_probe, after_release, after_release_ack, after_release_taken, after_report, after_served, is_granted_data}
-use Rattle.tl_world.specs.Protocol.{Service, Free, Waits, GrantSent, GrantTaken, Block, acquiring_block, freed_block, granted_at_once, granted_block, ended_block, acquire_granted, acquire_served, is_probed, let_block, report_taken, let_go_block, performed_block, probed_block, releasing_block, reported_block, served_block, stored_block, taken_block, view}
+use Rattle.tl_world.specs.Protocol.{Service, Free, Waits, GrantSent, GrantTaken, Block, acquiring_block, freed_block, granted_at_once, granted_block}
+use Rattle.tl_world.specs.Protocol.{ended_block, acquire_granted, acquire_served, is_probed, let_block, report_taken, let_go_block, performed_block}
+use Rattle.tl_world.specs.Protocol.{probed_block, releasing_block, reported_block, served_block, stored_block, taken_block, view}
 use Rattle.tl_world.specs.Render.{acquire_of, cap_sent, prune_told, rendered, report_told}
 use Rattle.tl_world.specs.Token.{Kind, Request, Acquire, Probe, ProbeAck, Release, Answer, Grant, ReleaseAck, GrantAck, Token, set}
 use Rattle.tl_world.specs.Whole.{IsAcquireOf}
@@ -52,20 +55,23 @@ still {w} n b new m same keeps is = subst (λ (v : Service). IsAcquireOf n new v
     go (GrantTaken q) e f = tt
 
 -- in the place of one block
-replaced : {w : ℕ} (n : ℕ) (new : Block (List ℕ)) (block : ℕ → Block (List ℕ)) (m : MessageA w) (request : ℕ → MessageA w) → IsAcquireOf n new new.service m → AreAcquired request block → AreAcquired (set n m request) (set n new block)
+replaced : {w : ℕ} (n : ℕ) (new : Block (List ℕ)) (block : ℕ → Block (List ℕ)) (m : MessageA w) (request : ℕ → MessageA w) → IsAcquireOf n new new.service m
+    → AreAcquired request block → AreAcquired (set n m request) (set n new block)
 replaced {w} n new block m request here others i = elim (cases_eq i n) [
   | inl same ↦ subst (λ (j : ℕ). IsAcquireOf j (set n new block j) (set n new block j).service (set n m request j)) (sym same) (rw (set-same n new block, set-same n m request) here)
   | inr other ↦ rw (set-other n i new block other, set-other n i m request other) (others i)
 ]
 
-kept : {w : ℕ} (n : ℕ) (new : Block (List ℕ)) (block : ℕ → Block (List ℕ)) (request : ℕ → MessageA w) → IsAcquireOf n new new.service (request n) → AreAcquired request block → AreAcquired request (set n new block)
+kept : {w : ℕ} (n : ℕ) (new : Block (List ℕ)) (block : ℕ → Block (List ℕ)) (request : ℕ → MessageA w) → IsAcquireOf n new new.service (request n)
+    → AreAcquired request block → AreAcquired request (set n new block)
 kept {w} n new block request here others i = elim (cases_eq i n) [
   | inl same ↦ subst (λ (j : ℕ). IsAcquireOf j (set n new block j) (set n new block j).service (request j)) (sym same) (rw (set-same n new block) here)
   | inr other ↦ rw (set-other n i new block other) (others i)
 ]
 
 -- where its service and who wants what stay
-unmoved : {w : ℕ} (n : ℕ) (new : Block (List ℕ)) (block : ℕ → Block (List ℕ)) (request : ℕ → MessageA w) → new.service ≡ (block n).service → KeepsOpen (block n) new → AreAcquired request block → AreAcquired request (set n new block)
+unmoved : {w : ℕ} (n : ℕ) (new : Block (List ℕ)) (block : ℕ → Block (List ℕ)) (request : ℕ → MessageA w) → new.service ≡ (block n).service
+    → KeepsOpen (block n) new → AreAcquired request block → AreAcquired request (set n new block)
 unmoved n new block request same keeps is = kept n new block request (still n (block n) new (request n) same keeps (is n)) is
 
 -- one client's pair changes, and not what it wants
@@ -89,9 +95,14 @@ waiting_for {w} c n tracker k whole g b wants = rw (spared (c == c), wants) (go 
 
 access_taken-acquired : {w : ℕ} (c source tracker : ℕ) (m : MessageA w) (p : Bool) (o : Option Cap) (rest : List Token) (h : Shadow w) → AreAcquired h.request h.state.block
     → AreAcquired (access_taken c source m tracker p o rest h).request (access_taken c source m tracker p o rest h).state.block
-access_taken-acquired c source tracker m true (Some k) rest h is = replaced (block_at m.address) (served_block c false source tracker k (h.state.block (block_at m.address))) h.state.block m h.request tt is
-access_taken-acquired c source tracker m true None rest h is = unmoved (block_at m.address) (performed_block (performs m) (h.state.block (block_at m.address))) h.state.block h.request refl (λ r from k e. (refl, refl)) is
-access_taken-acquired c source tracker m false o rest h is = unmoved (block_at m.address) (performed_block (performs m) (h.state.block (block_at m.address))) h.state.block h.request refl (λ r from k e. (refl, refl)) is
+access_taken-acquired c source tracker m true (Some k) rest h is =
+    replaced (block_at m.address) (served_block c false source tracker k (h.state.block (block_at m.address))) h.state.block m h.request tt is
+access_taken-acquired c source tracker m true None rest h is =
+    unmoved (block_at m.address) (performed_block (performs m) (h.state.block (block_at m.address))) h.state.block h.request refl
+    (λ r from k e. (refl, refl)) is
+access_taken-acquired c source tracker m false o rest h is =
+    unmoved (block_at m.address) (performed_block (performs m) (h.state.block (block_at m.address))) h.state.block h.request refl
+    (λ r from k e. (refl, refl)) is
 
 request_taken-acquired : {w : ℕ} (clients c source tracker : ℕ) (v : Message w) (rest : List Token) (h : Shadow w) → AreAcquired h.request h.state.block
     → AreAcquired (request_taken clients c source v tracker rest h).request (request_taken clients c source v tracker rest h).state.block
@@ -102,7 +113,8 @@ request_taken-acquired clients c source tracker (message.C m) rest h is = is
 request_taken-acquired clients c source tracker (message.D m) rest h is = is
 request_taken-acquired clients c source tracker (message.E m) rest h is = is
 
-acquire_taken-acquired : {w : ℕ} (clients : ℕ) (p : Profile) (c n tracker : ℕ) (x : Acquiring) (rest : List Token) (h : Shadow w) → ((h.state.block n).pair c).acquiring ≡ x → AreAcquired h.request h.state.block
+acquire_taken-acquired : {w : ℕ} (clients : ℕ) (p : Profile) (c n tracker : ℕ) (x : Acquiring) (rest : List Token) (h : Shadow w)
+    → ((h.state.block n).pair c).acquiring ≡ x → AreAcquired h.request h.state.block
     → AreAcquired (acquire_taken clients p c n x tracker rest h).request (acquire_taken clients p c n x tracker rest h).state.block
 acquire_taken-acquired clients p c n tracker Calm rest h wants is = is
 acquire_taken-acquired {w} clients p c n tracker (Wants whole g) rest h wants is = go (some_below clients (λ d. is_probed c true (cap_asked (Wants whole g)) (b.pair d).recorded d))
@@ -117,7 +129,8 @@ acquire_taken-acquired {w} clients p c n tracker (Wants whole g) rest h wants is
     given = gift p whole g (is_unheld clients b.pair)
 
     go : (x : Bool)
-        → AreAcquired (set n m h.request) (if x then acquire_served c n (b.source c) tracker (cap_asked (Wants whole g)) rest h.state else acquire_granted c n tracker (is_granted_data whole g (b.pair c).recorded) given rest h.state).block
+        → AreAcquired (set n m h.request) (if x then acquire_served c n (b.source c) tracker
+        (cap_asked (Wants whole g)) rest h.state else acquire_granted c n tracker (is_granted_data whole g (b.pair c).recorded) given rest h.state).block
     go true = replaced n (served_block c true (b.source c) tracker (cap_asked (Wants whole g)) b) h.state.block m h.request (waiting_for c n tracker (cap_asked (Wants whole g)) whole g b wants) is
     go false = replaced n (granted_at_once c tracker (is_granted_data whole g (b.pair c).recorded) given b) h.state.block m h.request tt is
 
@@ -127,7 +140,9 @@ granted_after-acquired : {w : ℕ} (clients : ℕ) (p : Profile) (c q n : ℕ) (
     → AreAcquired (granted_after clients p c q n r x rest h).request (granted_after clients p c q n r x rest h).state.block
 granted_after-acquired clients p c q n r Calm rest h is = is
 granted_after-acquired clients p c q n r (Wants whole g) rest h is =
-    kept n (granted_block c q r (is_granted_data whole g ((h.state.block n).pair q).recorded) (gift p whole g (is_unheld clients (set c (after_report r ((h.state.block n).pair c)) (h.state.block n).pair))) (h.state.block n)) h.state.block h.request tt is
+    kept n (granted_block c q r (is_granted_data whole g ((h.state.block n).pair q).recorded)
+    (gift p whole g (is_unheld clients (set c (after_report r ((h.state.block n).pair c)) (h.state.block n).pair))) (h.state.block n)) h.state.block
+    h.request tt is
 
 last_taken-acquired : {w : ℕ} (clients : ℕ) (p : Profile) (c n : ℕ) (r : Report) (v : Service) (rest : List Token) (h : Shadow w) → AreAcquired h.request h.state.block
     → AreAcquired (last_taken clients p c n r v rest h).request (last_taken clients p c n r v rest h).state.block
@@ -137,17 +152,21 @@ last_taken-acquired clients p c n r (Waits q false source k) rest h is = kept n 
 last_taken-acquired clients p c n r (GrantSent q d k) rest h is = is
 last_taken-acquired clients p c n r (GrantTaken q) rest h is = is
 
-ack_taken-acquired : {w : ℕ} (clients : ℕ) (p : Profile) (c n : ℕ) (r : Report) (rest : List Token) (h : Shadow w) → AreAcquired h.request h.state.block → AreAcquired (ack_taken clients p c n r rest h).request (ack_taken clients p c n r rest h).state.block
+ack_taken-acquired : {w : ℕ} (clients : ℕ) (p : Profile) (c n : ℕ) (r : Report) (rest : List Token) (h : Shadow w) → AreAcquired h.request h.state.block
+    → AreAcquired (ack_taken clients p c n r rest h).request (ack_taken clients p c n r rest h).state.block
 ack_taken-acquired {w} clients p c n r rest h is = go (some_below clients (λ d. not (d == c) && not (is_quiet ((h.state.block n).pair d).probing)))
   where
     go : (x : Bool)
-        → AreAcquired (if x then with_state (report_taken c n r rest h.state) h else last_taken clients p c n r (h.state.block n).service rest h).request (if x then with_state (report_taken c n r rest h.state) h else last_taken clients p c n r (h.state.block n).service rest h).state.block
-    go true = unmoved n (reported_block c r (h.state.block n)) h.state.block h.request refl (unwanting c (after_report r ((h.state.block n).pair c)) (h.state.block n) (reported_block c r (h.state.block n)) (λ d. refl) refl (λ d. refl)) is
+        → AreAcquired (if x then with_state (report_taken c n r rest h.state) h else last_taken clients p c n r (h.state.block n).service rest h).request
+        (if x then with_state (report_taken c n r rest h.state) h else last_taken clients p c n r (h.state.block n).service rest h).state.block
+    go true = unmoved n (reported_block c r (h.state.block n)) h.state.block h.request refl
+        (unwanting c (after_report r ((h.state.block n).pair c)) (h.state.block n) (reported_block c r (h.state.block n)) (λ d. refl) refl (λ d. refl)) is
     go false = last_taken-acquired clients p c n r (h.state.block n).service rest h is
 
 -- ---- Grants
 
-taken_by_client-acquired : {w : ℕ} (c n : ℕ) (v : Service) (rest : List Token) (h : Shadow w) → AreAcquired h.request h.state.block → AreAcquired (taken_by_client c n v rest h).request (taken_by_client c n v rest h).state.block
+taken_by_client-acquired : {w : ℕ} (c n : ℕ) (v : Service) (rest : List Token) (h : Shadow w) → AreAcquired h.request h.state.block
+    → AreAcquired (taken_by_client c n v rest h).request (taken_by_client c n v rest h).state.block
 taken_by_client-acquired c n Free rest h is = is
 taken_by_client-acquired c n (Waits q own source k) rest h is = is
 taken_by_client-acquired c n (GrantSent q d k) rest h is = kept n (taken_block c (is_whole ((h.state.block n).pair c).acquiring) d k (h.state.block n)) h.state.block h.request tt is
@@ -161,11 +180,13 @@ kind_taken-acquired config tracker c Request source rest h is = request_taken-ac
 kind_taken-acquired config tracker c Acquire n rest h is = acquire_taken-acquired (length config.clients.items) config.profile c n tracker ((h.state.block n).pair c).acquiring rest h refl is
 kind_taken-acquired config tracker c Probe n rest h is =
     unmoved n (probed_block c (cap_sent ((h.state.block n).pair c).probing) (h.state.block n)) h.state.block h.request refl
-    (unwanting c (after_probe (cap_sent ((h.state.block n).pair c).probing) ((h.state.block n).pair c)) (h.state.block n) (probed_block c (cap_sent ((h.state.block n).pair c).probing) (h.state.block n)) (λ d. refl) refl (λ d. refl)) is
+    (unwanting c (after_probe (cap_sent ((h.state.block n).pair c).probing) ((h.state.block n).pair c)) (h.state.block n)
+    (probed_block c (cap_sent ((h.state.block n).pair c).probing) (h.state.block n)) (λ d. refl) refl (λ d. refl)) is
 kind_taken-acquired config tracker c ProbeAck n rest h is = ack_taken-acquired (length config.clients.items) config.profile c n (report_told ((h.state.block n).pair c).probing) rest h is
 kind_taken-acquired config tracker c Release n rest h is =
     unmoved n (let_block c (prune_told ((h.state.block n).pair c).letting) (h.state.block n)) h.state.block h.request refl
-    (unwanting c (after_release_taken (prune_told ((h.state.block n).pair c).letting) ((h.state.block n).pair c)) (h.state.block n) (let_block c (prune_told ((h.state.block n).pair c).letting) (h.state.block n)) (λ d. refl) refl (λ d. refl)) is
+    (unwanting c (after_release_taken (prune_told ((h.state.block n).pair c).letting) ((h.state.block n).pair c)) (h.state.block n)
+    (let_block c (prune_told ((h.state.block n).pair c).letting) (h.state.block n)) (λ d. refl) refl (λ d. refl)) is
 kind_taken-acquired config tracker c Answer source rest h is = is
 kind_taken-acquired config tracker c Grant n rest h is = taken_by_client-acquired c n (h.state.block n).service rest h is
 kind_taken-acquired config tracker c ReleaseAck n rest h is =
@@ -176,7 +197,8 @@ kind_taken-acquired config tracker c GrantAck n rest h is = kept n (freed_block 
 -- ---- operations that are asked
 
 -- a client that has none open asks for another Acquire
-acquiring-acquired : {w : ℕ} (caching : ℕ → Bool) (c n source : ℕ) (whole : Bool) (g : Grow) (bytes : List ℕ) (h : Shadow w) → IsInvariant caching h.state → ((h.state.block n).pair c).acquiring ≡ Calm → AreAcquired h.request h.state.block
+acquiring-acquired : {w : ℕ} (caching : ℕ → Bool) (c n source : ℕ) (whole : Bool) (g : Grow) (bytes : List ℕ) (h : Shadow w) → IsInvariant caching h.state
+    → ((h.state.block n).pair c).acquiring ≡ Calm → AreAcquired h.request h.state.block
     → AreAcquired h.request (set n (acquiring_block c source whole g bytes (h.state.block n)) h.state.block)
 acquiring-acquired {w} caching c n source whole g bytes h inv calm is = unmoved n (acquiring_block c source whole g bytes b) h.state.block h.request refl keeps is
   where
@@ -193,13 +215,17 @@ acquiring-acquired {w} caching c n source whole g bytes h inv calm is = unmoved 
     keeps : KeepsOpen b (acquiring_block c source whole g bytes b)
     keeps r from k e = (ap (λ (p : Pair). p.acquiring) (set-other c r (after_acquire whole g (b.pair c)) b.pair (apart r from k e)), set-other c r source b.source (apart r from k e))
 
-pub asked-acquired : {w : ℕ} (caching : ℕ → Bool) (c : ℕ) (o : Op w) (r : Reply) (h : Shadow w) → IsInvariant caching h.state → IsAskable caching c o r h → AreAcquired h.request h.state.block → AreAcquired (asked c o r h).request (asked c o r h).state.block
+pub asked-acquired : {w : ℕ} (caching : ℕ → Bool) (c : ℕ) (o : Op w) (r : Reply) (h : Shadow w) → IsInvariant caching h.state → IsAskable caching c o r h
+    → AreAcquired h.request h.state.block → AreAcquired (asked c o r h).request (asked c o r h).state.block
 asked-acquired caching c (op.Store address size value) reply.Stored h inv may is =
-    unmoved (block_at address) (stored_block c (copy_stored address size value ((h.state.block (block_at address)).copy c)) (h.state.block (block_at address))) h.state.block h.request refl (λ r from k e. (refl, refl)) is
+    unmoved (block_at address) (stored_block c (copy_stored address size value ((h.state.block (block_at address)).copy c)) (h.state.block (block_at address)))
+    h.state.block h.request refl (λ r from k e. (refl, refl)) is
 asked-acquired caching c (op.Acquire n g) (reply.Started source) h inv may is = acquiring-acquired caching c n source false g ((h.state.block n).waiting c) h inv may.2 is
 asked-acquired caching c (op.AcquireWhole n bytes) (reply.Started source) h inv may is = acquiring-acquired caching c n source true (whole_grow ((h.state.block n).pair c).held) bytes h inv may.2 is
 asked-acquired caching c (op.Release n p) (reply.Started source) h inv may is =
-    unmoved n (releasing_block c source p (h.state.block n)) h.state.block h.request refl (unwanting c (after_release p ((h.state.block n).pair c)) (h.state.block n) (releasing_block c source p (h.state.block n)) (λ d. refl) refl (λ d. refl)) is
+    unmoved n (releasing_block c source p (h.state.block n)) h.state.block h.request refl
+    (unwanting c (after_release p ((h.state.block n).pair c)) (h.state.block n) (releasing_block c source p (h.state.block n)) (λ d. refl) refl (λ d. refl))
+    is
 asked-acquired caching c (op.Access (message.A m)) (reply.Started source) h inv may is = is
 asked-acquired caching c (op.Access (message.A m)) (reply.Value v) h inv may is = is
 asked-acquired caching c (op.Access (message.A m)) reply.Stored h inv may is = is

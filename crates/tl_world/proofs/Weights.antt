@@ -10,7 +10,8 @@ use Rattle.tl_world.specs.Delivery.{sources_of}
 use Rattle.tl_world.specs.Follow.{some_below}
 use Rattle.tl_world.specs.Invariant.{IsInvariant}
 use Rattle.tl_world.specs.Phase.{View, Idle, Own, Other, Granting, Acknowledging, GrantedOther, Probing, Quiet, Sent, Answered, Letting, Kept, Releasing, Acked, is_quiet}
-use Rattle.tl_world.specs.Potential.{total, Left, probing_weight, pair_weight, probes_weight, acquire_weight, use_weight, letting_weight, let_weight, client_weight, potential, is_used, is_let, open_requests, open_releases}
+use Rattle.tl_world.specs.Potential.{total, Left, probing_weight, pair_weight, probes_weight, acquire_weight, use_weight, letting_weight, let_weight}
+use Rattle.tl_world.specs.Potential.{client_weight, potential, is_used, is_let, open_requests, open_releases}
 use Rattle.tl_world.specs.Protocol.{State, Use, Closed, Asked, InService, Replied, Acquires, view}
 use Rattle.tl_world.specs.System.{terms_at}
 use Rattle.tl_world.specs.Token.{Kind, Request, Acquire, ProbeAck, Release, Answer, Grant, one_if}
@@ -75,7 +76,8 @@ heavy-pair n left recorded (Sent k) le some = go (same_perm recorded perm.Trunk)
     go false = omega (arith, some)
 heavy-pair n left recorded (Answered r) le some = omega (arith, le)
 
-module _ {X : Type 0} (caching : ℕ → Bool) (s : State X) (inv : IsInvariant caching s) (n : ℕ) (left : Left) (answer : ℕ → ℕ → ℕ) (is : IsLeft n left answer s) (some : 1 ≤ n) (few : n ≤ 16) (clients : ℕ) (sixteen : clients ≤ 16) where
+module _ {X : Type 0} (caching : ℕ → Bool) (s : State X) (inv : IsInvariant caching s) (n : ℕ) (left : Left) (answer : ℕ → ℕ → ℕ) (is : IsLeft n left answer s)
+    (some : 1 ≤ n) (few : n ≤ 16) (clients : ℕ) (sixteen : clients ≤ 16) where
   -- the writer is probed
   writes_probed : ℕ → ℕ → Bool
   writes_probed m d = not (is_quiet ((s.block m).pair d).probing) && same_perm ((s.block m).pair d).recorded perm.Trunk
@@ -90,7 +92,8 @@ module _ {X : Type 0} (caching : ℕ → Bool) (s : State X) (inv : IsInvariant 
   neither true b e f = absurd cc
 
   -- a bound for the Probes and reports where each client weighs two at most, and which one with a block's beats meets too
-  pub probes-within : (m bound : ℕ) → 17 ≤ bound → (((d : ℕ) → d < clients → pair_weight n left m d ((s.block m).pair d) ≤ 2) → probes_weight clients n left m (s.block m) ≤ bound) → probes_weight clients n left m (s.block m) ≤ bound
+  pub probes-within : (m bound : ℕ) → 17 ≤ bound → (((d : ℕ) → d < clients → pair_weight n left m d ((s.block m).pair d) ≤ 2)
+      → probes_weight clients n left m (s.block m) ≤ bound) → probes_weight clients n left m (s.block m) ≤ bound
   unfolding writes_probed
   probes-within m bound wide light = go (some_below clients (writes_probed m)) refl
     where
@@ -110,7 +113,8 @@ module _ {X : Type 0} (caching : ℕ → Bool) (s : State X) (inv : IsInvariant 
           let parts = both _ _ d.1 in
           alone d.0 parts.1 parts.0
         where
-          alone : (d : ℕ) → same_perm ((s.block m).pair d).recorded perm.Trunk ≡ true → is_quiet ((s.block m).pair d).probing ≡ false → total clients (λ i. pair_weight n left m i ((s.block m).pair i)) ≤ bound
+          alone : (d : ℕ) → same_perm ((s.block m).pair d).recorded perm.Trunk ≡ true → is_quiet ((s.block m).pair d).probing ≡ false
+              → total clients (λ i. pair_weight n left m i ((s.block m).pair i)) ≤ bound
           alone d trunk probed =
               let others = total-le clients (λ i. pair_weight n left m i ((s.block m).pair i)) (λ i. if i == d then n + 1 else 0) (λ i lt. at i (cases_eq i d)) in
               omega (arith, others, at_most d, few, wide)
@@ -182,7 +186,8 @@ module _ {X : Type 0} (caching : ℕ → Bool) (s : State X) (inv : IsInvariant 
       let uses = times-total (n + 33) sources (λ i. use_weight clients n left answer s c i (s.uses c i)) (λ i. one_if (is_used (s.uses c i))) (λ i. use-few c i (s.uses c i) refl) in
       let lets = times-total (n + 1) sources (λ i. let_weight left s c (s.lets c i)) (λ i. one_if (is_let (s.lets c i))) (λ i. let-few c i (s.lets c i) refl) in
       let acks = one-each (n + 33) (length (s.link c).e) (omega arith) in
-      let split : (n + 33) * (total sources (λ i. one_if (is_used (s.uses c i))) + length (s.link c).e) ≡ (n + 33) * total sources (λ i. one_if (is_used (s.uses c i))) + (n + 33) * length (s.link c).e = grind arith in
+      let split : (n + 33) * (total sources (λ i. one_if (is_used (s.uses c i))) + length (s.link c).e) ≡ (n + 33) * total sources
+      (λ i. one_if (is_used (s.uses c i))) + (n + 33) * length (s.link c).e = grind arith in
       omega (arith, uses, lets, acks, split)
     where
       one-each : (k l : ℕ) → 1 ≤ k → l ≤ k * l
@@ -191,5 +196,6 @@ module _ {X : Type 0} (caching : ℕ → Bool) (s : State X) (inv : IsInvariant 
   pub potential-few : (config : Config) → length config.clients.items ≡ clients → potential config n left answer s ≤ (n + 33) * open_requests config s + (n + 1) * open_releases config s
   potential-few config e =
       rw e (two-totals clients (λ c. client_weight clients n left answer s (sources_of (terms_at config c)) c)
-      (λ c. total (sources_of (terms_at config c)) (λ i. one_if (is_used (s.uses c i))) + length (s.link c).e) (λ c. total (sources_of (terms_at config c)) (λ i. one_if (is_let (s.lets c i)))) (n + 33) (n + 1)
+      (λ c. total (sources_of (terms_at config c)) (λ i. one_if (is_used (s.uses c i))) + length (s.link c).e)
+      (λ c. total (sources_of (terms_at config c)) (λ i. one_if (is_let (s.lets c i)))) (n + 33) (n + 1)
       (λ c. client-few (sources_of (terms_at config c)) c))

@@ -1,6 +1,6 @@
 -- What a world holds, and what becomes of it by an event.
 use Rattle.std.specs.Prelude.{ℕ, Bool, true, false, ◌≡◌, ◌<◌, ◌≤◌, ◌/◌, length, slice_index_or, Some}
-use Rattle.tl_beat.specs.declared.opcode.Channel.{Channel}
+use Rattle.tl_beat.specs.declared.channel.Channel.{Channel}
 use Rattle.tl_params.specs.declared.config.Config.{Config}
 use Rattle.tl_params.specs.declared.perm.Perm.{Perm}
 use Rattle.tl_client.specs.declared.verdict.Verdict.{Verdict}
@@ -36,7 +36,8 @@ abbrev pub HasRoom : {w : ℕ} → Config → System w → Type 0
 HasRoom {w} config s = (k : ℕ) (ch : Channel) → length (s.channels k ch) ≤ capacity (64 / w) (sources_of (terms_at config k)) config.trackers ch
 
 -- The outcome is the one that comes of the event, and the new parts hold the whole afterwards.
-pub record IsStepped {w : ℕ} {A M : Type 0} (knows : A → client.End w → Type 0) (terms : A → Terms) (perm_of : M → ℕ → ℕ → Perm) (config : Config) (old new : Parts w A M) (event : Event w) (outcome : Outcome w) (s : System w) : Type 0 where
+pub record IsStepped {w : ℕ} {A M : Type 0} (knows : A → client.End w → Type 0) (terms : A → Terms) (perm_of : M → ℕ → ℕ → Perm) (config : Config)
+    (old new : Parts w A M) (event : Event w) (outcome : Outcome w) (s : System w) : Type 0 where
   pub outcome_is : outcome ≡ (stepped config event s).outcome
   pub holds : Holds knows terms perm_of config new (stepped config event s).after
   pub deepen : Deepen (clients_of config) old.rings new.rings

@@ -1,7 +1,7 @@
 -- What the ends know of sources, sinks and requests: the values of their histories are those of the protocol.
 use Rattle.std.specs.Prelude.{ℕ, Bool, true, false, ◌||◌, ◌≡◌, Option, Some, None, is_some, option_map, ⊤}
 use Rattle.tl_beat.specs.declared.beat.BeatA.{BeatA}
-use Rattle.tl_beat.specs.declared.opcode.Channel.TheVariants as channel
+use Rattle.tl_beat.specs.declared.channel.Channel.TheVariants as channel
 use Rattle.tl_burst.specs.declared.message.MessageA.{MessageA}
 use Rattle.tl_burst.specs.Burst.{a_beat_of}
 use Rattle.tl_burst.specs.Messages.{History, unfinished}

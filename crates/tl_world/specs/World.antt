@@ -1,6 +1,6 @@
 -- By what has happened to it a world is what it is.
 use Rattle.std.specs.Prelude.{ℕ, List, [], ◌∷◌, ◌≡◌, ◌<◌, ◌≤◌, ◌⊎◌, if◌then◌else◌, nat_lt, max, length, slice_index_or, Option, Some, None, Result, Ok, Err}
-use Rattle.tl_beat.specs.declared.opcode.Channel.{Channel}
+use Rattle.tl_beat.specs.declared.channel.Channel.{Channel}
 use Rattle.tl_params.specs.declared.config.Config.{Config}
 use Rattle.tl_params.specs.declared.config.NewFault.{NewFault}
 use Rattle.tl_params.specs.declared.config.NewFault.TheVariants.{Memory}
@@ -43,7 +43,8 @@ IsNewWorld knows terms perm_of config (Ok contents) = IsReached knows terms perm
 IsNewWorld knows terms perm_of config (Err fault) = IsFault config fault
 
 -- Where there is a world the events have happened, with these outcomes. Otherwise the outcomes are as they were.
-abbrev pub IsReplayed : {w : ℕ} {A M : Type 0} → (A → End w → Type 0) → (A → Terms) → (M → ℕ → ℕ → Perm) → Config → List (Event w) → List (Outcome w) → List (Outcome w) → Result (Contents w A M) NewFault → Type 0
+abbrev pub IsReplayed : {w : ℕ} {A M : Type 0} → (A → End w → Type 0) → (A → Terms) → (M → ℕ → ℕ → Perm) → Config → List (Event w) → List (Outcome w)
+    → List (Outcome w) → Result (Contents w A M) NewFault → Type 0
 IsReplayed knows terms perm_of config events old new (Ok contents) = IsReached knows terms perm_of config contents (logged events new [])
 IsReplayed knows terms perm_of config events old new (Err fault) = IsNewWorld knows terms perm_of config (Err fault) × (new ≡ old)
 

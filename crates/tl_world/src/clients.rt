@@ -8,7 +8,7 @@ ghost use Rattle.tl_params.specs.declared.perm.Perm.TheVariants as perm;
 ghost use Rattle.tl_world.specs.Called.{IsAsked, IsOffered};
 
 use tl_beat::beat::Beat;
-use tl_beat::opcode::Channel;
+use tl_beat::channel::Channel;
 use tl_burst::message::Message;
 use tl_client::agent::Agent;
 use tl_client::operation::Op;

@@ -13,7 +13,7 @@ use crate::clients::{ask_at, offer_at};
 use crate::event::{Event, Outcome};
 use crate::parts::Parts;
 use tl_beat::beat::{Beat, Link};
-use tl_beat::opcode::Channel;
+use tl_beat::channel::Channel;
 use tl_client::agent::Agent;
 use tl_client::operation::Op;
 use tl_client::verdict::Verdict;

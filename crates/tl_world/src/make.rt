@@ -10,7 +10,7 @@ use crate::occupied::Occupied;
 use crate::ring::Ring;
 use crate::rings::Rings;
 use std::alloc::{AllocError, Global};
-use tl_beat::opcode::Channel;
+use tl_beat::channel::Channel;
 use tl_rules::config::Config;
 
 fn channel_at(number: usize) -> Channel

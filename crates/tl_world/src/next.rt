@@ -13,7 +13,7 @@ use crate::happen::is_to_client;
 use crate::occupied::lowest;
 use crate::parts::Parts;
 use tl_beat::beat::{Beat, Link};
-use tl_beat::opcode::Channel;
+use tl_beat::channel::Channel;
 use tl_client::agent::Agent;
 use tl_manager::directory::Directory;
 use tl_manager::word::with_bit;

@@ -2,13 +2,13 @@
 
 ghost use Rattle.std.specs.Prelude.{ℕ, ◌≡◌, ◌≢◌, ◌<◌, IfSome};
 ghost use Rattle.std.specs.Int.{bit_at};
-ghost use Rattle.tl_beat.specs.declared.opcode.Channel.{Channel};
+ghost use Rattle.tl_beat.specs.declared.channel.Channel.{Channel};
 ghost use Rattle.tl_manager.specs.Bit.{bit_if};
 ghost use Rattle.tl_world.specs.Carrying.{AreClear, place, word_of};
 
 use crate::place::number;
 use tl_beat::beat::Link;
-use tl_beat::opcode::Channel;
+use tl_beat::channel::Channel;
 use tl_manager::word::with_bit;
 
 /// The place of the lowest bit that is set in a word: None where no bit is.

@@ -4,7 +4,7 @@ ghost use Rattle.std.specs.Prelude.{◌≡◌};
 ghost use Rattle.tl_world.specs.Carrying;
 
 use tl_beat::beat::Link;
-use tl_beat::opcode::Channel;
+use tl_beat::channel::Channel;
 
 /// The number of a channel among those of its link.
 pub fn number(channel: Channel) -> usize

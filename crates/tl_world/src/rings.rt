@@ -14,7 +14,7 @@ use crate::occupied::Occupied;
 use crate::place::place;
 use crate::ring::Ring;
 use tl_beat::beat::{Beat, Link};
-use tl_beat::opcode::Channel;
+use tl_beat::channel::Channel;
 use tl_burst::message::Message;
 use tl_manager::manager::reply::{Sending, probe};
 use tl_rules::param::Cap;

@@ -21,7 +21,7 @@ use crate::typed::typed;
 use std::alloc::Global;
 use std::marker::Model;
 use tl_beat::beat::Link;
-use tl_beat::opcode::Channel;
+use tl_beat::channel::Channel;
 use tl_client::agent::Agent;
 use tl_manager::directory::Directory;
 use tl_manager::manager::Manager;

@@ -17,7 +17,7 @@ use crate::order::{broken_in_order, check_alone};
 use crate::release::is_releasing;
 use crate::verdict::Verdict;
 use tl_beat::beat::Beat;
-use tl_beat::opcode::Channel;
+use tl_beat::channel::Channel;
 use tl_burst::message::Message;
 use tl_rules::agent::{is_outside, is_spoiled};
 use tl_rules::kind::is_probe;

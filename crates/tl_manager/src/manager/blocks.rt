@@ -10,7 +10,7 @@ ghost use Rattle.tl_manager.specs.Blocks.{AreBlocks};
 ghost use Rattle.tl_manager.specs.Deed.{with_block};
 
 use std::alloc::{AllocError, Global};
-use tl_beat::opcode::Channel;
+use tl_beat::channel::Channel;
 use tl_burst::message::{Message, MessageA};
 use tl_rules::answer::Answer;
 use tl_rules::level::Level;

@@ -1,9 +1,10 @@
 ghost use Rattle.std.specs.Prelude.{◌≡◌, is_some};
 ghost use Rattle.tl_beat.specs.Width.{IsWidth};
 
-use crate::legality::check_beat;
+use crate::legality::beat::check_beat;
 use tl_beat::beat::{Beat, BeatA, BeatB, BeatC, BeatD, BeatE};
-use tl_beat::opcode::{Channel, OpA, OpB, OpC, OpD};
+use tl_beat::channel::Channel;
+use tl_beat::opcode::{OpA, OpB, OpC, OpD};
 use tl_params::level::Level;
 use tl_params::rule::Rule;
 

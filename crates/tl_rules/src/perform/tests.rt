@@ -3,7 +3,7 @@ ghost use Rattle.tl_beat.specs.Width.{IsWidth};
 
 use super::*;
 use crate::blank::is_blank;
-use crate::check::check;
+use crate::legality::message::check;
 use crate::merge::merge_masked;
 use std::process::Abort;
 use tl_beat::opcode::OpD;

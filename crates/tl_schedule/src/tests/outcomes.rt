@@ -6,7 +6,7 @@ use crate::outcome::{append_drained, append_outcome, append_trace};
 use std::process::Abort;
 use std::test::Fail;
 use tl_beat::beat::{Beat, BeatE, Link};
-use tl_beat::opcode::Channel;
+use tl_beat::channel::Channel;
 use tl_client::busy::Busy;
 use tl_client::operation::Op;
 use tl_client::reply::Reply;

@@ -10,4 +10,5 @@ returns-clause-value g c = part_of_mask c.args.mask c.lanes.result (is_lane g.ro
 pub returns-clause-narrow : goal.returns-clause-narrow
 returns-clause-narrow g c = λ aligned.
     let test = is_lane g.row.W c.args.size c.args.address in
-    if_true _ _ (part_of_mask c.args.mask c.lanes.result test (omega arith) (omega arith) c.lanes.ensures) (part_mask-narrow g.row.W c.args.size c.args.address c.args.mask c.requires.width c.requires.small (omega arith) aligned)
+    if_true _ _ (part_of_mask c.args.mask c.lanes.result test (omega arith) (omega arith) c.lanes.ensures)
+    (part_mask-narrow g.row.W c.args.size c.args.address c.args.mask c.requires.width c.requires.small (omega arith) aligned)

@@ -11,4 +11,9 @@ loop-i-preserved c =
 
 pub returns : goal.returns
 returns c =
-    c.loop-i.invariant ∙ rw (take_all (8 * c.loop-i.i) c.args.old.now (omega arith), take_all (8 * c.loop-i.i) c.args.new.now (omega arith), drop_all (8 * c.loop-i.i) c.args.old.now (omega arith), append-nil) refl
+    c.loop-i.invariant ∙ rw (
+      take_all (8 * c.loop-i.i) c.args.old.now (omega arith),
+      take_all (8 * c.loop-i.i) c.args.new.now (omega arith),
+      drop_all (8 * c.loop-i.i) c.args.old.now (omega arith),
+      append-nil,
+    ) refl

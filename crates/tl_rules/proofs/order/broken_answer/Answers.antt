@@ -22,16 +22,37 @@ pub returns-then-misgrants : goal.returns-then-misgrants
 returns-then-misgrants g c = λ t k.
     let fields = request-fields c.args.x.now.source t c.in-Some.request (c.in-Some.ensures t k) in
     sym (answered c.args.x.now t c.args.profile c.in-Some.request c.requires (c.in-Some.ensures t k)
-    ∙ rw (sym c.answers.ensures ∙ c.if-not-answers.false, eq-eqb c.args.x.now.size c.in-Some.request.size c.if-x-request.false, sym c.is_grant.ensures ∙ c.if-not-is_grant.false, sym (c.misgrants.ensures t k _ fields) ∙ c.if-misgrants.true) refl)
+    ∙ rw (
+      sym c.answers.ensures ∙ c.if-not-answers.false,
+      eq-eqb c.args.x.now.size c.in-Some.request.size c.if-x-request.false,
+      sym c.is_grant.ensures
+          ∙ c.if-not-is_grant.false,
+      sym (c.misgrants.ensures t k _ fields) ∙ c.if-misgrants.true,
+    ) refl)
 
 pub returns-then-is_pending : goal.returns-then-is_pending
 returns-then-is_pending g c = λ t k.
     let fields = request-fields c.args.x.now.source t c.in-Some.request (c.in-Some.ensures t k) in
     sym (answered c.args.x.now t c.args.profile c.in-Some.request c.requires (c.in-Some.ensures t k)
-    ∙ rw (sym c.answers.ensures ∙ c.if-not-answers.false, eq-eqb c.args.x.now.size c.in-Some.request.size c.if-x-request.false, sym c.is_grant.ensures ∙ c.if-not-is_grant.false, sym (c.misgrants.ensures t k _ fields) ∙ c.if-misgrants.false, sym (c.is_pending.ensures t k) ∙ c.if-is_pending.true) refl)
+    ∙ rw (
+      sym c.answers.ensures ∙ c.if-not-answers.false,
+      eq-eqb c.args.x.now.size c.in-Some.request.size c.if-x-request.false,
+      sym c.is_grant.ensures
+          ∙ c.if-not-is_grant.false,
+      sym (c.misgrants.ensures t k _ fields) ∙ c.if-misgrants.false,
+      sym (c.is_pending.ensures t k) ∙ c.if-is_pending.true,
+    ) refl)
 
 pub returns : goal.returns
 returns g c = λ t k.
     let fields = request-fields c.args.x.now.source t c.in-Some.request (c.in-Some.ensures t k) in
     sym (answered c.args.x.now t c.args.profile c.in-Some.request c.requires (c.in-Some.ensures t k)
-    ∙ rw (sym c.answers.ensures ∙ c.if-not-answers.false, eq-eqb c.args.x.now.size c.in-Some.request.size c.if-x-request.false, sym c.is_grant.ensures ∙ c.if-not-is_grant.false, sym (c.misgrants.ensures t k _ fields) ∙ c.if-misgrants.false, sym (c.is_pending.ensures t k) ∙ c.if-is_pending.false) refl)
+    ∙ rw (
+      sym c.answers.ensures ∙ c.if-not-answers.false,
+      eq-eqb c.args.x.now.size c.in-Some.request.size c.if-x-request.false,
+      sym c.is_grant.ensures
+          ∙ c.if-not-is_grant.false,
+      sym (c.misgrants.ensures t k _ fields) ∙ c.if-misgrants.false,
+      sym (c.is_pending.ensures t k) ∙ c.if-is_pending.false,
+    )
+    refl)

@@ -8,9 +8,21 @@ returns-in_default g c = λ t k. no-probe c.args.x.now _ t c.block_at-block.ensu
 pub returns-then-not-is_report : goal.returns-then-not-is_report
 returns-then-not-is_report g c = λ t k.
     sym (probed c.args.x.now _ t c.in-Some.probe c.block_at-block.ensures (c.in-Some.ensures t k)
-    ∙ rw (sym c.answers_wrong_probe.ensures ∙ c.if-answers_wrong_probe.false, sym (c.is_pending.ensures t k) ∙ c.if-is_pending.false, ← c.held.ensures t k, sym c.is_report.ensures ∙ c.if-not-is_report.true) refl)
+    ∙ rw (
+      sym c.answers_wrong_probe.ensures ∙ c.if-answers_wrong_probe.false,
+      sym (c.is_pending.ensures t k)
+          ∙ c.if-is_pending.false,
+      ← c.held.ensures t k,
+      sym c.is_report.ensures ∙ c.if-not-is_report.true,
+    ) refl)
 
 pub returns : goal.returns
 returns g c = λ t k.
     sym (probed c.args.x.now _ t c.in-Some.probe c.block_at-block.ensures (c.in-Some.ensures t k)
-    ∙ rw (sym c.answers_wrong_probe.ensures ∙ c.if-answers_wrong_probe.false, sym (c.is_pending.ensures t k) ∙ c.if-is_pending.false, ← c.held.ensures t k, sym c.is_report.ensures ∙ c.if-not-is_report.false) refl)
+    ∙ rw (
+      sym c.answers_wrong_probe.ensures ∙ c.if-answers_wrong_probe.false,
+      sym (c.is_pending.ensures t k)
+          ∙ c.if-is_pending.false,
+      ← c.held.ensures t k,
+      sym c.is_report.ensures ∙ c.if-not-is_report.false,
+    ) refl)

@@ -24,7 +24,8 @@ returns-in_err-count-clause-err g c =
 
 pub returns-then-count-eq0-clause-ok : goal.returns-then-count-eq0-clause-ok
 returns-then-count-eq0-clause-ok g c =
-    closed_ok g.J.Judge.knows g.J.Judge.tells _ _ _ _ _ c.loop.invariant.so_far _ _ _ _ _ c.if-count-eq0.true c.in_ok-count.ensures.ok (c.in_ok-count.ensures.end (ap Ok c.if-count-eq0.true)) c.close.ensures.ok
+    closed_ok g.J.Judge.knows g.J.Judge.tells _ _ _ _ _ c.loop.invariant.so_far _ _ _ _ _ c.if-count-eq0.true c.in_ok-count.ensures.ok
+    (c.in_ok-count.ensures.end (ap Ok c.if-count-eq0.true)) c.close.ensures.ok
 
 pub returns-then-count-eq0-clause-err : goal.returns-then-count-eq0-clause-err
 returns-then-count-eq0-clause-err g c =

@@ -22,4 +22,6 @@ returns-in_err-write_all-3-clause-err g c =
 
 pub returns-clause-ok : goal.returns-clause-ok
 returns-clause-ok g c =
-    Appends-trans _ _ _ (codes "tltool: cannot open " ++ c.args.name.now) _ (Appends-trans _ _ _ _ _ c.in_ok-write_all.ensures.ok (rw c.as_bytes.ensures.value at c.in_ok-write_all-2.ensures.ok)) c.in_ok-write_all-3.ensures.ok
+    Appends-trans _ _ _ (codes "tltool: cannot open " ++ c.args.name.now) _
+    (Appends-trans _ _ _ _ _ c.in_ok-write_all.ensures.ok (rw c.as_bytes.ensures.value at c.in_ok-write_all-2.ensures.ok))
+    c.in_ok-write_all-3.ensures.ok

@@ -11,7 +11,8 @@ append_event-requires g c =
     search (rules, line)
 
 pub returns-clause-happens : goal.returns-clause-happens
-returns-clause-happens g c = happened c.args.trace c.args.world.now c.step-outcome.new.self c.args.event c.step-outcome.result c.args.out.now.items c.append_event.new.out.items c.append_event.result c.append_event.ensures c.step-outcome.ensures.outcome c.step-outcome.ensures.reached
+returns-clause-happens g c = happened c.args.trace c.args.world.now c.step-outcome.new.self c.args.event c.step-outcome.result c.args.out.now.items
+    c.append_event.new.out.items c.append_event.result c.append_event.ensures c.step-outcome.ensures.outcome c.step-outcome.ensures.reached
 
 pub returns-clause-still : goal.returns-clause-still
 returns-clause-still g c =

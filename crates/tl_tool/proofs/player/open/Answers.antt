@@ -13,16 +13,22 @@ returns g c =
       | in-Four+in_ok-new-in-Four w ↦ rw w.player-is (
         header_text (is_trace g.row.TRACES) s.version s.config.clients.items,
         c.in_ok-append_header.ensures,
-        header-plays (is_trace g.row.TRACES) c.args.line.now s.version Four s.config _ (record { spelled = c.in-Some.ensures.spelled; of_profile = c.in-Some.ensures.of_profile }) (sym w.in-Four.is ∙ c.width.ensures) w.in_ok-new-in-Four.ensures,
+        header-plays (is_trace g.row.TRACES) c.args.line.now s.version Four s.config _
+            (record { spelled = c.in-Some.ensures.spelled; of_profile = c.in-Some.ensures.of_profile })
+            (sym w.in-Four.is ∙ c.width.ensures) w.in_ok-new-in-Four.ensures,
       )
       | in-Eight+in_ok-new-in-Eight w ↦ rw w.player-is (
         header_text (is_trace g.row.TRACES) s.version s.config.clients.items,
         c.in_ok-append_header.ensures,
-        header-plays (is_trace g.row.TRACES) c.args.line.now s.version Eight s.config _ (record { spelled = c.in-Some.ensures.spelled; of_profile = c.in-Some.ensures.of_profile }) (sym w.in-Eight.is ∙ c.width.ensures) w.in_ok-new-in-Eight.ensures,
+        header-plays (is_trace g.row.TRACES) c.args.line.now s.version Eight s.config _
+            (record { spelled = c.in-Some.ensures.spelled; of_profile = c.in-Some.ensures.of_profile })
+            (sym w.in-Eight.is ∙ c.width.ensures) w.in_ok-new-in-Eight.ensures,
       )
       | in-Sixteen+in_ok-new-in-Sixteen w ↦ rw w.player-is (
         header_text (is_trace g.row.TRACES) s.version s.config.clients.items,
         c.in_ok-append_header.ensures,
-        header-plays (is_trace g.row.TRACES) c.args.line.now s.version Sixteen s.config _ (record { spelled = c.in-Some.ensures.spelled; of_profile = c.in-Some.ensures.of_profile }) (sym w.in-Sixteen.is ∙ c.width.ensures) w.in_ok-new-in-Sixteen.ensures,
+        header-plays (is_trace g.row.TRACES) c.args.line.now s.version Sixteen s.config _
+            (record { spelled = c.in-Some.ensures.spelled; of_profile = c.in-Some.ensures.of_profile })
+            (sym w.in-Sixteen.is ∙ c.width.ensures) w.in_ok-new-in-Sixteen.ensures,
       )
     ]

@@ -64,7 +64,8 @@ returns-clause-given c =
       c.in-Some.name.now,
       rows,
       chosen texts _ c.in_ok-matches.matches c.in-Some.name.now rows c.in_ok-tool.ensures h.1 c.in-Some.ensures.name c.in-Some.ensures.rows,
-      ap₂ (command_named c.in-Some.name.now) (sym (c.get_str.ensures ∙ first_value-rows (found_of c.in-Some.found.now) (codes "width"))) (sym (c.get_str-2.ensures ∙ first_value-rows (found_of c.in-Some.found.now) (codes "trace"))) ∙ sym c.in-Some-command_named.ensures,
+      ap₂ (command_named c.in-Some.name.now) (sym (c.get_str.ensures ∙ first_value-rows (found_of c.in-Some.found.now) (codes "width")))
+          (sym (c.get_str-2.ensures ∙ first_value-rows (found_of c.in-Some.found.now) (codes "trace"))) ∙ sym c.in-Some-command_named.ensures,
       c.in_ok-file.ensures ∙ c.get_str-3.ensures ∙ first_value-rows (found_of c.in-Some.found.now) (codes "FILE"),
     )
 
@@ -81,4 +82,5 @@ returns-in_default-command_named-clause-refused c =
     let h = c.in_ok-matches.ensures.ok.2 (ap is_simple c.in_ok-tool.ensures ∙ simple) in
     let is = chosen texts _ c.in_ok-matches.matches c.in-Some.name.now rows c.in_ok-tool.ensures h.1 c.in-Some.ensures.name c.in-Some.ensures.rows in
     inr (ap command_given is
-    ∙ ap₂ (command_named c.in-Some.name.now) (sym (c.get_str.ensures ∙ first_value-rows (found_of c.in-Some.found.now) (codes "width"))) (sym (c.get_str-2.ensures ∙ first_value-rows (found_of c.in-Some.found.now) (codes "trace"))) ∙ sym c.in_default-command_named.ensures)
+    ∙ ap₂ (command_named c.in-Some.name.now) (sym (c.get_str.ensures ∙ first_value-rows (found_of c.in-Some.found.now) (codes "width")))
+    (sym (c.get_str-2.ensures ∙ first_value-rows (found_of c.in-Some.found.now) (codes "trace"))) ∙ sym c.in_default-command_named.ensures)

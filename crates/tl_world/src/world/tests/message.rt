@@ -3,7 +3,8 @@
 ghost use Rattle.std.specs.Prelude.{◌≤◌};
 ghost use Rattle.tl_beat.specs.Width.{IsWidth};
 
-use tl_beat::opcode::{Channel, OpA, OpB, OpC, OpD};
+use tl_beat::channel::Channel;
+use tl_beat::opcode::{OpA, OpB, OpC, OpD};
 use tl_burst::message::{Message, MessageA, MessageB, MessageC, MessageD, MessageE};
 use tl_client::verdict::Finish;
 use tl_rules::perm::Perm;

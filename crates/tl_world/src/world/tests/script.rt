@@ -7,7 +7,7 @@ use crate::world::tests::message::{Ends, Says, channel_of, finish, message};
 use std::alloc::{AllocError, Global};
 use std::process::Abort;
 use tl_beat::beat::{Beat, Link};
-use tl_beat::opcode::Channel;
+use tl_beat::channel::Channel;
 use tl_burst::burst::{beat_at, beats_of};
 use tl_burst::message::Message;
 use tl_client::operation::Op;

@@ -3,7 +3,8 @@
 use crate::world::tests::made::Setup;
 use crate::world::tests::message::{Ends, Says, ZEROS};
 use crate::world::tests::script::{Asks, Row};
-use tl_beat::opcode::{Channel, OpA, OpC, OpD};
+use tl_beat::channel::Channel;
+use tl_beat::opcode::{OpA, OpC, OpD};
 use tl_client::reply::Reply;
 use tl_rules::level::Level;
 use tl_rules::param::{Grow, Prune};

@@ -10,7 +10,8 @@ returns-in_err-check_alone-clause-judged g c =
 
 pub returns-then-waits-clause-judged : goal.returns-then-waits-clause-judged
 returns-then-waits-clause-judged g c = λ e k.
-    stalled c.args.self.now c.args.channel c.args.beat.now e (passes_alone c.args.self.now c.args.channel c.args.beat.now e k c.in_ok-check_alone.ensures.rule) (sym (c.waits.ensures e k) ∙ c.if-waits.true)
+    stalled c.args.self.now c.args.channel c.args.beat.now e (passes_alone c.args.self.now c.args.channel c.args.beat.now e k c.in_ok-check_alone.ensures.rule)
+    (sym (c.waits.ensures e k) ∙ c.if-waits.true)
 
 pub returns-in_err-check_order-clause-judged : goal.returns-in_err-check_order-clause-judged
 returns-in_err-check_order-clause-judged g c =

@@ -7,7 +7,8 @@ pub overflow_sub-self : goal.overflow_sub-self
 overflow_sub-self c =
     let table = with_seen (entries_of c.self.inside.trees) c.self.inside.last c.self.inside.seen in
     let one = all-before table c.args.block (omega arith) in
-    let own = own-said (entries_of c.turn-old.new.trees) table c.args.block c.args.block c.turn-old.result (entries-long c.turn-old.new.trees c.args.block c.turn-old.ensures.long) c.turn-old.ensures.stands c.turn-old.ensures.same refl in
+    let own = own-said (entries_of c.turn-old.new.trees) table c.args.block c.args.block c.turn-old.result
+    (entries-long c.turn-old.new.trees c.args.block c.turn-old.ensures.long) c.turn-old.ensures.stands c.turn-old.ensures.same refl in
     let before = c.open_of.ensures.counted ∙ ap open_of (c.or_empty.ensures ∙ own) in
     omega (arith, one, before, c.self.invariant.0)
 

@@ -10,7 +10,8 @@ loop-line-init g c = ([], refl, λ read before p. rw append-nil p)
 pub returns-in-Broken-clause-feeds : goal.returns-in-Broken-clause-feeds
 returns-in-Broken-clause-feeds g c =
     let so_far = c.loop-line.invariant in
-    feeds_until g.J.Judge.knows g.J.Judge.tells _ _ c.take_line.new.self so_far.0 c.in-Some.line.now c.in-Some.after.now c.loop-line.rest.now _ _ _ _ so_far.1 c.in-Some.ensures.1 so_far.2 (rw c.in-Broken.is at c.in_ok-take_line.ensures.feeds)
+    feeds_until g.J.Judge.knows g.J.Judge.tells _ _ c.take_line.new.self so_far.0 c.in-Some.line.now c.in-Some.after.now c.loop-line.rest.now _ _ _ _ so_far.1
+    c.in-Some.ensures.1 so_far.2 (rw c.in-Broken.is at c.in_ok-take_line.ensures.feeds)
 
 pub loop-line-preserved : goal.loop-line-preserved
 loop-line-preserved g c =

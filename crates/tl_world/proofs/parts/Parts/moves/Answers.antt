@@ -7,5 +7,6 @@ returns-in-None g c = λ config s h.
 
 pub returns-in-Some : goal.returns-in-Some
 returns-in-Some g c = λ config s h.
-    movable-first g.A.Agent.knows g.A.Agent.terms g.D.Directory.perm_of config c.args.self.now s h c.args.link c.args.channel c.in-Some.beat.now c.stalls.result c.in-Some.ensures.there c.in-Some.ensures.nowhere
+    movable-first g.A.Agent.knows g.A.Agent.terms g.D.Directory.perm_of config c.args.self.now s h c.args.link c.args.channel c.in-Some.beat.now c.stalls.result
+    c.in-Some.ensures.there c.in-Some.ensures.nowhere
     (c.stalls.ensures config s h)

@@ -24,4 +24,5 @@ pub returns-in-Ok-Some : goal.returns-in-Ok-Some
 returns-in-Ok-Some g c = λ config s h down room.
     manager-sent g.A.Agent.knows g.A.Agent.terms g.D.Directory.perm_of config c.args.self.now _ s c.args.link c.args.channel c.in-Some.beat.now _ (sent_of c.answer.result) h c.requires.inside
     (first-brought g.A.Agent.knows g.A.Agent.terms g.D.Directory.perm_of config c.args.self.now s c.args.link c.args.channel c.in-Some.beat.now h c.requires.inside c.in-Some.ensures.there) down refl
-    c.answer.ensures.answer c.answer.ensures.after c.drop_first.new.self (messages_of c.in-Ok-Some.sending) (search rules) c.drop_first.ensures.kept c.send_out.ensures.kept c.drop_first.ensures.moved c.send_out.ensures.moved room
+    c.answer.ensures.answer c.answer.ensures.after c.drop_first.new.self (messages_of c.in-Ok-Some.sending)
+    (search rules) c.drop_first.ensures.kept c.send_out.ensures.kept c.drop_first.ensures.moved c.send_out.ensures.moved room

@@ -26,7 +26,9 @@ loop-client-preserved g c = record {
   kept = search rules;
   moved = λ n s carried fits.
       probe-sent n c.args.self.now c.loop-client.self _ s c.args.block c.args.cap (λ k. bit_at c.args.clients k == 1) c.loop-client.client (omega arith) (search rules) c.loop-client.invariant.kept
-      (c.loop-client.invariant.moved n s carried fits) (rw (c.probe-message.ensures, c.from.ensures) at (c.send.ensures.moved n (with_messages (probes c.args.block c.args.cap (clients_from 0 c.loop-client.client (λ k. bit_at c.args.clients k == 1))) s))) fits;
+      (c.loop-client.invariant.moved n s carried fits) (rw (c.probe-message.ensures, c.from.ensures) at
+      (c.send.ensures.moved n (with_messages (probes c.args.block c.args.cap (clients_from 0 c.loop-client.client (λ k. bit_at c.args.clients k == 1)))
+      s))) fits;
 }
 
 pub returns-clause-kept : goal.returns-clause-kept

@@ -5,7 +5,13 @@ use Rattle.tl_world.proofs.world.World.new.Goals as goal
 
 pub returns : goal.returns
 returns g c =
-    reached-new g.A.Agent.knows g.A.Agent.terms g.D.Directory.perm_of c.args.config (record { parts = record { clients = c.args.clients; manager = c.in_ok-manager.manager; rings = c.in_ok-rings.rings }; outstanding = record { requests = 0; releases = 0 } }) c.requires.width c.requires.clients c.in_ok-manager.ensures c.in_ok-rings.ensures.fresh c.in_ok-rings.ensures.clear refl refl
+    reached-new g.A.Agent.knows g.A.Agent.terms g.D.Directory.perm_of c.args.config
+    (record {
+      parts = record { clients = c.args.clients; manager = c.in_ok-manager.manager; rings = c.in_ok-rings.rings };
+      outstanding =
+          record { requests = 0; releases = 0 };
+    }) c.requires.width c.requires.clients c.in_ok-manager.ensures c.in_ok-rings.ensures.fresh
+    c.in_ok-rings.ensures.clear refl refl
 
 pub returns-in_err-manager : goal.returns-in_err-manager
 returns-in_err-manager g c = let p = err_from_is_err_and c.from_residual.result c.from_residual.ensures.1 in rw (p.1, p.2) c.in_err-manager.ensures

@@ -11,11 +11,13 @@ returns-in_default-clause-done g c = λ config x e memory is home.
 
 pub returns-in-Granted-clause-done : goal.returns-in-Granted-clause-done
 returns-in-Granted-clause-done g c = λ config x e memory is home.
-    absurd (granted-at config c.in-Some.number c.in-Granted.link c.args.link c.args.block c.in-Granted.block x e (tracker_at c.args.self.now.trackers c.in-Some.number) c.in-Granted.ensures (home.tracked c.in-Some.number) c.in-Some.ensures.found.1 is)
+    absurd (granted-at config c.in-Some.number c.in-Granted.link c.args.link c.args.block c.in-Granted.block x e
+    (tracker_at c.args.self.now.trackers c.in-Some.number) c.in-Granted.ensures (home.tracked c.in-Some.number) c.in-Some.ensures.found.1 is)
 
 pub returns-then-missing-eq0-clause-done : goal.returns-then-missing-eq0-clause-done
 returns-then-missing-eq0-clause-done g c = λ config x e memory is home.
-    let p = probing-at c.in-Some.number c.args.block c.in-Probing.asking c.in-Probing.request c.in-Probing.missing (tracker_at c.args.self.now.trackers c.in-Some.number) e.trace c.in-Probing.ensures (home.tracked c.in-Some.number) c.in-Some.ensures.found.1 in
+    let p = probing-at c.in-Some.number c.args.block c.in-Probing.asking c.in-Probing.request c.in-Probing.missing
+    (tracker_at c.args.self.now.trackers c.in-Some.number) e.trace c.in-Probing.ensures (home.tracked c.in-Some.number) c.in-Some.ensures.found.1 in
     let serves = rw p.1 at p.0.serves in
     let bits = missing-reported config c.args.link c.args.block x e c.in-Probing.missing c.without-missing.result is (rw p.1 at p.0.bits) c.without-missing.ensures in
     let all = sym (missing-word config c.args.link c.args.block x e c.without-missing.result is bits) ∙ eq-eqb _ _ c.if-missing-eq0.true in
@@ -25,7 +27,8 @@ returns-then-missing-eq0-clause-done g c = λ config x e memory is home.
 
 pub returns-clause-done : goal.returns-clause-done
 returns-clause-done g c = λ config x e memory is home.
-    let p = probing-at c.in-Some.number c.args.block c.in-Probing.asking c.in-Probing.request c.in-Probing.missing (tracker_at c.args.self.now.trackers c.in-Some.number) e.trace c.in-Probing.ensures (home.tracked c.in-Some.number) c.in-Some.ensures.found.1 in
+    let p = probing-at c.in-Some.number c.args.block c.in-Probing.asking c.in-Probing.request c.in-Probing.missing
+    (tracker_at c.args.self.now.trackers c.in-Some.number) e.trace c.in-Probing.ensures (home.tracked c.in-Some.number) c.in-Some.ensures.found.1 in
     let serves = rw p.1 at p.0.serves in
     let bits = missing-reported config c.args.link c.args.block x e c.in-Probing.missing c.without-missing.result is (rw p.1 at p.0.bits) c.without-missing.ensures in
     let more = sym (missing-word config c.args.link c.args.block x e c.without-missing.result is bits) ∙ ne_eqb _ _ c.if-missing-eq0.false in

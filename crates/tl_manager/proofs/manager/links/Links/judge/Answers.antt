@@ -8,26 +8,38 @@ use Rattle.tl_manager.proofs.manager.links.Links.judge.Goals as goal
 
 pub returns-then-not-is_from_client-clause-judged : goal.returns-then-not-is_from_client-clause-judged
 returns-then-not-is_from_client-clause-judged g c = λ config e k.
-    let found : slice_get c.args.self.now.wires.items c.args.link.0 ≡ Some c.in-Some.wire.now = rw (c.from.ensures, c.deref.ensures.value) at (slice_get_read c.deref.result.now (length c.deref.result.now) c.from.result c.in-Some.wire.now refl c.in-Some.ensures.lookup.3.0 c.in-Some.ensures.lookup.1) in
-    judged-ours config c.args.link c.args.channel c.in-Some.wire.now c.args.beat.now e (k.wires c.args.link.0 c.in-Some.wire.now found) c.if-wire.false (sym c.is_from_client.ensures ∙ c.if-not-is_from_client.true)
+    let found : slice_get c.args.self.now.wires.items c.args.link.0 ≡ Some c.in-Some.wire.now =
+    rw (c.from.ensures, c.deref.ensures.value) at (slice_get_read c.deref.result.now
+    (length c.deref.result.now) c.from.result c.in-Some.wire.now refl c.in-Some.ensures.lookup.3.0 c.in-Some.ensures.lookup.1) in
+    judged-ours config c.args.link c.args.channel c.in-Some.wire.now c.args.beat.now e (k.wires c.args.link.0 c.in-Some.wire.now found) c.if-wire.false
+    (sym c.is_from_client.ensures ∙ c.if-not-is_from_client.true)
 
 pub returns-in_err-check_beat-clause-judged : goal.returns-in_err-check_beat-clause-judged
 returns-in_err-check_beat-clause-judged g c = λ config e k.
-    let found : slice_get c.args.self.now.wires.items c.args.link.0 ≡ Some c.in-Some.wire.now = rw (c.from.ensures, c.deref.ensures.value) at (slice_get_read c.deref.result.now (length c.deref.result.now) c.from.result c.in-Some.wire.now refl c.in-Some.ensures.lookup.3.0 c.in-Some.ensures.lookup.1) in
+    let found : slice_get c.args.self.now.wires.items c.args.link.0 ≡ Some c.in-Some.wire.now =
+    rw (c.from.ensures, c.deref.ensures.value) at (slice_get_read c.deref.result.now
+    (length c.deref.result.now) c.from.result c.in-Some.wire.now refl c.in-Some.ensures.lookup.3.0 c.in-Some.ensures.lookup.1) in
     let p = err_from_is_err_and c.from_residual.result c.from_residual.ensures.1 in
-    p.1 ∙ ap Err p.2 ∙ judged-illegal config c.args.link c.args.channel c.in-Some.wire.now c.args.beat.now e _ (k.wires c.args.link.0 c.in-Some.wire.now found) c.if-wire.false (sym c.is_from_client.ensures ∙ c.if-not-is_from_client.false) c.in_err-check_beat.ensures.value
+    p.1 ∙ ap Err p.2 ∙ judged-illegal config c.args.link c.args.channel c.in-Some.wire.now c.args.beat.now e _
+    (k.wires c.args.link.0 c.in-Some.wire.now found) c.if-wire.false
+    (sym c.is_from_client.ensures ∙ c.if-not-is_from_client.false) c.in_err-check_beat.ensures.value
 
 pub returns-clause-judged : goal.returns-clause-judged
 returns-clause-judged g c = λ config e k.
-    let found : slice_get c.args.self.now.wires.items c.args.link.0 ≡ Some c.in-Some.wire.now = rw (c.from.ensures, c.deref.ensures.value) at (slice_get_read c.deref.result.now (length c.deref.result.now) c.from.result c.in-Some.wire.now refl c.in-Some.ensures.lookup.3.0 c.in-Some.ensures.lookup.1) in
+    let found : slice_get c.args.self.now.wires.items c.args.link.0 ≡ Some c.in-Some.wire.now =
+    rw (c.from.ensures, c.deref.ensures.value) at (slice_get_read c.deref.result.now
+    (length c.deref.result.now) c.from.result c.in-Some.wire.now refl c.in-Some.ensures.lookup.3.0 c.in-Some.ensures.lookup.1) in
     let wire = k.wires c.args.link.0 c.in-Some.wire.now found in
     c.judge_order.ensures config e k wire
-    ∙ ap admission_of (judged-legal config c.args.link c.args.channel c.in-Some.wire.now c.args.beat.now e wire c.if-wire.false (sym c.is_from_client.ensures ∙ c.if-not-is_from_client.false) c.in_ok-check_beat.ensures.value)
+    ∙ ap admission_of (judged-legal config c.args.link c.args.channel c.in-Some.wire.now c.args.beat.now e wire c.if-wire.false
+    (sym c.is_from_client.ensures ∙ c.if-not-is_from_client.false) c.in_ok-check_beat.ensures.value)
 
 pub returns-clause-takeable : goal.returns-clause-takeable
 returns-clause-takeable g c = on-ok c.judge_order.result _ c.in_ok-check_beat.ensures.takeable
 
 pub returns-clause-link : goal.returns-clause-link
 returns-clause-link g c =
-    let found : slice_get c.args.self.now.wires.items c.args.link.0 ≡ Some c.in-Some.wire.now = rw (c.from.ensures, c.deref.ensures.value) at (slice_get_read c.deref.result.now (length c.deref.result.now) c.from.result c.in-Some.wire.now refl c.in-Some.ensures.lookup.3.0 c.in-Some.ensures.lookup.1) in
+    let found : slice_get c.args.self.now.wires.items c.args.link.0 ≡ Some c.in-Some.wire.now =
+    rw (c.from.ensures, c.deref.ensures.value) at (slice_get_read c.deref.result.now
+    (length c.deref.result.now) c.from.result c.in-Some.wire.now refl c.in-Some.ensures.lookup.3.0 c.in-Some.ensures.lookup.1) in
     on-ok c.judge_order.result _ (slice_get_within c.args.self.now.wires.items c.args.link.0 c.in-Some.wire.now found)

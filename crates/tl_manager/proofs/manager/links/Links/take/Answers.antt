@@ -37,7 +37,8 @@ returns-in_default-clause-knows g c = λ config e k.
     let ok = passed config c.args.link passes.0 c.args.beat.now e c.typed.ensures passes.1 in
     let part = last-is config c.args.link c.index_mut.result.now c.args.beat.now e false ok (k.wires c.args.link.0 c.index_mut.result.now found) c.in_default.ensures.completes in
     knows-taken g.D.Directory.perm_of c.args.self.now _ config c.args.link c.index_mut.result.now c.take.new.self c.args.beat.now e c.requires.known.width ok (rw c.from-number.ensures refl) found
-    c.take.ensures.level c.take.ensures.closed c.take.ensures.requests c.take.ensures.reports refl (done-part g.D.Directory.perm_of config c.args.self.now.home c.args.link c.args.beat.now e ok.theirs part k.home).1 k
+    c.take.ensures.level c.take.ensures.closed c.take.ensures.requests c.take.ensures.reports refl
+    (done-part g.D.Directory.perm_of config c.args.self.now.home c.args.link c.args.beat.now e ok.theirs part k.home).1 k
 
 pub complete-requires : goal.complete-requires
 complete-requires g c =
@@ -47,7 +48,8 @@ complete-requires g c =
     slice_get_read c.args.self.now.wires.items (length c.args.self.now.wires.items) c.args.link.0 c.index_mut.result.now refl c.requires.link (rw c.from-number.ensures at c.index_mut.ensures.value) in
     let passes = c.requires.passes known.config known.end k in
     let ok = passed known.config c.args.link passes.0 c.args.beat.now known.end c.typed.ensures passes.1 in
-    let complete = is-complete known.config c.args.link c.index_mut.result.now c.args.beat.now c.in-Some.message known.end known.width ok k.kept (k.wires c.args.link.0 c.index_mut.result.now found) c.in-Some.ensures.completes c.in-Some.ensures.message c.filled.ensures in
+    let complete = is-complete known.config c.args.link c.index_mut.result.now c.args.beat.now c.in-Some.message known.end known.width ok k.kept
+    (k.wires c.args.link.0 c.index_mut.result.now found) c.in-Some.ensures.completes c.in-Some.ensures.message c.filled.ensures in
     let can = can-complete g.D.Directory.perm_of g.D.Directory.blocks g.D.Directory.clients c.args.self.now c.args.link c.args.beat.now c.in-Some.message known c.requires.link complete in
     let width = known.width in
     let blocks = known.blocks in
@@ -59,7 +61,8 @@ returns-clause-handed g c = λ config e k.
     slice_get_read c.args.self.now.wires.items (length c.args.self.now.wires.items) c.args.link.0 c.index_mut.result.now refl c.requires.link (rw c.from-number.ensures at c.index_mut.ensures.value) in
     let passes = c.requires.passes config e k in
     let ok = passed config c.args.link passes.0 c.args.beat.now e c.typed.ensures passes.1 in
-    let complete = is-complete config c.args.link c.index_mut.result.now c.args.beat.now c.in-Some.message e c.requires.known.width ok k.kept (k.wires c.args.link.0 c.index_mut.result.now found) c.in-Some.ensures.completes c.in-Some.ensures.message c.filled.ensures in
+    let complete = is-complete config c.args.link c.index_mut.result.now c.args.beat.now c.in-Some.message e c.requires.known.width ok k.kept
+    (k.wires c.args.link.0 c.index_mut.result.now found) c.in-Some.ensures.completes c.in-Some.ensures.message c.filled.ensures in
     (c.complete.ensures.done config c.args.beat.now e (limits config k.fits).0 complete k.home).0
 
 pub returns-clause-knows : goal.returns-clause-knows
@@ -68,7 +71,8 @@ returns-clause-knows g c = λ config e k.
     slice_get_read c.args.self.now.wires.items (length c.args.self.now.wires.items) c.args.link.0 c.index_mut.result.now refl c.requires.link (rw c.from-number.ensures at c.index_mut.ensures.value) in
     let passes = c.requires.passes config e k in
     let ok = passed config c.args.link passes.0 c.args.beat.now e c.typed.ensures passes.1 in
-    let complete = is-complete config c.args.link c.index_mut.result.now c.args.beat.now c.in-Some.message e c.requires.known.width ok k.kept (k.wires c.args.link.0 c.index_mut.result.now found) c.in-Some.ensures.completes c.in-Some.ensures.message c.filled.ensures in
+    let complete = is-complete config c.args.link c.index_mut.result.now c.args.beat.now c.in-Some.message e c.requires.known.width ok k.kept
+    (k.wires c.args.link.0 c.index_mut.result.now found) c.in-Some.ensures.completes c.in-Some.ensures.message c.filled.ensures in
     let done = c.complete.ensures.done config c.args.beat.now e (limits config k.fits).0 complete k.home in
     knows-taken g.D.Directory.perm_of c.args.self.now _ config c.args.link c.index_mut.result.now c.take.new.self c.args.beat.now e c.requires.known.width ok (rw c.from-number.ensures refl) found
     c.take.ensures.level c.take.ensures.closed c.take.ensures.requests c.take.ensures.reports c.complete.ensures.count done.1 k

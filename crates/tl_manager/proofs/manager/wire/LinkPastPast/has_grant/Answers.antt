@@ -6,5 +6,6 @@ use Rattle.tl_manager.proofs.manager.wire.LinkPastPast.has_grant.Goals as goal
 
 pub returns : goal.returns
 returns g c = λ t p. c.is_granted_to.ensures ∙ rw c.at.ensures
-    (sink-looked c.args.self.now.home.now.trackers c.args.sink c.args.self.now.link.0 p.end.trace (looked-past g.D.Directory.perm_of c.args.self.now.link c.args.self.now.wire.now c.args.self.now.home.now t p)
+    (sink-looked c.args.self.now.home.now.trackers c.args.sink c.args.self.now.link.0 p.end.trace
+    (looked-past g.D.Directory.perm_of c.args.self.now.link c.args.self.now.wire.now c.args.self.now.home.now t p)
     ∙ granted-whole g.D.Directory.perm_of c.args.self.now.link c.args.self.now.wire.now c.args.self.now.home.now t c.args.sink p)

@@ -6,10 +6,12 @@ use Rattle.tl_manager.proofs.manager.wire.LinkPastPast.request.Goals as goal
 
 pub returns-in-None : goal.returns-in-None
 returns-in-None g c = λ t p.
-    request-unasked c.args.self.now.home.now.trackers c.args.self.now.link.0 c.args.source p.end.trace (looked-past g.D.Directory.perm_of c.args.self.now.link c.args.self.now.wire.now c.args.self.now.home.now t p) c.in-None.ensures
+    request-unasked c.args.self.now.home.now.trackers c.args.self.now.link.0 c.args.source p.end.trace
+    (looked-past g.D.Directory.perm_of c.args.self.now.link c.args.self.now.wire.now c.args.self.now.home.now t p) c.in-None.ensures
     ∙ ap (open_request c.args.source) (sym p.past)
 
 pub returns-in-Some : goal.returns-in-Some
 returns-in-Some g c = λ t p.
-    request-asked c.args.self.now.home.now.trackers c.args.self.now.link.0 c.args.source c.in-Some.request p.end.trace (looked-past g.D.Directory.perm_of c.args.self.now.link c.args.self.now.wire.now c.args.self.now.home.now t p) c.in-Some.ensures
+    request-asked c.args.self.now.home.now.trackers c.args.self.now.link.0 c.args.source c.in-Some.request p.end.trace
+    (looked-past g.D.Directory.perm_of c.args.self.now.link c.args.self.now.wire.now c.args.self.now.home.now t p) c.in-Some.ensures
     ∙ ap (open_request c.args.source) (sym p.past)

@@ -1,7 +1,0 @@
-use Rattle.std.proofs.Common.{rules}
-use Rattle.tl_beat.proofs.AtPlaces.{head_places}
-use Rattle.tl_beat.proofs.channel.spelled_head.Goals as goal
-
-pub returns-else-not-link_is-source_is : goal.returns-else-not-link_is-source_is
-returns-else-not-link_is-source_is c =
-    head_places c.args.bytes.now _ _ _ _ _ _ _ (search rules) (search rules) (search rules) (search rules) (search rules) (search rules) c.value-l1.ensures c.value-l0.ensures c.value-opcode.ensures c.value-param.ensures c.value-size.ensures c.value-s1.ensures c.value-s0.ensures (search rules) (search rules) (search rules) (search rules) (search rules) (search rules) (search rules)

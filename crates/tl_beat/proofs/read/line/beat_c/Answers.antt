@@ -1,0 +1,11 @@
+use Rattle.std.proofs.Common.{rules}
+use Rattle.tl_beat.proofs.Made.{made_c-ok, made_c-err}
+use Rattle.tl_beat.proofs.read.line.beat_c.Goals as goal
+
+pub returns-then-is_some-carries_data : goal.returns-then-is_some-carries_data
+returns-then-is_some-carries_data g c =
+    made_c-err g.row.W c.in_ok-opcode.opcode c.args.head.opcode c.args.head.param c.in_ok-param.param _ _ _ _ _ c.is_some.result c.carries_data.result
+    (search rules) (search rules) c.is_some.ensures c.carries_data.ensures c.if-is_some-carries_data.true
+
+pub returns : goal.returns
+returns g c = made_c-ok _ c.args.head.opcode c.args.head.param (search rules) (search rules)

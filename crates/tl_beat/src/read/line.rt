@@ -1,0 +1,292 @@
+//! Reading the line of each channel.
+
+ghost use Rattle.std.specs.Prelude.{◌≡◌, ◌<◌, ◌/◌, ◌^◌, IfOk, IfSome, Ok, drop};
+ghost use Rattle.tl_beat.specs.FromLeft.{head_at, line_a_at, line_b_at, line_c_at, line_d_at, line_e_at, Gives};
+ghost use Rattle.tl_beat.specs.Reading.{made_a, made_b, made_c, made_d, at_most};
+ghost use Rattle.tl_beat.specs.Width.{IsWidth};
+
+use crate::beat::{Beat, BeatA, BeatB, BeatC, BeatD, BeatE, Link};
+use crate::fault::LineFault;
+use crate::opcode::{OpA, OpB, OpC, OpD};
+use crate::read::field::{address, bit_field, byte, digits, mask, nibble, tail, value};
+
+/// The fields that lines of channels A to D begin with, but for the letter.
+#[derive(Clone, Copy)]
+struct Head {
+    link: u8,
+    opcode: u8,
+    param: u8,
+    size: u8,
+    source: u8,
+}
+
+/// What stands behind the channel's letter and a space.
+fn without_letter(bytes: &[u8]) -> &[u8]
+    ensures { result.now ≡ drop 2 bytes.now }
+{
+    if bytes.len() < 2 { &[] } else { &bytes[2..] }
+}
+
+/// The first fields of a line, each at its place.
+#[inline(always)]
+fn spelled_head(bytes: &[u8]) -> Option<(Head, &[u8])>
+    ensures { IfSome result (λ head. head_at bytes.now ≡ Ok (head.0, head.1.now)) }
+{
+    match bytes {
+        [
+            l1,
+            l0,
+            b' ',
+            _,
+            _,
+            o,
+            b' ',
+            p,
+            b' ',
+            z,
+            b' ',
+            s1,
+            s0,
+            b' ',
+            rest @ ..,
+        ] => {
+            let (l1, l0, s1, s0) = (value(*l1), value(*l0), value(*s1), value(*s0));
+            let (opcode, param, size) = (value(*o), value(*p), value(*z));
+            let link_is = (l1 < 16) & (l0 < 16);
+            let source_is = (s1 < 16) & (s0 < 16);
+            let rest_is = (opcode < 16) & (param < 16) & (size < 16);
+            if !(link_is & source_is & rest_is) {
+                return None;
+            }
+            let head = Head {
+                link: 16 * l1 + l0,
+                opcode,
+                param,
+                size,
+                source: 16 * s1 + s0,
+            };
+            Some((head, rest))
+        }
+        _ => None,
+    }
+}
+
+/// The first fields of a line, from left to right.
+#[cold]
+#[inline(never)]
+#[tactic(auto, unfolding(crate::specs::FromLeft::head_at))]
+fn any_head(bytes: &[u8]) -> Result<(Head, &[u8]), LineFault>
+    ensures { Gives result (head_at bytes.now) }
+{
+    let (link, rest) = byte(bytes)?;
+    let (opcode, rest) = nibble(without_letter(rest))?;
+    let (param, rest) = nibble(rest)?;
+    let (size, rest) = nibble(rest)?;
+    let (source, rest) = byte(rest)?;
+    let head = Head {
+        link,
+        opcode,
+        param,
+        size,
+        source,
+    };
+    Ok((head, rest))
+}
+
+#[inline(always)]
+fn read_head(bytes: &[u8]) -> Result<(Head, &[u8]), LineFault>
+    ensures { Gives result (head_at bytes.now) }
+{
+    match spelled_head(bytes) {
+        Some(read) => Ok(read),
+        None => any_head(bytes),
+    }
+}
+
+fn at_most(param: u8, greatest: u8) -> Result<u8, LineFault>
+    ensures { result ≡ at_most greatest param }
+{
+    if param > greatest {
+        return Err(LineFault::F5);
+    }
+    Ok(param)
+}
+
+#[inline(always)]
+fn beat_a<const W: usize>(
+    head: Head,
+    address: u32,
+    mask: u16,
+    tail: (Option<[u8; W]>, bool),
+) -> Result<BeatA<W>, LineFault>
+    ensures { result ≡ made_a head.opcode head.param head.size head.source address mask tail.entry.0 tail.entry.1 }
+{
+    let opcode = OpA::with_code(head.opcode).ok_or(LineFault::F4)?;
+    let param = at_most(head.param, 7)?;
+    let (lanes, corrupt) = tail;
+    if lanes.is_some() != opcode.carries_data() {
+        return Err(LineFault::F6);
+    }
+    Ok(BeatA {
+        opcode,
+        param,
+        size: head.size,
+        source: head.source,
+        address,
+        mask,
+        lanes,
+        corrupt,
+    })
+}
+
+#[inline(always)]
+fn beat_b<const W: usize>(
+    head: Head,
+    address: u32,
+    mask: u16,
+    tail: (Option<[u8; W]>, bool),
+) -> Result<BeatB<W>, LineFault>
+    ensures { result ≡ made_b head.opcode head.param head.size head.source address mask tail.entry.0 tail.entry.1 }
+{
+    let opcode = OpB::with_code(head.opcode).ok_or(LineFault::F4)?;
+    let param = at_most(head.param, 7)?;
+    let (lanes, corrupt) = tail;
+    if lanes.is_some() != opcode.carries_data() {
+        return Err(LineFault::F6);
+    }
+    Ok(BeatB {
+        opcode,
+        param,
+        size: head.size,
+        source: head.source,
+        address,
+        mask,
+        lanes,
+        corrupt,
+    })
+}
+
+#[inline(always)]
+fn beat_c<const W: usize>(
+    head: Head,
+    address: u32,
+    tail: (Option<[u8; W]>, bool),
+) -> Result<BeatC<W>, LineFault>
+    ensures { result ≡ made_c head.opcode head.param head.size head.source address tail.entry.0 tail.entry.1 }
+{
+    let opcode = OpC::with_code(head.opcode).ok_or(LineFault::F4)?;
+    let param = at_most(head.param, 7)?;
+    let (lanes, corrupt) = tail;
+    if lanes.is_some() != opcode.carries_data() {
+        return Err(LineFault::F6);
+    }
+    Ok(BeatC {
+        opcode,
+        param,
+        size: head.size,
+        source: head.source,
+        address,
+        lanes,
+        corrupt,
+    })
+}
+
+#[inline(always)]
+fn beat_d<const W: usize>(
+    head: Head,
+    sink: u8,
+    denied: bool,
+    tail: (Option<[u8; W]>, bool),
+) -> Result<BeatD<W>, LineFault>
+    ensures { result ≡ made_d head.opcode head.param head.size head.source sink denied tail.entry.0 tail.entry.1 }
+{
+    let opcode = OpD::with_code(head.opcode).ok_or(LineFault::F4)?;
+    let param = at_most(head.param, 3)?;
+    let (lanes, corrupt) = tail;
+    if lanes.is_some() != opcode.carries_data() {
+        return Err(LineFault::F6);
+    }
+    Ok(BeatD {
+        opcode,
+        param,
+        size: head.size,
+        source: head.source,
+        sink,
+        denied,
+        lanes,
+        corrupt,
+    })
+}
+
+/// The line of a beat of channel A, without its line feed.
+#[tactic(auto, unfolding(crate::specs::FromLeft::line_a_at))]
+#[inline(always)]
+pub(crate) fn line_a<const W: usize>(bytes: &[u8]) -> Result<(Link, Beat<W>), LineFault>
+    requires { IsWidth W }
+    ensures { result ≡ line_a_at bytes.now }
+{
+    let (head, rest) = read_head(bytes)?;
+    let (address, rest) = address(rest)?;
+    let (mask, rest) = mask::<W>(rest)?;
+    let tail = tail(rest)?;
+    let beat = beat_a(head, address, mask, tail)?;
+    Ok((Link(head.link), Beat::A(beat)))
+}
+
+/// The line of a beat of channel B, without its line feed.
+#[tactic(auto, unfolding(crate::specs::FromLeft::line_b_at))]
+#[inline(always)]
+pub(crate) fn line_b<const W: usize>(bytes: &[u8]) -> Result<(Link, Beat<W>), LineFault>
+    requires { IsWidth W }
+    ensures { result ≡ line_b_at bytes.now }
+{
+    let (head, rest) = read_head(bytes)?;
+    let (address, rest) = address(rest)?;
+    let (mask, rest) = mask::<W>(rest)?;
+    let tail = tail(rest)?;
+    let beat = beat_b(head, address, mask, tail)?;
+    Ok((Link(head.link), Beat::B(beat)))
+}
+
+/// The line of a beat of channel C, without its line feed.
+#[tactic(auto, unfolding(crate::specs::FromLeft::line_c_at))]
+#[inline(always)]
+pub(crate) fn line_c<const W: usize>(bytes: &[u8]) -> Result<(Link, Beat<W>), LineFault>
+    requires { IsWidth W }
+    ensures { result ≡ line_c_at bytes.now }
+{
+    let (head, rest) = read_head(bytes)?;
+    let (address, rest) = address(rest)?;
+    let tail = tail(rest)?;
+    let beat = beat_c(head, address, tail)?;
+    Ok((Link(head.link), Beat::C(beat)))
+}
+
+/// The line of a beat of channel D, without its line feed.
+#[tactic(auto, unfolding(crate::specs::FromLeft::line_d_at))]
+#[inline(always)]
+pub(crate) fn line_d<const W: usize>(bytes: &[u8]) -> Result<(Link, Beat<W>), LineFault>
+    requires { IsWidth W }
+    ensures { result ≡ line_d_at bytes.now }
+{
+    let (head, rest) = read_head(bytes)?;
+    let (sink, rest) = byte(rest)?;
+    let (denied, rest) = bit_field(rest)?;
+    let tail = tail(rest)?;
+    let beat = beat_d(head, sink, denied, tail)?;
+    Ok((Link(head.link), Beat::D(beat)))
+}
+
+/// The line of a beat of channel E, without its line feed.
+#[tactic(auto, unfolding(crate::specs::FromLeft::line_e_at))]
+#[inline(always)]
+pub(crate) fn line_e<const W: usize>(bytes: &[u8]) -> Result<(Link, Beat<W>), LineFault>
+    ensures { result ≡ line_e_at bytes.now }
+{
+    let (link, rest) = byte(bytes)?;
+    let (sink, rest) = digits(without_letter(rest), 2)?;
+    if !rest.is_empty() {
+        return Err(LineFault::F3);
+    }
+    Ok((Link(link), Beat::E(BeatE { sink: sink as u8 })))
+}

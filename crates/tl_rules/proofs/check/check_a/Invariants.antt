@@ -1,6 +1,0 @@
-use Rattle.std.proofs.Common.{◌≡◌, None}
-use Rattle.tl_rules.proofs.Checks.{first_own, a_owns}
-use Rattle.tl_rules.proofs.check.check_a.Given as goal
-
-abbrev pub invariant-loop-i : goal.invariant-loop-i
-invariant-loop-i g l = first_own (a_owns l.message) 0 l.i ≡ None

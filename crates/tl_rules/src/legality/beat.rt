@@ -1,0 +1,102 @@
+//! Legality of a beat by level and channel alone (SiFive TileLink Specification 1.8, "Message
+//! taxonomy" and the chapters on the three levels).
+
+ghost use Rattle.std.specs.Prelude.{◌≡◌, OnOk};
+ghost use Rattle.tl_params.specs.Refusal.{ok_unless};
+ghost use Rattle.tl_beat.specs.Width.{IsWidth};
+ghost use Rattle.tl_burst.specs.Part.{IsTakeable};
+ghost use Rattle.tl_rules.specs.Legality.{illegal};
+
+use crate::{channel, field};
+use tl_beat::beat::{Beat, BeatA, BeatB, BeatC, BeatD};
+use tl_beat::channel::Channel;
+use tl_params::level::Level;
+use tl_params::rule::Rule;
+
+/// The first L rule that a beat on this channel of a link of this level breaks, in the order L1,
+/// L7, L2, L3, L4, L5, L6. A beat that breaks none can be given to an assembler.
+#[tactic(auto, unfolding(crate::specs::Legality::illegal))]
+pub fn check_beat<const W: usize>(
+    level: Level,
+    channel: Channel,
+    beat: &Beat<W>,
+) -> Result<(), Rule>
+    requires { IsWidth W }
+    ensures value { result ≡ ok_unless (illegal level channel beat.now) }
+    ensures takeable { OnOk result (IsTakeable beat.now) }
+{
+    match (channel, beat) {
+        (Channel::A, Beat::A(beat)) => check_a(level, beat),
+        (Channel::B, Beat::B(beat)) => check_b(level, beat),
+        (Channel::C, Beat::C(beat)) => check_c(level, beat),
+        (Channel::D, Beat::D(beat)) => check_d(level, beat),
+        (Channel::E, Beat::E(_)) if field::transfers(level) => Ok(()),
+        _ => Err(Rule::L1),
+    }
+}
+
+#[tactic(auto, unfolding(crate::specs::Legality::illegal))]
+fn check_a<const W: usize>(level: Level, beat: &BeatA<W>) -> Result<(), Rule>
+    requires { IsWidth W }
+    ensures value { result ≡ ok_unless (illegal level Channel.A (Beat.A beat.now)) }
+    ensures takeable { OnOk result (IsTakeable (Beat.A beat.now)) }
+{
+    channel::control_of_a::<W>(level, beat.opcode, beat.param, beat.size, beat.address)?;
+    channel::own_of_a::<W>(
+        beat.opcode,
+        beat.size,
+        beat.address,
+        beat.mask,
+        beat.corrupt,
+    )
+}
+
+#[tactic(auto, unfolding(crate::specs::Legality::illegal))]
+fn check_b<const W: usize>(level: Level, beat: &BeatB<W>) -> Result<(), Rule>
+    requires { IsWidth W }
+    ensures value { result ≡ ok_unless (illegal level Channel.B (Beat.B beat.now)) }
+    ensures takeable { OnOk result (IsTakeable (Beat.B beat.now)) }
+{
+    channel::control_of_b(
+        level,
+        beat.opcode,
+        beat.param,
+        beat.size,
+        beat.source,
+        beat.address,
+    )?;
+    channel::own_of_b::<W>(
+        beat.opcode,
+        beat.size,
+        beat.address,
+        beat.mask,
+        beat.corrupt,
+    )
+}
+
+#[tactic(auto, unfolding(crate::specs::Legality::illegal))]
+fn check_c<const W: usize>(level: Level, beat: &BeatC<W>) -> Result<(), Rule>
+    requires { IsWidth W }
+    ensures value { result ≡ ok_unless (illegal level Channel.C (Beat.C beat.now)) }
+    ensures takeable { OnOk result (IsTakeable (Beat.C beat.now)) }
+{
+    channel::control_of_c(
+        level,
+        beat.opcode,
+        beat.param,
+        beat.size,
+        beat.source,
+        beat.address,
+    )?;
+    channel::own_of_c(beat.opcode, beat.corrupt)
+}
+
+#[tactic(auto, unfolding(crate::specs::Legality::illegal))]
+fn check_d<const W: usize>(level: Level, beat: &BeatD<W>) -> Result<(), Rule>
+    requires { IsWidth W }
+    ensures value { result ≡ ok_unless (illegal level Channel.D (Beat.D beat.now)) }
+    ensures takeable { OnOk result (IsTakeable (Beat.D beat.now)) }
+{
+    channel::control_of_d::<W>(level, beat.opcode, beat.param, beat.size, beat.sink)?;
+    channel::own_of_d(beat.opcode, beat.denied, beat.corrupt)
+}

@@ -189,7 +189,7 @@ made_d-is {w} y code given size source sink denied lanes corrupt e =
       corrupt = ap (λ (z : BeatD w). z.corrupt) same;
     })))
 
-letter-named : (p : List ℕ) (c : Channel) → channel_named p ≡ Some c → p ≡ letter c
+pub letter-named : (p : List ℕ) (c : Channel) → channel_named p ≡ Some c → p ≡ letter c
 letter-named [] c e = absurd cc
 letter-named (x ∷ []) c e = go (x == 65) refl (x == 66) refl (x == 67) refl (x == 68) refl (x == 69) refl e
   where

@@ -175,7 +175,7 @@ is_pairs-digits (x ∷ xs) rest n e =
     rw (same, append_assoc (lane_digits xs) (digits 2 x) rest, digits-two x)
     (is_pairs-digits xs (hex 1 x ∷ hex 0 x ∷ rest) (suc n) (rw (is_digit-char (x / 2 ^ (4 * 1) % 16) one, is_digit-char (x / 2 ^ (4 * 0) % 16) two) e))
 
-pairs-no_dash : (n : ℕ) (p : List ℕ) → is_pairs n p ≡ true → is_dash p ≡ false
+pub pairs-no_dash : (n : ℕ) (p : List ℕ) → is_pairs n p ≡ true → is_dash p ≡ false
 unfolding is_pairs
 pairs-no_dash n [] e = refl
 pairs-no_dash zero (c ∷ []) e = absurd cc

@@ -29,7 +29,7 @@ use Rattle.tl_beat.proofs.Made.{made_a-ok, made_b-ok, made_c-ok, made_d-ok}
 
 -- ---- opcodes and their codes
 
-find-passes : {X : Type 0} (test : X → Bool) (xs : List X) (x : X) → find test xs ≡ Some x → test x ≡ true
+pub find-passes : {X : Type 0} (test : X → Bool) (xs : List X) (x : X) → find test xs ≡ Some x → test x ≡ true
 find-passes test [] x e = absurd cc
 find-passes {X} test (y ∷ ys) x e = go (test y) refl e (λ f. find-passes test ys x f)
   where
@@ -148,7 +148,7 @@ unfolding digits
 NoSpace-digits zero n = tt
 NoSpace-digits (suc w) n = (digit_char-no_space (n / 2 ^ (4 * w) % 16) (omega arith), NoSpace-digits w n)
 
-NoSpace-append : (p q : List ℕ) → NoSpace p → NoSpace q → NoSpace (p ++ q)
+pub NoSpace-append : (p q : List ℕ) → NoSpace p → NoSpace q → NoSpace (p ++ q)
 NoSpace-append [] q np nq = nq
 NoSpace-append (c ∷ cs) q np nq = (np.0, NoSpace-append cs q np.1 nq)
 
@@ -178,7 +178,7 @@ abbrev total : List (List ℕ) → ℕ
 total [] = 0
 total (f ∷ fs) = length f + 1 + total fs
 
-length-spaced : (fs : List (List ℕ)) → length (spaced fs) ≤ total fs
+pub length-spaced : (fs : List (List ℕ)) → length (spaced fs) ≤ total fs
 unfolding spaced
 length-spaced [] = omega arith
 length-spaced (f ∷ []) = omega arith

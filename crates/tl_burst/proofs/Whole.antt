@@ -32,7 +32,7 @@ use Rattle.tl_burst.proofs.Begun.{length-begun}
 slice_from : (w k : ℕ) (p : List ℕ) → slice_range p (w * k) (w * k + w) ≡ take w (drop (w * k) p)
 slice_from w k p = let e : w * k + w - w * k ≡ w = omega arith in ap (λ n. take n (drop (w * k) p)) e
 
-some_is : {X : Type 0} {x y : X} → Some x ≡ Some y → x ≡ y
+pub some_is : {X : Type 0} {x y : X} → Some x ≡ Some y → x ≡ y
 some_is e = cc
 
 -- payloads with the same lanes in the first n beats

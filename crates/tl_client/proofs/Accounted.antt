@@ -53,6 +53,7 @@ use Rattle.tl_client.proofs.Cases.{NotBusy, not_busy}
 use Rattle.tl_client.proofs.KeptAsked.{no_acquire}
 use Rattle.tl_client.proofs.KeptOffered.{incoming_only}
 use Rattle.tl_client.proofs.Opens.{unfinished-d}
+use Rattle.tl_client.proofs.Calls.{free_source}
 
 -- ---- operations
 
@@ -81,9 +82,6 @@ accounted_store : {w : ℕ} (address size value : ℕ) (p : Perm) (e : End w) �
 accounted_store address size value perm.None e old = old
 accounted_store address size value perm.Branch e old = old
 accounted_store address size value perm.Trunk e old = old
-
-free_source : {w : ℕ} (terms : Terms) (t : History w) → is_none (free_request terms t) ≡ false → pending (RequestSource (source_or_0 (free_request terms t))) t ≡ false
-free_source terms t one = (least_free-some (λ s. pending (RequestSource s) t) 0 terms.sources one).0
 
 accounted_done : {w : ℕ} (terms : Terms) (op : Op w) (e : End w) → IsWidth w → IsKept e → breaks_b4 terms.level op ≡ false → breaks_b2 op e.past ≡ false → breaks_b1 terms op e.past ≡ false
     → IsAccounted e.past → IsAccounted (done terms op e).after.past

@@ -239,7 +239,7 @@ acked-last {w} x t fits last other old = record {
     burst_now : unfinished channel.D (beat.D x ∷ t) ≡ []
     burst_now = (unfinished-d x t).4 ∙ rw last refl
 
-is_own_sink : (s : ℕ) (o : Option ℕ) → o ≡ Some s → is_sink s o ≡ true
+pub is_own_sink : (s : ℕ) (o : Option ℕ) → o ≡ Some s → is_sink s o ≡ true
 is_own_sink s o e = rw e (eq-eqb s s refl)
 
 falls_with : (b p q : Bool) → q ≡ (p && b) → cond b false q ≡ false

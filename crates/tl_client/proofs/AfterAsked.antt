@@ -18,6 +18,7 @@ use Rattle.tl_client.specs.Ask.{asked, asked_given, busy, done, load, store, cop
 use Rattle.tl_client.specs.End.{Terms, End, zeros, copy_at, held_at, kept_for}
 use Rattle.tl_client.specs.Kept.{holds}
 use Rattle.tl_client.proofs.HeldAfter.{kept_past}
+use Rattle.tl_client.proofs.KeptAsked.{kept_waiting}
 
 -- ---- what drops a copy
 
@@ -25,11 +26,6 @@ pub kept_closed : {w : ℕ} (block : ℕ) (p : Perm) (f : End w) → (kept_for b
 kept_closed block perm.None f = refl
 kept_closed block perm.Branch f = refl
 kept_closed block perm.Trunk f = refl
-
-pub kept_waits : {w : ℕ} (block : ℕ) (p : Perm) (f : End w) (k : ℕ) → (kept_for block p f).waiting k ≡ f.waiting k
-kept_waits block perm.None f k = refl
-kept_waits block perm.Branch f k = refl
-kept_waits block perm.Trunk f k = refl
 
 never : {X : Type 0} (b : Bool) (x y : X) → cond (b && false) x y ≡ y
 never true x y = refl
@@ -97,7 +93,7 @@ after_done terms (Release block prune) e = record {
   past_is = kept_past block (prune_right prune) _;
   closed_is = kept_closed block (prune_right prune) _;
   copies_are = λ k. kept_copies block (prune_right prune) _ k;
-  waiting_is = λ k. kept_waits block (prune_right prune) _ k;
+  waiting_is = λ k. kept_waiting block (prune_right prune) _ k;
 }
 after_done terms (Access (A m)) e = record { past_is = refl; closed_is = refl; copies_are = λ k. refl; waiting_is = λ k. refl }
 after_done terms (Access (B m)) e = record { past_is = refl; closed_is = refl; copies_are = λ k. refl; waiting_is = λ k. refl }

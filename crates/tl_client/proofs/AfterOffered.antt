@@ -23,7 +23,8 @@ use Rattle.tl_client.specs.After.{heard, handed, is_refused, copy_granted, copy_
 use Rattle.tl_client.specs.End.{Terms, End, held_at, with_past, set_at}
 use Rattle.tl_client.specs.Kept.{is_acquire_perm}
 use Rattle.tl_client.specs.Offer.{Offered, offered, taken, ended, granted, granted_perm, responded, silent, judged, judged_later, broken_before, broken_later, waits, report_for}
-use Rattle.tl_client.proofs.AfterAsked.{kept_closed, kept_copies, kept_waits}
+use Rattle.tl_client.proofs.AfterAsked.{kept_closed, kept_copies}
+use Rattle.tl_client.proofs.KeptAsked.{kept_waiting}
 use Rattle.tl_client.proofs.HeldAfter.{kept_past}
 
 -- what the end is after a beat that is taken
@@ -169,7 +170,7 @@ taken_is (beat.B x) e =
       past_is = kept_past block p _;
       closed_is = kept_closed block p _ ∙ or_false e.closed;
       copies_are = λ k. kept_copies block p _ k;
-      waiting_is = λ k. kept_waits block p _ k;
+      waiting_is = λ k. kept_waiting block p _ k;
     }
 taken_is (beat.C x) e = record { past_is = refl; closed_is = or_false e.closed; copies_are = λ k. refl; waiting_is = λ k. refl }
 taken_is (beat.D x) e = taken_d x e

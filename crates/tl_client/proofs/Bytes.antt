@@ -30,7 +30,8 @@ use Rattle.tl_client.specs.Bytes.{IsLong, IsTypedOp, IsShort, HasBytes}
 use Rattle.tl_client.specs.End.{Terms, End, fresh, zeros, copy_at, held_at, kept_for, with_past}
 use Rattle.tl_client.specs.Kept.{IsKept, holds, is_acquire_perm}
 use Rattle.tl_client.specs.Offer.{Offered, offered, taken, granted, responded, silent, report_for}
-use Rattle.tl_client.proofs.AfterAsked.{kept_copies, kept_waits}
+use Rattle.tl_client.proofs.AfterAsked.{kept_copies}
+use Rattle.tl_client.proofs.KeptAsked.{kept_waiting}
 use Rattle.tl_client.proofs.AfterOffered.{granted_is}
 use Rattle.tl_client.proofs.BytesTaken.{fewer-before, payload-last, short-part}
 use Rattle.tl_client.proofs.Cases.{NotBusy, asked-cases, IsPassed, offered-cases, ended-cases}
@@ -56,7 +57,7 @@ long_or_zeros (Some bytes) e = e
 long_kept_for : {w : ℕ} (block : ℕ) (p : Perm) (f : End w) → AreLong f → AreLong (kept_for block p f)
 long_kept_for block p f long = (
   λ k. subst (λ o. IsLong o) (sym (kept_copies block p f k)) (one_of_two ((k == block) && not (holds p)) None (f.copies k) tt (long.0 k)),
-  λ k. subst (λ o. IsLong o) (sym (kept_waits block p f k)) (long.1 k),
+  λ k. subst (λ o. IsLong o) (sym (kept_waiting block p f k)) (long.1 k),
 )
 
 -- ---- operations
@@ -147,7 +148,7 @@ long_taken {w} terms ch (beat.D x) e is typed passed old = go (ends (beat.D x) e
 abbrev IsBurstKept : {w : ℕ} → List (Beat w) → Type 0
 IsBurstKept burst = AreTyped burst × IsShort burst
 
-burst_b : {w : ℕ} (x : BeatB w) (t : History w) → unfinished channel.D (beat.B x ∷ t) ≡ unfinished channel.D t
+pub burst_b : {w : ℕ} (x : BeatB w) (t : History w) → unfinished channel.D (beat.B x ∷ t) ≡ unfinished channel.D t
 unfolding unfinished
 burst_b x t = refl
 

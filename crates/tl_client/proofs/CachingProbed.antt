@@ -20,10 +20,7 @@ use Rattle.tl_client.specs.Sources.{open_at}
 use Rattle.tl_client.specs.Takes.{Probes}
 use Rattle.tl_client.proofs.CachingAnswers.{copy-known}
 use Rattle.tl_client.proofs.CachingTaken.{Follows, taking, knows-after}
-
-burst_same : {w : ℕ} (x : BeatB w) (t : History w) → unfinished channel.D (beat.B x ∷ t) ≡ unfinished channel.D t
-unfolding unfinished
-burst_same x t = refl
+use Rattle.tl_client.proofs.Bytes.{burst_b}
 
 pub answer-probed : {w : ℕ} (c d : Caching w) (x : BeatB w) (e : End w) (r : Verdict × Option (Message w)) → KnowsCaching c e → Probes c d x r → (taken (beat.B x) e).answer ≡ Ok r
 answer-probed c d x e r knows probes =
@@ -38,9 +35,9 @@ follows-probed c d x e r knows probes = record {
   waiting = λ k. probes.waiting k ∙ knows.waiting_are k;
   requests = λ s. ap (λ o. open_at o s) probes.requests ∙ knows.requests_are s;
   releases = λ s. ap (λ o. open_at o s) probes.releases ∙ knows.releases_are s;
-  response = probes.response ∙ knows.response_is ∙ sym (burst_same x e.past);
-  granting = λ k. ap (is_granting k) probes.granting ∙ knows.granting_is k ∙ ap (λ b. comes_granting k b e.past) (sym (burst_same x e.past));
-  sink = λ s. ap (has_sink s) probes.granting ∙ knows.sink_is s ∙ ap (comes_in_grant s) (sym (burst_same x e.past));
+  response = probes.response ∙ knows.response_is ∙ sym (burst_b x e.past);
+  granting = λ k. ap (is_granting k) probes.granting ∙ knows.granting_is k ∙ ap (λ b. comes_granting k b e.past) (sym (burst_b x e.past));
+  sink = λ s. ap (has_sink s) probes.granting ∙ knows.sink_is s ∙ ap (comes_in_grant s) (sym (burst_b x e.past));
 }
 
 pub knows-probed : {w : ℕ} (c d : Caching w) (ch : Channel) (x : BeatB w) (e : End w) (r : Verdict × Option (Message w)) → KnowsCaching c e → Probes c d x r

@@ -35,10 +35,10 @@ use Rattle.tl_client.specs.Table.{held_in, copy_in, waiting_in}
 use Rattle.tl_client.specs.Takes.{Goes, Ends, GrantsInside, granting_by, granting_to, is_for, copy_after, waiting_after, ack_after}
 use Rattle.tl_client.proofs.AccountedTaken.{IsFit}
 use Rattle.tl_client.proofs.CachingTaken.{Follows, taking, finishing, knows-after}
-use Rattle.tl_client.proofs.Grants.{not_release_ack}
 use Rattle.tl_client.proofs.HeldAfter.{swapped}
 use Rattle.tl_client.proofs.KeptOffered.{good_beat}
 use Rattle.tl_client.proofs.Opens.{unfinished-d}
+use Rattle.tl_rules.proofs.Open.{not_release_ack}
 
 -- the request that a response names is open
 named : {w : ℕ} (x : BeatD w) (t : History w) → IsFit x t → is_release_ack x.opcode ≡ false → request_of x.source t ≡ open_beat x.source t

@@ -41,7 +41,7 @@ started_store address size value perm.None e t = tt
 started_store address size value perm.Branch e t = tt
 started_store address size value perm.Trunk e t = tt
 
-free_source : {w : ℕ} (terms : Terms) (t : History w) → is_none (free_request terms t) ≡ false → pending (RequestSource (source_or_0 (free_request terms t))) t ≡ false
+pub free_source : {w : ℕ} (terms : Terms) (t : History w) → is_none (free_request terms t) ≡ false → pending (RequestSource (source_or_0 (free_request terms t))) t ≡ false
 free_source terms t one = (least_free-some (λ s. pending (RequestSource s) t) 0 terms.sources one).0
 
 started_done : {w : ℕ} (terms : Terms) (op : Op w) (e : End w) → NotBusy terms op e → IsStarted (done terms op e).reply (done terms op e).message e.past
@@ -112,7 +112,7 @@ miss_done terms (Access (E m)) e is = absurd cc
 pub miss-asked : {w : ℕ} (terms : Terms) (op : Op w) (e : End w) → (asked terms op e).reply ≡ reply.Miss → (asked terms op e).after ≡ e
 miss-asked terms op e = asked-cases terms op e (λ o. o.reply ≡ reply.Miss → o.after ≡ e) (λ b is. refl) (λ free is. miss_done terms op e is)
 
-kept_up : {w : ℕ} (x : Beat w) (e : End w) → is_refused (taken x e).answer ≡ false
+pub kept_up : {w : ℕ} (x : Beat w) (e : End w) → is_refused (taken x e).answer ≡ false
 kept_up (beat.A x) e = refl
 kept_up (beat.B x) e = refl
 kept_up (beat.C x) e = refl

@@ -12,6 +12,7 @@ use Rattle.tl_client.specs.End.{End}
 use Rattle.tl_client.specs.Kept.{acquires}
 use Rattle.tl_client.specs.KnowsCaching.{KnowsCaching}
 use Rattle.tl_client.specs.Requests.{open_beat, open_release, fields_of, release_fields, acquires_block, releases_block}
+use Rattle.std.specs.Cmp.{both_ways}
 
 any-at : {T : Type 0} (f : Option T → Bool) (xs : List (Option T)) (s : ℕ) → f None ≡ false → f (option_flatten (slice_get xs s)) ≡ true → list_any f xs ≡ true
 any-at f [] s none is = absurd cc
@@ -31,11 +32,6 @@ at-any {T} f (x ∷ xs) is = go (f x) refl (λ any. at-any f xs any) is
     go true e later any = (0, e)
     go false e later any = let found = later any in (suc found.0, found.1)
 
-same_answer : (b c : Bool) → (b ≡ true → c ≡ true) → (c ≡ true → b ≡ true) → b ≡ c
-same_answer true c f g = sym (f refl)
-same_answer false true f g = g refl
-same_answer false false f g = refl
-
 acquires-fields : {w : ℕ} (k : ℕ) (r : Option (BeatA w)) → acquires_block k (fields_of r) ≡ acquires k r
 acquires-fields k None = refl
 acquires-fields k (Some r) = refl
@@ -46,7 +42,7 @@ releases-fields k (Some r) = refl
 
 -- an Acquire of the block is open exactly where one is pending
 pub acquiring : {w : ℕ} (c : Caching w) (e : End w) (k : ℕ) → KnowsCaching c e → list_any (acquires_block k) c.requests.with_source ≡ pending (AcquireOf k) e.past
-acquiring c e k knows = same_answer _ _
+acquiring c e k knows = both_ways _ _
     (λ any. let found = at-any (acquires_block k) c.requests.with_source any in
     knows.kept.outstanding found.0 k (sym (acquires-fields k (open_beat found.0 e.past)) ∙ sym (ap (acquires_block k) (knows.requests_are found.0)) ∙ found.1))
     (λ is. let found = knows.accounted.claimed.acquired k is in
@@ -54,7 +50,7 @@ acquiring c e k knows = same_answer _ _
 
 -- and a Release likewise
 pub releasing : {w : ℕ} (c : Caching w) (e : End w) (k : ℕ) → KnowsCaching c e → list_any (releases_block k) c.releases.with_source ≡ pending (ReleaseOf k) e.past
-releasing c e k knows = same_answer _ _
+releasing c e k knows = both_ways _ _
     (λ any. let found = at-any (releases_block k) c.releases.with_source any in
     knows.accounted.claimed.releasing found.0 k (sym (releases-fields k (open_release found.0 e.past)) ∙ sym (ap (releases_block k) (knows.releases_are found.0)) ∙ found.1))
     (λ is. let found = knows.accounted.claimed.released k is in

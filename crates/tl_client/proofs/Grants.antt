@@ -25,6 +25,7 @@ use Rattle.tl_rules.specs.History.{block_at, is_acquire, is_grant, is_release_ac
 use Rattle.tl_rules.proofs.Bursts.{next_rule}
 use Rattle.tl_client.specs.Kept.{IsGranting, holds, is_acquire_beat}
 use Rattle.tl_client.specs.Requests.{open_beat}
+use Rattle.tl_rules.proofs.Open.{not_release_ack}
 
 -- a client that gets no data has a copy already
 abbrev pub HasCopy : {w : ℕ} → Option (BeatA w) → History w → Type 0
@@ -57,14 +58,6 @@ grant_answers d.AccessAck request g e = absurd (let no : false ≡ true = g in c
 grant_answers d.AccessAckData request g e = absurd (let no : false ≡ true = g in cc)
 grant_answers d.HintAck request g e = absurd (let no : false ≡ true = g in cc)
 grant_answers d.ReleaseAck request g e = absurd (let no : false ≡ true = g in cc)
-
-pub not_release_ack : (opcode : OpD) → is_grant opcode ≡ true → is_release_ack opcode ≡ false
-not_release_ack d.Grant e = refl
-not_release_ack d.GrantData e = refl
-not_release_ack d.AccessAck e = refl
-not_release_ack d.AccessAckData e = refl
-not_release_ack d.HintAck e = refl
-not_release_ack d.ReleaseAck e = absurd (let no : false ≡ true = e in cc)
 
 gives_at : (cap : ℕ) → cap ≤ 1 → holds (capped cap) ≡ true
 gives_at zero le = refl

@@ -66,7 +66,7 @@ held-on_c k opcode param source block payload t is none tells =
 
 -- ---- operations
 
-report_told : (r : Report) → reported (report_code r) ≡ report_right r
+pub report_told : (r : Report) → reported (report_code r) ≡ report_right r
 report_told report.TtoB = refl
 report_told report.TtoN = refl
 report_told report.BtoN = refl

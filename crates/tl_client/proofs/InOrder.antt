@@ -98,7 +98,7 @@ at_block block param t before released grows = rw (same_block block) (before, re
 
 -- ---- Releases: H1 and H13
 
-prune_again : (p : Prune) → prune_of (prune_code p) ≡ Some p
+pub prune_again : (p : Prune) → prune_of (prune_code p) ≡ Some p
 prune_again prune.TtoB = refl
 prune_again prune.TtoN = refl
 prune_again prune.BtoN = refl

@@ -48,6 +48,7 @@ use Rattle.tl_client.proofs.KeptAsked.{no_acquire, falls_to}
 use Rattle.tl_client.proofs.KeptGranted.{still_acquires, acquires_granted}
 use Rattle.tl_client.proofs.KeptOffered.{incoming_only, reports_held, good_beat}
 use Rattle.tl_client.proofs.Opens.{open_beat-a, open_beat-b, open_beat-c, open_beat-d, open_beat-e, closes_source, unfinished-d}
+use Rattle.tl_rules.proofs.Named.{still}
 
 -- ---- messages
 
@@ -182,10 +183,6 @@ inside_probed {w} terms x e is kept old =
     (λ k e1. falls_from (k == block) (report_right r) (held k t)
     (λ h same. rw (eqb-true k block same, held_unsaid block (beat.B x) e.past refl) (reports_held (unwrap_or (cap_of x.param) cap.ToN) p h))
     (rw (held-probe_ack k x.opcode p r block (copy_at e block) t is none) at e1)))
-
-still : (b p : Bool) → cond b false p ≡ true → p ≡ true
-still true p e = absurd cc
-still false p e = e
 
 held_more : (b : Bool) (p q : Perm) → holds (cond b p q) ≡ true → (b ≡ true) ⊎ (holds q ≡ true)
 held_more true p q e = inl refl

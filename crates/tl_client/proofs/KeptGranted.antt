@@ -26,10 +26,11 @@ use Rattle.tl_client.specs.End.{End, sending, set_at, with_past, with_copy, with
 use Rattle.tl_client.specs.Kept.{IsKept, IsGranting, holds, acquires, stores_whole, is_acquire_perm, is_acquire_beat}
 use Rattle.tl_client.specs.Requests.{open_beat}
 use Rattle.tl_client.specs.Offer.{answered, silent, taken, ended, granted, granted_perm, responded}
-use Rattle.tl_client.proofs.Grants.{IsGoodGrant, not_release_ack}
+use Rattle.tl_client.proofs.Grants.{IsGoodGrant}
 use Rattle.tl_client.proofs.HeldAfter.{held-beat_d, swapped}
 use Rattle.tl_client.proofs.Kept.{kept-e}
 use Rattle.tl_client.proofs.Opens.{open_beat-d, unfinished-d, closes_source, acquire_of-d}
+use Rattle.tl_rules.proofs.Open.{not_release_ack}
 
 -- ---- a beat of channel D, whatever it does to copies and waiting bytes
 

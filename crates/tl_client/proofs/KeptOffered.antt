@@ -42,6 +42,7 @@ use Rattle.tl_client.proofs.Kept.{kept-c, kept-same}
 use Rattle.tl_client.proofs.Opens.{open_beat-b, acquire_of-b}
 use Rattle.tl_rules.proofs.Sent.{held_unsaid}
 use Rattle.tl_client.proofs.KeptGranted.{IsGoodBeat, next_burst, kept_taken_d}
+use Rattle.tl_rules.proofs.Checks.{probe_has_no_data}
 
 -- ---- a Probe
 
@@ -97,22 +98,12 @@ kept_probed {w} e x is bare kept =
     (λ k. copies_kept_for e1 f block k (report_right r) kept1 (λ j. refl) (λ h. rw (held_unsaid block (beat.B x) e.past refl) (reports_held (unwrap_or (cap_of x.param) cap.ToN) p h))
     ∙ ap holds (sym (held-probe_ack k x.opcode p r block (copy_at e block) t is kept1.c_whole) ∙ ap (λ u. held k u) (sym (kept_past block (report_right r) f))))
 
-no_access : (opcode : OpB) → is_forwarded opcode ≡ false → b_carries_data opcode ≡ false
-no_access b.ProbeBlock e = refl
-no_access b.ProbePerm e = refl
-no_access b.Get e = refl
-no_access b.Intent e = refl
-no_access b.PutFullData e = absurd (let no : true ≡ false = e in cc)
-no_access b.PutPartialData e = absurd (let no : true ≡ false = e in cc)
-no_access b.ArithmeticData e = absurd (let no : true ≡ false = e in cc)
-no_access b.LogicalData e = absurd (let no : true ≡ false = e in cc)
-
 legal_probe : {w : ℕ} (l : Level) (ch : Channel) (x : BeatB w) → illegal l ch (beat.B x) ≡ None → b_carries_data x.opcode ≡ false
 unfolding illegal
 legal_probe l ch x e =
     let one = next_rule (breaks_l1 l ch (beat.B x)) L1 _ e in
     let seven = next_rule (is_forwarded x.opcode) L7 _ one.1 in
-    no_access x.opcode seven.0
+    probe_has_no_data x.opcode seven.0
 
 -- ---- any beat
 

@@ -33,6 +33,7 @@ use Rattle.tl_client.specs.Requests.{opened_by, start_with, fields_in, fields_of
 use Rattle.tl_client.proofs.KeptAsked.{no_acquire}
 use Rattle.tl_client.proofs.Opens.{open_beat-a}
 use Rattle.tl_rules.proofs.Sent.{unfinished-sent, unfinished-sent_other, pending-sent, request_closes_nothing, held-sent_unsaid}
+use Rattle.tl_rules.proofs.Named.{request-there}
 
 -- ---- the answer
 
@@ -154,24 +155,8 @@ before_other true false live P before e = before e
 before_other false true live P before e = absurd cc
 before_other false false live P before e = before e
 
--- what is pending has been asked for
-requested : {w : ℕ} (s : ℕ) (t : History w) → pending (RequestSource s) t ≡ true → is_some (request_of s t) ≡ true
-unfolding pending request_of
-requested s [] e = absurd cc
-requested s (beat.A x ∷ t) e = go (begins (beat.A x) t && (x.source == s)) (ends (beat.A x) t) (requested s t) e
-  where
-    go : (b c : Bool) → (pending (RequestSource s) t ≡ true → is_some (request_of s t) ≡ true) → cond b true (cond (c && false) false (pending (RequestSource s) t)) ≡ true
-        → is_some (cond b (Some x) (request_of s t)) ≡ true
-    go true c before live = refl
-    go false true before live = before live
-    go false false before live = before live
-requested s (beat.B x ∷ t) e = before_other (begins (beat.B x) t) (ends (beat.B x) t && false) (pending (RequestSource s) t) _ (requested s t) e
-requested s (beat.C x ∷ t) e = before_other (begins (beat.C x) t) (ends (beat.C x) t && false) (pending (RequestSource s) t) _ (requested s t) e
-requested s (beat.D x ∷ t) e = before_other (begins (beat.D x) t) (ends (beat.D x) t && closes (RequestSource s) (beat.D x) t) (pending (RequestSource s) t) _ (requested s t) e
-requested s (beat.E x ∷ t) e = before_other (begins (beat.E x) t) (ends (beat.E x) t && false) (pending (RequestSource s) t) _ (requested s t) e
-
 pub is_some-open : {w : ℕ} (s : ℕ) (t : History w) → is_some (open_request s t) ≡ pending (RequestSource s) t
-is_some-open {w} s t = go (pending (RequestSource s) t) (request_of s t) (requested s t)
+is_some-open {w} s t = go (pending (RequestSource s) t) (request_of s t) (request-there s t)
   where
     go : (b : Bool) (o : Option (BeatA w)) → (b ≡ true → is_some o ≡ true) → is_some (fields_of (cond b o None)) ≡ b
     go false o some = refl

@@ -36,6 +36,7 @@ use Rattle.tl_client.proofs.Cases.{NotBusy, asked-cases, IsPassed, offered-cases
 use Rattle.tl_client.proofs.Clean.{to_blank}
 use Rattle.tl_client.proofs.HeldAfter.{same_block}
 use Rattle.tl_client.proofs.Sound.{formed_access}
+use Rattle.tl_rules.proofs.Widths.{whole_block}
 
 -- ---- Acquires
 
@@ -57,11 +58,6 @@ proper_acquire {w} blocks opcode grow source block bare inside = record {
 }
 
 -- ---- messages of channel C
-
-whole_block : (w : ℕ) → IsWidth w → w * data_beats w 6 ≡ 64
-whole_block w (inl e) = rw e refl
-whole_block w (inr (inl e)) = rw e refl
-whole_block w (inr (inr e)) = rw e refl
 
 proper_data : {w : ℕ} (blocks : ℕ) (opcode : OpC) (param source block : ℕ) (payload : List ℕ) → IsWidth w → c_carries_data opcode ≡ true → length payload ≡ 64
     → leb blocks block ≡ false → IsProper {w = w} blocks (on_c opcode param source block payload)

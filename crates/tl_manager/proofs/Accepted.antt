@@ -65,11 +65,11 @@ request-kept {w} link x t c q place pends = go (link.0 == c) refl
     go true e = ap (request_of q) (own_beat c link (beat.A x) t e) ∙ request-else x (on_link c t) q (subst (λ (i : ℕ). Place x (on_link i t)) (eqb-true link.0 c e) place) pends
     go false e = ap (request_of q) (other_beat c link (beat.A x) t e)
 
-grant_sink-a : {w : ℕ} (k : ℕ) (x : BeatA w) (t : History w) → grant_sink k (beat.A x ∷ t) ≡ grant_sink k t
+pub grant_sink-a : {w : ℕ} (k : ℕ) (x : BeatA w) (t : History w) → grant_sink k (beat.A x ∷ t) ≡ grant_sink k t
 unfolding grant_sink
 grant_sink-a k x t = refl
 
-probe_of-a : {w : ℕ} (k : ℕ) (x : BeatA w) (t : History w) → probe_of k (beat.A x ∷ t) ≡ probe_of k t
+pub probe_of-a : {w : ℕ} (k : ℕ) (x : BeatA w) (t : History w) → probe_of k (beat.A x ∷ t) ≡ probe_of k t
 unfolding probe_of
 probe_of-a k x t = refl
 

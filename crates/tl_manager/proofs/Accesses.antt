@@ -24,6 +24,7 @@ use Rattle.tl_manager.proofs.Probes.{filter-all}
 use Rattle.tl_manager.proofs.Replied.{IsReply, asks-alone, asks_else, block_served, sources-reply}
 use Rattle.tl_manager.proofs.Replies.{reply-quiet, burst-reply, reports-reply, request-reply, probe-reply, sink-reply}
 use Rattle.tl_manager.proofs.Unmoved.{IsSame, handled-same, begun-kept, accounted-kept}
+use Rattle.std.specs.Cmp.{both_ways}
 
 pub answer_kind : (opcode : OpD) → is_access_answer opcode ≡ true → is_grant opcode ≡ false
 answer_kind d.AccessAck e = refl
@@ -40,11 +41,6 @@ ack_kind d.HintAck e = absurd cc
 ack_kind d.Grant e = absurd cc
 ack_kind d.GrantData e = absurd cc
 ack_kind d.ReleaseAck e = (refl, refl)
-
-both_ways : (a b : Bool) → (a ≡ true → b ≡ true) → (b ≡ true → a ≡ true) → a ≡ b
-both_ways true b f g = sym (f refl)
-both_ways false true f g = g refl
-both_ways false false f g = refl
 
 -- what a message of channel D that is no Grant leaves
 pub granted-still : {w : ℕ} (link : Link) (m : MessageD w) (t : Trace w) (v : Service w) → IsWidth w → unfinished channel.D (on_link link.0 t) ≡ [] → is_grant m.opcode ≡ false

@@ -23,19 +23,19 @@ use Rattle.tl_manager.proofs.Links.{own_beat, other_beat, beat-keeps, pending-cl
 use Rattle.tl_manager.proofs.Serving.{if_passes, serving-filter, some_is}
 use Rattle.tl_manager.proofs.Unmoved.{IsSame, handled-same, begun-kept, reports-kept}
 
-request_of-e : {w : ℕ} (q : ℕ) (x : BeatE) (t : History w) → request_of q (beat.E x ∷ t) ≡ request_of q t
+pub request_of-e : {w : ℕ} (q : ℕ) (x : BeatE) (t : History w) → request_of q (beat.E x ∷ t) ≡ request_of q t
 unfolding request_of
 request_of-e q x t = refl
 
-grant_sink-e : {w : ℕ} (k : ℕ) (x : BeatE) (t : History w) → grant_sink k (beat.E x ∷ t) ≡ grant_sink k t
+pub grant_sink-e : {w : ℕ} (k : ℕ) (x : BeatE) (t : History w) → grant_sink k (beat.E x ∷ t) ≡ grant_sink k t
 unfolding grant_sink
 grant_sink-e k x t = refl
 
-probe_of-e : {w : ℕ} (k : ℕ) (x : BeatE) (t : History w) → probe_of k (beat.E x ∷ t) ≡ probe_of k t
+pub probe_of-e : {w : ℕ} (k : ℕ) (x : BeatE) (t : History w) → probe_of k (beat.E x ∷ t) ≡ probe_of k t
 unfolding probe_of
 probe_of-e k x t = refl
 
-burst-e : {w : ℕ} (x : BeatE) (t : History w) → unfinished channel.A (beat.E x ∷ t) ≡ unfinished channel.A t
+pub burst-e : {w : ℕ} (x : BeatE) (t : History w) → unfinished channel.A (beat.E x ∷ t) ≡ unfinished channel.A t
 unfolding unfinished
 burst-e x t = refl
 

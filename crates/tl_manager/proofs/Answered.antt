@@ -1,5 +1,5 @@
 -- Each Release is answered as it is complete.
-use Rattle.std.proofs.Common.{◌≡◌, ℕ, ◌+◌, ◌==◌, Bool, true, false, List, [], ◌∷◌, length, map, Option, Some, None, refl, sym, ap, subst, ◌∙◌}
+use Rattle.std.proofs.Common.{◌≡◌, ℕ, ◌+◌, ◌==◌, Bool, true, false, List, [], ◌∷◌, length, map, Option, Some, None, refl, sym, ap, subst, ◌∙◌, lit≤}
 use Rattle.std.specs.Prelude.{if◌then◌else◌}
 use Rattle.std.proofs.lemmas.Bool.{eqb-true, true≢false}
 use Rattle.tl_beat.specs.Width.{IsWidth}
@@ -13,7 +13,6 @@ use Rattle.tl_burst.specs.declared.message.Message.TheVariants.{A, B, C, D, E}
 use Rattle.tl_burst.specs.declared.message.MessageA.{MessageA}
 use Rattle.tl_burst.specs.declared.message.MessageD.{MessageD}
 use Rattle.tl_beat.specs.declared.opcode.OpD.TheVariants as d
-use Rattle.std.proofs.Common.{lit≤}
 use Rattle.tl_burst.specs.Burst.{beat_of}
 use Rattle.tl_burst.specs.Messages.{History, channel_of, unfinished, burst_length}
 use Rattle.tl_rules.specs.declared.answer.Answer.{Answer}
@@ -48,7 +47,7 @@ no_ack_access m answer.Ack = refl
 no_ack_access m answer.Hint = refl
 no_ack_access m (answer.Data payload) = refl
 
-no_ack_grant : (with_data : Bool) → is_release_ack (grant_opcode with_data) ≡ false
+pub no_ack_grant : (with_data : Bool) → is_release_ack (grant_opcode with_data) ≡ false
 no_ack_grant true = refl
 no_ack_grant false = refl
 

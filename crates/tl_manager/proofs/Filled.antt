@@ -5,6 +5,7 @@ use Rattle.std.proofs.lemmas.List.{drop_at, drop_all, length-append, length-repl
 use Rattle.tl_beat.specs.Width.{IsWidth}
 use Rattle.tl_burst.specs.Burst.{data_beats, IsZeroFrom}
 use Rattle.tl_rules.specs.Effect.{Memory, bytes_from, as_payload}
+use Rattle.tl_rules.proofs.Widths.{whole_block}
 
 pub length-bytes : (memory : Memory) (from n : ℕ) → length (bytes_from memory from n) ≡ n
 unfolding bytes_from
@@ -39,9 +40,6 @@ data_room w (suc (suc (suc (suc (suc (suc zero)))))) is le = elim is [ inl w_is 
 data_room w (suc (suc (suc (suc (suc (suc (suc n))))))) is le = absurd (omega (arith, le))
 
 -- the whole of a block is
-pub whole_block : (w : ℕ) → IsWidth w → w * data_beats w 6 ≡ 64
-whole_block w is = elim is [ inl w_is ↦ rw w_is refl | inr more ↦ elim more [ inl w_is ↦ rw w_is refl | inr w_is ↦ rw w_is refl ] ]
-
 abbrev blank : ℕ → List ℕ
 blank n = replicate n 0
 

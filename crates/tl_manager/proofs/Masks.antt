@@ -27,7 +27,7 @@ use Rattle.tl_manager.specs.Request.{mask_of, masks_carried}
 
 -- ---- the sizes that the rules let through
 
-atomic_small : (size : ℕ) → is_one_of size (2 ∷ 3 ∷ []) ≡ true → size ≤ 6
+pub atomic_small : (size : ℕ) → is_one_of size (2 ∷ 3 ∷ []) ≡ true → size ≤ 6
 atomic_small size e = elim (or_cases (size == 2) ((size == 3) || false) e) [
   | inl two ↦ let h = eqb-true size 2 two in omega (arith, h)
   | inr more ↦ elim (or_cases (size == 3) false more) [
@@ -36,7 +36,7 @@ atomic_small size e = elim (or_cases (size == 2) ((size == 3) || false) e) [
   ]
 ]
 
-request_small : (w size : ℕ) (l : Level) (opcode : OpA) → IsWidth w → a_has_size w l opcode size ≡ true → size ≤ 6
+pub request_small : (w size : ℕ) (l : Level) (opcode : OpA) → IsWidth w → a_has_size w l opcode size ≡ true → size ≤ 6
 request_small w size l a.PutFullData width e = access-small w size l width e
 request_small w size l a.PutPartialData width e = access-small w size l width e
 request_small w size l a.ArithmeticData width e = atomic_small size e

@@ -46,7 +46,7 @@ Same d memory address = d.memory address ≡ memory address
 
 -- ---- requests
 
-access_code : (opcode : OpA) → is_acquire opcode ≡ false → a_code opcode < 6
+pub access_code : (opcode : OpA) → is_acquire opcode ≡ false → a_code opcode < 6
 access_code a.PutFullData e = omega arith
 access_code a.PutPartialData e = omega arith
 access_code a.ArithmeticData e = omega arith

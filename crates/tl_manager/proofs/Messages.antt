@@ -54,7 +54,7 @@ clients-next first (suc n) test =
     go true e = ap (λ (cs : List ℕ). first ∷ cs) e
     go false e = e
 
-clients-more : (n : ℕ) (test : ℕ → Bool) (b : Bool) → test n ≡ b → clients_from 0 (n + 1) test ≡ clients_from 0 n test ++ (if b then n ∷ [] else [])
+pub clients-more : (n : ℕ) (test : ℕ → Bool) (b : Bool) → test n ≡ b → clients_from 0 (n + 1) test ≡ clients_from 0 n test ++ (if b then n ∷ [] else [])
 clients-more n test b e =
     let at : 0 + n ≡ n = omega arith in
     let next : clients_from 0 (suc n) test ≡ clients_from 0 n test ++ (if test n then n ∷ [] else []) = rw at at (clients-next 0 n test) in

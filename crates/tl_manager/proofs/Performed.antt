@@ -28,7 +28,7 @@ use Rattle.tl_manager.specs.Ready.{IsReady}
 
 -- ---- the answers
 
-grants_by_opcode : (b : Bool) → (is_grant (grant_opcode b) ≡ true) × (is_release_ack (grant_opcode b) ≡ false)
+pub grants_by_opcode : (b : Bool) → (is_grant (grant_opcode b) ≡ true) × (is_release_ack (grant_opcode b) ≡ false)
 grants_by_opcode true = (refl, refl)
 grants_by_opcode false = (refl, refl)
 

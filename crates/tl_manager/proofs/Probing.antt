@@ -36,19 +36,19 @@ use Rattle.tl_manager.specs.Ready.{IsWhole}
 
 -- ---- a beat of channel C
 
-request_of-c : {w : ℕ} (q : ℕ) (x : BeatC w) (t : History w) → request_of q (beat.C x ∷ t) ≡ request_of q t
+pub request_of-c : {w : ℕ} (q : ℕ) (x : BeatC w) (t : History w) → request_of q (beat.C x ∷ t) ≡ request_of q t
 unfolding request_of
 request_of-c q x t = refl
 
-grant_sink-c : {w : ℕ} (k : ℕ) (x : BeatC w) (t : History w) → grant_sink k (beat.C x ∷ t) ≡ grant_sink k t
+pub grant_sink-c : {w : ℕ} (k : ℕ) (x : BeatC w) (t : History w) → grant_sink k (beat.C x ∷ t) ≡ grant_sink k t
 unfolding grant_sink
 grant_sink-c k x t = refl
 
-probe_of-c : {w : ℕ} (k : ℕ) (x : BeatC w) (t : History w) → probe_of k (beat.C x ∷ t) ≡ probe_of k t
+pub probe_of-c : {w : ℕ} (k : ℕ) (x : BeatC w) (t : History w) → probe_of k (beat.C x ∷ t) ≡ probe_of k t
 unfolding probe_of
 probe_of-c k x t = refl
 
-burst-c : {w : ℕ} (x : BeatC w) (t : History w) → unfinished channel.A (beat.C x ∷ t) ≡ unfinished channel.A t
+pub burst-c : {w : ℕ} (x : BeatC w) (t : History w) → unfinished channel.A (beat.C x ∷ t) ≡ unfinished channel.A t
 unfolding unfinished
 burst-c x t = refl
 
@@ -165,7 +165,7 @@ accounted-c {w} p link x t order ok =
 
 -- ---- a Probe
 
-request_of-b : {w : ℕ} (q n : ℕ) (k : Cap) (t : History w) → request_of q (beat.B (probe_beat n k) ∷ t) ≡ request_of q t
+pub request_of-b : {w : ℕ} (q n : ℕ) (k : Cap) (t : History w) → request_of q (beat.B (probe_beat n k) ∷ t) ≡ request_of q t
 unfolding request_of
 request_of-b q n k t = refl
 

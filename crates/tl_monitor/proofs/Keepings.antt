@@ -33,6 +33,7 @@ use Rattle.tl_monitor.specs.declared.kept.Kept.{Kept}
 use Rattle.tl_monitor.proofs.Continued.{bursts-next}
 use Rattle.tl_monitor.proofs.Judged.{continues, sink-free}
 use Rattle.tl_monitor.proofs.Keeping.{begins-is, ends-is, same_touched, answers, is_own}
+use Rattle.tl_rules.proofs.Open.{not_release_ack}
 
 -- ---- by sink
 
@@ -66,14 +67,6 @@ grant_touches first last x k f g a some = rw (f, a, g) (of_some (at k.requests x
     of_some : (o : Option Request) → is_some o ≡ true → is_some (block_of_request o) ≡ true
     of_some (Some r) e = refl
     of_some None e = absurd cc
-
-grant_no_ack : (op : OpD) → is_grant op ≡ true → is_release_ack op ≡ false
-grant_no_ack d.Grant e = refl
-grant_no_ack d.GrantData e = refl
-grant_no_ack d.AccessAck e = absurd cc
-grant_no_ack d.AccessAckData e = absurd cc
-grant_no_ack d.HintAck e = absurd cc
-grant_no_ack d.ReleaseAck e = absurd cc
 
 -- ---- the GrantAcks that are pending
 
@@ -268,7 +261,7 @@ keeps-more {w} l p old new x t width keeps legal next =
         let same : z ≡ y = cc in
         let grant : is_grant z.opcode ≡ true = ap (λ (v : BeatD w). is_grant v.opcode) same ∙ g in
         let known = answers l p k z t (unfinished channel.D t) keeps legal refl in
-        let other = grant_no_ack z.opcode grant in
+        let other = not_release_ack z.opcode grant in
         grant_touches (is_first (D z) k) (kept.completes (D z) k) z k f grant other (ap is_some (keeps.requests_are z.source) ∙ known.request other)
     grant_block l p k (A z) y t keeps legal is f g = absurd cc
     grant_block l p k (B z) y t keeps legal is f g = absurd cc

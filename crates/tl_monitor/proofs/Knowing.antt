@@ -82,11 +82,11 @@ knows-new m levels p levels_are profile_is open_still all = record {
 }
 
 -- the first fault of a trace of which a beginning was judged
-unbroken : (o : Option Rule) → broken o ≡ None → o ≡ None
+pub unbroken : (o : Option Rule) → broken o ≡ None → o ≡ None
 unbroken None e = refl
 unbroken (Some r) e = absurd cc
 
-broken_by : (o : Option Rule) (r : Rule) → broken o ≡ Some (monitor.Broken r) → o ≡ Some r
+pub broken_by : (o : Option Rule) (r : Rule) → broken o ≡ Some (monitor.Broken r) → o ≡ Some r
 broken_by None r e = absurd cc
 broken_by (Some s) r e = cc
 

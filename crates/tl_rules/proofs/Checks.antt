@@ -44,7 +44,7 @@ pub none_yet : (own : ℕ → Option Rule) (j : ℕ) → first_own own j 0 ≡ N
 unfolding first_own
 none_yet own j = refl
 
-both : (o rest : Option Rule) → o ≡ None → rest ≡ None → option_or o rest ≡ None
+pub both : (o rest : Option Rule) → o ≡ None → rest ≡ None → option_or o rest ≡ None
 both o rest e f = rw e f
 
 none_at : (own : ℕ → Option Rule) (j n : ℕ) → first_own own j n ≡ None → own (j + n) ≡ None → first_own own j (n + 1) ≡ None
@@ -186,7 +186,7 @@ unfolding first_own
 never own j zero none = refl
 never own j (suc n) none = rw (none j) (never own (j + 1) n none)
 
-probe_has_no_data : (opcode : OpB) → is_forwarded opcode ≡ false → b_carries_data opcode ≡ false
+pub probe_has_no_data : (opcode : OpB) → is_forwarded opcode ≡ false → b_carries_data opcode ≡ false
 probe_has_no_data b.PutFullData e = absurd cc
 probe_has_no_data b.PutPartialData e = absurd cc
 probe_has_no_data b.ArithmeticData e = absurd cc

@@ -24,6 +24,7 @@ use Rattle.tl_rules.specs.Control.{a_control, a_own}
 use Rattle.tl_rules.proofs.Bursts.{next_rule, both_none}
 use Rattle.tl_rules.proofs.Verdicts.{illegal_a}
 use Rattle.tl_rules.proofs.Widths.{size_above_width}
+use Rattle.tl_rules.proofs.Checks.{both}
 
 from_beats : {w : ℕ} (l : Level) (ch : Channel) (m : Message w) (j n : ℕ) → ((i : ℕ) → i < n → illegal l ch (beat_of m (j + i)) ≡ None) → first_illegal l ch (beats_from m j n) ≡ None
 unfolding first_illegal beats_from
@@ -91,13 +92,10 @@ control_at_uh w l opcode param size address is access e =
     (no_rule (a_has_param opcode param) L2 _ (not-false (a_has_param opcode param) two.0)
     (no_rule (a_has_size w level.UH opcode size) L3 _ (size_at_uh w l opcode size is (not-false (a_has_size w l opcode size) three.0)) three.1))
 
-join_none : (o rest : Option Rule) → o ≡ None → rest ≡ None → option_or o rest ≡ None
-join_none o rest e f = rw e f
-
 beat_at_uh : {w : ℕ} (l : Level) (x : BeatA w) → IsWidth w → a_code x.opcode < 6 → illegal l channel.A (beat.A x) ≡ None → illegal level.UH channel.A (beat.A x) ≡ None
 beat_at_uh {w} l x is access e =
     let p = both_none (a_control w l x.opcode x.param x.size x.address) (a_own w x.opcode x.size x.address x.mask x.corrupt) (sym (illegal_a l x) ∙ e) in
-    illegal_a level.UH x ∙ join_none (a_control w level.UH x.opcode x.param x.size x.address) (a_own w x.opcode x.size x.address x.mask x.corrupt)
+    illegal_a level.UH x ∙ both (a_control w level.UH x.opcode x.param x.size x.address) (a_own w x.opcode x.size x.address x.mask x.corrupt)
     (control_at_uh w l x.opcode x.param x.size x.address is access p.0) p.1
 
 -- an access that breaks no rule at the level of its link breaks none at TL-UH, as `perform` asks

@@ -11,7 +11,7 @@ use Rattle.tl_rules.specs.Effect.{Memory, bytes_from, number_from, operand_of, b
 use Rattle.tl_rules.specs.Effect.{logical_result, after, Bytes, access_result, SameBlock}
 use Rattle.tl_rules.proofs.Places.{number_same}
 
-bytes_same : (f g : Memory) (x n : ℕ) → ((i : ℕ) → i < n → f (x + i) ≡ g (x + i)) → bytes_from f x n ≡ bytes_from g x n
+pub bytes_same : (f g : Memory) (x n : ℕ) → ((i : ℕ) → i < n → f (x + i) ≡ g (x + i)) → bytes_from f x n ≡ bytes_from g x n
 unfolding bytes_from
 bytes_same f g x zero e = refl
 bytes_same f g x (suc n) e =

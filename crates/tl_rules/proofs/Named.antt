@@ -7,7 +7,7 @@ use Rattle.tl_params.specs.declared.key.Key.TheVariants.{RequestSource, ReleaseS
 use Rattle.tl_rules.specs.History.{begins, ends, closes, pending, request_of, release_of, probe_of, block_at, is_probe, is_release}
 use Rattle.tl_rules.proofs.Sent.{pending-quiet, pending-closed}
 
-still : (b p : Bool) → cond b false p ≡ true → p ≡ true
+pub still : (b p : Bool) → cond b false p ≡ true → p ≡ true
 still true p e = absurd cc
 still false p e = e
 

@@ -1,5 +1,5 @@
 -- What the order of messages says where a message that is named is open, and where it isn't.
-use Rattle.std.proofs.Common.{◌≡◌, ℕ, Bool, true, false, ◌&&◌, ◌||◌, refl, sym, inl, inr}
+use Rattle.std.proofs.Common.{◌≡◌, ℕ, Bool, true, false, ◌&&◌, ◌||◌, refl, sym, inl, inr, absurd, cc}
 use Rattle.std.specs.Prelude.{if◌then◌else◌, [], ◌∷◌, not, Option, Some, None, ◌==◌}
 use Rattle.std.proofs.lemmas.Bool.{cases_Bool}
 use Rattle.tl_beat.specs.declared.beat.Beat.TheVariants.{A, B, C, D, E}
@@ -23,6 +23,17 @@ use Rattle.tl_beat.specs.declared.channel.Channel.TheVariants as channel
 use Rattle.tl_params.specs.declared.rule.Rule.{Rule}
 use Rattle.tl_beat.specs.declared.beat.BeatA.{BeatA}
 use Rattle.tl_beat.specs.First.{first_if}
+use Rattle.tl_beat.specs.declared.opcode.OpD.{OpD}
+use Rattle.tl_beat.specs.declared.opcode.OpD.TheVariants as d
+
+-- what grants ends no Release
+pub not_release_ack : (opcode : OpD) → is_grant opcode ≡ true → is_release_ack opcode ≡ false
+not_release_ack d.Grant e = refl
+not_release_ack d.GrantData e = refl
+not_release_ack d.AccessAck e = absurd cc
+not_release_ack d.AccessAckData e = absurd cc
+not_release_ack d.HintAck e = absurd cc
+not_release_ack d.ReleaseAck e = absurd cc
 
 pub never : (b : Bool) → (b && false) ≡ false
 never true = refl

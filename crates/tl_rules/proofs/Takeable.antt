@@ -76,7 +76,7 @@ full_bit true true same e = refl
 full_bit true false same e = absurd cc
 full_bit false lane same e = absurd cc
 
-part_bit : (b lane : Bool) → (not b || lane) ≡ true → b ≡ true → lane ≡ true
+pub part_bit : (b lane : Bool) → (not b || lane) ≡ true → b ≡ true → lane ≡ true
 part_bit true lane part e = part
 part_bit false lane part e = absurd cc
 

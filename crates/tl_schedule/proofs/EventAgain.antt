@@ -26,6 +26,7 @@ use Rattle.tl_schedule.specs.EventReading.{ask_at}
 use Rattle.tl_schedule.specs.NameReading.{arithmetic_in, grow_in, intent_in, logical_in, prune_in}
 use Rattle.tl_schedule.proofs.AccessBytes.{smaller_power}
 use Rattle.tl_schedule.proofs.SpelledFields.{number_again, size_again, bytes_again, channel_again}
+use Rattle.tl_beat.proofs.SpelledLines.{NoSpace-append, length-spaced}
 
 -- ---- names
 
@@ -90,14 +91,10 @@ unfolding digits
 no_space-digits zero n = tt
 no_space-digits (suc w) n = (digit_char-no_space (n / 2 ^ (4 * w) % 16) (omega arith), no_space-digits w n)
 
-no_space-append : (p q : List ℕ) → NoSpace p → NoSpace q → NoSpace (p ++ q)
-no_space-append [] q np nq = nq
-no_space-append (c ∷ cs) q np nq = (np.0, no_space-append cs q np.1 nq)
-
 no_space-bytes : (bytes : List ℕ) → NoSpace (lane_digits bytes)
 unfolding lane_digits
 no_space-bytes [] = tt
-no_space-bytes (x ∷ xs) = no_space-append (lane_digits xs) (digits 2 x) (no_space-bytes xs) (no_space-digits 2 x)
+no_space-bytes (x ∷ xs) = NoSpace-append (lane_digits xs) (digits 2 x) (no_space-bytes xs) (no_space-digits 2 x)
 
 -- a name is short, and has no space
 record IsName (p : List ℕ) : Type 0 where
@@ -170,12 +167,6 @@ said-no_spaces w (Deliver link c) = (no_space-digits 2 link, ((refl, (refl, (ref
 abbrev pub total : List (List ℕ) → ℕ
 total [] = 0
 total (f ∷ fs) = length f + 1 + total fs
-
-pub length-fields : (fs : List (List ℕ)) → length (spaced fs) ≤ total fs
-unfolding spaced
-length-fields [] = omega arith
-length-fields (f ∷ []) = omega arith
-length-fields (f ∷ g ∷ fs) = omega (arith, length-append f (32 ∷ spaced (g ∷ fs)), length-fields (g ∷ fs))
 
 four_short : (bytes : ℕ) (b : Bool) → bytes ≤ 64 → 4 / 4 * cond b (bytes / 4) 1 ≤ 16
 four_short bytes true le = omega arith

@@ -11,7 +11,8 @@ use Rattle.tl_schedule.specs.EventLine.{HasRoom, asked_fields, asked_name, mask_
 use Rattle.tl_schedule.specs.EventReading.{get_at, put_at, part_at, arith_at, logic_at, hint_at, asked_at, load_at, store_at, acquire_at, whole_at, release_at, access_at, deliver_at, said_at, ask_at}
 use Rattle.tl_schedule.specs.FieldReading.{bytes_in, front, last, number_in, size_in}
 use Rattle.tl_schedule.specs.NameReading.{arithmetic_in, arithmetics, grow_in, grows, intent_in, intents, logical_in, logicals, prune_in, prunes, word_in, word_name, words}
-use Rattle.tl_schedule.proofs.SpelledFields.{number_taken, size_taken, bytes_taken, name_taken, channel_taken, front_taken, end_taken, last_taken, map_taken}
+use Rattle.tl_schedule.proofs.SpelledFields.{number_taken, size_taken, bytes_taken, name_taken, front_taken, end_taken, last_taken, map_taken}
+use Rattle.tl_beat.proofs.ReadLines.{letter-named}
 use Rattle.tl_schedule.proofs.Options.{bind_some}
 
 -- ---- fields in a row
@@ -208,7 +209,7 @@ module _ (w client : ℕ) (fields : List (List ℕ)) (said : Said) (room : HasRo
       let (c, is_c, e1) = bind_some (front channel_named fields) _ said e in
       let (none, same) = end_taken c.1 (Deliver client c.0) said e1 in
       let fc = front_taken channel_named fields c.0 c.1 is_c in
-      let text = one_field fields c.1 fc.field _ fc.same none (channel_taken fc.field c.0 fc.says) in
+      let text = one_field fields c.1 fc.field _ fc.same none (letter-named fc.field c.0 fc.says) in
       same_said w word.Deliver client fields (Deliver client c.0) said same (record {
         text = ap (λ (x : List (List ℕ)). digits 2 client ∷ codes "deliver" ∷ x) text;
         fits = room;

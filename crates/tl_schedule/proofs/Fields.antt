@@ -12,6 +12,7 @@ use Rattle.tl_beat.proofs.Pieces.{pieces-some}
 use Rattle.tl_beat.proofs.Spaces.{position_some}
 use Rattle.tl_schedule.specs.EventLine.{filled}
 use Rattle.tl_schedule.specs.FieldReading.{hex_at, number_in, pair_at, pairs_in, bytes_in, fields_behind, is_none_left}
+use Rattle.tl_beat.proofs.DigitsAt.{one_more}
 
 -- ---- the first field
 
@@ -58,9 +59,6 @@ pub number-left : (n w : ℕ) (bytes : List ℕ) → w ≡ 0 → false ≡ (leng
 unfolding number_in
 number-left n w [] e some = absurd (grind (arith, nat_tests))
 number-left n w (c ∷ cs) e some = rw e refl
-
-pub one_more : (n c d : ℕ) → n < 16 ^ c → d < 16 → 16 * n + d < 16 ^ (c + 1)
-one_more n c d lt small = rw (add-one, pow-suc) (omega arith)
 
 pub fits_in_64 : (c : ℕ) → c ≤ 15 → 16 ^ (c + 1) ≤ 2 ^ 64
 fits_in_64 c le = let more : c + 1 ≤ 16 = omega arith in pow-le-pow_right {n = 16} (lit< tt) {i = c + 1} {j = 16} more

@@ -14,16 +14,16 @@ use Rattle.tl_beat.specs.Digits.{digits, lane_digits, is_digit, digit_value, is_
 use Rattle.tl_beat.specs.Line.{channel_named, channels, letter}
 use Rattle.tl_beat.specs.Names.{letter_of}
 use Rattle.tl_beat.specs.Reading as beat_reading
-use Rattle.tl_beat.proofs.SpelledDigits.{number_in-digits, number_in-ok, data_in-text, data_in-ok}
+use Rattle.tl_beat.proofs.SpelledDigits.{number_in-digits, number_in-ok, data_in-text, data_in-ok, pairs-no_dash}
 use Rattle.tl_schedule.specs.EventLine.{AreBytes, HasRoom}
 use Rattle.tl_schedule.specs.FieldReading.{with_rest, number_in, byte_of, pairs_in, bytes_in, at_most, size_in, before_fields, front, at_end, last}
 use Rattle.tl_schedule.specs.NameReading.{with_name}
 use Rattle.tl_schedule.specs.Then.{◌>>=◌}
 use Rattle.tl_params.proofs.Options.{some_pair}
 use Rattle.tl_schedule.proofs.Options.{bind_some}
-
-some_is : {A : Type 0} {x y : A} → Some x ≡ Some y → x ≡ y
-some_is e = cc
+use Rattle.tl_burst.proofs.Whole.{some_is}
+use Rattle.tl_beat.proofs.SpelledLines.{find-passes}
+use Rattle.tl_beat.proofs.ReadLines.{letter-named}
 
 -- ---- numbers
 
@@ -106,13 +106,6 @@ pairs_in-is (suc n) done (c ∷ d ∷ cs) = go (is_digit c) (is_digit d) (pairs_
     go true false h = refl
     go false b h = refl
 
-pairs-not_dash : (n : ℕ) (p : List ℕ) → is_pairs n p ≡ true → is_dash p ≡ false
-unfolding is_pairs
-pairs-not_dash n [] e = refl
-pairs-not_dash zero (c ∷ []) e = absurd cc
-pairs-not_dash (suc n) (c ∷ []) e = absurd cc
-pairs-not_dash n (c ∷ d ∷ cs) e = refl
-
 -- bytes stand in their field
 pub record IsData (n : ℕ) (p bytes : List ℕ) : Type 0 where
   pub text : p ≡ lane_digits bytes
@@ -124,7 +117,7 @@ bytes_taken n p bytes e = go (is_pairs n p) refl (sym (pairs_in-is n [] p) ∙ e
     go : (b : Bool) → is_pairs n p ≡ b → cond b (Some (lanes_before [] p)) None ≡ Some bytes → IsData n p bytes
     go true is f =
         let same : lanes_before [] p ≡ bytes = some_is f in
-        let read : beat_reading.data_in n p ≡ Ok (Some bytes) = rw (pairs-not_dash n p is, is, same) refl in
+        let read : beat_reading.data_in n p ≡ Ok (Some bytes) = rw (pairs-no_dash n p is, is, same) refl in
         let s = data_in-ok n p (Some bytes) read in
         record { text = s.spelled; are_bytes = s.are_lanes }
     go false is f = absurd cc
@@ -141,21 +134,8 @@ bytes_again n bytes all =
 
 -- ---- names
 
-find-passes : {A : Type 0} (test : A → Bool) (xs : List A) (x : A) → find test xs ≡ Some x → test x ≡ true
-find-passes test [] x e = absurd cc
-find-passes {A} test (y ∷ ys) x e = go (test y) refl e (λ f. find-passes test ys x f)
-  where
-    go : (b : Bool) → test y ≡ b → cond b (Some y) (find test ys) ≡ Some x → (find test ys ≡ Some x → test x ≡ true) → test x ≡ true
-    go true h f more = let same : y ≡ x = some_is f in ap test (sym same) ∙ h
-    go false h f more = more f
-
 pub name_taken : {A : Type 0} (name : A → List ℕ) (all : List A) (p : List ℕ) (x : A) → with_name name all p ≡ Some x → p ≡ name x
 name_taken name all p x e = (bytes_eq-Decides p (name x)).0 (find-passes (λ y. bytes_eq p (name y)) all x e)
-
-pub channel_taken : (p : List ℕ) (c : Channel) → channel_named p ≡ Some c → p ≡ letter c
-channel_taken [] c e = absurd cc
-channel_taken (x ∷ []) c e = ap (λ (y : ℕ). y ∷ []) (eqb-true x (letter_of c) (find-passes (λ o. x == letter_of o) channels c e))
-channel_taken (x ∷ y ∷ ys) c e = absurd cc
 
 pub channel_again : (c : Channel) → channel_named (letter c) ≡ Some c
 channel_again channel.A = refl

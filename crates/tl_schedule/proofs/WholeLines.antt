@@ -9,7 +9,7 @@ use Rattle.std.specs.Io.BufRead.{ends_with_byte}
 use Rattle.tl_beat.specs.Line.{pieces, spaced}
 use Rattle.tl_beat.specs.Width.{IsWidth}
 use Rattle.tl_beat.proofs.Pieces.{pieces-spaced, spaced-pieces}
-use Rattle.tl_beat.proofs.SpelledLines.{ends_with_byte-line, without_last-line}
+use Rattle.tl_beat.proofs.SpelledLines.{ends_with_byte-line, without_last-line, length-spaced}
 use Rattle.tl_world.specs.declared.event.Event.{Event}
 use Rattle.tl_schedule.specs.declared.line.EventFault.{EventFault}
 use Rattle.tl_schedule.specs.declared.line.EventFault.TheVariants.{F1, F8}
@@ -17,7 +17,7 @@ use Rattle.tl_schedule.specs.declared.line.Line.{Line}
 use Rattle.tl_schedule.specs.declared.line.Line.TheVariants as line_of
 use Rattle.tl_schedule.specs.EventLine.{Said, SpellsEvent, SpellsLine, event_of, drain_line, event_fault, said_fields}
 use Rattle.tl_schedule.specs.EventReading.{ask_at, event_at, line_at, meant, meant_by}
-use Rattle.tl_schedule.proofs.EventAgain.{ask_again, length-fields, said-no_spaces, said-short, said-some}
+use Rattle.tl_schedule.proofs.EventAgain.{ask_again, said-no_spaces, said-short, said-some}
 use Rattle.tl_schedule.proofs.EventMeant.{meant-event}
 use Rattle.tl_schedule.proofs.EventTaken.{ask_taken}
 use Rattle.tl_schedule.proofs.SpelledFields.{map_taken}
@@ -114,7 +114,7 @@ event_again : {w : ℕ} (line : List ℕ) (e : Event w) → IsWidth w → Spells
 event_again {w} line e width s =
     let fields = said_fields w s.said in
     let body = spaced fields in
-    let short : length body ≤ 255 = omega (arith, length-fields fields, said-short w s.said width s.fits) in
+    let short : length body ≤ 255 = omega (arith, length-spaced fields, said-short w s.said width s.fits) in
     let cut : pieces body ≡ fields = pieces-spaced fields (omega (arith, said-some w s.said)) (said-no_spaces w s.said) in
     let read = line_again s.said body e cut (ask_again w s.said s.fits) (meant-event s.said s.fits ∙ ap (λ (x : Event w). Some x) s.means) in
     ap event_at s.is_line ∙ event_at-line w body short ∙ ap (λ o. ok_or o F8) read

@@ -17,6 +17,7 @@ use Rattle.tl_tool.specs.Cuts.{request_text, release_text, response_text, acknow
 use Rattle.tl_tool.specs.ParamNames.{a_param_name, b_param_name, c_param_name, d_param_name}
 use Rattle.tl_tool.specs.Text.{text_of}
 use Rattle.tl_tool.proofs.Cuts.{request_line, request_is, release_is, response_is, acknowledgement_is}
+use Rattle.tl_beat.proofs.SpelledDigits.{length-lane_digits}
 
 pub text_a : {w : ℕ} (line : List ℕ) (link : Link) (x : BeatA w) → IsWidth w → Spells line link (A x)
     → request_text (w / 4) line (a_name x.opcode) (a_param_name x.opcode x.param) ≡ text_of link (A x)
@@ -50,16 +51,11 @@ one_bit true = refl
 end_length : (d : List ℕ) (corrupt : Bool) → length ((d ++ 32 ∷ bit_text corrupt) ++ 10 ∷ []) ≡ length d + 3
 end_length d corrupt = omega (arith, length-append (d ++ 32 ∷ bit_text corrupt) (10 ∷ []), length-append d (32 ∷ bit_text corrupt), one_bit corrupt)
 
-lane_digits-length : (lanes : List ℕ) → length (lane_digits lanes) ≡ 2 * length lanes
-unfolding lane_digits digits
-lane_digits-length [] = refl
-lane_digits-length (x ∷ xs) = omega (arith, lane_digits-length xs, length-append (lane_digits xs) (digits 2 x))
-
 data_short : (w : ℕ) → IsWidth w → (lanes : Option (List ℕ)) → AreLanes w lanes → length (lanes_text lanes) ≤ 32
 data_short w width None are = omega arith
-data_short w (inl four) (Some lanes) are = omega (arith, lane_digits-length lanes, are.0, four)
-data_short w (inr (inl eight)) (Some lanes) are = omega (arith, lane_digits-length lanes, are.0, eight)
-data_short w (inr (inr sixteen)) (Some lanes) are = omega (arith, lane_digits-length lanes, are.0, sixteen)
+data_short w (inl four) (Some lanes) are = omega (arith, length-lane_digits lanes, are.0, four)
+data_short w (inr (inl eight)) (Some lanes) are = omega (arith, length-lane_digits lanes, are.0, eight)
+data_short w (inr (inr sixteen)) (Some lanes) are = omega (arith, length-lane_digits lanes, are.0, sixteen)
 
 request_long : (w : ℕ) → IsWidth w → (letter link opcode param size source address mask : ℕ) (d : List ℕ) (corrupt : Bool) → length d ≤ 32
     → (27 + w / 4 ≤ length (request_line (w / 4) letter link opcode param size source address mask d corrupt))

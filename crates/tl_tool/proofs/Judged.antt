@@ -37,6 +37,7 @@ use Rattle.tl_tool.specs.Watching.{KnowsLines, KnowsTrace, Watches}
 use Rattle.tl_tool.specs.Width.{bytes_of}
 use Rattle.tl_tool.proofs.Decoded.{judged_line, open_fault}
 use Rattle.tl_tool.proofs.Headers.{header_or_none}
+use Rattle.tl_beat.proofs.SpelledLines.{ends_with_byte-line}
 
 -- ---- the header
 
@@ -140,16 +141,10 @@ header-short version levels few =
     let text = version_text version ++ levels_text levels in
     omega (arith, length-append text (10 ∷ []), length-append (version_text version) (levels_text levels), version-short version, levels-short levels)
 
-pub ends_in : (front : List ℕ) → ends_with_byte 10 (front ++ 10 ∷ []) ≡ true
-ends_in front =
-    let some : 0 < length (front ++ 10 ∷ []) = omega (arith, length-append front (10 ∷ [])) in
-    let last : length (front ++ 10 ∷ []) - 1 ≡ length front = omega (arith, length-append front (10 ∷ [])) in
-    rw (lt-ltb 0 (length (front ++ 10 ∷ [])) some, last, get_or-append_seam front 10 [] 0) refl
-
 -- so a line that is open spells none
 pub open_line : (line : List ℕ) → IsOpen line → (wide : Width) (p : Profile) (levels : List Level) → ¬ SpellsHeader line wide p levels
 open_line line (inl ends) wide p levels h =
-    let lf : ends_with_byte 10 line ≡ true = rw h.is_line (ends_in (trace_word ++ version_text h.version ++ levels_text levels)) in
+    let lf : ends_with_byte 10 line ≡ true = rw h.is_line (ends_with_byte-line (trace_word ++ version_text h.version ++ levels_text levels)) in
     absurd cc
 open_line line (inr long) wide p levels h =
     let short : length line ≤ 256 = rw h.is_line (header-short h.version levels h.so_many.1) in

@@ -15,7 +15,7 @@ use Rattle.tl_tool.specs.Lines.{lines_of, LacksLf, IsLine, IsOpen}
 use Rattle.tl_tool.specs.Progress.{Progress, StopsAt, CountsLine, Feeds, FinishesInput}
 use Rattle.tl_tool.proofs.InputLines.{lines_of-line, lines_of-begun, lines_of-rest, ends-lacks, open_from, ended_lines-append, ended_lines-lacks, ended_lines-line}
 
-lacks-append : (xs ys : List ℕ) → LacksLf xs → LacksLf ys → LacksLf (xs ++ ys)
+pub lacks-append : (xs ys : List ℕ) → LacksLf xs → LacksLf ys → LacksLf (xs ++ ys)
 lacks-append xs ys p q = All-append (λ b. (b == 10) ≡ false) xs ys p q
 
 pub empty_is : (xs : List ℕ) → (length xs == 0) ≡ true → xs ≡ []

@@ -15,7 +15,7 @@ use Rattle.tl_params.proofs.Headers.{level-short, version-short}
 use Rattle.tl_schedule.specs.Schedule.{clients_text, schedule_line, schedule_word}
 use Rattle.tl_tool.specs.Lines.{IsOpen}
 use Rattle.tl_tool.specs.Played.{HeadsSchedule}
-use Rattle.tl_tool.proofs.Judged.{ends_in}
+use Rattle.tl_beat.proofs.SpelledLines.{ends_with_byte-line}
 
 decimal-short : (limit k n : ℕ) → limit < 10 ^ k → limit < 2 ^ 64 → 0 < k → is_from_to 1 limit n ≡ true → length (decimal n) ≤ k
 decimal-short limit k n few small some fits =
@@ -49,7 +49,7 @@ whole version blocks trackers clients = simp append_assoc
 pub header-unopened : (line : List ℕ) → IsOpen line → (version : Version) (config : Config) → ¬ HeadsSchedule line version config
 header-unopened line (inl ends) version config h =
     let text : line ≡ front version config.blocks config.trackers config.clients.items ++ 10 ∷ [] = h.spelled.is_line ∙ whole version config.blocks config.trackers config.clients.items in
-    let lf : ends_with_byte 10 line ≡ true = rw text (ends_in (front version config.blocks config.trackers config.clients.items)) in
+    let lf : ends_with_byte 10 line ≡ true = rw text (ends_with_byte-line (front version config.blocks config.trackers config.clients.items)) in
     absurd cc
 header-unopened line (inr long) version config h =
     let blocks : length (decimal config.blocks) ≤ 4 = decimal-short 1024 4 config.blocks (omega arith) (omega arith) (omega arith) h.spelled.blocks_fit in

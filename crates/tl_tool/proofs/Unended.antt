@@ -19,13 +19,11 @@ use Rattle.tl_params.specs.declared.width.Width.TheVariants.{Four, Eight, Sixtee
 use Rattle.tl_params.specs.Header.{level_text, version_text}
 use Rattle.tl_tool.specs.Lines.{LacksLf}
 use Rattle.tl_tool.specs.Trace.{levels_text, trace_word}
+use Rattle.tl_tool.proofs.Progress.{lacks-append}
 
 -- no byte of it is LF
 abbrev IsOther : ℕ → Type 0
 IsOther b = (b == 10) ≡ false
-
-lacks-append : (xs ys : List ℕ) → LacksLf xs → LacksLf ys → LacksLf (xs ++ ys)
-lacks-append xs ys = All-append IsOther xs ys
 
 -- a text that is known in full
 lacks-all : (bytes : List ℕ) → list_all (λ b. not (b == 10)) bytes ≡ true → LacksLf bytes

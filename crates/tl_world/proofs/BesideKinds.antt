@@ -31,7 +31,8 @@ use Rattle.tl_world.specs.Token.{Kind, Request, ProbeAck, Token, set, set_at}
 use Rattle.tl_world.proofs.Beside.{open-here, open-there, open-releases, open-requests, beside-still, beside-used, beside-let, same_acquire}
 use Rattle.tl_world.proofs.BesideAsked.{acquires-else}
 use Rattle.tl_world.proofs.BesideTaken.{IsPerformed, beside-performed, memory-unprobed, memory-reported, intent-reply}
-use Rattle.tl_world.proofs.OneMemory.{block-whole, block-besides}
+use Rattle.tl_world.proofs.OneMemory.{block-besides}
+use Rattle.tl_manager.proofs.Blocks.{block-put}
 use Rattle.tl_world.proofs.Tokens.{same_number, set-same, set-other, set-part}
 use Rattle.tl_world.proofs.BothParts.{is_of-is, acquires_of-is}
 use Rattle.tl_world.proofs.Codes.{low_cap}
@@ -362,7 +363,7 @@ beside-grant {w} caching c n d k rest mail s m inv wants h =
 
     here : (x : Acquiring) (waits : List ℕ) → is_wanting x ≡ true → IsBlock (memory_after (op_of {w = w} x n waits) m.memory) n (granted_truth (is_whole x) waits b.truth)
     here Calm waits e = absurd cc
-    here (Wants true g) waits e = block-whole m.memory n waits
+    here (Wants true g) waits e = block-put m.memory n waits
     here (Wants false g) waits e = h.memory n
 
     there : (x : Acquiring) (waits : List ℕ) (i : ℕ) → is_wanting x ≡ true → (i ≡ n → ⊥) → IsBlock (memory_after (op_of {w = w} x n waits) m.memory) i (s.block i).truth

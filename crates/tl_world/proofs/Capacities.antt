@@ -14,6 +14,7 @@ use Rattle.tl_world.proofs.Tokens.{same_number}
 use Rattle.tl_world.proofs.Phases.{each_phase, of_phase}
 use Rattle.tl_world.proofs.BothParts.{not-answered, not-sent, acked-open, releasing-open, is_replied-is, is_asked-is, is_of-is, acquires_of-is}
 use Rattle.tl_world.proofs.Channels.{on_same}
+use Rattle.tl_rules.proofs.Takeable.{part_bit}
 
 -- what is used is below these bounds
 pub record AreBounded {X : Type 0} (c sources trackers : ℕ) (s : State X) : Type 0 where
@@ -147,10 +148,6 @@ asks_for_grant p v = not (is_granting v) || is_wanting p.acquiring
 probes_in_service : Pair → View → Bool
 probes_in_service p v = is_quiet p.probing || not (is_idle v)
 
-pub implied : (a b : Bool) → (not a || b) ≡ true → a ≡ true → b ≡ true
-implied true b e f = e
-implied false b e f = absurd cc
-
 unless : (a b : Bool) → (a || not b) ≡ true → a ≡ false → b ≡ false
 unless true b e f = absurd cc
 unless false true e f = absurd cc
@@ -158,7 +155,7 @@ unless false false e f = refl
 
 grants_ask : (p : Pair) (v : View) → ok p v ≡ true → is_granting v ≡ true → is_wanting p.acquiring ≡ true
 unfolding each_phase asks_for_grant
-grants_ask p v h = implied (is_granting v) (is_wanting p.acquiring) (of_phase asks_for_grant refl p v h)
+grants_ask p v h = part_bit (is_granting v) (is_wanting p.acquiring) (of_phase asks_for_grant refl p v h)
 
 probes_serve : (p : Pair) (v : View) → ok p v ≡ true → is_quiet p.probing ≡ false → is_idle v ≡ false
 unfolding each_phase probes_in_service

@@ -33,10 +33,10 @@ use Rattle.tl_client.specs.End.{Terms, End, zeros, copy_at, held_at, with_copy, 
 use Rattle.tl_client.specs.Kept.{holds}
 use Rattle.tl_client.specs.Send.{sourced, acquisition, about, release}
 use Rattle.tl_client.proofs.Accounted.{accounted-asked}
-use Rattle.tl_client.proofs.AfterAsked.{kept_waits, kept_copies, kept_closed}
+use Rattle.tl_client.proofs.AfterAsked.{kept_copies, kept_closed}
+use Rattle.tl_client.proofs.KeptAsked.{kept_waiting, no_acquire, falls_to, kept-asked}
 use Rattle.tl_client.proofs.Cases.{NotBusy, asked-cases}
 use Rattle.tl_client.proofs.HeldAfter.{same_block, swapped, held-release, kept_past}
-use Rattle.tl_client.proofs.KeptAsked.{no_acquire, falls_to, kept-asked}
 use Rattle.tl_world.specs.Follow as world
 use Rattle.tl_world.specs.Follow.{Shadow, acquire_opcode}
 use Rattle.tl_world.specs.Invariant.{acquires_of, AreNamed}
@@ -224,7 +224,7 @@ end-release_asked {w} c n source r copy mail s e width begins kept end =
       accounted = kept.accounted;
       copies = λ i some. kept_copies n (prune_right r) (sending (release r source n copy) e) i
           ∙ copy_of i (i == n) refl (sym (ap (λ (q : Perm). same_perm q perm.None) (event.held i)) ∙ some) ∙ ap Some (sym (set-part (λ (b : Block (List ℕ)). b.copy c) n new s.block refl i));
-      waiting = λ i storing. kept_waits n (prune_right r) (sending (release r source n copy) e) i
+      waiting = λ i storing. kept_waiting n (prune_right r) (sending (release r source n copy) e) i
           ∙ end.waiting i (sym (set-part (λ (b : Block (List ℕ)). is_storing (b.pair c).acquiring) n new s.block (ap (λ (q : Pair). is_storing q.acquiring) pair_is) i) ∙ storing)
           ∙ ap Some (sym (set-part (λ (b : Block (List ℕ)). b.waiting c) n new s.block refl i));
       live = kept_closed n (prune_right r) (sending (release r source n copy) e) ∙ end.live;

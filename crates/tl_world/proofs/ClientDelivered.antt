@@ -33,7 +33,6 @@ use Rattle.tl_client.specs.Offer.{Offered, offered, taken, ended, granted, respo
 use Rattle.tl_client.specs.declared.verdict.Verdict.TheVariants as verdict
 use Rattle.tl_client.proofs.Accounted.{accounted-offered}
 use Rattle.tl_client.proofs.KeptOffered.{kept-offered}
-use Rattle.tl_manager.proofs.Filled.{whole_block}
 use Rattle.tl_world.specs.Follow.{Shadow, is_whole, taken_by_client, kind_taken, token_taken}
 use Rattle.tl_world.specs.Log.{Log}
 use Rattle.tl_world.specs.Phase.{Acquiring, Wants}
@@ -50,6 +49,7 @@ use Rattle.tl_world.proofs.ClientTakes.{answer-first, IsFitting, fitting, grant-
 use Rattle.tl_world.proofs.Due.{answer-due, IsGrantDue, grant-due, grant_message, grant-rendered, ack-due, ack_message}
 use Rattle.tl_world.proofs.FirstToken.{IsFirst, first-token}
 use Rattle.tl_world.proofs.Codes.{access_kind}
+use Rattle.tl_rules.proofs.Widths.{whole_block}
 
 -- ---- what a client does at a beat of channel D
 

@@ -17,7 +17,8 @@ use Rattle.tl_client.specs.End.{End, copy_at, held_at, sending, with_past}
 use Rattle.tl_client.specs.Kept.{holds}
 use Rattle.tl_client.specs.Offer.{probed, report_for}
 use Rattle.tl_client.specs.Send.{probe_ack}
-use Rattle.tl_client.proofs.AfterAsked.{kept_waits, kept_copies, kept_closed}
+use Rattle.tl_client.proofs.AfterAsked.{kept_copies, kept_closed}
+use Rattle.tl_client.proofs.KeptAsked.{kept_waiting}
 use Rattle.tl_client.proofs.KeptOffered.{reports_held}
 use Rattle.tl_world.specs.Known.{IsKnown}
 use Rattle.tl_world.specs.Phase.{Pair}
@@ -44,7 +45,7 @@ end-probe_taken {w} c n k rest mail s e width well end =
       accounted = well.accounted;
       copies = λ i some. kept_copies n left g i ∙ copy_of i (i == n) refl (sym (column (λ (b : Block (List ℕ)). same_perm (b.pair c).held perm.None) n new s.block i) ∙ some)
           ∙ ap Some (sym (set-part (λ (b : Block (List ℕ)). b.copy c) n new s.block refl i));
-      waiting = λ i storing. kept_waits n left g i ∙ end.waiting i
+      waiting = λ i storing. kept_waiting n left g i ∙ end.waiting i
           (sym (set-part (λ (b : Block (List ℕ)). is_storing (b.pair c).acquiring) n new s.block (ap (λ (q : Pair). is_storing q.acquiring) pair_is) i)
           ∙ storing)
           ∙ ap Some (sym (set-part (λ (b : Block (List ℕ)). b.waiting c) n new s.block refl i));

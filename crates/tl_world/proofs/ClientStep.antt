@@ -54,6 +54,7 @@ use Rattle.tl_world.proofs.FirstToken.{IsFirst, first-token}
 use Rattle.tl_world.proofs.ProbeDelivered.{IsProbed, delivered-b}
 use Rattle.tl_world.proofs.Steps.{clients-with_messages}
 use Rattle.tl_world.proofs.Tokens.{same_number}
+use Rattle.tl_client.proofs.Calls.{kept_up}
 
 -- all ends are those of the protocol after this step
 abbrev AreEnds : {w : ℕ} → Config → Event w → System w → Shadow w → ℕ → Step w → Type 0
@@ -246,17 +247,6 @@ ended_unrefused opd.Grant x f e = refl
 ended_unrefused opd.GrantData x f e = refl
 ended_unrefused opd.ReleaseAck x f e = refl
 
-pub taken_unrefused : {w : ℕ} (x : Beat w) (e : End w) → is_refused (taken x e).answer ≡ false
-taken_unrefused (beat.A x) e = refl
-taken_unrefused (beat.B x) e = refl
-taken_unrefused (beat.C x) e = refl
-taken_unrefused (beat.E x) e = refl
-taken_unrefused {w} (beat.D x) e = go (ends (beat.D x) e.past) _ (ended_unrefused x.opcode x _ _)
-  where
-    go : (b : Bool) (o : Offered w) → is_refused o.answer ≡ false → is_refused (cond b o (silent verdict.Taken (with_past (beat.D x ∷ e.past) e))).answer ≡ false
-    go true o last = last
-    go false o last = refl
-
 -- a beat that is taken is moved, and the client's end is that of the answer
 moved : {w : ℕ} (a : Result (Verdict × Option (Message w)) Rule) (c : ℕ) (ch : Channel) (x : Beat w) (queue : List (Beat w)) (e : End w) (s : System w) → is_refused a ≡ false → is_stalled a ≡ false
     → (is_moving (judged a c ch x queue e s).outcome ≡ true) × ((judged a c ch x queue e s).after.clients ≡ (with_client c e (with_channel c ch queue s)).clients)
@@ -303,7 +293,7 @@ taken_ends {w} config log mail request s sys link ch k x queue o width h beats u
 
     moves : (is_moving (client_took link.0 ch x queue t sys).outcome ≡ true)
         × ((client_took link.0 ch x queue t sys).after.clients ≡ (with_client link.0 t.after (with_channel link.0 ch queue sys)).clients)
-    moves = moved t.answer link.0 ch x queue t.after sys (taken_unrefused x (sys.clients link.0)) (taken_now x (sys.clients link.0))
+    moves = moved t.answer link.0 ch x queue t.after sys (kept_up x (sys.clients link.0)) (taken_now x (sys.clients link.0))
 
     after : System w
     after = with_client link.0 t.after (with_channel link.0 ch queue sys)

@@ -44,7 +44,8 @@ use Rattle.tl_world.proofs.ClientEnd.{IsWellKept, IsEnd, asks-same, asks-closed,
 use Rattle.tl_world.proofs.ClientHeard.{IsHeard, IsEcho, echo-none, echo-e, known-heard, opened-heard, heard-part, answer_closes, ack_closes, grant_closes}
 use Rattle.tl_world.proofs.Phases.{and_right}
 use Rattle.tl_world.proofs.Tokens.{same_number, set-same, set-other, set-part, set_at-same}
-use Rattle.tl_world.proofs.Codes.{grants_always, acquires-so}
+use Rattle.tl_world.proofs.Codes.{acquires-so}
+use Rattle.tl_manager.proofs.Performed.{grants_by_opcode}
 
 -- ---- a beat that isn't the last of its message
 
@@ -208,7 +209,7 @@ end-grant_taken {w} c n whole data_too g k x payload rest mail s e f width named
     let open_ : open_beat x.source e.past ≡ Some r = end.known.opens x.source ∙ asks in
     let request : request_of x.source e.past ≡ Some r = open-is x.source e.past (ap is_acquire_beat open_ ∙ acquires-so whole) ∙ open_ in
     let does = grant_end data_too x r payload e f is.opcode (taken ∙ ap (λ (o : Option (BeatA w)). (responded x o payload e).after) request) in
-    let kind = grants_always data_too in
+    let kind = grants_by_opcode data_too in
     let closes = grant_closes n x r e.past last (ap is_grant is.opcode ∙ kind.0) (ap is_release_ack is.opcode ∙ kind.1) request (same_block n) in
     let event : IsHeard c x e.past (cap_right k) (λ i. n == i) (λ i. false) (λ i. x.source == i) (λ i. false) (asked_by mail s c) (asked_by mail s' c) s s' = record {
       grants_is = closes.0;

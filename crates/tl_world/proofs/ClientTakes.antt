@@ -52,7 +52,8 @@ use Rattle.tl_world.proofs.Due.{IsAnswerDue, IsGrantDue, grant_message, ack_mess
 use Rattle.tl_world.proofs.Passes.{client-takes}
 use Rattle.tl_world.proofs.Phases.{and_left, and_right}
 use Rattle.tl_world.proofs.ResponseOrder.{answer-legal, grant-legal, ack-legal}
-use Rattle.tl_world.proofs.Codes.{not_ack, access_kind}
+use Rattle.tl_world.proofs.Codes.{access_kind}
+use Rattle.tl_manager.proofs.Answered.{no_ack_grant}
 
 -- ---- what a client was made for
 
@@ -226,7 +227,7 @@ grant-first {w} p c n mail s e end due given whole =
     grant-legal p n (d_beat_of (grant_message due.data_too due.k source (s.block n).tracker (s.block n).truth) 0) r e.past (record {
       whole = whole;
       complete = ap (rules.comes_in_request source) end.kept.a_whole;
-      other = not_ack due.data_too;
+      other = no_ack_grant due.data_too;
       live = live.0;
       request = live.1;
       admits = answers_acquire due.whole due.data_too fits.bare;

@@ -23,20 +23,14 @@ use Rattle.tl_manager.specs.Service.{is_access_answer}
 use Rattle.tl_world.specs.Follow.{acquire_opcode, gift}
 use Rattle.tl_world.specs.Phase.{same_cap}
 use Rattle.tl_world.specs.PhaseSteps.{is_granted_data}
+use Rattle.tl_manager.proofs.Performed.{grants_by_opcode}
+use Rattle.tl_manager.proofs.Answered.{no_ack_grant}
 
 -- ---- opcodes
-
-pub grants_always : (data_too : Bool) → (is_grant (grant_opcode data_too) ≡ true) × (is_release_ack (grant_opcode data_too) ≡ false)
-grants_always true = (refl, refl)
-grants_always false = (refl, refl)
 
 pub grants-so : (b : Bool) → is_grant (grant_opcode b) ≡ true
 grants-so true = refl
 grants-so false = refl
-
-pub not_ack : (data_too : Bool) → is_release_ack (grant_opcode data_too) ≡ false
-not_ack true = refl
-not_ack false = refl
 
 pub acquires-so : (whole : Bool) → is_acquire (acquire_opcode whole) ≡ true
 acquires-so true = refl

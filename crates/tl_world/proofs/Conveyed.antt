@@ -30,7 +30,7 @@ use Rattle.tl_manager.specs.Kept as manager
 use Rattle.tl_manager.specs.Kept.{Each}
 use Rattle.tl_manager.specs.Deed as manager_deed
 use Rattle.tl_manager.specs.End as manager_end
-use Rattle.tl_manager.specs.Offer as slave
+use Rattle.tl_manager.specs.Offer as manager_offer
 use Rattle.tl_manager.specs.Offer.{is_from_client}
 use Rattle.tl_manager.proofs.Deeds.{deed_handable}
 use Rattle.tl_manager.proofs.Handed.{beats_on_link}
@@ -281,7 +281,7 @@ moved-passing {w} config log link ch terms x queue width typed logged known beat
             handed = (manager_deed.deed config link x sys.manager).handed
 
             e : manager_end.End w
-            e = slave.taken link x (manager_deed.deed config link x sys.manager) sys.manager
+            e = manager_offer.taken link x (manager_deed.deed config link x sys.manager) sys.manager
 
             now : System w
             now = with_manager e (with_channel c ch queue sys)

@@ -32,7 +32,7 @@ use Rattle.tl_world.specs.Token.{Kind, Request, Acquire, Probe, ProbeAck, Releas
 use Rattle.tl_world.specs.Whole.{IsMatched, is_caching}
 use Rattle.tl_world.proofs.Carried.{IsNext}
 use Rattle.tl_world.proofs.ClientDelivered.{shadow_of, delivered-d}
-use Rattle.tl_world.proofs.ClientStep.{taken_unrefused}
+use Rattle.tl_client.proofs.Calls.{kept_up}
 use Rattle.tl_world.proofs.Due.{answer-due, grant-due, grant-rendered}
 use Rattle.tl_world.proofs.FirstToken as token
 use Rattle.tl_world.proofs.FirstToken.{first-token}
@@ -148,7 +148,7 @@ first-of {w} config log h c terms channel.B x queue width is at beats =
 
     either : (b : Bool) → is_kept ((h.state.block probed.0).pair c).letting ≡ b → IsTakenUp (offered terms channel.B x (sys.clients c)).answer
     either true e = taken_up (offered terms channel.B x (sys.clients c)) (taken x (sys.clients c)) (probed.1.takes e)
-        (unrefused_up (taken x (sys.clients c)).answer (taken_unrefused x (sys.clients c)))
+        (unrefused_up (taken x (sys.clients c)).answer (kept_up x (sys.clients c)))
     either false e = taken_up (offered terms channel.B x (sys.clients c)) (silent verdict.Stalled (sys.clients c)) (probed.1.waits_for e) tt
 
     k : Cap
@@ -169,7 +169,7 @@ first-of {w} config log h c terms channel.D x queue width is at beats =
       on = on;
       taken = (
         λ e. taken_up (offered terms channel.D x (sys.clients c)) (taken x (sys.clients c)) d.takes
-            (unrefused_up (taken x (sys.clients c)).answer (taken_unrefused x (sys.clients c))),
+            (unrefused_up (taken x (sys.clients c)).answer (kept_up x (sys.clients c))),
         λ e. absurd cc,
       );
       probes = λ y e. not_probe x y channel.D on (λ f. absurd cc) e;

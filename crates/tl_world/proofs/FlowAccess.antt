@@ -21,18 +21,11 @@ use Rattle.tl_world.proofs.FlowGranted.{begun, unbegun}
 use Rattle.tl_world.proofs.FlowReleased.{with_true}
 use Rattle.tl_world.proofs.FlowStep.{flowed-next, held_by, acquired_by, let_of, granted_by, step, step_quiet}
 use Rattle.tl_world.proofs.FlowReport.{unopened}
+use Rattle.tl_manager.proofs.Accepted.{probe_of-a, grant_sink-a}
 
 pub released-of : {w : ℕ} (i : ℕ) (y : BeatA w) (t : History w) → release_of i (beat.A y ∷ t) ≡ release_of i t
 unfolding release_of
 released-of i y t = refl
-
-pub probed-of : {w : ℕ} (n : ℕ) (y : BeatA w) (t : History w) → probe_of n (beat.A y ∷ t) ≡ probe_of n t
-unfolding probe_of
-probed-of n y t = refl
-
-pub sunk-of : {w : ℕ} (n : ℕ) (y : BeatA w) (t : History w) → grant_sink n (beat.A y ∷ t) ≡ grant_sink n t
-unfolding grant_sink
-sunk-of n y t = refl
 
 -- the last request with the source of the beat, and with another one
 pub of_source : {w : ℕ} (i : ℕ) (y : BeatA w) (t : History w) (first : Bool) (o : Option (BeatA w)) → begins (beat.A y) t ≡ first → (y.source == i) ≡ true
@@ -95,9 +88,9 @@ flowed-access {w} {X} c y first last asked rest rest' s s' t first_is last_is re
           ∙ sym (step_quiet first last (is_sunk c i (rest channel.D) (s.tracked i) s));
       grants = λ m. grants m ∙ sym (step_quiet first last (granted_by c m asked (rest channel.D) (s.block m)));
       probes = λ m. ap (λ (z : Block X). is_answered (z.pair c).probing) (is.blocks m) ∙ sym (step_quiet first last (is_answered ((s.block m).pair c).probing));
-      probed = λ m e. probed-of m y t ∙ before.probed m (sym (ap (λ (z : Block X). is_answered (z.pair c).probing) (is.blocks m)) ∙ e)
+      probed = λ m e. probe_of-a m y t ∙ before.probed m (sym (ap (λ (z : Block X). is_answered (z.pair c).probing) (is.blocks m)) ∙ e)
           ∙ sym (ap (λ (z : Block X). Some (probe_beat m (cap_waited z.service))) (is.blocks m));
-      sunk = λ m e. sunk-of m y t ∙ before.sunk m (before.grants m ∙ sym (grants m) ∙ e) ∙ ap (λ (z : Block X). Some z.tracker) (sym (is.blocks m));
+      sunk = λ m e. grant_sink-a m y t ∙ before.sunk m (before.grants m ∙ sym (grants m) ∙ e) ∙ ap (λ (z : Block X). Some z.tracker) (sym (is.blocks m));
     }) before
   where
     was : (i : ℕ) → (y.source == i) ≡ true → is_requested c i (rest channel.A) (s.uses c i) s ≡ not first

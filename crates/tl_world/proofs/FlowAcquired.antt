@@ -17,7 +17,8 @@ use Rattle.tl_world.specs.Phase.{Idle}
 use Rattle.tl_world.specs.Protocol.{Block, State, Use, Acquires, view, is_acknowledging, is_answered, is_granting, is_wanting, is_unserved}
 use Rattle.tl_world.specs.Render.{probe_beat}
 use Rattle.tl_world.specs.Sources.{cap_waited}
-use Rattle.tl_world.proofs.FlowAccess.{of_source, of_other, released-of, probed-of, sunk-of}
+use Rattle.tl_world.proofs.FlowAccess.{of_source, of_other, released-of}
+use Rattle.tl_manager.proofs.Accepted.{grant_sink-a, probe_of-a}
 use Rattle.tl_world.proofs.FlowAlone.{AreRests, no_coming}
 use Rattle.tl_world.proofs.FlowAside.{IsComing, comes-same, let_by-same}
 use Rattle.tl_world.proofs.FlowGranted.{requested-apart}
@@ -76,8 +77,8 @@ flowed-acquire {w} {X} c n y asked asked' rest rest' s s' t first_is last_is res
       sinks = λ i. ap (λ (l : List (Beat w)). is_sunk c i l (s'.tracked i) s') (rests channel.D) ∙ is.sinks i;
       grants = grants;
       probes = answered;
-      probed = λ m e. probed-of m y t ∙ probed m e;
-      sunk = λ m e. sunk-of m y t ∙ tracked m e;
+      probed = λ m e. probe_of-a m y t ∙ probed m e;
+      sunk = λ m e. grant_sink-a m y t ∙ tracked m e;
     }) before
   where
     b : Block X

@@ -23,7 +23,8 @@ use Rattle.tl_world.specs.Token.{Token, set}
 use Rattle.tl_world.proofs.FlowAside.{IsComing, requested-blocks, let_by-same}
 use Rattle.tl_world.proofs.FlowStep.{flowed-next, held_by, acquired_by, let_of, granted_by, step}
 use Rattle.tl_world.proofs.Tokens.{same_number, set-same, set-other, set-each, set-part}
-use Rattle.tl_world.proofs.Unsaid.{request_of-e, probe_of-e}
+use Rattle.tl_manager.proofs.Acked.{probe_of-e, request_of-e, grant_sink-e}
+use Rattle.tl_client.proofs.AccountedResponse.{is_own_sink}
 
 -- what of each channel's first message was delivered, with one more beat
 abbrev pub AreRests : {w : ℕ} → Beat w → (Channel → List (Beat w)) → (Channel → List (Beat w)) → Type 0
@@ -35,19 +36,12 @@ released-of : {w : ℕ} (i : ℕ) (y : BeatE) (t : History w) → release_of i (
 unfolding release_of
 released-of i y t = refl
 
-sunk-of : {w : ℕ} (n : ℕ) (y : BeatE) (t : History w) → grant_sink n (beat.E y ∷ t) ≡ grant_sink n t
-unfolding grant_sink
-sunk-of n y t = refl
-
 not_granting : (v : View) → v ≡ Acknowledging → is_granting v ≡ false
 not_granting v e = ap is_granting e
 
 pub no_coming : (g b : Bool) → g ≡ false → (b ≡ true → g ≡ true) → b ≡ false
 no_coming g false e f = refl
 no_coming g true e f = let h : g ≡ true = f refl in let i : false ≡ true = sym e ∙ h in cc
-
-same_sink : (i : ℕ) (o : Option ℕ) → o ≡ Some i → is_sink i o ≡ true
-same_sink i o e = rw e (same_number i)
 
 other_sink : (i j : ℕ) (o : Option ℕ) → o ≡ Some j → (j ≡ i → ⊥) → is_sink i o ≡ false
 other_sink i j o e ne = rw e (ne_eqb j i ne)
@@ -76,7 +70,7 @@ flowed-grant_ack {w} {X} c n toks y asked asked' rest rest' s t first last rests
       grants = grants;
       probes = set-part (λ (z : Block X). is_answered (z.pair c).probing) n new s.block refl;
       probed = λ m e. probe_of-e m y t ∙ probed m e;
-      sunk = λ m e. sunk-of m y t ∙ tracked m e;
+      sunk = λ m e. grant_sink-e m y t ∙ tracked m e;
     }) before
   where
     b : Block X
@@ -154,7 +148,7 @@ flowed-grant_ack {w} {X} c n toks y asked asked' rest rest' s t first last rests
     grants : (m : ℕ) → granted_by c m asked' (rest' channel.D) (s'.block m) ≡ step true true false (is_sink y.sink (grant_sink m t)) (granted_by c m asked (rest channel.D) (s.block m))
     grants = set-each (λ m z. granted_by c m asked' (rest' channel.D) z ≡ step true true false (is_sink y.sink (grant_sink m t)) (granted_by c m asked (rest channel.D) (s.block m))) n new s.block
         (grants_rest n ∙ none_comes ∙ sym (closes_it (granted_by c n asked (rest channel.D) b) (is_sink y.sink (grant_sink n t))
-        (rw sink (same_sink b.tracker (grant_sink n t) (before.sunk n (before.grants n ∙ acks_here))))))
+        (rw sink (is_own_sink b.tracker (grant_sink n t) (before.sunk n (before.grants n ∙ acks_here))))))
         (λ m ne. ap (λ (z : Bool). is_acknowledging (view (s.block m).service c) || z) (grants_rest m)
         ∙ sym (leaves_it (granted_by c m asked (rest channel.D) (s.block m)) (is_sink y.sink (grant_sink m t)) (other_closed m ne)))
 

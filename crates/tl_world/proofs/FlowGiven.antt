@@ -47,7 +47,8 @@ use Rattle.tl_world.proofs.FlowStep.{held_by}
 use Rattle.tl_world.proofs.Phases.{and_right}
 use Rattle.tl_world.proofs.Tokens.{same_number, set-same, set-other, holds-first}
 use Rattle.tl_world.proofs.BothParts.{acked-is}
-use Rattle.tl_world.proofs.Codes.{access_kind, grants-so, not_ack}
+use Rattle.tl_world.proofs.Codes.{access_kind, grants-so}
+use Rattle.tl_manager.proofs.Answered.{no_ack_grant}
 use Rattle.tl_world.proofs.Popped.{unfinished_at}
 
 -- ---- numbers and opcodes
@@ -248,7 +249,7 @@ module _ {w : ℕ} (config : Config) (log : Log w) (h : Shadow w) (sys : System 
       (unfinished_at sys c) rest' s (s_if b) t (begins_y m x ms queue here rests b last) (ends_y m x ms queue here rests b last)
       (rests_y m x ms queue here rests b last) (record {
         grant = grants-so due.data_too;
-        ack = not_ack due.data_too;
+        ack = no_ack_grant due.data_too;
         sink = refl;
         says = cap-gives due.k;
         seen = seen;

@@ -34,6 +34,7 @@ use Rattle.tl_world.specs.Protocol.{State, Use, Asked, Acquires, view, is_granti
 use Rattle.tl_world.specs.Render.{probe_beat}
 use Rattle.tl_world.specs.Sources.{cap_waited}
 use Rattle.tl_world.proofs.Orders.{report-legal, acquire-legal}
+use Rattle.tl_client.proofs.InOrder.{prune_again}
 
 -- who isn't granted the block holds what is recorded, as far as was delivered
 held_as : {w : ℕ} {X : Type 0} (c n : ℕ) (asked : ℕ → Option (BeatA w)) (rest : Channel → List (Beat w)) (s : State X) (t : History w)
@@ -97,11 +98,6 @@ report-flows {w} p c n k r x asked rest s t flowed whole acks other block param 
     report-legal p n k r ((s.block n).pair c).recorded x t acks other block param (flowed.rest_is channel.C ∙ whole) (flowed.probes n ∙ answers)
     (flowed.releases n ∙ unlet ((s.block n).release_source c) (rest channel.C) ((s.block n).pair c).letting whole unacked)
     (flowed.probed n answers ∙ ap (λ (j : Cap). Some (probe_beat n j)) waited) (held_as c n asked rest s t flowed ungranted) told
-
-prune_again : (r : Prune) → prune_of (prune_code r) ≡ Some r
-prune_again prune.TtoB = refl
-prune_again prune.TtoN = refl
-prune_again prune.BtoN = refl
 
 releases : (taken acquires again prunes : Bool) → taken ≡ false → acquires ≡ false → again ≡ false → prunes ≡ true → first_if taken H1 (first_if (acquires || (again || not prunes)) H13 None) ≡ None
 releases taken acquires again prunes e f g h = rw (e, f, g, h) refl

@@ -24,12 +24,11 @@ use Rattle.tl_world.specs.Render.{probe_beat}
 use Rattle.tl_world.specs.Sources.{cap_waited}
 use Rattle.tl_world.proofs.FlowAlone.{AreRests}
 use Rattle.tl_world.proofs.FlowAside.{requested-blocks}
-use Rattle.tl_world.proofs.FlowReport.{sunk-of}
+use Rattle.tl_manager.proofs.Probing.{grant_sink-c, probe_of-c, request_of-c}
 use Rattle.tl_world.proofs.FlowReported.{unsaid}
 use Rattle.tl_world.proofs.FlowStep.{flowed-next, held_by, acquired_by, let_of, granted_by, step, step_quiet}
 use Rattle.tl_world.proofs.Tokens.{same_number}
 use Rattle.tl_world.proofs.BothParts.{is_of-is}
-use Rattle.tl_world.proofs.Unsaid.{request_of-c, probe_of-c}
 
 -- ---- another value of one block
 
@@ -162,7 +161,7 @@ flowed-release {w} {X} c n r y first last asked rest rest' s s' t first_is last_
       probes = λ m. answered m ∙ sym (not_closed m);
       probed = λ m e. probe_of-c m y t ∙ before.probed m (sym (answered m) ∙ e)
           ∙ sym (ap (λ k. Some (probe_beat m k)) (part-block (λ (z : Block X). cap_waited z.service) n s s' is.elsewhere (ap cap_waited is.service) m));
-      sunk = λ m e. sunk-of m y t ∙ before.sunk m (before.grants m ∙ sym (grants m) ∙ e) ∙ ap Some (sym (part-block (λ (z : Block X). z.tracker) n s s' is.elsewhere is.tracker m));
+      sunk = λ m e. grant_sink-c m y t ∙ before.sunk m (before.grants m ∙ sym (grants m) ∙ e) ∙ ap Some (sym (part-block (λ (z : Block X). z.tracker) n s s' is.elsewhere is.tracker m));
     }) before
   where
     b : Block X

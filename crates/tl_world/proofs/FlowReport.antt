@@ -15,7 +15,7 @@ use Rattle.tl_world.specs.Phase.{Letting, Kept, Releasing, Acked}
 use Rattle.tl_world.specs.Protocol.{State, view, is_answered, is_wanting, is_unserved}
 use Rattle.tl_world.proofs.FlowAlone.{AreRests}
 use Rattle.tl_world.proofs.FlowStep.{flowed-next, let_of, granted_by, step, step_quiet}
-use Rattle.tl_world.proofs.Unsaid.{request_of-c, probe_of-c}
+use Rattle.tl_manager.proofs.Probing.{probe_of-c, grant_sink-c, request_of-c}
 
 pub released-of : {w : ℕ} (i : ℕ) (y : BeatC w) (t : History w) → is_release y.opcode ≡ false → release_of i (beat.C y ∷ t) ≡ release_of i t
 unfolding release_of
@@ -24,10 +24,6 @@ released-of {w} i y t e = go (begins (beat.C y) t) (is_release y.opcode) e
     go : (b r : Bool) → r ≡ false → (if b && (r && (y.source == i)) then Some y else release_of i t) ≡ release_of i t
     go true r f = rw f refl
     go false r f = refl
-
-pub sunk-of : {w : ℕ} (n : ℕ) (y : BeatC w) (t : History w) → grant_sink n (beat.C y ∷ t) ≡ grant_sink n t
-unfolding grant_sink
-sunk-of n y t = refl
 
 pub let_rest : {w : ℕ} (i : ℕ) (rest rest' : List (Beat w)) (l : Letting) → comes_in_release i rest' ≡ comes_in_release i rest → is_let i rest' l ≡ is_let i rest l
 let_rest i rest rest' Kept e = refl
@@ -70,7 +66,7 @@ flowed-report_part {w} {X} c y first asked rest rest' s t first_is last_is rests
       grants = λ n. grants n ∙ sym (step_quiet first false (granted_by c n asked (rest channel.D) (s.block n)));
       probes = λ n. sym (unclosed first (is_probe_ack y.opcode && (block_at y.address == n)) (is_answered ((s.block n).pair c).probing));
       probed = λ n e. probe_of-c n y t ∙ before.probed n e;
-      sunk = λ n e. sunk-of n y t ∙ before.sunk n (before.grants n ∙ sym (grants n) ∙ e);
+      sunk = λ n e. grant_sink-c n y t ∙ before.sunk n (before.grants n ∙ sym (grants n) ∙ e);
     }) before
   where
     requests : (i : ℕ) → is_requested c i (rest' channel.A) (s.uses c i) s ≡ is_requested c i (rest channel.A) (s.uses c i) s

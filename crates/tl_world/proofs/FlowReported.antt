@@ -24,10 +24,10 @@ use Rattle.tl_world.specs.Token.{Token}
 use Rattle.tl_world.proofs.FlowAlone.{AreRests}
 use Rattle.tl_world.proofs.FlowAside.{requested-blocks, let_by-same}
 use Rattle.tl_world.proofs.FlowProbe.{part_of}
-use Rattle.tl_world.proofs.FlowReport.{released-of, sunk-of, let_rest, let_by_rest, unopened}
+use Rattle.tl_world.proofs.FlowReport.{released-of, let_rest, let_by_rest, unopened}
+use Rattle.tl_manager.proofs.Probing.{grant_sink-c, probe_of-c, request_of-c}
 use Rattle.tl_world.proofs.FlowStep.{flowed-next, held_by, acquired_by, let_of, granted_by, step, step_quiet}
 use Rattle.tl_world.proofs.Tokens.{same_number, set-same, set-each, set-part}
-use Rattle.tl_world.proofs.Unsaid.{request_of-c, probe_of-c}
 
 closed : (first ack here p : Bool) → ack ≡ true → here ≡ true → step first true false (ack && here) p ≡ false
 closed true ack here p e f = rw (e, f) refl
@@ -80,7 +80,7 @@ flowed-report {w} {X} c n r toks y first asked rest rest' s t first_is last_is r
           (quiet ∙ sym (closed first (is_probe_ack y.opcode) (block_at y.address == n) (is_answered (b.pair c).probing) ack (rw at (same_number n))))
           (λ m ne. sym (elsewhere first (is_probe_ack y.opcode) (block_at y.address == m) (is_answered ((s.block m).pair c).probing) (apart m ne)));
       probed = λ m e. probe_of-c m y t ∙ probed m e;
-      sunk = λ m e. sunk-of m y t ∙ before.sunk m (before.grants m ∙ sym (grants m) ∙ e) ∙ ap Some (sym (set-part (λ (z : Block X). z.tracker) n new s.block refl m));
+      sunk = λ m e. grant_sink-c m y t ∙ before.sunk m (before.grants m ∙ sym (grants m) ∙ e) ∙ ap Some (sym (set-part (λ (z : Block X). z.tracker) n new s.block refl m));
     }) before
   where
     b : Block X

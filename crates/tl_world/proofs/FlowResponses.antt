@@ -61,7 +61,8 @@ use Rattle.tl_world.proofs.Phases.{and_left, and_right}
 use Rattle.tl_world.proofs.ResponseOrder.{answer-legal, grant-legal, ack-legal}
 use Rattle.tl_world.proofs.Tokens.{same_number, holds-first}
 use Rattle.tl_world.proofs.BothParts.{is_of-is, wanting-is, quiet_unanswered}
-use Rattle.tl_world.proofs.Codes.{not_ack, access_kind}
+use Rattle.tl_world.proofs.Codes.{access_kind}
+use Rattle.tl_manager.proofs.Answered.{no_ack_grant}
 
 -- ---- what is half taken on channel A
 
@@ -199,7 +200,7 @@ flow-grant {w} config log mail request s sys c n h flowed due given whole =
       whole = (flowed c).rest_is channel.D ∙ whole;
       complete = ap (λ (b : List (Beat w)). comes_in_request source b) ((flowed c).rest_is channel.A)
           ∙ not-coming_a config log mail request s sys c source h (ap (λ (u : Use). waits_on_a c u s) due.used ∙ ap is_unserved mine);
-      other = not_ack due.data_too;
+      other = no_ack_grant due.data_too;
       live = live;
       request = (flowed c).asked_is source live ∙ asks;
       admits = answers_acquire due.whole due.data_too fits.bare;

@@ -21,7 +21,7 @@ use Rattle.tl_client.specs.Offer as offer
 use Rattle.tl_client.proofs.Outstanding.{unfinished-asked}
 use Rattle.tl_manager.specs.Handing.{Handed}
 use Rattle.tl_manager.specs.End as manager_end
-use Rattle.tl_manager.specs.Offer as slave
+use Rattle.tl_manager.specs.Offer as manager_offer
 use Rattle.tl_manager.specs.Deed.{deed}
 use Rattle.tl_manager.specs.Offer.{level_of}
 use Rattle.tl_world.specs.declared.event.Event.{Event}
@@ -118,7 +118,7 @@ moved-to_manager {w} config log link ch h terms x queue width is known down beat
     handed = (deed config link x sys.manager).handed
 
     e : manager_end.End w
-    e = slave.taken link x (deed config link x sys.manager) sys.manager
+    e = manager_offer.taken link x (deed config link x sys.manager) sys.manager
 
     base : System w
     base = with_manager e (with_channel link.0 ch queue sys)

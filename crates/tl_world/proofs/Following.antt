@@ -39,7 +39,7 @@ use Rattle.tl_manager.specs.Request.{masks_carried, corrupt_carried, request_car
 use Rattle.tl_manager.specs.Service as service
 use Rattle.tl_manager.specs.Service.{services, service_of_block}
 use Rattle.tl_manager.specs.Deed as manager_deed
-use Rattle.tl_manager.specs.Offer as slave
+use Rattle.tl_manager.specs.Offer as manager_offer
 use Rattle.tl_world.specs.declared.event.Event.{Event}
 use Rattle.tl_world.specs.declared.event.Event.TheVariants.{Deliver}
 use Rattle.tl_world.specs.Carried.{spelled}
@@ -264,8 +264,8 @@ plain_accesses_of_what_a_cache_holds : Follows {w = 8} 2 (world profile.One 2 1 
 unfolding faults faults_draining rendered some_below spelled ok performs all_below flow started requests releases accesses_answered performing stepped
     with_messages is_movable first_movable next_delivery ask.asked ask.busy ask.least_free ask.low_bytes offer.offered offer.stalls bytes_carried number_from
     unfinished request_of release_of probe_of grant_sink pending held illegal first_illegal beats_from each_below broken_order on_link bytes_from effect
-    with_handed clients_from masks_carried corrupt_carried request_carried service.least_untaken service.services slave.judged_at manager_deed.deed
-    slave.offered slave.stalls
+    with_handed clients_from masks_carried corrupt_carried request_carried service.least_untaken service.services manager_offer.judged_at manager_deed.deed
+    manager_offer.offered manager_offer.stalls
 plain_accesses_of_what_a_cache_holds = refl
 
 bytes_of_a_word : Follows {w = 8} 2 (world profile.One 1 1 ((level.UL, 1) ∷ []))
@@ -273,8 +273,8 @@ bytes_of_a_word : Follows {w = 8} 2 (world profile.One 1 1 ((level.UL, 1) ∷ []
 unfolding faults faults_draining rendered some_below spelled ok performs all_below flow started requests releases accesses_answered performing stepped
     with_messages is_movable first_movable next_delivery ask.asked ask.busy ask.least_free ask.low_bytes offer.offered offer.stalls bytes_carried number_from
     unfinished request_of release_of probe_of grant_sink pending held illegal first_illegal beats_from each_below broken_order on_link bytes_from effect
-    with_handed clients_from masks_carried corrupt_carried request_carried service.least_untaken service.services slave.judged_at manager_deed.deed
-    slave.offered slave.stalls
+    with_handed clients_from masks_carried corrupt_carried request_carried service.least_untaken service.services manager_offer.judged_at manager_deed.deed
+    manager_offer.offered manager_offer.stalls
 bytes_of_a_word = refl
 
 a_put_counts_from_its_last_beat : Follows {w = 8} 2 (world profile.One 1 1 ((level.UH, 1) ∷ (level.UH, 1) ∷ []))
@@ -284,8 +284,8 @@ a_put_counts_from_its_last_beat : Follows {w = 8} 2 (world profile.One 1 1 ((lev
 unfolding faults faults_draining rendered some_below spelled ok performs all_below flow started requests releases accesses_answered performing stepped
     with_messages is_movable first_movable next_delivery ask.asked ask.busy ask.least_free ask.low_bytes offer.offered offer.stalls bytes_carried number_from
     unfinished request_of release_of probe_of grant_sink pending held illegal first_illegal beats_from each_below broken_order on_link bytes_from effect
-    with_handed clients_from masks_carried corrupt_carried request_carried service.least_untaken service.services slave.judged_at manager_deed.deed
-    slave.offered slave.stalls
+    with_handed clients_from masks_carried corrupt_carried request_carried service.least_untaken service.services manager_offer.judged_at manager_deed.deed
+    manager_offer.offered manager_offer.stalls
 a_put_counts_from_its_last_beat = refl
 
 min_by_sign_and_without : Follows {w = 8} 2 (world profile.One 1 1 ((level.UH, 1) ∷ []))
@@ -295,8 +295,8 @@ min_by_sign_and_without : Follows {w = 8} 2 (world profile.One 1 1 ((level.UH, 1
 unfolding faults faults_draining rendered some_below spelled ok performs all_below flow started requests releases accesses_answered performing stepped
     with_messages is_movable first_movable next_delivery ask.asked ask.busy ask.least_free ask.low_bytes offer.offered offer.stalls bytes_carried number_from
     unfinished request_of release_of probe_of grant_sink pending held illegal first_illegal beats_from each_below broken_order on_link bytes_from effect
-    with_handed clients_from masks_carried corrupt_carried request_carried service.least_untaken service.services slave.judged_at manager_deed.deed
-    slave.offered slave.stalls
+    with_handed clients_from masks_carried corrupt_carried request_carried service.least_untaken service.services manager_offer.judged_at manager_deed.deed
+    manager_offer.offered manager_offer.stalls
 min_by_sign_and_without = refl
 
 add_wraps : Follows {w = 8} 2 (world profile.One 1 1 ((level.UH, 1) ∷ []))
@@ -305,8 +305,8 @@ add_wraps : Follows {w = 8} 2 (world profile.One 1 1 ((level.UH, 1) ∷ []))
 unfolding faults faults_draining rendered some_below spelled ok performs all_below flow started requests releases accesses_answered performing stepped
     with_messages is_movable first_movable next_delivery ask.asked ask.busy ask.least_free ask.low_bytes offer.offered offer.stalls bytes_carried number_from
     unfinished request_of release_of probe_of grant_sink pending held illegal first_illegal beats_from each_below broken_order on_link bytes_from effect
-    with_handed clients_from masks_carried corrupt_carried request_carried service.least_untaken service.services slave.judged_at manager_deed.deed
-    slave.offered slave.stalls
+    with_handed clients_from masks_carried corrupt_carried request_carried service.least_untaken service.services manager_offer.judged_at manager_deed.deed
+    manager_offer.offered manager_offer.stalls
 add_wraps = refl
 
 a_reader_gets_what_the_writer_stored : Follows {w = 8} 2 (world profile.One 1 1 ((level.C, 1) ∷ (level.C, 1) ∷ []))
@@ -314,8 +314,8 @@ a_reader_gets_what_the_writer_stored : Follows {w = 8} 2 (world profile.One 1 1 
 unfolding faults faults_draining rendered some_below spelled ok performs all_below flow started requests releases accesses_answered performing stepped
     with_messages is_movable first_movable next_delivery ask.asked ask.busy ask.least_free ask.low_bytes offer.offered offer.stalls bytes_carried number_from
     unfinished request_of release_of probe_of grant_sink pending held illegal first_illegal beats_from each_below broken_order on_link bytes_from effect
-    with_handed clients_from masks_carried corrupt_carried request_carried service.least_untaken service.services slave.judged_at manager_deed.deed
-    slave.offered slave.stalls
+    with_handed clients_from masks_carried corrupt_carried request_carried service.least_untaken service.services manager_offer.judged_at manager_deed.deed
+    manager_offer.offered manager_offer.stalls
 a_reader_gets_what_the_writer_stored = refl
 
 a_release_while_a_probe_waits : Follows {w = 8} 2 (world profile.One 1 1 ((level.C, 1) ∷ (level.C, 1) ∷ []))
@@ -323,8 +323,8 @@ a_release_while_a_probe_waits : Follows {w = 8} 2 (world profile.One 1 1 ((level
 unfolding faults faults_draining rendered some_below spelled ok performs all_below flow started requests releases accesses_answered performing stepped
     with_messages is_movable first_movable next_delivery ask.asked ask.busy ask.least_free ask.low_bytes offer.offered offer.stalls bytes_carried number_from
     unfinished request_of release_of probe_of grant_sink pending held illegal first_illegal beats_from each_below broken_order on_link bytes_from effect
-    with_handed clients_from masks_carried corrupt_carried request_carried service.least_untaken service.services slave.judged_at manager_deed.deed
-    slave.offered slave.stalls
+    with_handed clients_from masks_carried corrupt_carried request_carried service.least_untaken service.services manager_offer.judged_at manager_deed.deed
+    manager_offer.offered manager_offer.stalls
 a_release_while_a_probe_waits = refl
 
 the_second_writer_gets_data : Follows {w = 8} 2 (world profile.One 1 2 ((level.C, 1) ∷ (level.C, 1) ∷ []))
@@ -332,8 +332,8 @@ the_second_writer_gets_data : Follows {w = 8} 2 (world profile.One 1 2 ((level.C
 unfolding faults faults_draining rendered some_below spelled ok performs all_below flow started requests releases accesses_answered performing stepped
     with_messages is_movable first_movable next_delivery ask.asked ask.busy ask.least_free ask.low_bytes offer.offered offer.stalls bytes_carried number_from
     unfinished request_of release_of probe_of grant_sink pending held illegal first_illegal beats_from each_below broken_order on_link bytes_from effect
-    with_handed clients_from masks_carried corrupt_carried request_carried service.least_untaken service.services slave.judged_at manager_deed.deed
-    slave.offered slave.stalls
+    with_handed clients_from masks_carried corrupt_carried request_carried service.least_untaken service.services manager_offer.judged_at manager_deed.deed
+    manager_offer.offered manager_offer.stalls
 the_second_writer_gets_data = refl
 
 a_whole_block_store_takes_no_data : Follows {w = 8} 2 (world profile.One 1 2 ((level.C, 1) ∷ (level.C, 1) ∷ []))
@@ -341,8 +341,8 @@ a_whole_block_store_takes_no_data : Follows {w = 8} 2 (world profile.One 1 2 ((l
 unfolding faults faults_draining rendered some_below spelled ok performs all_below flow started requests releases accesses_answered performing stepped
     with_messages is_movable first_movable next_delivery ask.asked ask.busy ask.least_free ask.low_bytes offer.offered offer.stalls bytes_carried number_from
     unfinished request_of release_of probe_of grant_sink pending held illegal first_illegal beats_from each_below broken_order on_link bytes_from effect
-    with_handed clients_from masks_carried corrupt_carried request_carried service.least_untaken service.services slave.judged_at manager_deed.deed
-    slave.offered slave.stalls
+    with_handed clients_from masks_carried corrupt_carried request_carried service.least_untaken service.services manager_offer.judged_at manager_deed.deed
+    manager_offer.offered manager_offer.stalls
 a_whole_block_store_takes_no_data = refl
 
 a_release_before_its_grant_ack : Follows {w = 8} 2 (world profile.One 1 1 ((level.C, 1) ∷ []))
@@ -352,8 +352,8 @@ a_release_before_its_grant_ack : Follows {w = 8} 2 (world profile.One 1 1 ((leve
 unfolding faults faults_draining rendered some_below spelled ok performs all_below flow started requests releases accesses_answered performing stepped
     with_messages is_movable first_movable next_delivery ask.asked ask.busy ask.least_free ask.low_bytes offer.offered offer.stalls bytes_carried number_from
     unfinished request_of release_of probe_of grant_sink pending held illegal first_illegal beats_from each_below broken_order on_link bytes_from effect
-    with_handed clients_from masks_carried corrupt_carried request_carried service.least_untaken service.services slave.judged_at manager_deed.deed
-    slave.offered slave.stalls
+    with_handed clients_from masks_carried corrupt_carried request_carried service.least_untaken service.services manager_offer.judged_at manager_deed.deed
+    manager_offer.offered manager_offer.stalls
 a_release_before_its_grant_ack = refl
 
 busy_in_order : Follows {w = 8} 2 (world profile.One 1 1 ((level.UL, 1) ∷ []))
@@ -363,8 +363,8 @@ busy_in_order : Follows {w = 8} 2 (world profile.One 1 1 ((level.UL, 1) ∷ []))
 unfolding faults faults_draining rendered some_below spelled ok performs all_below flow started requests releases accesses_answered performing stepped
     with_messages is_movable first_movable next_delivery ask.asked ask.busy ask.least_free ask.low_bytes offer.offered offer.stalls bytes_carried number_from
     unfinished request_of release_of probe_of grant_sink pending held illegal first_illegal beats_from each_below broken_order on_link bytes_from effect
-    with_handed clients_from masks_carried corrupt_carried request_carried service.least_untaken service.services slave.judged_at manager_deed.deed
-    slave.offered slave.stalls
+    with_handed clients_from masks_carried corrupt_carried request_carried service.least_untaken service.services manager_offer.judged_at manager_deed.deed
+    manager_offer.offered manager_offer.stalls
 busy_in_order = refl
 
 beats_of_4_bytes : Follows {w = 4} 2 (world profile.One 1 1 ((level.C, 1) ∷ (level.C, 1) ∷ []))
@@ -372,8 +372,8 @@ beats_of_4_bytes : Follows {w = 4} 2 (world profile.One 1 1 ((level.C, 1) ∷ (l
 unfolding faults faults_draining rendered some_below spelled ok performs all_below flow started requests releases accesses_answered performing stepped
     with_messages is_movable first_movable next_delivery ask.asked ask.busy ask.least_free ask.low_bytes offer.offered offer.stalls bytes_carried number_from
     unfinished request_of release_of probe_of grant_sink pending held illegal first_illegal beats_from each_below broken_order on_link bytes_from effect
-    with_handed clients_from masks_carried corrupt_carried request_carried service.least_untaken service.services slave.judged_at manager_deed.deed
-    slave.offered slave.stalls
+    with_handed clients_from masks_carried corrupt_carried request_carried service.least_untaken service.services manager_offer.judged_at manager_deed.deed
+    manager_offer.offered manager_offer.stalls
 beats_of_4_bytes = refl
 
 beats_of_16_bytes : Follows {w = 16} 2 (world profile.One 1 1 ((level.C, 1) ∷ (level.C, 1) ∷ []))
@@ -381,8 +381,8 @@ beats_of_16_bytes : Follows {w = 16} 2 (world profile.One 1 1 ((level.C, 1) ∷ 
 unfolding faults faults_draining rendered some_below spelled ok performs all_below flow started requests releases accesses_answered performing stepped
     with_messages is_movable first_movable next_delivery ask.asked ask.busy ask.least_free ask.low_bytes offer.offered offer.stalls bytes_carried number_from
     unfinished request_of release_of probe_of grant_sink pending held illegal first_illegal beats_from each_below broken_order on_link bytes_from effect
-    with_handed clients_from masks_carried corrupt_carried request_carried service.least_untaken service.services slave.judged_at manager_deed.deed
-    slave.offered slave.stalls
+    with_handed clients_from masks_carried corrupt_carried request_carried service.least_untaken service.services manager_offer.judged_at manager_deed.deed
+    manager_offer.offered manager_offer.stalls
 beats_of_16_bytes = refl
 
 an_atomic_of_two_beats : Follows {w = 4} 2 (world profile.One 1 1 ((level.UH, 1) ∷ []))
@@ -390,8 +390,8 @@ an_atomic_of_two_beats : Follows {w = 4} 2 (world profile.One 1 1 ((level.UH, 1)
 unfolding faults faults_draining rendered some_below spelled ok performs all_below flow started requests releases accesses_answered performing stepped
     with_messages is_movable first_movable next_delivery ask.asked ask.busy ask.least_free ask.low_bytes offer.offered offer.stalls bytes_carried number_from
     unfinished request_of release_of probe_of grant_sink pending held illegal first_illegal beats_from each_below broken_order on_link bytes_from effect
-    with_handed clients_from masks_carried corrupt_carried request_carried service.least_untaken service.services slave.judged_at manager_deed.deed
-    slave.offered slave.stalls
+    with_handed clients_from masks_carried corrupt_carried request_carried service.least_untaken service.services manager_offer.judged_at manager_deed.deed
+    manager_offer.offered manager_offer.stalls
 an_atomic_of_two_beats = refl
 
 a_lone_reader_may_write : Follows {w = 8} 2 (world profile.Two 1 1 ((level.C, 1) ∷ (level.C, 1) ∷ []))
@@ -399,8 +399,8 @@ a_lone_reader_may_write : Follows {w = 8} 2 (world profile.Two 1 1 ((level.C, 1)
 unfolding faults faults_draining rendered some_below spelled ok performs all_below flow started requests releases accesses_answered performing stepped
     with_messages is_movable first_movable next_delivery ask.asked ask.busy ask.least_free ask.low_bytes offer.offered offer.stalls bytes_carried number_from
     unfinished request_of release_of probe_of grant_sink pending held illegal first_illegal beats_from each_below broken_order on_link bytes_from effect
-    with_handed clients_from masks_carried corrupt_carried request_carried service.least_untaken service.services slave.judged_at manager_deed.deed
-    slave.offered slave.stalls
+    with_handed clients_from masks_carried corrupt_carried request_carried service.least_untaken service.services manager_offer.judged_at manager_deed.deed
+    manager_offer.offered manager_offer.stalls
 a_lone_reader_may_write = refl
 
 nobody_has_it_any_longer_at_the_grant : Follows {w = 8} 2 (world profile.Two 1 1 ((level.C, 1) ∷ (level.C, 1) ∷ []))
@@ -408,8 +408,8 @@ nobody_has_it_any_longer_at_the_grant : Follows {w = 8} 2 (world profile.Two 1 1
 unfolding faults faults_draining rendered some_below spelled ok performs all_below flow started requests releases accesses_answered performing stepped
     with_messages is_movable first_movable next_delivery ask.asked ask.busy ask.least_free ask.low_bytes offer.offered offer.stalls bytes_carried number_from
     unfinished request_of release_of probe_of grant_sink pending held illegal first_illegal beats_from each_below broken_order on_link bytes_from effect
-    with_handed clients_from masks_carried corrupt_carried request_carried service.least_untaken service.services slave.judged_at manager_deed.deed
-    slave.offered slave.stalls
+    with_handed clients_from masks_carried corrupt_carried request_carried service.least_untaken service.services manager_offer.judged_at manager_deed.deed
+    manager_offer.offered manager_offer.stalls
 nobody_has_it_any_longer_at_the_grant = refl
 
 -- two blocks and two trackers, with Releases beside Acquires, and the oldest beats not first
@@ -422,6 +422,6 @@ beside_each_other : Follows {w = 16} 3 (world profile.One 2 2 ((level.C, 2) ∷ 
 unfolding faults faults_draining rendered some_below spelled ok performs all_below flow started requests releases accesses_answered performing stepped
     with_messages is_movable first_movable next_delivery ask.asked ask.busy ask.least_free ask.low_bytes offer.offered offer.stalls bytes_carried number_from
     unfinished request_of release_of probe_of grant_sink pending held illegal first_illegal beats_from each_below broken_order on_link bytes_from effect
-    with_handed clients_from masks_carried corrupt_carried request_carried service.least_untaken service.services slave.judged_at manager_deed.deed
-    slave.offered slave.stalls
+    with_handed clients_from masks_carried corrupt_carried request_carried service.least_untaken service.services manager_offer.judged_at manager_deed.deed
+    manager_offer.offered manager_offer.stalls
 beside_each_other = refl

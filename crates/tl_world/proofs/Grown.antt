@@ -10,7 +10,7 @@ use Rattle.tl_burst.specs.Part.{completes}
 use Rattle.tl_params.specs.declared.config.Config.{Config}
 use Rattle.tl_client.specs.End.{Terms}
 use Rattle.tl_client.specs.Offer as offer
-use Rattle.tl_manager.specs.Offer as slave
+use Rattle.tl_manager.specs.Offer as manager_offer
 use Rattle.tl_manager.specs.Deed.{deed}
 use Rattle.tl_world.specs.declared.event.Event.TheVariants.{Deliver}
 use Rattle.tl_world.specs.Draining.{is_moving}
@@ -54,7 +54,7 @@ grown-moved {w} config log h link ch terms x queue width is known beats moving =
     go false down =
         let at : IsAtManager config log link ch h x queue = at-manager config log link ch h terms x queue width is known down beats moving in
         subst (λ (y : Step w). IsGrown link.0 ch x sys y.after) (sym at.step_is)
-        (rests-manager link.0 ch x queue (deed config link x sys.manager).handed (slave.taken link x (deed config link x sys.manager) sys.manager) sys down on_ch at.heard)
+        (rests-manager link.0 ch x queue (deed config link x sys.manager).handed (manager_offer.taken link x (deed config link x sys.manager) sys.manager) sys down on_ch at.heard)
 
 -- with the last beat of a message it has nothing of the next
 pub grown-received : {w : ℕ} (c : ℕ) (ch : Channel) (x : Beat w) (sys sys' : System w) → IsGrown c ch x sys sys' → completes x (unfinished_at sys c ch) ≡ true → IsReceived c ch sys sys'

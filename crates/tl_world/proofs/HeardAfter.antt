@@ -44,7 +44,8 @@ use Rattle.tl_world.proofs.Heard.{finish_at, acked, finish-pool}
 use Rattle.tl_world.proofs.Landed.{pushes_of, IsOn, HasHeard, landed-client, taken-landed}
 use Rattle.tl_world.proofs.RequestsTaken.{next_tracker, invariant-taken}
 use Rattle.tl_world.proofs.Showing.{carries}
-use Rattle.tl_world.proofs.Codes.{grants-so, not_ack, access_kind}
+use Rattle.tl_world.proofs.Codes.{grants-so, access_kind}
+use Rattle.tl_manager.proofs.Answered.{no_ack_grant}
 
 -- ---- a delivery that moves a beat, as the protocol follows it
 
@@ -192,7 +193,7 @@ responded-grant {w} config log h sys c n rest x queue due width matched first ba
         ∙ ap (λ (b : Bool). if b then Some (grant_ack {w = w} (h.state.block n).tracker) else None) (grants-so due.data_too)
 
     pool : pool_of (finish_at is.y (sys.clients c)) ≡ Requests
-    pool = finish_pool_is c x queue sys mm is ∙ ap (λ (b : Bool). if b then Releases else Requests) (not_ack due.data_too)
+    pool = finish_pool_is c x queue sys mm is ∙ ap (λ (b : Bool). if b then Releases else Requests) (no_ack_grant due.data_too)
 
     same : kind_taken config (next_tracker sys) c Grant n rest h ≡ record h { state = grant_taken c n due.whole due.data_too due.k rest h.state }
     same = ap (λ (v : Service). taken_by_client c n v rest h) due.service ∙ ap (λ (a : Acquiring). record h { state = grant_taken c n (is_whole a) due.data_too due.k rest h.state }) due.wants

@@ -30,7 +30,7 @@ use Rattle.tl_client.specs.End as client
 use Rattle.tl_client.specs.Offer as offer
 use Rattle.tl_client.proofs.Calls.{refusal-offered}
 use Rattle.tl_manager.specs.End as manager_end
-use Rattle.tl_manager.specs.Offer as slave
+use Rattle.tl_manager.specs.Offer as manager_offer
 use Rattle.tl_world.specs.declared.event.Event.TheVariants.{Deliver}
 use Rattle.tl_world.specs.declared.event.Outcome.{Outcome}
 use Rattle.tl_world.specs.declared.event.Outcome.TheVariants as outcome
@@ -151,7 +151,7 @@ closed_unmoved {w} e sys same = record { channels = λ d at. refl; rests = rests
 
 pub unmoved : {w : ℕ} (config : Config) (link : Link) (ch : Channel) (sys : System w) → is_moving (stepped config (Deliver link ch) sys).outcome ≡ false
     → IsUnmoved sys (stepped config (Deliver link ch) sys)
-unfolding stepped slave.offered
+unfolding stepped manager_offer.offered
 unmoved {w} config link ch sys still = at (terms_at config link.0) still
   where
     c : ℕ
@@ -166,22 +166,23 @@ unmoved {w} config link ch sys still = at (terms_at config link.0) still
     by_client terms x queue (Ok (verdict.Taken, m)) e s = absurd cc
     by_client terms x queue (Ok (verdict.Done source f, m)) e s = absurd cc
 
-    by_manager : (x : Beat w) (queue : List (Beat w)) (j : slave.Judgement) → is_moving (manager_took c ch x queue (slave.offered_as j config (record { 0 = c }) x sys.manager) sys).outcome ≡ false
-        → IsUnmoved sys (manager_took c ch x queue (slave.offered_as j config (record { 0 = c }) x sys.manager) sys)
-    by_manager x queue (slave.Breaks rule) s = closed_unmoved (slave.refused (record { 0 = c }) sys.manager) sys refl
-    by_manager x queue slave.Waits s = only_unmoved outcome.Stalled sys (λ l i m. refl)
-    by_manager x queue slave.Passes s = absurd cc
+    by_manager : (x : Beat w) (queue : List (Beat w)) (j : manager_offer.Judgement)
+        → is_moving (manager_took c ch x queue (manager_offer.offered_as j config (record { 0 = c }) x sys.manager) sys).outcome ≡ false
+        → IsUnmoved sys (manager_took c ch x queue (manager_offer.offered_as j config (record { 0 = c }) x sys.manager) sys)
+    by_manager x queue (manager_offer.Breaks rule) s = closed_unmoved (manager_offer.refused (record { 0 = c }) sys.manager) sys refl
+    by_manager x queue manager_offer.Waits s = only_unmoved outcome.Stalled sys (λ l i m. refl)
+    by_manager x queue manager_offer.Passes s = absurd cc
 
     delivered_to : (terms : client.Terms) (beats : List (Beat w)) → is_moving (step.delivered config terms c ch beats sys).outcome ≡ false → IsUnmoved sys (step.delivered config terms c ch beats sys)
     delivered_to terms [] s = only_unmoved outcome.Empty sys (λ l i m. refl)
     delivered_to terms (x ∷ queue) s = to (is_to_client ch) s
       where
         to : (b : Bool) → is_moving (if b then client_took c ch x queue (offer.offered terms ch x (sys.clients c)) sys else manager_took c ch x queue
-            (slave.offered config (record { 0 = c }) ch x sys.manager) sys).outcome ≡ false
+            (manager_offer.offered config (record { 0 = c }) ch x sys.manager) sys).outcome ≡ false
             → IsUnmoved sys (if b then client_took c ch x queue (offer.offered terms ch x (sys.clients c)) sys else manager_took c ch x queue
-            (slave.offered config (record { 0 = c }) ch x sys.manager) sys)
+            (manager_offer.offered config (record { 0 = c }) ch x sys.manager) sys)
         to true s = by_client terms x queue (offer.offered terms ch x (sys.clients c)).answer refl s
-        to false s = by_manager x queue (slave.judged config (record { 0 = c }) ch x sys.manager) s
+        to false s = by_manager x queue (manager_offer.judged config (record { 0 = c }) ch x sys.manager) s
 
     at : (o : Option client.Terms) → is_moving (stepped_at config o (Deliver link ch) sys).outcome ≡ false → IsUnmoved sys (stepped_at config o (Deliver link ch) sys)
     at None s = only_unmoved outcome.NoSuchClient sys (λ l i m. refl)

@@ -28,15 +28,13 @@ use Rattle.tl_rules.specs.Agent.{sent, is_outside}
 use Rattle.tl_rules.specs.Conformance.{broken_order, broken_in_order}
 use Rattle.tl_rules.specs.History.{block_at, opens, closes, held, pending, is_release, is_probe_ack, release_of}
 use Rattle.tl_rules.specs.Legality.{illegal}
-use Rattle.tl_rules.proofs.Sent.{unfinished-sent_other}
+use Rattle.tl_rules.proofs.Sent.{unfinished-sent_other, pending-quiet, held_unsaid}
 use Rattle.tl_client.specs.End.{Terms, End, zeros, copy_at, held_at, with_past, sending}
 use Rattle.tl_client.specs.Offer.{silent, offered, broken_before, broken_later, waits, judged, judged_later, taken, probed, report_for}
 use Rattle.tl_client.specs.declared.verdict.Verdict.TheVariants as verdict
 use Rattle.tl_client.specs.Send.{about, probe_ack}
-use Rattle.tl_client.proofs.HeldAfter.{held-probe_ack, kept_past, same_block}
-use Rattle.tl_rules.proofs.Sent.{pending-quiet}
+use Rattle.tl_client.proofs.HeldAfter.{held-probe_ack, kept_past, same_block, still_whole}
 use Rattle.tl_client.proofs.Opens.{open_beat-b, open_beat-c}
-use Rattle.tl_rules.proofs.Sent.{held_unsaid}
 use Rattle.tl_world.specs.Phase.{Pair, is_kept}
 use Rattle.tl_world.specs.PhaseSteps.{after_probe}
 use Rattle.tl_world.specs.Token.{Token}
@@ -47,6 +45,7 @@ use Rattle.tl_world.specs.Sources.{AreOpen}
 use Rattle.tl_world.proofs.Tokens.{same_number, set-same, set-other}
 use Rattle.tl_world.proofs.Codes.{cap-again}
 use Rattle.tl_rules.proofs.Handed.{pending-whole, release_of-whole}
+use Rattle.tl_client.proofs.Bytes.{burst_b}
 
 -- ---- the Probe
 
@@ -132,14 +131,6 @@ ack_opens (key.GrantSink s) n m t is e = (refl, refl)
 ack_opens (key.GrantAckOf i) n m t is e = (refl, refl)
 ack_opens (key.ProbeOf i) n m t is e = absurd cc
 
-still_whole : {w : ℕ} (x : BeatB w) (t : History w) → unfinished channel.C (beat.B x ∷ t) ≡ unfinished channel.C t
-unfolding unfinished
-still_whole x t = refl
-
-still_d : {w : ℕ} (x : BeatB w) (t : History w) → unfinished channel.D (beat.B x ∷ t) ≡ unfinished channel.D t
-unfolding unfinished
-still_d x t = refl
-
 -- the history after a Probe and its answer
 abbrev after : {w : ℕ} → BeatB w → MessageC w → History w → History w
 after x m t = sent (message.C m) (beat.B x ∷ t)
@@ -195,7 +186,7 @@ known-probed {w} {X} asked burst c n k rest s e width none known =
       releases = λ i. same (key.ReleaseOf i) refl ∙ known.releases i ∙ sym (same_part (λ q. not (is_kept q.letting)) c n k rest s refl i);
       probes = λ i. no_probe i n k a.0 t width a.2 none (known.probes i);
       opens = λ source. open_beat-c source a.0 (beat.B x ∷ t) width (still_whole x t ∙ none) ∙ open_beat-b source x t ∙ known.opens source;
-      rest_is = unfinished-sent_other channel.D (message.C a.0) (beat.B x ∷ t) refl ∙ still_d x t ∙ known.rest_is;
+      rest_is = unfinished-sent_other channel.D (message.C a.0) (beat.B x ∷ t) refl ∙ burst_b x t ∙ known.rest_is;
       sinks = λ sink. same (key.GrantSink sink) refl ∙ known.sinks sink;
       grants = λ i. same (key.GrantAckOf i) refl ∙ known.grants i;
     })

@@ -18,7 +18,7 @@ use Rattle.tl_manager.specs.Kept.{AreApart, blocks_of}
 use Rattle.tl_manager.specs.Pending.{IsAccounted, is_granted_to}
 use Rattle.tl_manager.specs.Service as manager
 use Rattle.tl_manager.specs.Service.{services, service_of_block, is_ended_by}
-use Rattle.tl_manager.proofs.Acked.{services-e, granted-left, accounted-e}
+use Rattle.tl_manager.proofs.Acked.{services-e, granted-left, accounted-e, burst-e, probe_of-e, request_of-e}
 use Rattle.tl_manager.proofs.Links.{own_beat, other_beat, beat-keeps, pending-closed, whole-e}
 use Rattle.tl_manager.proofs.Serving.{if_passes, serving-filter}
 use Rattle.tl_world.specs.Invariant.{AreNamed, is_busy}
@@ -32,13 +32,8 @@ use Rattle.tl_world.specs.Token.{Token, set}
 use Rattle.tl_world.proofs.ManagedEndings.{tracker-of, tracker-alone}
 use Rattle.tl_world.proofs.Tokens.{same_number, set-same, set-other, set-part}
 use Rattle.tl_world.proofs.Quieted.{part_none}
-use Rattle.tl_world.proofs.Unsaid.{request_of-e, probe_of-e}
 
 -- ---- a beat of channel E
-
-burst-e : {w : ℕ} (x : BeatE) (t : History w) → unfinished channel.A (beat.E x ∷ t) ≡ unfinished channel.A t
-unfolding unfinished
-burst-e x t = refl
 
 abbrev pub acked : {w : ℕ} → ℕ → BeatE → Trace w → Trace w
 acked c x t = (record { 0 = c }, beat.E x) ∷ t

@@ -32,7 +32,7 @@ use Rattle.tl_burst.proofs.Begun.{length-begun}
 use Rattle.tl_manager.specs.Handing.{Deed, nothing, release_ack, with_handed}
 use Rattle.tl_manager.specs.Holders.{is_settled, is_missing}
 use Rattle.tl_manager.specs.Kept.{IsKept}
-use Rattle.tl_manager.specs.Offer as slave
+use Rattle.tl_manager.specs.Offer as manager_offer
 use Rattle.tl_manager.specs.Deed.{deed, written}
 use Rattle.tl_manager.specs.End.{End}
 use Rattle.tl_manager.specs.Offer.{offered, taken}
@@ -53,7 +53,8 @@ use Rattle.tl_world.proofs.ManagerMemory.{block_in, other-blocks, blocks-now, bl
 use Rattle.tl_world.proofs.Choices.{nobody-same}
 use Rattle.tl_world.proofs.ManagerTakes.{IsTakenUp}
 use Rattle.tl_world.proofs.Quieted.{IsLastOf, missing-last}
-use Rattle.tl_world.proofs.Reporting.{IsAbout, reported-report, reported-prune}
+use Rattle.tl_world.proofs.Reporting.{IsAbout, reported-prune}
+use Rattle.tl_client.proofs.HeldAfter.{report_told}
 use Rattle.tl_world.proofs.Tokens.{same_number, set-same, set-other, set-part}
 
 -- what is kept of the manager's end beside the protocol as it follows
@@ -67,7 +68,7 @@ left c x d e = taken (record { 0 = c }) x d e
 
 pub left-is : {w : ℕ} (config : Config) (c : ℕ) (ch : Channel) (x : Beat w) (d : Deed w) (e : End w) → IsTakenUp config c ch x e
     → deed config (record { 0 = c }) x e ≡ d → (offered config (record { 0 = c }) ch x e).1 ≡ left c x d e
-left-is {w} config c ch x d e up is = ap (λ (p : slave.Reception w × End w). p.1) up.answer ∙ ap (λ (i : Deed w). left c x i e) is
+left-is {w} config c ch x d e up is = ap (λ (p : manager_offer.Reception w × End w). p.1) up.answer ∙ ap (λ (i : Deed w). left c x i e) is
 
 pub kept-left : {w : ℕ} (config : Config) (c : ℕ) (x : BeatC w) (d : Deed w) (e : End w) → IsWidth w → IsTakenUp config c channel.C (beat.C x) e
     → deed config (record { 0 = c }) (beat.C x) e ≡ d → IsKept config e → IsKept config (left c (beat.C x) d e)
@@ -229,7 +230,7 @@ pub deed-reported : {w : ℕ} (config : Config) (c n k : ℕ) (r : Report) (m : 
 deed-reported {w} config c n k r m h e end others managed =
     deed-report config (record { 0 = c }) x e (ends-it true c n (report_code r) carries truth k m e end) end.about.releases end.about.reports
     (ap (λ i. is_settled config i ((record { 0 = c }, beat.C x) ∷ e.trace)) end.about.block
-    ∙ settled-is config c n (report_right r) x h e (last-of true c n (report_code r) carries truth k (report_right r) m e end (reported-report r)) end.about.reports managed ∙ rw others refl)
+    ∙ settled-is config c n (report_right r) x h e (last-of true c n (report_code r) carries truth k (report_right r) m e end (report_told r)) end.about.reports managed ∙ rw others refl)
   where
     x : BeatC w
     x = c_beat_of m k
@@ -274,7 +275,7 @@ reported-left {w} config c n k r rest m h e up end others is =
     does = nothing (memory_with (record { 0 = c }) x e)
 
     last : IsLastOf c n (report_right r) x e.trace
-    last = last-of true c n (report_code r) carries truth k (report_right r) m e end (reported-report r)
+    last = last-of true c n (report_code r) carries truth k (report_right r) m e end (report_told r)
 
     done : deed config (record { 0 = c }) (beat.C x) e ≡ does
     done = deed-reported config c n k r m h e end others is.managed

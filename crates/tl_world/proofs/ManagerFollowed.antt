@@ -13,7 +13,7 @@ use Rattle.tl_client.specs.End.{Terms}
 use Rattle.tl_manager.specs.Kept as manager
 use Rattle.tl_manager.specs.Kept.{illegal_at}
 use Rattle.tl_manager.specs.Service.{services, least_untaken, trackers_of}
-use Rattle.tl_manager.specs.Offer as slave
+use Rattle.tl_manager.specs.Offer as manager_offer
 use Rattle.tl_manager.specs.Deed.{deed}
 use Rattle.tl_manager.specs.End.{End}
 use Rattle.tl_manager.specs.Offer.{level_of}
@@ -51,7 +51,7 @@ pub step-taken : {w : ℕ} (config : Config) (c : ℕ) (ch : Channel) (x : Beat 
     → stepped config (Deliver (record { 0 = c }) ch) sys
     ≡ handing (outcome.Moved x) (deed config (record { 0 = c }) x sys.manager).handed (with_manager (left c x (deed config (record { 0 = c }) x sys.manager) sys.manager) (with_channel c ch queue sys))
 step-taken {w} config c ch x queue sys t terms beats down up =
-    stepped-to-manager config (record { 0 = c }) ch sys t x queue terms beats down ∙ ap (λ (p : slave.Reception w × End w). manager_took c ch x queue p sys) up.answer
+    stepped-to-manager config (record { 0 = c }) ch sys t x queue terms beats down ∙ ap (λ (p : manager_offer.Reception w × End w). manager_took c ch x queue p sys) up.answer
 
 pub manager-taken : {w : ℕ} (config : Config) (c : ℕ) (ch : Channel) (x : Beat w) (queue : List (Beat w)) (sys : System w) (t : Terms)
     → terms_at config c ≡ Some t → sys.channels c ch ≡ x ∷ queue → is_to_client ch ≡ false → IsTakenUp config c ch x sys.manager

@@ -17,7 +17,7 @@ use Rattle.tl_rules.specs.Agent.{payload_of}
 use Rattle.tl_rules.specs.Effect.{Memory, AccessResult, SameBlock, answer_of, bytes_from, effect}
 use Rattle.tl_rules.specs.History.{block_at}
 use Rattle.tl_rules.proofs.Bursts.{control_of_legal, control_aligned}
-use Rattle.tl_rules.proofs.Local.{after-local, reply-local}
+use Rattle.tl_rules.proofs.Local.{after-local, reply-local, bytes_same}
 use Rattle.tl_rules.proofs.Rooms.{room_in_block}
 use Rattle.tl_manager.specs.Handing.{access_answer}
 use Rattle.tl_manager.specs.Kept.{IsKept, illegal_message_at}
@@ -30,7 +30,7 @@ use Rattle.tl_world.specs.Follow.{answers, bytes_at, performs}
 use Rattle.tl_world.specs.Protocol.{Block, State}
 use Rattle.tl_world.specs.Token.{set}
 use Rattle.tl_world.proofs.Tokens.{set-same, set-other}
-use Rattle.tl_world.proofs.Memories.{byte_in, bytes-same}
+use Rattle.tl_world.proofs.Memories.{byte_in}
 
 -- ---- the bytes of a block
 
@@ -42,7 +42,7 @@ in_block n i lt = omega (arith, lt)
 
 -- memories that have the same bytes in a block
 pub block-alike : (n : ℕ) (f g : Memory) → SameBlock n f g → block_in f n ≡ block_in g n
-block-alike n f g same = bytes-same f g (64 * n) 64 (λ i lt. same (64 * n + i) (in_block n i lt))
+block-alike n f g same = bytes_same f g (64 * n) 64 (λ i lt. same (64 * n + i) (in_block n i lt))
 
 -- ---- other blocks than the one of a beat
 

@@ -61,9 +61,10 @@ use Rattle.tl_world.proofs.ManagerAfter.{IsManagerOf, left, kept-left, others-le
 use Rattle.tl_world.proofs.ManagerMemory.{block_in, blocks-now, block-performed, answer-performed}
 use Rattle.tl_world.proofs.ManagerTakes.{IsTakenUp}
 use Rattle.tl_world.proofs.Quieted.{quiet-c, IsLastOf, missing-last}
-use Rattle.tl_world.proofs.Reporting.{reported-report}
+use Rattle.tl_client.proofs.HeldAfter.{report_told}
 use Rattle.tl_world.proofs.Tokens.{set-same, set-other}
-use Rattle.tl_world.proofs.Codes.{grants_always, data-same}
+use Rattle.tl_world.proofs.Codes.{data-same}
+use Rattle.tl_manager.proofs.Performed.{grants_by_opcode}
 
 -- ---- the service of the block
 
@@ -82,7 +83,7 @@ trace_with c k m e = endings.taken c (c_beat_of m k) e.trace
 settling-last : {w : ℕ} (config : Config) (c q n source k : ℕ) (own : Bool) (low : Cap) (r : Report) (m : MessageC w) (h : Shadow w) (e : End w)
     → IsSettling config c q n source k own low r m h e → IsLastOf c n (report_right r) (c_beat_of m k) e.trace
 settling-last config c q n source k own low r m h e at = last-of true c n (report_code r) (same_perm (report_left r) perm.Trunk) (h.state.block n).truth k
-    (report_right r) m e at.end (reported-report r)
+    (report_right r) m e at.end (report_told r)
 
 settling-all : {w : ℕ} (config : Config) (c q n source k : ℕ) (own : Bool) (low : Cap) (r : Report) (m : MessageC w) (h : Shadow w) (e : End w)
     → IsSettling config c q n source k own low r m h e → is_settled config n (trace_with c k m e) ≡ true
@@ -269,7 +270,7 @@ grant-made {w} config q n tracker v t memory whole g unheld p opcode param block
 given_is : {w : ℕ} (q : ℕ) (d : Bool) (k : Cap) (source sink : ℕ) (payload : List ℕ)
     → (m : MessageD w) × (grant_of (GrantSent q d k) source sink payload ≡ message.D m) × (is_grant m.opcode ≡ true) × (is_release_ack m.opcode ≡ false)
     × (m.source ≡ source) × (m.sink ≡ sink) × (m.param ≡ cap_code k)
-given_is q d k source sink payload = let kinds = grants_always d in (_, refl, kinds.0, kinds.1, refl, refl, refl)
+given_is q d k source sink payload = let kinds = grants_by_opcode d in (_, refl, kinds.0, kinds.1, refl, refl, refl)
 
 -- what is recorded of the block before the Grant
 abbrev pub pairs_after : ℕ → Report → (ℕ → Pair) → ℕ → Pair

@@ -29,7 +29,7 @@ use Rattle.tl_rules.specs.Conformance.{on_link, broken_in_order, broken_order, p
 use Rattle.tl_rules.specs.History.{held, pending}
 use Rattle.tl_rules.proofs.Later.{later-legal}
 use Rattle.tl_manager.specs.Kept.{IsSound, IsKept, illegal_at}
-use Rattle.tl_manager.specs.Offer as slave
+use Rattle.tl_manager.specs.Offer as manager_offer
 use Rattle.tl_manager.specs.Deed.{deed}
 use Rattle.tl_manager.specs.End.{End}
 use Rattle.tl_manager.specs.Offer.{Passes, is_from_client, judged, level_of, must_wait, open_level, unlawful, offered, taken}
@@ -105,7 +105,7 @@ by-first_e {w} P c mail s sys x queue at ack = subst P (sym at.tokens) (go at.ki
 
 pub record IsTakenUp {w : ℕ} (config : Config) (c : ℕ) (ch : Channel) (x : Beat w) (e : End w) : Type 0 where
   pub passes : judged config (record { 0 = c }) ch x e ≡ Passes
-  pub answer : offered config (record { 0 = c }) ch x e ≡ (slave.Sent (deed config (record { 0 = c }) x e).handed, taken (record { 0 = c }) x (deed config (record { 0 = c }) x e) e)
+  pub answer : offered config (record { 0 = c }) ch x e ≡ (manager_offer.Sent (deed config (record { 0 = c }) x e).handed, taken (record { 0 = c }) x (deed config (record { 0 = c }) x e) e)
 
 pub takes : {w : ℕ} (config : Config) (c : ℕ) (ch : Channel) (x : Beat w) (e : End w) → IsSound config (record { 0 = c }, x) → is_from_client x ≡ true → channel_of x ≡ ch → e.closed ≡ []
     → broken_in_order config.profile x (on_link c e.trace) ≡ None → must_wait config (record { 0 = c }) x e.trace ≡ false → IsTakenUp config c ch x e

@@ -27,7 +27,7 @@ use Rattle.tl_client.specs.Send.{release, probe_ack}
 use Rattle.tl_manager.specs.Handing.{Handed}
 use Rattle.tl_manager.specs.Kept as manager
 use Rattle.tl_manager.specs.End as manager_end
-use Rattle.tl_manager.specs.Offer as slave
+use Rattle.tl_manager.specs.Offer as manager_offer
 use Rattle.tl_manager.specs.Deed.{deed}
 use Rattle.tl_manager.proofs.Events.{deed-part}
 use Rattle.tl_world.specs.declared.event.Event.TheVariants.{Deliver}
@@ -154,10 +154,10 @@ pub record IsAtManager {w : ℕ} (config : Config) (log : Log w) (link : Link) (
   pub on_it : IsOn ch x
   pub of_it : channel_of x ≡ ch
   pub beats : (after config log).channels link.0 ch ≡ x ∷ queue
-  pub heard : HasTaken link.0 x (after config log).manager (slave.taken link x (deed config link x (after config log).manager) (after config log).manager)
+  pub heard : HasTaken link.0 x (after config log).manager (manager_offer.taken link x (deed config link x (after config log).manager) (after config log).manager)
   pub step_is : stepped config (Deliver link ch) (after config log)
       ≡ handing (outcome.Moved x) (deed config link x (after config log).manager).handed
-      (with_manager (slave.taken link x (deed config link x (after config log).manager) (after config log).manager)
+      (with_manager (manager_offer.taken link x (deed config link x (after config log).manager) (after config log).manager)
       (with_channel link.0 ch queue (after config log)))
   pub follows : followed config (Deliver link ch) (after config log) h
       ≡ (if completes x (unfinished ch (receiver ch link.0 (after config log))) then kind_taken config (next_tracker (after config log)) link.0 first.kind first.number first.rest h else h)
@@ -221,7 +221,7 @@ at-manager {w} config log link ch h terms x queue width is known down beats movi
 
 -- the whole where these messages were handed out
 abbrev pub after_taken : {w : ℕ} → Config → Link → Channel → Beat w → List (Beat w) → System w → Handed w → System w
-after_taken config link ch x queue sys handed = with_messages handed (with_manager (slave.taken link x (deed config link x sys.manager) sys.manager) (with_channel link.0 ch queue sys))
+after_taken config link ch x queue sys handed = with_messages handed (with_manager (manager_offer.taken link x (deed config link x sys.manager) sys.manager) (with_channel link.0 ch queue sys))
 
 -- What is left to show of the last beat of a message: what the manager hands out, and that the channels and the one
 -- memory are those of the protocol then.
@@ -251,7 +251,7 @@ delivered-last {w} config log link ch h x queue handed pushes down is last gives
     h' = kind_taken config (next_tracker sys) link.0 is.first.kind is.first.number is.first.rest h
 
     e : manager_end.End w
-    e = slave.taken link x (deed config link x sys.manager) sys.manager
+    e = manager_offer.taken link x (deed config link x sys.manager) sys.manager
 
     now : Step w
     now = handing (outcome.Moved x) handed (with_manager e (with_channel link.0 ch queue sys))
@@ -283,7 +283,7 @@ delivered-part {w} config log link ch h x queue width matched down is part =
     sys = after config log
 
     e : manager_end.End w
-    e = slave.taken link x (deed config link x sys.manager) sys.manager
+    e = manager_offer.taken link x (deed config link x sys.manager) sys.manager
 
     now : Step w
     now = handing (outcome.Moved x) [] (with_manager e (with_channel link.0 ch queue sys))

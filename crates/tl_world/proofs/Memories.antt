@@ -9,22 +9,14 @@ use Rattle.tl_params.specs.declared.level.Level.{Level}
 use Rattle.tl_rules.specs.Effect.{Memory, bytes_from, effect, SameBlock}
 use Rattle.tl_rules.specs.History.{block_at}
 use Rattle.tl_rules.proofs.Bursts.{control_of_legal, control_aligned}
-use Rattle.tl_rules.proofs.Local.{after-local, reply-local}
+use Rattle.tl_rules.proofs.Local.{after-local, reply-local, bytes_same}
 use Rattle.tl_rules.proofs.Rooms.{room_in_block}
 use Rattle.tl_manager.specs.Kept.{illegal_message_at}
 use Rattle.tl_world.specs.Follow.{bytes_at, performs}
 
--- memories that have the same bytes from an address on
-pub bytes-same : (f g : Memory) (x n : ℕ) → ((i : ℕ) → i < n → f (x + i) ≡ g (x + i)) → bytes_from f x n ≡ bytes_from g x n
-unfolding bytes_from
-bytes-same f g x zero e = refl
-bytes-same f g x (suc n) e =
-    let here : f x ≡ g x = rw (let none : x + 0 ≡ x = omega arith in none) at (e 0 (omega arith)) in
-    ap₂ (λ b bs. b ∷ bs) here (bytes-same f g (x + 1) n (λ i lt. let next : x + 1 + i ≡ x + (i + 1) = omega arith in rw next (e (i + 1) (omega (arith, lt)))))
-
 -- the bytes of a block that no byte of is changed
 pub block-same : (f g : Memory) (n : ℕ) → SameBlock n f g → bytes_from f (64 * n) 64 ≡ bytes_from g (64 * n) 64
-block-same f g n same = bytes-same f g (64 * n) 64 (λ i lt. same (64 * n + i) (omega (arith, lt)))
+block-same f g n same = bytes_same f g (64 * n) 64 (λ i lt. same (64 * n + i) (omega (arith, lt)))
 
 pub byte_in : (f : Memory) (x n i : ℕ) → i < n → slice_index (bytes_from f x n) i ≡ f (x + i)
 unfolding bytes_from

@@ -28,7 +28,7 @@ use Rattle.tl_manager.specs.Handing.{Handed}
 use Rattle.tl_manager.specs.Kept as manager
 use Rattle.tl_manager.specs.Deed as manager_deed
 use Rattle.tl_manager.specs.End as manager_end
-use Rattle.tl_manager.specs.Offer as slave
+use Rattle.tl_manager.specs.Offer as manager_offer
 use Rattle.tl_manager.proofs.Afterwards as manager_after
 use Rattle.tl_world.specs.declared.event.Event.TheVariants.{Deliver}
 use Rattle.tl_world.specs.declared.event.Outcome.TheVariants as outcome
@@ -128,38 +128,39 @@ client-heard {w} terms c ch x queue sys step width kept is at =
 
 -- ---- to the manager
 
-pub offered-passes : {w : ℕ} (config : Config) (link : Link) (ch : Channel) (x : Beat w) (e : manager_end.End w) (handed : Handed w) → (slave.offered config link ch x e).0 ≡ slave.Sent handed
-    → slave.offered config link ch x e ≡ (slave.Sent (manager_deed.deed config link x e).handed, slave.taken link x (manager_deed.deed config link x e) e)
-unfolding slave.offered
-offered-passes {w} config link ch x e handed is = go (slave.judged config link ch x e) is
+pub offered-passes : {w : ℕ} (config : Config) (link : Link) (ch : Channel) (x : Beat w) (e : manager_end.End w) (handed : Handed w)
+    → (manager_offer.offered config link ch x e).0 ≡ manager_offer.Sent handed
+    → manager_offer.offered config link ch x e ≡ (manager_offer.Sent (manager_deed.deed config link x e).handed, manager_offer.taken link x (manager_deed.deed config link x e) e)
+unfolding manager_offer.offered
+offered-passes {w} config link ch x e handed is = go (manager_offer.judged config link ch x e) is
   where
-    go : (j : slave.Judgement) → (slave.offered_as j config link x e).0 ≡ slave.Sent handed
-        → slave.offered_as j config link x e ≡ (
-          slave.Sent (manager_deed.deed config link x e).handed,
-          slave.taken link x (manager_deed.deed config link x e) e,
+    go : (j : manager_offer.Judgement) → (manager_offer.offered_as j config link x e).0 ≡ manager_offer.Sent handed
+        → manager_offer.offered_as j config link x e ≡ (
+          manager_offer.Sent (manager_deed.deed config link x e).handed,
+          manager_offer.taken link x (manager_deed.deed config link x e) e,
         )
-    go (slave.Breaks rule) h = absurd cc
-    go slave.Waits h = absurd cc
-    go slave.Passes h = refl
+    go (manager_offer.Breaks rule) h = absurd cc
+    go manager_offer.Waits h = absurd cc
+    go manager_offer.Passes h = refl
 
 -- the step, where the manager takes the beat
 pub record IsTakenByManager {w : ℕ} (config : Config) (link : Link) (ch : Channel) (x : Beat w) (queue : List (Beat w)) (sys : System w) (step : Step w) : Type 0 where
-  pub takes : slave.offered config link ch x sys.manager
-      ≡ (slave.Sent (manager_deed.deed config link x sys.manager).handed, slave.taken link x (manager_deed.deed config link x sys.manager) sys.manager)
+  pub takes : manager_offer.offered config link ch x sys.manager
+      ≡ (manager_offer.Sent (manager_deed.deed config link x sys.manager).handed, manager_offer.taken link x (manager_deed.deed config link x sys.manager) sys.manager)
   pub step_is : step ≡ handing (outcome.Moved x) (manager_deed.deed config link x sys.manager).handed
-      (with_manager (slave.taken link x (manager_deed.deed config link x sys.manager) sys.manager) (with_channel link.0 ch queue sys))
+      (with_manager (manager_offer.taken link x (manager_deed.deed config link x sys.manager) sys.manager) (with_channel link.0 ch queue sys))
 
 manager_moves : {w : ℕ} (config : Config) (link : Link) (ch : Channel) (x : Beat w) (queue : List (Beat w)) (sys : System w)
-    → is_moving (manager_took link.0 ch x queue (slave.offered config link ch x sys.manager) sys).outcome ≡ true
-    → IsTakenByManager config link ch x queue sys (manager_took link.0 ch x queue (slave.offered config link ch x sys.manager) sys)
-manager_moves {w} config link ch x queue sys moving = go (slave.offered config link ch x sys.manager) refl moving
+    → is_moving (manager_took link.0 ch x queue (manager_offer.offered config link ch x sys.manager) sys).outcome ≡ true
+    → IsTakenByManager config link ch x queue sys (manager_took link.0 ch x queue (manager_offer.offered config link ch x sys.manager) sys)
+manager_moves {w} config link ch x queue sys moving = go (manager_offer.offered config link ch x sys.manager) refl moving
   where
-    go : (a : slave.Reception w × manager_end.End w) → slave.offered config link ch x sys.manager ≡ a → is_moving (manager_took link.0 ch x queue a sys).outcome ≡ true
-        → IsTakenByManager config link ch x queue sys (manager_took link.0 ch x queue (slave.offered config link ch x sys.manager) sys)
-    go (slave.Refused rule, e) f h = absurd cc
-    go (slave.Stalled, e) f h = absurd cc
-    go (slave.Sent handed, e) f h =
-        let takes = offered-passes config link ch x sys.manager handed (ap (λ (p : slave.Reception w × manager_end.End w). p.0) f) in
+    go : (a : manager_offer.Reception w × manager_end.End w) → manager_offer.offered config link ch x sys.manager ≡ a → is_moving (manager_took link.0 ch x queue a sys).outcome ≡ true
+        → IsTakenByManager config link ch x queue sys (manager_took link.0 ch x queue (manager_offer.offered config link ch x sys.manager) sys)
+    go (manager_offer.Refused rule, e) f h = absurd cc
+    go (manager_offer.Stalled, e) f h = absurd cc
+    go (manager_offer.Sent handed, e) f h =
+        let takes = offered-passes config link ch x sys.manager handed (ap (λ (p : manager_offer.Reception w × manager_end.End w). p.0) f) in
         record { takes = takes; step_is = ap (λ p. manager_took link.0 ch x queue p sys) takes }
 
 pub manager-moves : {w : ℕ} (config : Config) (link : Link) (ch : Channel) (sys : System w) (terms : client.Terms) (x : Beat w) (queue : List (Beat w))
@@ -168,7 +169,7 @@ pub manager-moves : {w : ℕ} (config : Config) (link : Link) (ch : Channel) (sy
     → is_moving (stepped config (Deliver link ch) sys).outcome ≡ true → IsTakenByManager config link ch x queue sys (stepped config (Deliver link ch) sys)
 manager-moves {w} config link ch sys terms x queue known first down moving =
     let step = stepped-to-manager config link ch sys terms x queue known first down in
-    same (stepped config (Deliver link ch) sys) (manager_took link.0 ch x queue (slave.offered config link ch x sys.manager) sys) step
+    same (stepped config (Deliver link ch) sys) (manager_took link.0 ch x queue (manager_offer.offered config link ch x sys.manager) sys) step
     (manager_moves config link ch x queue sys (ap (λ (y : Step w). is_moving y.outcome) (sym step) ∙ moving))
   where
     same : (a b : Step w) → a ≡ b → IsTakenByManager config link ch x queue sys b → IsTakenByManager config link ch x queue sys a
@@ -176,19 +177,19 @@ manager-moves {w} config link ch sys terms x queue known first down moving =
 
 pub manager-heard : {w : ℕ} (config : Config) (link : Link) (ch : Channel) (x : Beat w) (queue : List (Beat w)) (sys : System w) (step : Step w) → IsWidth w
     → manager.IsTyped x → manager.IsKept config sys.manager
-    → IsTakenByManager config link ch x queue sys step → HasTaken link.0 x sys.manager (slave.taken link x (manager_deed.deed config link x sys.manager) sys.manager)
+    → IsTakenByManager config link ch x queue sys step → HasTaken link.0 x sys.manager (manager_offer.taken link x (manager_deed.deed config link x sys.manager) sys.manager)
 manager-heard {w} config link ch x queue sys step width typed kept is d = λ at. go at
   where
     one : (at : Channel) → is_of_clients at ≡ true → unfinished at
-        (on_link d (slave.taken link x (manager_deed.deed config link x sys.manager) sys.manager).trace) ≡ unfinished at
+        (on_link d (manager_offer.taken link x (manager_deed.deed config link x sys.manager) sys.manager).trace) ≡ unfinished at
         (if link.0 == d then x ∷ on_link d sys.manager.trace else on_link d sys.manager.trace)
     one at up =
-        ap (λ (p : slave.Reception w × manager_end.End w). unfinished at (on_link d p.1.trace)) (sym is.takes)
+        ap (λ (p : manager_offer.Reception w × manager_end.End w). unfinished at (on_link d p.1.trace)) (sym is.takes)
         ∙ manager_after.unfinished-offered config link ch x sys.manager d at width typed kept up
-        ∙ ap (λ (p : slave.Reception w × manager_end.End w). unfinished at (taken_after p.0 (link, x) d (on_link d sys.manager.trace))) is.takes
+        ∙ ap (λ (p : manager_offer.Reception w × manager_end.End w). unfinished at (taken_after p.0 (link, x) d (on_link d sys.manager.trace))) is.takes
 
     go : (at : Channel) → is_to_client at ≡ false → unfinished at
-        (on_link d (slave.taken link x (manager_deed.deed config link x sys.manager) sys.manager).trace) ≡ unfinished at
+        (on_link d (manager_offer.taken link x (manager_deed.deed config link x sys.manager) sys.manager).trace) ≡ unfinished at
         (if link.0 == d then x ∷ on_link d sys.manager.trace else on_link d sys.manager.trace)
     go channel.A f = one channel.A refl
     go channel.C f = one channel.C refl

@@ -24,6 +24,8 @@ use Rattle.tl_world.specs.Follow.{bytes_at, performs}
 use Rattle.tl_world.specs.Machine.{with_number}
 use Rattle.tl_world.proofs.Memories.{performed-block, performed-reply, byte_in}
 use Rattle.tl_world.proofs.Tokens.{same_number}
+use Rattle.tl_manager.proofs.Memories.{access_code}
+use Rattle.tl_manager.proofs.Blocks.{block-put}
 
 -- ---- a block's bytes, as a list and by their places
 
@@ -34,16 +36,6 @@ pub bytes-of-block : (f : Memory) (n : ℕ) (bytes : List ℕ) → IsBlock f n b
 bytes-of-block f n bytes is long = rw long at (bytes_are f (64 * n) bytes (λ i lt. is i (omega (arith, lt, long))))
 
 -- ---- an access
-
-access_code : (o : OpA) → is_acquire o ≡ false → a_code o < 6
-access_code a.PutFullData e = omega arith
-access_code a.PutPartialData e = omega arith
-access_code a.ArithmeticData e = omega arith
-access_code a.LogicalData e = omega arith
-access_code a.Get e = omega arith
-access_code a.Intent e = omega arith
-access_code a.AcquireBlock e = absurd cc
-access_code a.AcquirePerm e = absurd cc
 
 elsewhere : {w : ℕ} (o : Option Level) (m : MessageA w) (f : Memory) (x : ℕ) → IsWidth w → is_acquire m.opcode ≡ false → illegal_message_at o (A m) ≡ None
     → IsBlankAfter (beats_of (A m)) (A m) → x / 64 ≢ m.address / 64 → (effect (A m) f).0 x ≡ f x
@@ -87,12 +79,6 @@ effect-sourced {w} source m f = go m.opcode refl
     go a.AcquirePerm e = rw e refl
 
 -- ---- a whole block
-
-pub block-whole : (f : Memory) (n : ℕ) (bytes : List ℕ) → IsBlock (with_block n bytes f) n bytes
-block-whole f n bytes i lt =
-    let here : (64 * n + i) / 64 ≡ n = omega (arith, lt) in
-    let place : (64 * n + i) % 64 ≡ i = omega (arith, lt) in
-    rw (here, same_number n, place) refl
 
 pub block-besides : (f : Memory) (n k : ℕ) (bytes old : List ℕ) → (k ≡ n → ⊥) → IsBlock f k old → IsBlock (with_block n bytes f) k old
 block-besides f n k bytes old ne is i lt =

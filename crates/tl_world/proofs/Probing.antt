@@ -26,7 +26,7 @@ use Rattle.tl_manager.specs.End.{End}
 use Rattle.tl_manager.proofs.Handed.{whole-taken}
 use Rattle.tl_manager.proofs.Probed.{probes-keep}
 use Rattle.tl_manager.proofs.Probes.{probes-within, probes-beyond, services-probes}
-use Rattle.tl_manager.proofs.Probing.{missing-own_b, missing-else_b}
+use Rattle.tl_manager.proofs.Probing.{missing-own_b, missing-else_b, request_of-b}
 use Rattle.tl_world.specs.Phase.{Pair, Sent, is_quiet}
 use Rattle.tl_world.specs.PhaseSteps.{is_above, after_served}
 use Rattle.tl_world.specs.Token.{set}
@@ -54,10 +54,6 @@ pub record IsProbing {w : ℕ} {X : Type 0} (config : Config) (c k n : ℕ) (own
   pub quiet : (d : ℕ) → is_quiet ((s.block n).pair d).probing ≡ true
   pub beyond : (d : ℕ) → length config.clients.items ≤ d → ((s.block n).pair d).recorded ≡ perm.None
   pub unwaited : IsUnwaited c source s
-
-request_of-probe : {w : ℕ} (src n : ℕ) (j : Cap) (h : History w) → request_of src (beat.B (probe_beat n j) ∷ h) ≡ request_of src h
-unfolding request_of
-request_of-probe src n j h = refl
 
 pub traced-probing : {w : ℕ} {X : Type 0} (config : Config) (request : ℕ → MessageA w) (c k n : ℕ) (own : Bool) (source : ℕ) (j : Cap) (m : MessageA w) (s u : State X) (e : End w)
     → ((i : ℕ) → u.block i ≡ set n (served_block c own source (least_untaken (trackers_of (services e.trace))) j (s.block n)) s.block i)
@@ -109,7 +105,7 @@ traced-probing {w} {X} config request c k n own source j m s u e blocks is known
     recorded_same d i = probes-keep (held i) d n j asked_clients t (λ h. held_unsaid i (beat.B (probe_beat n j)) h refl) ∙ recorded-beat c k m e.trace d i
 
     asked_same : (r src : ℕ) → request_of src (on_link r after) ≡ request_of src (on_link r t)
-    asked_same r src = probes-keep (request_of src) r n j asked_clients t (request_of-probe src n j)
+    asked_same r src = probes-keep (request_of src) r n j asked_clients t (request_of-b src n j)
 
     asked_now : (r src : ℕ) (o : Bool) (l : Cap) → Waits c own source j ≡ Waits r o src l → request_of src (on_link r after) ≡ Some (a_beat_of (set n m request n) 0)
     asked_now r src o l f =

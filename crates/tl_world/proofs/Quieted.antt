@@ -1,8 +1,7 @@
 -- Beats and answers after which the manager's end says the same of all but what is recorded and which ProbeAcks are missing.
-use Rattle.std.proofs.Common.{◌≡◌, ℕ, ◌==◌, Bool, true, false, not, ◌&&◌, ◌||◌, [], ◌∷◌, Option, Some, None, refl, sym, ◌∙◌, ap, subst}
+use Rattle.std.proofs.Common.{◌≡◌, ℕ, ◌==◌, Bool, true, false, not, ◌&&◌, ◌||◌, [], ◌∷◌, Option, Some, None, refl, sym, ◌∙◌, ap, subst, inl, inr}
 use Rattle.std.specs.Prelude.{if◌then◌else◌, unwrap_or}
 use Rattle.std.proofs.lemmas.Bool.{cases_eq, eqb-true, ne_eqb}
-use Rattle.std.proofs.Common.{inl, inr}
 use Rattle.tl_beat.specs.Width.{IsWidth}
 use Rattle.tl_beat.specs.declared.beat.Beat.TheVariants as beat
 use Rattle.tl_beat.specs.declared.beat.BeatC.{BeatC}
@@ -23,7 +22,7 @@ use Rattle.tl_manager.specs.Service.{services, service_of_block}
 use Rattle.tl_manager.proofs.Accesses.{services-release_ack}
 use Rattle.tl_manager.proofs.Handed.{after_sent, own_link, other_link, recorded-taken}
 use Rattle.tl_manager.proofs.Links.{own_beat, other_beat, beat-keeps, pending-closed}
-use Rattle.tl_manager.proofs.Probing.{services-c}
+use Rattle.tl_manager.proofs.Probing.{services-c, burst-c, probe_of-c, request_of-c}
 use Rattle.tl_manager.proofs.Replies.{reply-quiet, burst-reply, request-reply, probe-reply}
 use Rattle.tl_world.specs.Managed.{IsManaged, is_own}
 use Rattle.tl_world.specs.Phase.{Pair, is_quiet}
@@ -31,7 +30,6 @@ use Rattle.tl_world.specs.Protocol.{Service, Block, State, Use, Closed, Asked, I
 use Rattle.tl_world.specs.Sources.{AreServed, is_served, is_granted}
 use Rattle.tl_world.specs.Token.{set}
 use Rattle.tl_world.proofs.Tokens.{same_number, set-same, set-other}
-use Rattle.tl_world.proofs.Unsaid.{request_of-c, probe_of-c}
 
 -- ---- the manager's end
 
@@ -59,10 +57,6 @@ quiet-then t u v a b = record {
 }
 
 -- ---- a beat of channel C
-
-burst-c : {w : ℕ} (x : BeatC w) (t : History w) → unfinished channel.A (beat.C x ∷ t) ≡ unfinished channel.A t
-unfolding unfinished
-burst-c x t = refl
 
 pub quiet-c : {w : ℕ} (link : Link) (x : BeatC w) (t : Trace w) → AreQuiet t ((link, beat.C x) ∷ t)
 quiet-c link x t = record {

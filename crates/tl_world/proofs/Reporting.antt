@@ -1,6 +1,5 @@
 -- What the messages of channel C say that a client has in flight, and what the manager takes of them.
-use Rattle.std.proofs.Common.{◌≡◌, ℕ, ◌*◌, Bool, true, false, not, List, length, refl, arith, pow_pos}
-use Rattle.std.proofs.Common.{lit<}
+use Rattle.std.proofs.Common.{◌≡◌, ℕ, ◌*◌, Bool, true, false, not, List, length, refl, arith, pow_pos, lit<}
 use Rattle.std.proofs.lemmas.List.{drop_all}
 use Rattle.tl_beat.specs.Width.{IsWidth}
 use Rattle.tl_beat.specs.Opcode.{c_carries_data}
@@ -20,8 +19,8 @@ use Rattle.tl_rules.specs.History.{block_at, is_probe_ack, is_release, reported}
 use Rattle.tl_rules.specs.Conformance.{same_perm}
 use Rattle.tl_client.specs.End.{zeros}
 use Rattle.tl_client.specs.Send.{about, probe_ack, release}
-use Rattle.tl_client.proofs.HeldAfter.{same_block}
-use Rattle.tl_manager.proofs.Filled.{whole_block}
+use Rattle.tl_client.proofs.HeldAfter.{same_block, report_told}
+use Rattle.tl_rules.proofs.Widths.{whole_block}
 
 -- a message of channel C about a block, with its bytes where it gives Trunk up
 pub record IsAbout {w : ℕ} (is_report : Bool) (n param : ℕ) (carries : Bool) (truth : List ℕ) (m : MessageC w) : Type 0 where
@@ -80,15 +79,6 @@ pub release-about : {w : ℕ} (r : Prune) (source n : ℕ) (truth : List ℕ) �
 release-about prune.TtoB source n truth width long = (_, refl, about_data false opc.ReleaseData (prune_code prune.TtoB) source n truth width refl refl refl long, refl)
 release-about prune.TtoN source n truth width long = (_, refl, about_data false opc.ReleaseData (prune_code prune.TtoN) source n truth width refl refl refl long, refl)
 release-about prune.BtoN source n truth width long = (_, refl, about_none false opc.Release (prune_code prune.BtoN) source n truth refl refl refl, refl)
-
--- what their params leave
-pub reported-report : (r : Report) → reported (report_code r) ≡ report_right r
-reported-report report.TtoB = refl
-reported-report report.TtoN = refl
-reported-report report.TtoT = refl
-reported-report report.BtoN = refl
-reported-report report.BtoB = refl
-reported-report report.NtoN = refl
 
 pub reported-prune : (r : Prune) → reported (prune_code r) ≡ prune_right r
 reported-prune prune.TtoB = refl

@@ -11,6 +11,7 @@ use Rattle.tl_world.specs.Carrying.{Carries, Fit, AreKept, AreMoved}
 use Rattle.tl_world.specs.declared.rings.Rings.{Rings}
 use Rattle.tl_world.specs.System.{System, with_message, with_messages}
 use Rattle.tl_world.proofs.Queues.{moved-more}
+use Rattle.tl_manager.proofs.Messages.{clients-more}
 
 -- first some, then those after them
 clients-split : (first n m : ℕ) (test : ℕ → Bool) → clients_from first (n + m) test ≡ clients_from first n test ++ clients_from (first + n) m test
@@ -30,12 +31,6 @@ clients-split first (suc n) m test =
 one-client : (i : ℕ) (test : ℕ → Bool) (b : Bool) → test i ≡ b → clients_from i 1 test ≡ (if b then i ∷ [] else [])
 unfolding clients_from
 one-client i test b e = rw e refl
-
--- one more of the first ones
-clients-more : (i : ℕ) (test : ℕ → Bool) (b : Bool) → test i ≡ b → clients_from 0 (i + 1) test ≡ clients_from 0 i test ++ (if b then i ∷ [] else [])
-clients-more i test b e =
-    let at : 0 + i ≡ i = omega arith in
-    clients-split 0 i 1 test ∙ rw at (ap (λ (cs : List ℕ). clients_from 0 i test ++ cs) (one-client i test b e))
 
 pub probes-unsent : {w : ℕ} (block : ℕ) (cap : Cap) (test : ℕ → Bool) (i : ℕ) → test i ≡ false → probes {w = w} block cap (clients_from 0 (i + 1) test) ≡ probes block cap (clients_from 0 i test)
 probes-unsent {w} block given test i unset = ap (probes {w = w} block given) (clients-more i test false unset ∙ append-nil (clients_from 0 i test))

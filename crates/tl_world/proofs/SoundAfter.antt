@@ -29,7 +29,7 @@ use Rattle.tl_manager.specs.Kept as manager
 use Rattle.tl_manager.specs.Kept.{Each}
 use Rattle.tl_manager.specs.Deed as manager_deed
 use Rattle.tl_manager.specs.End as manager_end
-use Rattle.tl_manager.specs.Offer as slave
+use Rattle.tl_manager.specs.Offer as manager_offer
 use Rattle.tl_manager.proofs.Deeds.{deed_handable}
 use Rattle.tl_world.specs.declared.event.Event.{Event}
 use Rattle.tl_world.specs.declared.event.Event.TheVariants.{Ask, Deliver}
@@ -83,13 +83,14 @@ judged_good config c ch x queue (Ok (verdict.Taken, m)) e sys terms width known 
 judged_good config c ch x queue (Ok (verdict.Done source finish, m)) e sys terms width known sound fit first before d at =
     one_good config c m (with_client c e (with_channel c ch queue sys)) terms width known sound fit (all-popped (IsGood config) c ch x queue sys first before) d at
 
-manager_good : {w : ℕ} (config : Config) (link : Link) (ch : Channel) (x : Beat w) (queue : List (Beat w)) (j : slave.Judgement) (e : manager_end.End w)
+manager_good : {w : ℕ} (config : Config) (link : Link) (ch : Channel) (x : Beat w) (queue : List (Beat w)) (j : manager_offer.Judgement) (e : manager_end.End w)
     (sys : System w) → IsWidth w → manager.IsSound config (link, x)
-    → Each (manager.IsSound config) e.trace → sys.channels link.0 ch ≡ x ∷ queue → AllGood config sys → AllGood config (manager_took link.0 ch x queue (slave.offered_as j config link x e) sys).after
-manager_good config link ch x queue (slave.Breaks rule) e sys width sound trace first before d at = before d at
-manager_good config link ch x queue slave.Waits e sys width sound trace first before d at = before d at
-manager_good {w} config link ch x queue slave.Passes e sys width sound trace first before d at =
-    all-messages (IsGood config) (manager_deed.deed config link x e).handed (with_manager (slave.taken link x (manager_deed.deed config link x e) e) (with_channel link.0 ch queue sys))
+    → Each (manager.IsSound config) e.trace → sys.channels link.0 ch ≡ x ∷ queue → AllGood config sys
+    → AllGood config (manager_took link.0 ch x queue (manager_offer.offered_as j config link x e) sys).after
+manager_good config link ch x queue (manager_offer.Breaks rule) e sys width sound trace first before d at = before d at
+manager_good config link ch x queue manager_offer.Waits e sys width sound trace first before d at = before d at
+manager_good {w} config link ch x queue manager_offer.Passes e sys width sound trace first before d at =
+    all-messages (IsGood config) (manager_deed.deed config link x e).handed (with_manager (manager_offer.taken link x (manager_deed.deed config link x e) e) (with_channel link.0 ch queue sys))
     (good-handed config (manager_deed.deed config link x e).handed width (deed_handable config link x e width sound trace))
     (all-popped (IsGood config) link.0 ch x queue sys first before) d at
 
@@ -98,7 +99,7 @@ manager_good {w} config link ch x queue slave.Passes e sys width sound trace fir
 pub good-after : {w : ℕ} (config : Config) (log : Log w) (mail : Mail w) (request : ℕ → MessageA w) (s : State (List ℕ)) (sys : System w) → IsWidth w
     → IsMatched config log mail request s sys → (event : Event w) → IsTyped event
     → AllGood config (stepped config event sys).after
-unfolding stepped slave.offered
+unfolding stepped manager_offer.offered
 good-after {w} config log mail request s sys width h event typed = go (terms_at config (client_of event)) refl event refl typed
   where
     before : AllGood config sys
@@ -129,13 +130,13 @@ good-after {w} config log mail request s sys width h event typed = go (terms_at 
     delivered_good c ch terms (x ∷ queue) first known = to (is_to_client ch)
       where
         to : (y : Bool) → AllGood config (if y then client_took c ch x queue (offer.offered terms ch x (sys.clients c)) sys else manager_took c ch x queue
-            (slave.offered config (record { 0 = c }) ch x sys.manager) sys).after
+            (manager_offer.offered config (record { 0 = c }) ch x sys.manager) sys).after
         to true = judged_good config c ch x queue (offer.offered terms ch x (sys.clients c)).answer
             (offer.offered terms ch x (sys.clients c)).after sys terms width known (offered-sound terms ch x (sys.clients c))
             (offered_fit c ch x terms known) first before
         to false =
             let head : IsGood config c x = All-head (IsGood config c) x queue (same first (before c ch)) in
-            manager_good config (record { 0 = c }) ch x queue (slave.judged config (record { 0 = c }) ch x sys.manager) sys.manager sys width head.sound h.manager_kept.sound first before
+            manager_good config (record { 0 = c }) ch x queue (manager_offer.judged config (record { 0 = c }) ch x sys.manager) sys.manager sys width head.sound h.manager_kept.sound first before
           where
             same : sys.channels c ch ≡ x ∷ queue → All (IsGood config c) (sys.channels c ch) → All (IsGood config c) (x ∷ queue)
             same e f = rw e at f

@@ -9,7 +9,8 @@ use Rattle.tl_world.specs.Token.{Kind, Request, Acquire, Probe, ProbeAck, Releas
 use Rattle.tl_world.specs.Protocol.{Service, Free, Waits, GrantSent, GrantTaken, State, Use, Closed, Asked, InService, Replied, Acquires, view, on, tokens_on, is_on, is_transfer, is_wanting, shown}
 use Rattle.tl_world.specs.Invariant.{IsInvariant, acquires_of, serves_of, is_of, is_asked, is_replied, acquires_with, serves_with, releases_with}
 use Rattle.tl_world.specs.Managed.{is_own}
-use Rattle.tl_world.proofs.Capacities.{implied, shown_there, kind_there, acquire_named, grant_named, release_named, release_ack_named, source_of_acquire}
+use Rattle.tl_world.proofs.Capacities.{shown_there, kind_there, acquire_named, grant_named, release_named, release_ack_named, source_of_acquire}
+use Rattle.tl_rules.proofs.Takeable.{part_bit}
 use Rattle.tl_world.proofs.Distinct.{IsThere, first-there}
 use Rattle.tl_world.proofs.Phases.{each_phase, of_phase, and_left}
 use Rattle.tl_world.proofs.Quiet.{IsSilent, free-when_silent}
@@ -48,7 +49,7 @@ serves_another p v h = or_second (is_quiet p.probing) (is_other v) (of_phase pro
 
 pub owns_ask : (p : Pair) (v : View) → ok p v ≡ true → is_own v ≡ true → is_wanting p.acquiring ≡ true
 unfolding each_phase asks_for_own
-owns_ask p v h = implied (is_own v) (is_wanting p.acquiring) (of_phase asks_for_own refl p v h)
+owns_ask p v h = part_bit (is_own v) (is_wanting p.acquiring) (of_phase asks_for_own refl p v h)
 
 module _ {X : Type 0} (caching : ℕ → Bool) (s : State X) (inv : IsInvariant caching s) where
   -- a kind that is on no channel is shown nowhere

@@ -23,6 +23,7 @@ use Rattle.tl_params.specs.Param.{cap_of}
 use Rattle.tl_rules.specs.Legality.{a_has_param, a_has_size, breaks_l1, breaks_l2, breaks_l3, breaks_l7, c_has_param, c_has_source, d_has_param, d_has_sink, illegal, is_one_of}
 use Rattle.tl_rules.proofs.Bursts.{next_rule}
 use Rattle.tl_rules.proofs.Sizes.{access-small, response-small}
+use Rattle.tl_manager.proofs.Masks.{atomic_small, request_small}
 
 -- ---- params
 
@@ -65,21 +66,6 @@ below n limit b large e = elim (cases_lt n limit) [ inl less ↦ less | inr more
 
 -- ---- sizes
 
-one-of-few : (n : ℕ) → is_one_of n (2 ∷ 3 ∷ []) ≡ true → n ≤ 6
-one-of-few n e =
-    let less : n < 7 = below n 7 (is_one_of n (2 ∷ 3 ∷ [])) (λ large. rw (apart n 2 (omega arith), apart n 3 (omega arith)) refl) e in
-    omega arith
-
-request-small : (w size : ℕ) (l : Level) (opcode : OpA) → IsWidth w → a_has_size w l opcode size ≡ true → size ≤ 6
-request-small w size l a.PutFullData width e = access-small w size l width e
-request-small w size l a.PutPartialData width e = access-small w size l width e
-request-small w size l a.ArithmeticData width e = one-of-few size e
-request-small w size l a.LogicalData width e = one-of-few size e
-request-small w size l a.Get width e = access-small w size l width e
-request-small w size l a.Intent width e = access-small w size l width e
-request-small w size l a.AcquireBlock width e = let h = eqb-true size 6 e in omega (arith, h)
-request-small w size l a.AcquirePerm width e = let h = eqb-true size 6 e in omega (arith, h)
-
 -- ---- beats
 
 -- a mask has no bit past the lanes of a beat
@@ -113,7 +99,7 @@ roomy : {w : ℕ} (l : Level) (ch : Channel) (x : Beat w) → IsWidth w → IsNa
 roomy {w} l ch (A x) width mask e =
     let k = keeps l ch (A x) e in
     let param : x.param < 8 = below x.param 8 (a_has_param x.opcode x.param) (a-large x.opcode x.param) (not-false (a_has_param x.opcode x.param) k.two) in
-    let size : x.size ≤ 6 = request-small w x.size l x.opcode width (not-false (a_has_size w l x.opcode x.size) k.three) in
+    let size : x.size ≤ 6 = request_small w x.size l x.opcode width (not-false (a_has_size w l x.opcode x.size) k.three) in
     (param, omega arith, mask)
 roomy {w} l ch (B x) width mask e =
     let k = keeps l ch (B x) e in

@@ -1,5 +1,6 @@
 use Rattle.std.proofs.Common.{rules, arith, ◌∙◌, sym, ◌≡◌, suc, ◌-◌, ◌+◌, None}
-use Rattle.tl_schedule.proofs.Fields.{number-step, number-fails, number-done, number-left, one_more, fits_in_64}
+use Rattle.tl_schedule.proofs.Fields.{number-step, number-fails, number-done, number-left, fits_in_64}
+use Rattle.tl_beat.proofs.DigitsAt.{one_more}
 use Rattle.tl_schedule.proofs.field.number.Goals as goal
 
 pub returns-in_err-d-clause-value : goal.returns-in_err-d-clause-value

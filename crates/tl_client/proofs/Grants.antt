@@ -21,7 +21,7 @@ use Rattle.tl_params.specs.declared.profile.Profile.{Profile}
 use Rattle.tl_params.specs.declared.profile.Profile.TheVariants as profile
 use Rattle.tl_params.specs.declared.rule.Rule.TheVariants.{S1, H2, H3, H6}
 use Rattle.tl_rules.specs.Conformance.{answers, admits, fits_grow, has_request, misgrants, same_perm, is_acquire_block, is_grant_without_data, size_asked, broken_order, broken_in_order}
-use Rattle.tl_rules.specs.History.{block_at, is_acquire, is_grant, is_release_ack, capped, pending, request_of, held}
+use Rattle.tl_rules.specs.History.{block_at, is_acquire, is_grant, capped, pending, request_of, held}
 use Rattle.tl_rules.proofs.Bursts.{next_rule}
 use Rattle.tl_client.specs.Kept.{IsGranting, holds, is_acquire_beat}
 use Rattle.tl_client.specs.Requests.{open_beat}

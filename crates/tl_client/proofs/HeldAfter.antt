@@ -66,13 +66,13 @@ held-on_c k opcode param source block payload t is none tells =
 
 -- ---- operations
 
-pub report_told : (r : Report) → reported (report_code r) ≡ report_right r
-report_told report.TtoB = refl
-report_told report.TtoN = refl
-report_told report.BtoN = refl
-report_told report.TtoT = refl
-report_told report.BtoB = refl
-report_told report.NtoN = refl
+pub reported-report : (r : Report) → reported (report_code r) ≡ report_right r
+reported-report report.TtoB = refl
+reported-report report.TtoN = refl
+reported-report report.BtoN = refl
+reported-report report.TtoT = refl
+reported-report report.BtoB = refl
+reported-report report.NtoN = refl
 
 pub held-release : {w : ℕ} (k : ℕ) (p : Prune) (source block : ℕ) (copy : List ℕ) (t : History w) → IsWidth w → unfinished channel.C t ≡ []
     → held k (sent (release p source block copy) t) ≡ cond (k == block) (prune_right p) (held k t)
@@ -85,10 +85,10 @@ pub held-probe_ack : {w : ℕ} (k : ℕ) (opcode : OpB) (p : Perm) (r : Report) 
 held-probe_ack k opcode p r block copy t is none = go opcode p
   where
     with_data : held k (sent (on_c c.ProbeAckData (report_code r) 0 block copy) t) ≡ cond (k == block) (report_right r) (held k t)
-    with_data = held-on_c k c.ProbeAckData (report_code r) 0 block copy t is none refl ∙ ap (λ q. cond (k == block) q (held k t)) (report_told r)
+    with_data = held-on_c k c.ProbeAckData (report_code r) 0 block copy t is none refl ∙ ap (λ q. cond (k == block) q (held k t)) (reported-report r)
 
     without_data : held k (sent (on_c c.ProbeAck (report_code r) 0 block zeros) t) ≡ cond (k == block) (report_right r) (held k t)
-    without_data = held-on_c k c.ProbeAck (report_code r) 0 block zeros t is none refl ∙ ap (λ q. cond (k == block) q (held k t)) (report_told r)
+    without_data = held-on_c k c.ProbeAck (report_code r) 0 block zeros t is none refl ∙ ap (λ q. cond (k == block) q (held k t)) (reported-report r)
 
     go : (opcode : OpB) (p : Perm) → held k (sent (probe_ack opcode p r block copy) t) ≡ cond (k == block) (report_right r) (held k t)
     go b.ProbeBlock perm.Trunk = with_data

@@ -15,7 +15,7 @@ use Rattle.tl_burst.proofs.Splitting.{beats-positive}
 use Rattle.tl_params.specs.declared.key.Key.{Key}
 use Rattle.tl_params.specs.declared.key.Key.TheVariants.{RequestSource, ReleaseSource, AcquireOf, ReleaseOf, GrantSink, GrantAckOf, ProbeOf}
 use Rattle.tl_rules.specs.Agent.{sent}
-use Rattle.tl_rules.specs.History.{begins, ends, closes, opens, is_acquire, pending, request_of, held}
+use Rattle.tl_rules.specs.History.{opens, is_acquire, pending, request_of, held}
 use Rattle.tl_client.specs.declared.busy.Busy.{Busy}
 use Rattle.tl_client.specs.declared.busy.Busy.TheVariants.{B1, B2, B3, B4, B5}
 use Rattle.tl_client.specs.declared.operation.Op.{Op}

@@ -1,5 +1,5 @@
 -- The messages that a client hands out have 64 bytes, are zero where no beat carries them, and are of the map.
-use Rattle.std.proofs.Common.{◌≡◌, ℕ, ◌-◌, ◌*◌, ◌^◌, ◌<◌, Bool, true, false, not, cond, leb, eqb, ◌||◌, List, ◌∷◌, length, refl, arith, inl, inr, lit<}
+use Rattle.std.proofs.Common.{◌≡◌, ℕ, ◌-◌, ◌*◌, ◌^◌, ◌<◌, Bool, true, false, not, cond, leb, eqb, ◌||◌, List, ◌∷◌, length, refl, arith, lit<}
 use Rattle.std.specs.Prelude.{is_none}
 use Rattle.std.proofs.lemmas.Bool.{and_parts, or_parts, eqb-true}
 use Rattle.std.proofs.lemmas.List.{drop_all}

@@ -1,5 +1,5 @@
 -- What the order of messages says where a message that is named is open, and where it isn't.
-use Rattle.std.proofs.Common.{◌≡◌, ℕ, Bool, true, false, ◌&&◌, ◌||◌, refl, sym, inl, inr, absurd, cc}
+use Rattle.std.proofs.Common.{◌≡◌, ℕ, Bool, true, false, ◌&&◌, ◌||◌, refl, sym, inl, inr}
 use Rattle.std.specs.Prelude.{if◌then◌else◌, [], ◌∷◌, not, Option, Some, None, ◌==◌}
 use Rattle.std.proofs.lemmas.Bool.{cases_Bool}
 use Rattle.tl_beat.specs.declared.beat.Beat.TheVariants.{A, B, C, D, E}

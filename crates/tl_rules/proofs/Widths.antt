@@ -1,5 +1,5 @@
 -- What the widths have in common.
-use Rattle.std.proofs.Common.{◌≡◌, ℕ, ◌<◌, ◌≤◌, ◌^◌, false, leb, inl, inr, arith, lit<, ◌/◌, ◌%◌, ◌*◌, ◌+◌, ◌↔◌, eqb, true, refl, rw}
+use Rattle.std.proofs.Common.{◌≡◌, ℕ, ◌<◌, ◌≤◌, ◌^◌, false, leb, inl, inr, arith, lit<, ◌/◌, ◌%◌, ◌*◌, ◌+◌, ◌↔◌, eqb, true, refl}
 use Rattle.std.proofs.lemmas.Bool.{lt-leb, eqb-true, eq-eqb}
 use Rattle.std.proofs.lemmas.Nat.{shr_split, pow_pos, mod_below}
 use Rattle.std.proofs.Math.Nat.{pow-le-pow_right, div-eq_of_lt}

@@ -1,5 +1,5 @@
 -- What is kept of a history, key by key, and what it becomes with one more beat.
-use Rattle.std.specs.Prelude.{ℕ, Bool, true, false, not, ◌==◌, ◌&&◌, ◌||◌, if◌then◌else◌, [], Option, Some, None}
+use Rattle.std.specs.Prelude.{ℕ, Bool, true, false, not, ◌==◌, ◌&&◌, ◌||◌, if◌then◌else◌, Option, Some, None}
 use Rattle.tl_beat.specs.declared.beat.Beat.{Beat}
 use Rattle.tl_beat.specs.declared.beat.Beat.TheVariants as beat
 use Rattle.tl_beat.specs.declared.beat.BeatC.{BeatC}
@@ -9,7 +9,7 @@ use Rattle.tl_params.specs.declared.perm.Perm.TheVariants as perm
 use Rattle.tl_rules.specs.declared.past.Request.{Request}
 use Rattle.tl_rules.specs.declared.table.Release.{Release}
 use Rattle.tl_rules.specs.declared.table.Block.{Block}
-use Rattle.tl_rules.specs.History.{begins, block_at, is_acquire, is_probe, is_probe_ack, is_release, is_grant, is_release_ack, asks_for, releases, is_sink}
+use Rattle.tl_rules.specs.History.{block_at, is_acquire, is_probe, is_probe_ack, is_release, is_grant, is_release_ack, asks_for, releases, is_sink}
 use Rattle.tl_rules.specs.History.{request_of, release_of, grant_sink, pending, held, reported, capped}
 use Rattle.tl_rules.specs.Open.{request_fields, open_probe}
 

@@ -1,9 +1,9 @@
 -- What a line says is read.
-use Rattle.std.proofs.Common.{◌≡◌, ℕ, zero, suc, ◌+◌, ◌*◌, ◌/◌, ◌%◌, ◌^◌, ◌≤◌, Bool, true, false, cond, List, [], ◌∷◌, ◌++◌, length, refl, arith, length-append, inl, inr}
+use Rattle.std.proofs.Common.{◌≡◌, ℕ, zero, suc, ◌+◌, ◌*◌, ◌/◌, ◌%◌, ◌^◌, ◌≤◌, Bool, true, false, cond, List, [], ◌∷◌, length, refl, arith, inl, inr}
 use Rattle.std.specs.Prelude.{nat_lt, Some}
 use Rattle.tl_burst.proofs.Lanes.{block_size}
 use Rattle.tl_beat.specs.Digits.{digits, lane_digits}
-use Rattle.tl_beat.specs.Line.{letter, spaced}
+use Rattle.tl_beat.specs.Line.{letter}
 use Rattle.tl_beat.specs.Width.{IsWidth}
 use Rattle.tl_beat.proofs.SpelledDigits.{digit_char-no_space, length-digits, length-lane_digits}
 use Rattle.tl_beat.proofs.Pieces.{NoSpace, NoSpaces}
@@ -26,7 +26,7 @@ use Rattle.tl_schedule.specs.EventReading.{ask_at}
 use Rattle.tl_schedule.specs.NameReading.{arithmetic_in, grow_in, intent_in, logical_in, prune_in}
 use Rattle.tl_schedule.proofs.AccessBytes.{smaller_power}
 use Rattle.tl_schedule.proofs.SpelledFields.{number_again, size_again, bytes_again, channel_again}
-use Rattle.tl_beat.proofs.SpelledLines.{NoSpace-append, length-spaced}
+use Rattle.tl_beat.proofs.SpelledLines.{NoSpace-append}
 
 -- ---- names
 

@@ -1,7 +1,7 @@
 -- Fields cut from a line, and the numbers and bytes that they spell.
 use Rattle.std.proofs.Common.{◌≡◌, ℕ, zero, suc, ◌+◌, ◌*◌, ◌-◌, ◌^◌, ◌<◌, ◌≤◌, Bool, true, false, cond, List, [], ◌∷◌, ◌++◌, length, take, drop, replicate, set}
-use Rattle.std.proofs.Common.{refl, sym, ap, ◌∙◌, arith, add-one, lit<, inl, inr}
-use Rattle.std.proofs.Math.Nat.{pow-suc, pow-le-pow_right}
+use Rattle.std.proofs.Common.{refl, sym, ap, ◌∙◌, arith, lit<, inl, inr}
+use Rattle.std.proofs.Math.Nat.{pow-le-pow_right}
 use Rattle.std.specs.Prelude.{not, Some, None, option_map, position, ◌==◌}
 use Rattle.std.specs.List.{position_or_len}
 use Rattle.std.proofs.lemmas.Bool.{cases_lt, lt-ltb}
@@ -12,7 +12,6 @@ use Rattle.tl_beat.proofs.Pieces.{pieces-some}
 use Rattle.tl_beat.proofs.Spaces.{position_some}
 use Rattle.tl_schedule.specs.EventLine.{filled}
 use Rattle.tl_schedule.specs.FieldReading.{hex_at, number_in, pair_at, pairs_in, bytes_in, fields_behind, is_none_left}
-use Rattle.tl_beat.proofs.DigitsAt.{one_more}
 
 -- ---- the first field
 

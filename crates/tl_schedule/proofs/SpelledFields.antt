@@ -2,17 +2,15 @@
 use Rattle.std.proofs.Common.{◌≡◌, ℕ, zero, suc, ◌+◌, ◌*◌, ◌/◌, ◌^◌, ◌<◌, ◌≤◌, Bool, true, false, cond, List, [], ◌∷◌, refl, sym, ap, ◌∙◌, arith}
 use Rattle.std.proofs.Math.Nat.{div-eq_of_lt, lt-div-mul-add}
 use Rattle.std.proofs.lemmas.Nat.{pow_pos}
-use Rattle.std.proofs.lemmas.Bool.{eqb-true, leb-true, le-leb}
+use Rattle.std.proofs.lemmas.Bool.{leb-true, le-leb}
 use Rattle.std.proofs.lemmas.Slice.Eq.{bytes_eq-Decides}
-use Rattle.std.specs.Prelude.{◌==◌, ◌&&◌, ◌||◌, nat_le, bytes_eq, Option, Some, None, option_map, Result, Ok, Err}
-use Rattle.std.specs.List.{find}
+use Rattle.std.specs.Prelude.{◌&&◌, ◌||◌, nat_le, bytes_eq, Option, Some, None, option_map, Result, Ok, Err}
 use Rattle.tl_beat.specs.declared.fault.LineFault.{LineFault}
 use Rattle.tl_beat.specs.declared.fault.LineFault.TheVariants.{F3}
 use Rattle.tl_beat.specs.declared.channel.Channel.{Channel}
 use Rattle.tl_beat.specs.declared.channel.Channel.TheVariants as channel
 use Rattle.tl_beat.specs.Digits.{digits, lane_digits, is_digit, digit_value, is_digits, value_from, value_of, is_pairs, lanes_before, is_dash}
-use Rattle.tl_beat.specs.Line.{channel_named, channels, letter}
-use Rattle.tl_beat.specs.Names.{letter_of}
+use Rattle.tl_beat.specs.Line.{channel_named, letter}
 use Rattle.tl_beat.specs.Reading as beat_reading
 use Rattle.tl_beat.proofs.SpelledDigits.{number_in-digits, number_in-ok, data_in-text, data_in-ok, pairs-no_dash}
 use Rattle.tl_schedule.specs.EventLine.{AreBytes, HasRoom}
@@ -23,7 +21,6 @@ use Rattle.tl_params.proofs.Options.{some_pair}
 use Rattle.tl_schedule.proofs.Options.{bind_some}
 use Rattle.tl_burst.proofs.Whole.{some_is}
 use Rattle.tl_beat.proofs.SpelledLines.{find-passes}
-use Rattle.tl_beat.proofs.ReadLines.{letter-named}
 
 -- ---- numbers
 

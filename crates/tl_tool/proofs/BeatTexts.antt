@@ -1,5 +1,5 @@
 -- The text of a beat, from the line that spells it.
-use Rattle.std.proofs.Common.{◌≡◌, ℕ, ◌+◌, ◌≤◌, ◌/◌, List, [], ◌∷◌, ◌++◌, length, refl, arith, length-append, inl, inr, ◌*◌}
+use Rattle.std.proofs.Common.{◌≡◌, ℕ, ◌+◌, ◌≤◌, ◌/◌, List, [], ◌∷◌, ◌++◌, length, refl, arith, length-append, inl, inr}
 use Rattle.std.specs.Prelude.{Bool, true, false, Option, None, Some}
 use Rattle.tl_beat.specs.declared.beat.Link.{Link}
 use Rattle.tl_beat.specs.declared.beat.BeatA.{BeatA}
@@ -8,7 +8,7 @@ use Rattle.tl_beat.specs.declared.beat.BeatC.{BeatC}
 use Rattle.tl_beat.specs.declared.beat.BeatD.{BeatD}
 use Rattle.tl_beat.specs.declared.beat.BeatE.{BeatE}
 use Rattle.tl_beat.specs.declared.beat.Beat.TheVariants.{A, B, C, D, E}
-use Rattle.tl_beat.specs.Digits.{digits, lane_digits, lanes_text, bit_text}
+use Rattle.tl_beat.specs.Digits.{digits, lanes_text, bit_text}
 use Rattle.tl_beat.specs.Line.{AreLanes, Spells, spaced}
 use Rattle.tl_beat.specs.Names.{a_name, b_name, c_name, d_name}
 use Rattle.tl_beat.specs.Opcode.{a_code, b_code, c_code, d_code}

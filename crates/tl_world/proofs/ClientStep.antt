@@ -4,7 +4,6 @@ use Rattle.std.specs.Prelude.{◌==◌, if◌then◌else◌, Result, Ok, Err}
 use Rattle.std.proofs.lemmas.Bool.{cases_eq, ne_eqb}
 use Rattle.tl_beat.specs.Width.{IsWidth}
 use Rattle.tl_beat.specs.declared.beat.Beat.{Beat}
-use Rattle.tl_beat.specs.declared.beat.Beat.TheVariants as beat
 use Rattle.tl_beat.specs.declared.beat.BeatD.{BeatD}
 use Rattle.tl_beat.specs.declared.beat.Link.{Link}
 use Rattle.tl_beat.specs.declared.channel.Channel.{Channel}
@@ -24,8 +23,8 @@ use Rattle.tl_client.specs.declared.verdict.Verdict.{Verdict}
 use Rattle.tl_client.specs.declared.verdict.Verdict.TheVariants as verdict
 use Rattle.tl_client.specs.After.{is_refused}
 use Rattle.tl_client.specs.Ask as ask
-use Rattle.tl_client.specs.End.{Terms, End, with_past}
-use Rattle.tl_client.specs.Offer.{Offered, offered, taken, ended, silent, is_stalled}
+use Rattle.tl_client.specs.End.{Terms, End}
+use Rattle.tl_client.specs.Offer.{Offered, offered, taken, ended, is_stalled}
 use Rattle.tl_client.proofs.Stalls.{taken_now}
 use Rattle.tl_manager.specs.Service.{services, least_untaken, trackers_of}
 use Rattle.tl_manager.specs.End as manager_end

@@ -23,8 +23,6 @@ use Rattle.tl_manager.specs.Service.{is_access_answer}
 use Rattle.tl_world.specs.Follow.{acquire_opcode, gift}
 use Rattle.tl_world.specs.Phase.{same_cap}
 use Rattle.tl_world.specs.PhaseSteps.{is_granted_data}
-use Rattle.tl_manager.proofs.Performed.{grants_by_opcode}
-use Rattle.tl_manager.proofs.Answered.{no_ack_grant}
 
 -- ---- opcodes
 

@@ -10,7 +10,7 @@ use Rattle.tl_beat.specs.declared.channel.Channel.TheVariants as channel
 use Rattle.tl_burst.specs.Messages.{History}
 use Rattle.tl_params.specs.declared.perm.Perm.{Perm}
 use Rattle.tl_rules.specs.Conformance.{comes_in_request, comes_in_grant}
-use Rattle.tl_rules.specs.History.{begins, ends, block_at, is_acquire, request_of, release_of, probe_of, grant_sink}
+use Rattle.tl_rules.specs.History.{begins, ends, block_at, is_acquire, request_of, release_of}
 use Rattle.tl_world.specs.Flowed.{IsFlowed, is_requested, is_let_by, is_sunk}
 use Rattle.tl_world.specs.Protocol.{Block, State, Use, Closed, Asked, InService, Replied, Acquires, view, is_granting, is_acknowledging, is_answered, is_unserved}
 use Rattle.tl_world.specs.Render.{probe_beat}

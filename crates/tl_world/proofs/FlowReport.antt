@@ -9,7 +9,7 @@ use Rattle.tl_beat.specs.declared.channel.Channel.{Channel}
 use Rattle.tl_beat.specs.declared.channel.Channel.TheVariants as channel
 use Rattle.tl_burst.specs.Messages.{History}
 use Rattle.tl_rules.specs.Conformance.{comes_in_release}
-use Rattle.tl_rules.specs.History.{begins, ends, block_at, is_probe_ack, is_release, release_of, grant_sink}
+use Rattle.tl_rules.specs.History.{begins, ends, block_at, is_probe_ack, is_release, release_of}
 use Rattle.tl_world.specs.Flowed.{IsFlowed, is_requested, is_let, is_let_by, is_sunk}
 use Rattle.tl_world.specs.Phase.{Letting, Kept, Releasing, Acked}
 use Rattle.tl_world.specs.Protocol.{State, view, is_answered, is_wanting, is_unserved}

@@ -49,7 +49,7 @@ use Rattle.tl_world.proofs.FlowReported.{flowed-report}
 use Rattle.tl_world.proofs.FlowStep.{held_by}
 use Rattle.tl_world.proofs.Phases.{and_left, and_right}
 use Rattle.tl_world.proofs.Reporting.{IsAbout, report-about, release-about, reported-prune}
-use Rattle.tl_client.proofs.HeldAfter.{report_told}
+use Rattle.tl_client.proofs.HeldAfter.{reported-report}
 use Rattle.tl_world.proofs.Tokens.{set-same, set-other, holds-first}
 use Rattle.tl_world.proofs.BothParts.{answered-is, releasing-is}
 use Rattle.tl_world.proofs.Popped.{unfinished_at}
@@ -190,7 +190,7 @@ module _ {w : ℕ} (config : Config) (log : Log w) (h : Shadow w) (sys : System 
           flowed-report c n r toks (c_beat_of m here.k) (is_empty (unfinished_at sys c channel.C)) before (unfinished_at sys c) rest' s t (ap is_empty (flowed.rest_is channel.C))
           (ap (completes (beat.C (c_beat_of m here.k))) (flowed.rest_is channel.C) ∙ last_y m x ms queue here rests true e)
           (rests_y m x ms queue here rests true e) about.2.reports about.2.releases (same true e) about.2.block
-          (ap reported about.2.param_is ∙ report_told r) alone flowed
+          (ap reported about.2.param_is ∙ reported-report r) alone flowed
 
   -- ---- a Release
 

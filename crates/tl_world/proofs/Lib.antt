@@ -217,7 +217,6 @@ pub mod TakenAll
 pub mod Tokens
 pub mod Traces
 pub mod Unmoved
-pub mod Unsaid
 pub mod Unseen
 pub mod UnseenSteps
 pub mod Waiting

@@ -8,7 +8,7 @@ use Rattle.tl_beat.specs.declared.beat.BeatE.{BeatE}
 use Rattle.tl_beat.specs.declared.channel.Channel.TheVariants as channel
 use Rattle.tl_burst.specs.declared.message.MessageA.{MessageA}
 use Rattle.tl_burst.specs.Burst.{a_beat_of}
-use Rattle.tl_burst.specs.Messages.{History, unfinished}
+use Rattle.tl_burst.specs.Messages.{unfinished}
 use Rattle.tl_params.specs.declared.key.Key.TheVariants as key
 use Rattle.tl_params.specs.declared.param.Cap.{Cap}
 use Rattle.tl_rules.specs.Conformance.{Trace, on_link}

@@ -54,7 +54,7 @@ use Rattle.tl_world.proofs.Choices.{nobody-same}
 use Rattle.tl_world.proofs.ManagerTakes.{IsTakenUp}
 use Rattle.tl_world.proofs.Quieted.{IsLastOf, missing-last}
 use Rattle.tl_world.proofs.Reporting.{IsAbout, reported-prune}
-use Rattle.tl_client.proofs.HeldAfter.{report_told}
+use Rattle.tl_client.proofs.HeldAfter.{reported-report}
 use Rattle.tl_world.proofs.Tokens.{same_number, set-same, set-other, set-part}
 
 -- what is kept of the manager's end beside the protocol as it follows
@@ -230,7 +230,7 @@ pub deed-reported : {w : ℕ} (config : Config) (c n k : ℕ) (r : Report) (m : 
 deed-reported {w} config c n k r m h e end others managed =
     deed-report config (record { 0 = c }) x e (ends-it true c n (report_code r) carries truth k m e end) end.about.releases end.about.reports
     (ap (λ i. is_settled config i ((record { 0 = c }, beat.C x) ∷ e.trace)) end.about.block
-    ∙ settled-is config c n (report_right r) x h e (last-of true c n (report_code r) carries truth k (report_right r) m e end (report_told r)) end.about.reports managed ∙ rw others refl)
+    ∙ settled-is config c n (report_right r) x h e (last-of true c n (report_code r) carries truth k (report_right r) m e end (reported-report r)) end.about.reports managed ∙ rw others refl)
   where
     x : BeatC w
     x = c_beat_of m k
@@ -275,7 +275,7 @@ reported-left {w} config c n k r rest m h e up end others is =
     does = nothing (memory_with (record { 0 = c }) x e)
 
     last : IsLastOf c n (report_right r) x e.trace
-    last = last-of true c n (report_code r) carries truth k (report_right r) m e end (report_told r)
+    last = last-of true c n (report_code r) carries truth k (report_right r) m e end (reported-report r)
 
     done : deed config (record { 0 = c }) (beat.C x) e ≡ does
     done = deed-reported config c n k r m h e end others is.managed

@@ -61,7 +61,7 @@ use Rattle.tl_world.proofs.ManagerAfter.{IsManagerOf, left, kept-left, others-le
 use Rattle.tl_world.proofs.ManagerMemory.{block_in, blocks-now, block-performed, answer-performed}
 use Rattle.tl_world.proofs.ManagerTakes.{IsTakenUp}
 use Rattle.tl_world.proofs.Quieted.{quiet-c, IsLastOf, missing-last}
-use Rattle.tl_client.proofs.HeldAfter.{report_told}
+use Rattle.tl_client.proofs.HeldAfter.{reported-report}
 use Rattle.tl_world.proofs.Tokens.{set-same, set-other}
 use Rattle.tl_world.proofs.Codes.{data-same}
 use Rattle.tl_manager.proofs.Performed.{grants_by_opcode}
@@ -83,7 +83,7 @@ trace_with c k m e = endings.taken c (c_beat_of m k) e.trace
 settling-last : {w : ℕ} (config : Config) (c q n source k : ℕ) (own : Bool) (low : Cap) (r : Report) (m : MessageC w) (h : Shadow w) (e : End w)
     → IsSettling config c q n source k own low r m h e → IsLastOf c n (report_right r) (c_beat_of m k) e.trace
 settling-last config c q n source k own low r m h e at = last-of true c n (report_code r) (same_perm (report_left r) perm.Trunk) (h.state.block n).truth k
-    (report_right r) m e at.end (report_told r)
+    (report_right r) m e at.end (reported-report r)
 
 settling-all : {w : ℕ} (config : Config) (c q n source k : ℕ) (own : Bool) (low : Cap) (r : Report) (m : MessageC w) (h : Shadow w) (e : End w)
     → IsSettling config c q n source k own low r m h e → is_settled config n (trace_with c k m e) ≡ true

@@ -5,7 +5,6 @@ use Rattle.std.proofs.lemmas.Bool.{cases_lt, ne_eqb, le-leb, lt-ltb, leb-true, l
 use Rattle.tl_beat.specs.Width.{IsWidth}
 use Rattle.tl_beat.specs.declared.opcode.OpA.{OpA}
 use Rattle.tl_beat.specs.declared.opcode.OpA.TheVariants as a
-use Rattle.tl_beat.specs.Opcode.{a_code}
 use Rattle.tl_burst.specs.declared.message.Message.TheVariants.{A}
 use Rattle.tl_burst.specs.declared.message.MessageA.{MessageA}
 use Rattle.tl_burst.specs.Burst.{beats_of, IsBlankAfter, reaches}
@@ -23,9 +22,7 @@ use Rattle.tl_manager.proofs.Written.{bytes_are}
 use Rattle.tl_world.specs.Follow.{bytes_at, performs}
 use Rattle.tl_world.specs.Machine.{with_number}
 use Rattle.tl_world.proofs.Memories.{performed-block, performed-reply, byte_in}
-use Rattle.tl_world.proofs.Tokens.{same_number}
 use Rattle.tl_manager.proofs.Memories.{access_code}
-use Rattle.tl_manager.proofs.Blocks.{block-put}
 
 -- ---- a block's bytes, as a list and by their places
 

@@ -14,12 +14,12 @@ use Rattle.tl_params.specs.declared.param.Prune.TheVariants as prune
 use Rattle.tl_params.specs.declared.param.Report.{Report}
 use Rattle.tl_params.specs.declared.param.Report.TheVariants as report
 use Rattle.tl_params.specs.declared.perm.Perm.TheVariants as perm
-use Rattle.tl_params.specs.Param.{prune_code, prune_left, prune_right, report_code, report_left, report_right}
+use Rattle.tl_params.specs.Param.{prune_code, prune_left, prune_right, report_code, report_left}
 use Rattle.tl_rules.specs.History.{block_at, is_probe_ack, is_release, reported}
 use Rattle.tl_rules.specs.Conformance.{same_perm}
 use Rattle.tl_client.specs.End.{zeros}
 use Rattle.tl_client.specs.Send.{about, probe_ack, release}
-use Rattle.tl_client.proofs.HeldAfter.{same_block, report_told}
+use Rattle.tl_client.proofs.HeldAfter.{same_block}
 use Rattle.tl_rules.proofs.Widths.{whole_block}
 
 -- a message of channel C about a block, with its bytes where it gives Trunk up

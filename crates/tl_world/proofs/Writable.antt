@@ -1,5 +1,5 @@
 -- A beat of a message that breaks no rule of legality has room in its line.
-use Rattle.std.proofs.Common.{◌≡◌, ℕ, ◌<◌, ◌≤◌, ◌*◌, ◌/◌, ◌^◌, Bool, true, false, ◌&&◌, refl, arith, pow_pos, inl, inr, [], ◌∷◌}
+use Rattle.std.proofs.Common.{◌≡◌, ℕ, ◌<◌, ◌≤◌, ◌*◌, ◌/◌, ◌^◌, Bool, true, false, ◌&&◌, refl, arith, pow_pos, inl, inr}
 use Rattle.std.specs.Prelude.{None, is_some, ◌==◌}
 use Rattle.std.proofs.lemmas.Bool.{cases_lt, eqb-true, ne_eqb, not-false, both_ways, and_parts}
 use Rattle.std.proofs.lemmas.Nat.{mod_below}
@@ -20,10 +20,10 @@ use Rattle.tl_burst.specs.Burst.{beat_of}
 use Rattle.tl_params.specs.declared.level.Level.{Level}
 use Rattle.tl_params.specs.declared.rule.Rule.TheVariants.{L1, L2, L3, L7}
 use Rattle.tl_params.specs.Param.{cap_of}
-use Rattle.tl_rules.specs.Legality.{a_has_param, a_has_size, breaks_l1, breaks_l2, breaks_l3, breaks_l7, c_has_param, c_has_source, d_has_param, d_has_sink, illegal, is_one_of}
+use Rattle.tl_rules.specs.Legality.{a_has_param, a_has_size, breaks_l1, breaks_l2, breaks_l3, breaks_l7, c_has_param, c_has_source, d_has_param, d_has_sink, illegal}
 use Rattle.tl_rules.proofs.Bursts.{next_rule}
-use Rattle.tl_rules.proofs.Sizes.{access-small, response-small}
-use Rattle.tl_manager.proofs.Masks.{atomic_small, request_small}
+use Rattle.tl_rules.proofs.Sizes.{response-small}
+use Rattle.tl_manager.proofs.Masks.{request_small}
 
 -- ---- params
 
@@ -63,8 +63,6 @@ d-large d.ReleaseAck n large = apart n 0 (omega arith)
 -- a number that passes a test which those from a limit on don't pass
 below : (n limit : ℕ) (b : Bool) → (limit ≤ n → b ≡ false) → b ≡ true → n < limit
 below n limit b large e = elim (cases_lt n limit) [ inl less ↦ less | inr more ↦ absurd (both_ways b (large more) e) ]
-
--- ---- sizes
 
 -- ---- beats
 

@@ -1,8 +1,5 @@
-use Rattle.std.proofs.Common.{◌≡◌, sym, refl}
-use Rattle.std.specs.Prelude.{Option, Some, None, false}
-use Rattle.tl_monitor.specs.Knows.{broken}
-use Rattle.tl_monitor.specs.declared.fault.MonitorFault.TheVariants as monitor
-use Rattle.tl_params.specs.declared.rule.Rule.{Rule}
+use Rattle.std.proofs.Common.{sym}
+use Rattle.std.specs.Prelude.{false}
 use Rattle.tl_tool.proofs.watcher.watch.Goals as goal
 use Rattle.tl_monitor.proofs.Knowing.{unbroken, broken_by}
 

@@ -1,5 +1,4 @@
-//! The channels of a link, and the opcodes in use on each (SiFive TileLink Specification 1.8,
-//! "Signal descriptions" and "Message taxonomy").
+//! The opcodes in use on each channel (SiFive TileLink Specification 1.8, "Message taxonomy").
 
 ghost use Rattle.std.specs.Prelude.{◌≡◌};
 

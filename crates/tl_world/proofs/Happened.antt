@@ -21,7 +21,9 @@ use Rattle.tl_world.specs.Opened.{counted}
 use Rattle.tl_world.specs.Step.{stepped}
 use Rattle.tl_world.specs.System.{System}
 use Rattle.tl_world.specs.World.{deepest, IsReached, AreReady}
-use Rattle.tl_world.proofs.Given.{channels}
+use Rattle.std.proofs.Math.Nat.{max-le}
+use Rattle.tl_world.proofs.Given.{channels, carries}
+use Rattle.tl_world.proofs.Soundness.{headline}
 use Rattle.tl_world.proofs.Loads.{requests-next, releases-next}
 use Rattle.tl_world.proofs.Made.{made-room, made-empty, made-flat}
 
@@ -49,14 +51,18 @@ pub reached-step : {w : ℕ} {A M : Type 0} (knows : A → End w → Type 0) (te
     → IsReached knows terms perm_of config new ((event, o) ∷ log) × (o ≡ (stepped config event (after config log)).outcome)
 unfolding after deepest
 reached-step {w} knows terms perm_of config old new log event o r typed happens same_requests same_releases =
-    let is = happens (after config log) r.holds (room-next config log event r.given typed) in (
+    let is = happens (after config log) r.holds (room-next config log event r.given typed) in
+    let given = given-more config log event o r.given typed is.outcome_is in (
       record {
-        given = given-more config log event o r.given typed is.outcome_is;
+        given = given;
         holds = is.holds;
         requests_are = same_requests ∙ ap (λ n. counted (starts_request event o) (ends_request o) n) r.requests_are ∙ requests-next config log r.given event o;
         releases_are = same_releases ∙ ap (λ n. counted (starts_release event o) (ends_release o) n) r.releases_are ∙ releases-next config log r.given event o;
         depths = λ k ch d lt.
             is.deepen k ch d lt ∙ ap₂ (λ m n. max m n) (r.depths k ch d lt) (ap (λ (xs : List (Beat w)). length xs) (is.holds.channels.beats k ch d lt));
+        sound = headline config ((event, o) ∷ log) given;
+        carried = λ link ch. carries config ((event, o) ∷ log) given link ch;
+        shallow = λ link ch. max-le (r.shallow link ch) (channels config ((event, o) ∷ log) given link ch);
       },
       is.outcome_is,
     )
@@ -79,8 +85,8 @@ pub reached-new : {w : ℕ} {A M : Type 0} (knows : A → End w → Type 0) (ter
     → Knows perm_of contents.parts.manager config manager_end.fresh → AreFresh config (5 * clients_of config) contents.parts.rings.all.items → AreClear contents.parts.rings.occupied
     → contents.outstanding.requests ≡ 0 → contents.outstanding.releases ≡ 0 → IsReached knows terms perm_of config contents []
 unfolding after AreTyped IsLog deepest requests releases
-reached-new knows terms perm_of config contents width ready known are clear no_request no_release = record {
-  given = record { width = width; fits = known.fits; typed = tt; is_log = tt };
+reached-new {w} knows terms perm_of config contents width ready known are clear no_request no_release = record {
+  given = new;
   holds = record {
     one_client_each = ready.one_each;
     clients = ready.fresh;
@@ -92,7 +98,13 @@ reached-new knows terms perm_of config contents width ready known are clear no_r
   requests_are = no_request;
   releases_are = no_release;
   depths = made-flat config contents.parts.rings are;
+  sound = headline config [] new;
+  carried = λ link ch. carries config [] new link ch;
+  shallow = λ link ch. omega arith;
 }
+  where
+    new : IsGiven {w = w} config []
+    new = record { width = width; fits = known.fits; typed = tt; is_log = tt }
 
 -- one more of several events, and what comes of it
 pub logged-next : {w : ℕ} (events : List (Event w)) (outcomes : List (Outcome w)) (i : ℕ) (e d : Event w) (o : Outcome w) (log : Log w) → i < length events

@@ -1,5 +1,5 @@
 -- By what has happened to it a world is what it is.
-use Rattle.std.specs.Prelude.{ℕ, List, [], ◌∷◌, ◌≡◌, ◌<◌, ◌≤◌, ◌⊎◌, if◌then◌else◌, nat_lt, max, length, slice_index_or, Option, Some, None, Result, Ok, Err}
+use Rattle.std.specs.Prelude.{ℕ, List, [], ◌∷◌, ◌≡◌, ◌<◌, ◌≤◌, ◌/◌, ◌⊎◌, if◌then◌else◌, nat_lt, max, length, slice_index_or, Option, Some, None, Result, Ok, Err}
 use Rattle.tl_beat.specs.declared.channel.Channel.{Channel}
 use Rattle.tl_params.specs.declared.config.Config.{Config}
 use Rattle.tl_params.specs.declared.config.NewFault.{NewFault}
@@ -14,7 +14,8 @@ use Rattle.tl_world.specs.declared.event.Outcome.{Outcome}
 use Rattle.tl_world.specs.declared.contents.Contents.{Contents}
 use Rattle.tl_world.specs.declared.ring.Ring.{Ring}
 use Rattle.tl_world.specs.Carrying.{place}
-use Rattle.tl_world.specs.Headline.{IsGiven}
+use Rattle.tl_world.specs.Delivery.{IsCarried, capacity, sources_of}
+use Rattle.tl_world.specs.Headline.{IsGiven, IsSound}
 use Rattle.tl_world.specs.Holds.{clients_of, Holds}
 use Rattle.tl_world.specs.Load.{requests, releases}
 use Rattle.tl_world.specs.Log.{Log, after, logged}
@@ -32,6 +33,12 @@ pub record IsReached {w : ℕ} {A M : Type 0} (knows : A → End w → Type 0) (
   pub requests_are : contents.outstanding.requests ≡ requests log
   pub releases_are : contents.outstanding.releases ≡ releases log
   pub depths : (k : ℕ) (ch : Channel) (d : Ring w) → k < clients_of config → (slice_index_or contents.parts.rings.all.items (place k ch) d).deepest ≡ deepest config log k ch
+  -- the outcomes are a run of the one-memory machine, copies are coherent, no beat was refused, and nothing is stuck
+  pub sound : IsSound config log
+  -- channels lose nothing and keep order
+  pub carried : (link : ℕ) (ch : Channel) → IsCarried (after config log) log link ch
+  -- and none ever held more than it is made for
+  pub shallow : (link : ℕ) (ch : Channel) → deepest config log link ch ≤ capacity (64 / w) (sources_of (terms_at config link)) config.trackers ch
 
 -- the first limit that is broken, or want of memory
 abbrev pub IsFault : Config → NewFault → Type 0

@@ -1,6 +1,7 @@
 //! The clients of a configuration.
 
-ghost use Rattle.std.specs.Prelude.{IfOk, IfErr};
+ghost use Rattle.std.specs.Prelude.{◌≡◌, IfOk, IfErr, None};
+ghost use Rattle.tl_params.specs.Config.{config_fault};
 ghost use Rattle.tl_beat.specs.Width.{IsWidth};
 ghost use Rattle.tl_client.specs.KnowsAny.{KnowsAny, any_terms};
 ghost use Rattle.tl_world.specs.World.{AreReady, IsFault};
@@ -17,6 +18,7 @@ pub fn agents_of<const W: usize>(
 ) -> Result<Vec<AnyClient<W>>, NewFault>
     requires { IsWidth W }
     ensures ok { IfOk result (λ agents. AreReady {w = W} KnowsAny any_terms config.now agents.items) }
+    ensures fits { IfOk result (λ agents. config_fault config.now ≡ None) }
     ensures err { IfErr result (λ fault. IsFault config.now fault) }
 {
     config.check()?;

@@ -9,14 +9,14 @@ rounds=${1:-100000}
 root=$(cd "$(dirname "$0")/.." && pwd)
 work=$(mktemp -d)
 trap 'rm -rf "$work"' EXIT
-below=(tl_beat tl_burst tl_params tl_rules tl_client tl_manager tl_world)
+below=(tl_beat tl_burst tl_params tl_rules tl_client tl_manager tl_coherence tl_world)
 
 mkdir -p "$work/crates/world/src"
 for crate in "${below[@]}"; do
     cp -r "$root/crates/$crate" "$work/crates/"
     grep -E "^$crate:" "$root/crates.txt" >>"$work/crates.txt"
 done
-echo 'world: tl_world tl_client tl_manager tl_rules arrayvec' >>"$work/crates.txt"
+echo 'world: tl_coherence tl_world tl_client tl_manager tl_rules arrayvec' >>"$work/crates.txt"
 cp "$root/bench/world.rt.txt" "$work/crates/world/src/main.rt"
 cp "$root/HANDLES" "$work/"
 

@@ -6,7 +6,7 @@ use Rattle.std.specs.Prelude.{nat_le, Option, Some, None, option_map}
 use Rattle.tl_burst.specs.declared.message.Message.TheVariants as message
 use Rattle.tl_burst.specs.declared.message.MessageA.{MessageA}
 use Rattle.tl_client.specs.declared.operation.Op.TheVariants as op
-use Rattle.tl_world.specs.declared.event.Event.TheVariants as event
+use Rattle.tl_coherence.specs.declared.event.Event.TheVariants as event
 use Rattle.tl_schedule.specs.declared.access.Request.{Request}
 use Rattle.tl_schedule.specs.declared.name.Word.{Word}
 use Rattle.tl_schedule.specs.EventLine.{Asked, Said, Load, Store, Acquire, Whole, Release, Access, Deliver, Fits, event_of}

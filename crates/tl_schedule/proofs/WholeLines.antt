@@ -10,7 +10,7 @@ use Rattle.tl_beat.specs.Line.{pieces, spaced}
 use Rattle.tl_beat.specs.Width.{IsWidth}
 use Rattle.tl_beat.proofs.Pieces.{pieces-spaced, spaced-pieces}
 use Rattle.tl_beat.proofs.SpelledLines.{ends_with_byte-line, without_last-line, length-spaced}
-use Rattle.tl_world.specs.declared.event.Event.{Event}
+use Rattle.tl_coherence.specs.declared.event.Event.{Event}
 use Rattle.tl_schedule.specs.declared.line.EventFault.{EventFault}
 use Rattle.tl_schedule.specs.declared.line.EventFault.TheVariants.{F1, F8}
 use Rattle.tl_schedule.specs.declared.line.Line.{Line}

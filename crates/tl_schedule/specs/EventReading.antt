@@ -7,8 +7,8 @@ use Rattle.tl_beat.specs.declared.opcode.OpA.{OpA}
 use Rattle.tl_beat.specs.Line.{channel_named, pieces}
 use Rattle.tl_burst.specs.declared.message.Message.TheVariants as message
 use Rattle.tl_client.specs.declared.operation.Op.TheVariants as op
-use Rattle.tl_world.specs.declared.event.Event.{Event}
-use Rattle.tl_world.specs.declared.event.Event.TheVariants as event
+use Rattle.tl_coherence.specs.declared.event.Event.{Event}
+use Rattle.tl_coherence.specs.declared.event.Event.TheVariants as event
 use Rattle.tl_schedule.specs.declared.access.Request.{Request}
 use Rattle.tl_schedule.specs.declared.line.EventFault.{EventFault}
 use Rattle.tl_schedule.specs.declared.line.EventFault.TheVariants.{F1, F8}

@@ -16,7 +16,7 @@ use crate::name::{Word, channel_field, grow_field, prune_field, word_field};
 use tl_beat::beat::Link;
 use tl_burst::message::{Message, MessageA};
 use tl_client::operation::Op;
-use tl_world::event::Event;
+use tl_coherence::event::Event;
 
 /// What a line behind the header says.
 #[derive(Clone, Copy, Debug, PartialEq, Eq)]

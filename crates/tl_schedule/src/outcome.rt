@@ -14,8 +14,8 @@ use tl_client::busy::Busy;
 use tl_client::operation::Op;
 use tl_client::reply::Reply;
 use tl_client::verdict::Finish;
+use tl_coherence::event::{Event, Outcome};
 use tl_params::perm::Perm;
-use tl_world::event::{Event, Outcome};
 
 /// A hexadecimal digit, lower-case.
 fn digit(value: u8) -> u8

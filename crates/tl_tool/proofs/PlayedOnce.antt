@@ -12,7 +12,7 @@ use Rattle.tl_schedule.specs.HeaderReading.{Named, header_at}
 use Rattle.tl_params.specs.Header.{width_of}
 use Rattle.tl_schedule.proofs.WholeLines.{said_read}
 use Rattle.tl_schedule.proofs.Headers.{spelled_read}
-use Rattle.tl_world.specs.Log.{Log}
+use Rattle.tl_coherence.specs.statement.Log.{Log}
 use Rattle.tl_tool.specs.declared.status.Status.{Status}
 use Rattle.tl_tool.specs.Played.{HeadsSchedule, Played, PlayedAfter, Plays, header_text}
 use Rattle.tl_tool.specs.Width.{bytes_of}

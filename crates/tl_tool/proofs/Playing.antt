@@ -19,11 +19,11 @@ use Rattle.tl_schedule.specs.EventLine.{SpellsLine, event_fault}
 use Rattle.tl_schedule.specs.HeaderReading.{Named, header_at}
 use Rattle.tl_schedule.specs.Schedule.{SpellsSchedule}
 use Rattle.tl_schedule.proofs.Headers.{read_spelled, spelled_read}
-use Rattle.tl_world.specs.Headline.{IsGiven, AreTyped}
-use Rattle.tl_world.specs.Log.{Log, IsLog, after}
-use Rattle.tl_world.specs.Movable.{drained, next_delivery, with_delivery}
+use Rattle.tl_coherence.specs.statement.Headline.{IsGiven, AreTyped}
+use Rattle.tl_coherence.specs.statement.Log.{Log, IsLog, after}
+use Rattle.tl_coherence.specs.statement.Movable.{drained, next_delivery, with_delivery}
 use Rattle.tl_world.proofs.Happened.{given-more}
-use Rattle.tl_world.proofs.Settling.{drain, given-delivering}
+use Rattle.tl_coherence.proofs.bound.Settling.{drain, given-delivering}
 use Rattle.tl_tool.specs.declared.fault.Fault.{Fault}
 use Rattle.tl_tool.specs.declared.fault.Fault.TheVariants.{Header, Event as NoEvent}
 use Rattle.tl_tool.specs.declared.player.Player.{Player}

@@ -6,10 +6,10 @@ use Rattle.std.proofs.Math.Nat.{pow-le-pow_right}
 use Rattle.std.proofs.lemmas.List.{length-take, length-replicate}
 use Rattle.std.proofs.lemmas.List.Elements.{All-append, All-take}
 use Rattle.tl_beat.specs.Width.{IsWidth}
-use Rattle.tl_world.specs.declared.event.Event.{Event}
-use Rattle.tl_world.specs.Headline.{IsTyped}
-use Rattle.tl_world.specs.Ranged.{AreBytes, IsRanged}
-use Rattle.tl_world.proofs.Ranges.{zeros-bytes}
+use Rattle.tl_coherence.specs.declared.event.Event.{Event}
+use Rattle.tl_coherence.specs.statement.Headline.{IsTyped}
+use Rattle.tl_coherence.specs.statement.Ranged.{AreBytes, IsRanged}
+use Rattle.tl_coherence.proofs.lines.Ranges.{zeros-bytes}
 use Rattle.tl_schedule.specs.declared.line.EventFault.{EventFault}
 use Rattle.tl_schedule.specs.declared.line.EventFault.TheVariants.{F1, F8}
 use Rattle.tl_schedule.specs.declared.line.Line.{Line}

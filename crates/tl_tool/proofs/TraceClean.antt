@@ -26,22 +26,22 @@ use Rattle.tl_schedule.specs.declared.line.Line.{Line}
 use Rattle.tl_schedule.specs.declared.line.Line.TheVariants as line_of
 use Rattle.tl_schedule.specs.EventLine.{SpellsLine, event_fault}
 use Rattle.tl_schedule.specs.OutcomeLine.{trace_text}
-use Rattle.tl_world.specs.declared.event.Event.{Event}
-use Rattle.tl_world.specs.declared.event.Event.TheVariants.{Ask, Deliver}
-use Rattle.tl_world.specs.declared.event.Outcome.{Outcome}
-use Rattle.tl_world.specs.declared.event.Outcome.TheVariants as outcome
-use Rattle.tl_world.specs.Draining.{is_moving}
-use Rattle.tl_world.specs.Flow.{flow, taken_on}
-use Rattle.tl_world.specs.Headline.{IsGiven, IsTyped}
-use Rattle.tl_world.specs.Log.{Log, IsLog, after}
-use Rattle.tl_world.specs.Movable.{drained, next_delivery, with_delivery}
-use Rattle.tl_world.specs.Ranged.{AreRanged, IsRanged}
-use Rattle.tl_world.specs.System.{terms_at}
-use Rattle.tl_world.proofs.Delivered.{are-in_range}
-use Rattle.tl_world.proofs.Flows.{asked-still, flows}
-use Rattle.tl_world.proofs.Goods.{level-terms}
+use Rattle.tl_coherence.specs.declared.event.Event.{Event}
+use Rattle.tl_coherence.specs.declared.event.Event.TheVariants.{Ask, Deliver}
+use Rattle.tl_coherence.specs.declared.event.Outcome.{Outcome}
+use Rattle.tl_coherence.specs.declared.event.Outcome.TheVariants as outcome
+use Rattle.tl_coherence.specs.statement.Draining.{is_moving}
+use Rattle.tl_coherence.specs.statement.Flow.{flow, taken_on}
+use Rattle.tl_coherence.specs.statement.Headline.{IsGiven, IsTyped}
+use Rattle.tl_coherence.specs.statement.Log.{Log, IsLog, after}
+use Rattle.tl_coherence.specs.statement.Movable.{drained, next_delivery, with_delivery}
+use Rattle.tl_coherence.specs.statement.Ranged.{AreRanged, IsRanged}
+use Rattle.tl_coherence.specs.statement.System.{terms_at}
+use Rattle.tl_coherence.proofs.lines.Delivered.{are-in_range}
+use Rattle.tl_coherence.proofs.flow.Flows.{asked-still, flows}
+use Rattle.tl_coherence.proofs.simulation.Goods.{level-terms}
 use Rattle.tl_world.proofs.Happened.{given-more}
-use Rattle.tl_world.proofs.Outstanding.{first-moved}
+use Rattle.tl_coherence.proofs.outstanding.Outstanding.{first-moved}
 use Rattle.tl_tool.specs.declared.fault.Fault.TheVariants.{Event as NoEvent}
 use Rattle.tl_tool.specs.declared.status.Status.{Status}
 use Rattle.tl_tool.specs.declared.status.Status.TheVariants.{Clean, Broken}

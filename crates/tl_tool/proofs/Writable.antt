@@ -10,16 +10,16 @@ use Rattle.tl_beat.specs.Line.{IsWritable}
 use Rattle.tl_burst.specs.Messages.{History}
 use Rattle.tl_params.specs.declared.config.Config.{Config}
 use Rattle.tl_schedule.specs.OutcomeLine.{HasLine}
-use Rattle.tl_world.specs.declared.event.Event.{Event}
-use Rattle.tl_world.specs.declared.event.Event.TheVariants.{Ask, Deliver}
-use Rattle.tl_world.specs.declared.event.Outcome.{Outcome}
-use Rattle.tl_world.specs.declared.event.Outcome.TheVariants as outcome
-use Rattle.tl_world.specs.Draining.{is_moving}
-use Rattle.tl_world.specs.Flow.{flow}
-use Rattle.tl_world.specs.Headline.{IsGiven}
-use Rattle.tl_world.specs.Log.{Log, IsLog}
-use Rattle.tl_world.proofs.Delivered.{have-room}
-use Rattle.tl_world.proofs.Flows.{asked-still}
+use Rattle.tl_coherence.specs.declared.event.Event.{Event}
+use Rattle.tl_coherence.specs.declared.event.Event.TheVariants.{Ask, Deliver}
+use Rattle.tl_coherence.specs.declared.event.Outcome.{Outcome}
+use Rattle.tl_coherence.specs.declared.event.Outcome.TheVariants as outcome
+use Rattle.tl_coherence.specs.statement.Draining.{is_moving}
+use Rattle.tl_coherence.specs.statement.Flow.{flow}
+use Rattle.tl_coherence.specs.statement.Headline.{IsGiven}
+use Rattle.tl_coherence.specs.statement.Log.{Log, IsLog}
+use Rattle.tl_coherence.proofs.lines.Delivered.{have-room}
+use Rattle.tl_coherence.proofs.flow.Flows.{asked-still}
 
 -- what was taken on a link is first in its flow
 pub taken : {w : ℕ} (link : Link) (x : Beat w) (t : History w) → (if link.0 == link.0 then x ∷ [] else []) ++ t ≡ x ∷ t

@@ -11,13 +11,13 @@ use Rattle.tl_schedule.specs.declared.line.Line.TheVariants as line_of
 use Rattle.tl_schedule.specs.EventLine.{SpellsLine, event_fault}
 use Rattle.tl_schedule.specs.OutcomeLine.{drained_line, outcome_line, trace_text}
 use Rattle.tl_schedule.specs.Schedule.{SpellsSchedule}
-use Rattle.tl_world.specs.declared.event.Event.{Event}
-use Rattle.tl_world.specs.declared.event.Event.TheVariants.{Deliver}
-use Rattle.tl_world.specs.declared.event.Outcome.{Outcome}
-use Rattle.tl_world.specs.Draining.{IsDrained}
-use Rattle.tl_world.specs.Log.{Log, after}
-use Rattle.tl_world.specs.Movable.{drained, next_delivery, with_delivery}
-use Rattle.tl_world.specs.Step.{stepped}
+use Rattle.tl_coherence.specs.declared.event.Event.{Event}
+use Rattle.tl_coherence.specs.declared.event.Event.TheVariants.{Deliver}
+use Rattle.tl_coherence.specs.declared.event.Outcome.{Outcome}
+use Rattle.tl_coherence.specs.statement.Draining.{IsDrained}
+use Rattle.tl_coherence.specs.statement.Log.{Log, after}
+use Rattle.tl_coherence.specs.statement.Movable.{drained, next_delivery, with_delivery}
+use Rattle.tl_coherence.specs.statement.Step.{stepped}
 use Rattle.tl_tool.specs.declared.fault.Fault.TheVariants.{Header, Event as NoEvent}
 use Rattle.tl_tool.specs.declared.status.Status.{Status}
 use Rattle.tl_tool.specs.declared.status.Status.TheVariants.{Clean, Broken}

@@ -4,10 +4,10 @@ use Rattle.tl_params.specs.declared.config.Config.{Config}
 use Rattle.tl_params.specs.declared.header.Version.{Version}
 use Rattle.tl_schedule.specs.declared.line.Line.{Line}
 use Rattle.tl_schedule.specs.EventLine.{SpellsLine, event_fault}
-use Rattle.tl_world.specs.declared.event.Event.{Event}
-use Rattle.tl_world.specs.Draining.{IsDrained}
-use Rattle.tl_world.specs.Log.{Log}
-use Rattle.tl_world.specs.Movable.{drained}
+use Rattle.tl_coherence.specs.declared.event.Event.{Event}
+use Rattle.tl_coherence.specs.statement.Draining.{IsDrained}
+use Rattle.tl_coherence.specs.statement.Log.{Log}
+use Rattle.tl_coherence.specs.statement.Movable.{drained}
 use Rattle.tl_tool.specs.declared.fault.Fault.{Fault}
 use Rattle.tl_tool.specs.declared.fault.Fault.TheVariants.{Event as NoEvent}
 use Rattle.tl_tool.specs.declared.player.Player.{Player}

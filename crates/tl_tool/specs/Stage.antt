@@ -6,7 +6,7 @@ use Rattle.tl_manager.specs.declared.bits.BitDirectory.{BitDirectory}
 use Rattle.tl_manager.specs.Directories.{perm_of_bits}
 use Rattle.tl_params.specs.declared.config.Config.{Config}
 use Rattle.tl_world.specs.declared.contents.Contents.{Contents}
-use Rattle.tl_world.specs.Log.{Log}
+use Rattle.tl_coherence.specs.statement.Log.{Log}
 use Rattle.tl_world.specs.World.{IsReached}
 
 -- a world of clients of any level, whose records are a directory of bits

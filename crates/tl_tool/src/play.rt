@@ -13,11 +13,11 @@ use crate::opening::world_of;
 use std::alloc::{AllocError, Global};
 use std::marker::Model;
 use tl_client::any::AnyClient;
+use tl_coherence::event::{Event, Outcome};
 use tl_manager::bits::BitDirectory;
 use tl_rules::config::Config;
 use tl_schedule::line::{Line, read_event};
 use tl_schedule::outcome::{append_drained, append_outcome, append_trace};
-use tl_world::event::{Event, Outcome};
 use tl_world::world::World;
 
 /// Appends what is written of an event, or shown of it by a trace.

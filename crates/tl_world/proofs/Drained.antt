@@ -3,17 +3,17 @@ use Rattle.std.proofs.Common.{◌≡◌, ◌≤◌, ◌+◌, ◌-◌, ℕ, zero,
 use Rattle.tl_beat.specs.declared.beat.Link.{Link}
 use Rattle.tl_beat.specs.declared.channel.Channel.{Channel}
 use Rattle.tl_params.specs.declared.config.Config.{Config}
-use Rattle.tl_world.specs.declared.event.Event.TheVariants.{Deliver}
-use Rattle.tl_world.specs.declared.event.Outcome.{Outcome}
-use Rattle.tl_world.specs.Draining.{IsDrained}
-use Rattle.tl_world.specs.Headline.{IsGiven}
-use Rattle.tl_world.specs.Load.{load}
-use Rattle.tl_world.specs.Log.{Log, after}
-use Rattle.tl_world.specs.Movable.{next_delivery, with_delivery, drained}
-use Rattle.tl_world.specs.Step.{stepped}
-use Rattle.tl_world.proofs.Movement.{none-outstanding}
-use Rattle.tl_world.proofs.Progress.{moving}
-use Rattle.tl_world.proofs.Settling.{drain}
+use Rattle.tl_coherence.specs.declared.event.Event.TheVariants.{Deliver}
+use Rattle.tl_coherence.specs.declared.event.Outcome.{Outcome}
+use Rattle.tl_coherence.specs.statement.Draining.{IsDrained}
+use Rattle.tl_coherence.specs.statement.Headline.{IsGiven}
+use Rattle.tl_coherence.specs.statement.Load.{load}
+use Rattle.tl_coherence.specs.statement.Log.{Log, after}
+use Rattle.tl_coherence.specs.statement.Movable.{next_delivery, with_delivery, drained}
+use Rattle.tl_coherence.specs.statement.Step.{stepped}
+use Rattle.tl_coherence.proofs.outstanding.Movement.{none-outstanding}
+use Rattle.tl_coherence.proofs.outstanding.Progress.{moving}
+use Rattle.tl_coherence.proofs.bound.Settling.{drain}
 
 -- one more delivery is the last one
 drained-suc : {w : ℕ} (config : Config) (n : ℕ) (log : Log w) → drained config (suc n) log ≡ with_delivery config (next_delivery config (after config (drained config n log))) (drained config n log)

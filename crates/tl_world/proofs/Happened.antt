@@ -9,21 +9,21 @@ use Rattle.tl_params.specs.declared.perm.Perm.{Perm}
 use Rattle.tl_client.specs.End.{Terms, End}
 use Rattle.tl_manager.specs.Knows.{Knows}
 use Rattle.tl_manager.specs.End as manager_end
-use Rattle.tl_world.specs.declared.event.Event.{Event}
-use Rattle.tl_world.specs.declared.event.Outcome.{Outcome}
+use Rattle.tl_coherence.specs.declared.event.Event.{Event}
+use Rattle.tl_coherence.specs.declared.event.Outcome.{Outcome}
 use Rattle.tl_world.specs.declared.contents.Contents.{Contents}
 use Rattle.tl_world.specs.Carrying.{AreClear, AreFresh}
-use Rattle.tl_world.specs.Headline.{IsTyped, AreTyped, IsGiven}
+use Rattle.tl_coherence.specs.statement.Headline.{IsTyped, AreTyped, IsGiven}
 use Rattle.tl_world.specs.Holds.{clients_of, Holds, HasRoom, IsStepped}
-use Rattle.tl_world.specs.Load.{starts_request, starts_release, ends_request, ends_release, requests, releases}
-use Rattle.tl_world.specs.Log.{Log, IsLog, after, logged}
+use Rattle.tl_coherence.specs.statement.Load.{starts_request, starts_release, ends_request, ends_release, requests, releases}
+use Rattle.tl_coherence.specs.statement.Log.{Log, IsLog, after, logged}
 use Rattle.tl_world.specs.Opened.{counted}
-use Rattle.tl_world.specs.Step.{stepped}
-use Rattle.tl_world.specs.System.{System}
+use Rattle.tl_coherence.specs.statement.Step.{stepped}
+use Rattle.tl_coherence.specs.statement.System.{System}
 use Rattle.tl_world.specs.World.{deepest, IsReached, AreReady}
 use Rattle.std.proofs.Math.Nat.{max-le}
-use Rattle.tl_world.proofs.Given.{channels, carries}
-use Rattle.tl_world.proofs.Soundness.{headline}
+use Rattle.tl_coherence.proofs.links.Given.{channels, carries}
+use Rattle.tl_coherence.proofs.theorem.Soundness.{headline}
 use Rattle.tl_world.proofs.Loads.{requests-next, releases-next}
 use Rattle.tl_world.proofs.Made.{made-room, made-empty, made-flat}
 

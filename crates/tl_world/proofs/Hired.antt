@@ -1,55 +1,27 @@
 -- The clients that are made of a configuration.
-use Rattle.std.proofs.Common.{◌≡◌, ◌<◌, ◌+◌, ◌&&◌, ℕ, zero, suc, Bool, true, false, List, [], ◌∷◌, ◌++◌, Some, None, refl, ap, ◌∙◌, inl, inr, length, arith}
+use Rattle.std.proofs.Common.{◌≡◌, ◌<◌, ◌+◌, ℕ, List, [], ◌∷◌, ◌++◌, Some, None, refl, ap, ◌∙◌, inl, inr, length, arith}
 use Rattle.std.proofs.lemmas.Bool.{cases_eq}
 use Rattle.std.proofs.lemmas.List.{length-append, get_or_append_left}
 use Rattle.std.proofs.lemmas.Option.{slice_get-get_or}
 use Rattle.std.proofs.Math.Seq.{get_or-append_seam}
-use Rattle.std.specs.Prelude.{◌≢◌, Ok, slice_index_or, Option, not, if◌then◌else◌, ⊤}
+use Rattle.std.specs.Prelude.{◌≢◌, Ok, slice_index_or, Option, ⊤}
 use Rattle.tl_params.specs.declared.config.ClientConfig.{ClientConfig}
 use Rattle.tl_params.specs.declared.config.Config.{Config}
 use Rattle.tl_params.specs.declared.config.NewFault.{NewFault}
-use Rattle.tl_params.specs.declared.config.NewFault.TheVariants as fault
-use Rattle.tl_params.specs.Config.{config_fault, client_fault, blocks_fit, trackers_fit, sources_fit, all_sources_fit}
+use Rattle.tl_params.specs.Config.{config_fault, client_fault, blocks_fit, trackers_fit, all_sources_fit}
 use Rattle.tl_params.specs.Range.{is_from_to}
 use Rattle.tl_params.specs.Refusal.{ok_unless}
 use Rattle.tl_client.specs.End.{Terms, End}
 use Rattle.tl_world.specs.Agents.{IsHired, AreMade}
 use Rattle.tl_world.specs.Holds.{clients_of}
-use Rattle.tl_world.specs.System.{terms_at}
+use Rattle.tl_coherence.specs.statement.System.{terms_at}
+use Rattle.tl_coherence.proofs.queues.Limits.{limits-fit, all-fit}
 
 -- ---- a configuration within its limits
 
 pub no-fault : (o : Option NewFault) (done : ⊤) → ok_unless o ≡ Ok done → o ≡ None
 no-fault None done e = refl
 no-fault (Some f) done e = absurd cc
-
-pub all-fit : (clients : List ClientConfig) (i : ℕ) (d : ClientConfig) → all_sources_fit clients ≡ true → i < length clients → sources_fit (slice_index_or clients i d) ≡ true
-all-fit [] i d fit lt = absurd (omega (arith, lt))
-all-fit (x ∷ clients) zero d fit lt = both-first (sources_fit x) (all_sources_fit clients) fit
-  where
-    both-first : (a b : Bool) → (a && b) ≡ true → a ≡ true
-    both-first true b e = refl
-    both-first false b e = absurd cc
-all-fit (x ∷ clients) (suc i) d fit lt = all-fit clients i d (both-second (sources_fit x) (all_sources_fit clients) fit) (omega (arith, lt))
-  where
-    both-second : (a b : Bool) → (a && b) ≡ true → b ≡ true
-    both-second true b e = e
-    both-second false b e = absurd cc
-
-abbrev limits_broken : Bool → Bool → Bool → Bool → Option NewFault
-limits_broken a b c e =
-    if not a then Some fault.N1 else
-    if not b then Some fault.N2 else
-    if not c then Some fault.N3 else
-    if not e then Some fault.N4 else
-    None
-
-pub limits-fit : (a b c e : Bool) → limits_broken a b c e ≡ None → (a ≡ true) × (b ≡ true) × (c ≡ true) × (e ≡ true)
-limits-fit true true true true f = (refl, refl, refl, refl)
-limits-fit true true true false f = absurd cc
-limits-fit true true false e f = absurd cc
-limits-fit true false c e f = absurd cc
-limits-fit false b c e f = absurd cc
 
 -- each client's part is within its limits
 pub client-fits : (config : Config) (i : ℕ) (d : ClientConfig) → config_fault config ≡ None → i < clients_of config → client_fault (slice_index_or config.clients.items i d) config.blocks ≡ None

@@ -8,29 +8,29 @@ use Rattle.tl_params.specs.declared.config.Config.{Config}
 use Rattle.tl_params.specs.declared.level.Level.TheVariants as level
 use Rattle.tl_params.specs.Config.{config_fault, blocks_fit, trackers_fit, all_sources_fit}
 use Rattle.tl_params.specs.Range.{is_from_to}
-use Rattle.tl_world.specs.declared.event.Event.{Event}
-use Rattle.tl_world.specs.declared.event.Event.TheVariants.{Ask, Deliver}
-use Rattle.tl_world.specs.declared.event.Outcome.{Outcome}
-use Rattle.tl_world.specs.declared.event.Outcome.TheVariants as outcome
-use Rattle.tl_world.specs.Delivery.{sources_of}
-use Rattle.tl_world.specs.Headline.{IsGiven}
+use Rattle.tl_coherence.specs.declared.event.Event.{Event}
+use Rattle.tl_coherence.specs.declared.event.Event.TheVariants.{Ask, Deliver}
+use Rattle.tl_coherence.specs.declared.event.Outcome.{Outcome}
+use Rattle.tl_coherence.specs.declared.event.Outcome.TheVariants as outcome
+use Rattle.tl_coherence.specs.statement.Delivery.{sources_of}
+use Rattle.tl_coherence.specs.statement.Headline.{IsGiven}
 use Rattle.tl_world.specs.Holds.{clients_of}
-use Rattle.tl_world.specs.Load.{starts_request, starts_release, ends_request, ends_release, requests, releases}
-use Rattle.tl_world.specs.Log.{Log}
+use Rattle.tl_coherence.specs.statement.Load.{starts_request, starts_release, ends_request, ends_release, requests, releases}
+use Rattle.tl_coherence.specs.statement.Log.{Log}
 use Rattle.tl_world.specs.Opened.{counted}
-use Rattle.tl_world.specs.Potential.{total, is_used, is_let, open_requests, open_releases}
-use Rattle.tl_world.specs.System.{terms_at}
-use Rattle.tl_world.specs.Token.{one_if}
-use Rattle.tl_world.specs.Whole.{is_caching}
-use Rattle.tl_world.proofs.Bounded.{matched-bounded}
-use Rattle.tl_world.proofs.Capacities.{few_on_e}
-use Rattle.tl_world.proofs.Counted.{number-next, requests-open, releases-open}
-use Rattle.tl_world.proofs.Given.{matched-given}
-use Rattle.tl_world.proofs.Hired.{limits-fit, all-fit}
+use Rattle.tl_coherence.specs.bound.Potential.{total, is_used, is_let, open_requests, open_releases}
+use Rattle.tl_coherence.specs.statement.System.{terms_at}
+use Rattle.tl_coherence.specs.protocol.Token.{one_if}
+use Rattle.tl_coherence.specs.refinement.Whole.{is_caching}
+use Rattle.tl_coherence.proofs.simulation.Bounded.{matched-bounded}
+use Rattle.tl_coherence.proofs.protocol.Capacities.{few_on_e}
+use Rattle.tl_coherence.proofs.outstanding.Counted.{number-next, requests-open, releases-open}
+use Rattle.tl_coherence.proofs.links.Given.{matched-given}
+use Rattle.tl_coherence.proofs.queues.Limits.{limits-fit, all-fit}
 use Rattle.tl_world.proofs.Made.{sources-at}
-use Rattle.tl_world.proofs.Matching.{shadow}
-use Rattle.tl_world.proofs.Owned.{sources-own}
-use Rattle.tl_world.proofs.Progress as progress
+use Rattle.tl_coherence.proofs.deliveries.Matching.{shadow}
+use Rattle.tl_coherence.proofs.simulation.Owned.{sources-own}
+use Rattle.tl_coherence.proofs.outstanding.Progress as progress
 
 -- ---- totals
 

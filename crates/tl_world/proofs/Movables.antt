@@ -18,12 +18,12 @@ use Rattle.tl_manager.specs.End as manager_end
 use Rattle.tl_manager.specs.Offer as manager
 use Rattle.tl_world.specs.Carrying.{word_of, Carries}
 use Rattle.tl_world.specs.Holds.{clients_of, Holds}
-use Rattle.tl_world.specs.Movable.{moves, is_movable, first_movable, movable_on}
-use Rattle.tl_world.specs.Step.{is_to_client}
-use Rattle.tl_world.specs.System.{System, terms_at}
+use Rattle.tl_coherence.specs.statement.Movable.{moves, is_movable, first_movable, movable_on}
+use Rattle.tl_coherence.specs.statement.Step.{is_to_client}
+use Rattle.tl_coherence.specs.statement.System.{System, terms_at}
 use Rattle.tl_world.specs.declared.parts.Parts.{Parts}
 use Rattle.tl_world.specs.declared.rings.Rings.{Rings}
-use Rattle.tl_world.proofs.Standing.{empty-still}
+use Rattle.tl_coherence.proofs.queues.Standing.{empty-still}
 use Rattle.tl_world.proofs.Stepping.{member, first-is, none-left}
 
 -- ---- of several links

@@ -21,9 +21,9 @@ use Rattle.tl_manager.specs.Handing.{Handed}
 use Rattle.tl_world.specs.Carrying.{number, place, channel_at, word_of, Carries, Fit, AreKept, AreMoved}
 use Rattle.tl_world.specs.declared.ring.Ring.{Ring}
 use Rattle.tl_world.specs.declared.rings.Rings.{Rings}
-use Rattle.tl_world.specs.System.{System, same_channel, channel_of_message, with_channel, with_message, with_messages}
-use Rattle.tl_world.proofs.Beats.{length-beats_from}
-use Rattle.tl_world.proofs.Channels.{same_channel-is}
+use Rattle.tl_coherence.specs.statement.System.{System, same_channel, channel_of_message, with_channel, with_message, with_messages}
+use Rattle.tl_coherence.proofs.queues.Beats.{length-beats_from}
+use Rattle.tl_coherence.proofs.queues.Channels.{same_channel-is}
 
 -- ---- places
 

@@ -11,7 +11,7 @@ use Rattle.tl_world.specs.declared.contents.Contents.{Contents}
 use Rattle.tl_world.specs.declared.ring.Ring.{Ring}
 use Rattle.tl_world.specs.Carrying.{place}
 use Rattle.tl_world.specs.Holds.{clients_of}
-use Rattle.tl_world.specs.Log.{Log, after}
+use Rattle.tl_coherence.specs.statement.Log.{Log, after}
 use Rattle.tl_world.specs.World.{IsReached, held_by, copy_by, deepest_by}
 use Rattle.tl_world.proofs.Queues.{number-below}
 use Rattle.tl_world.proofs.Stepping.{member}

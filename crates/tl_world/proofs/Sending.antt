@@ -6,7 +6,7 @@ use Rattle.tl_beat.specs.declared.beat.Beat.{Beat}
 use Rattle.tl_burst.specs.declared.message.Message.{Message}
 use Rattle.tl_burst.specs.Burst.{beats_of, beat_of}
 use Rattle.tl_rules.specs.Legality.{beats_from}
-use Rattle.tl_world.proofs.Beats.{beats_from-next, length-beats_from}
+use Rattle.tl_coherence.proofs.queues.Beats.{beats_from-next, length-beats_from}
 
 -- a list that has room is kept whole
 kept_whole : {X : Type 0} (n : ℕ) (xs : List X) → length xs ≤ n → keep_last n xs ≡ xs

@@ -9,7 +9,7 @@ use Rattle.tl_manager.specs.Handing.{Handed, probes, probe_of_block}
 use Rattle.tl_manager.specs.Holders.{clients_from}
 use Rattle.tl_world.specs.Carrying.{Carries, Fit, AreKept, AreMoved}
 use Rattle.tl_world.specs.declared.rings.Rings.{Rings}
-use Rattle.tl_world.specs.System.{System, with_message, with_messages}
+use Rattle.tl_coherence.specs.statement.System.{System, with_message, with_messages}
 use Rattle.tl_world.proofs.Queues.{moved-more}
 use Rattle.tl_manager.proofs.Messages.{clients-more}
 

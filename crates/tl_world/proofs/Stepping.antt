@@ -25,17 +25,17 @@ use Rattle.tl_manager.specs.Offer as manager
 use Rattle.tl_world.specs.Called.{IsAsked, IsOffered}
 use Rattle.tl_world.specs.Carrying.{place, Carries, Fit, AreKept, Deepen, AreMoved}
 use Rattle.tl_world.specs.Holds.{clients_of, Holds, HasRoom, IsStepped, is_stay}
-use Rattle.tl_world.specs.Step.{Step, stepped, only, handing, handed_by, judged, outcome_of, manager_took, is_to_client, client_of}
-use Rattle.tl_world.specs.System.{System, with_client, with_manager, with_channel, with_messages}
-use Rattle.tl_world.specs.declared.event.Event.{Event}
-use Rattle.tl_world.specs.declared.event.Event.TheVariants.{Ask, Deliver}
-use Rattle.tl_world.specs.declared.event.Outcome.{Outcome}
-use Rattle.tl_world.specs.declared.event.Outcome.TheVariants as outcome
+use Rattle.tl_coherence.specs.statement.Step.{Step, stepped, only, handing, handed_by, judged, outcome_of, manager_took, is_to_client, client_of}
+use Rattle.tl_coherence.specs.statement.System.{System, with_client, with_manager, with_channel, with_messages}
+use Rattle.tl_coherence.specs.declared.event.Event.{Event}
+use Rattle.tl_coherence.specs.declared.event.Event.TheVariants.{Ask, Deliver}
+use Rattle.tl_coherence.specs.declared.event.Outcome.{Outcome}
+use Rattle.tl_coherence.specs.declared.event.Outcome.TheVariants as outcome
 use Rattle.tl_world.specs.declared.parts.Parts.{Parts}
 use Rattle.tl_world.specs.declared.rings.Rings.{Rings}
-use Rattle.tl_world.proofs.Matching.{stepped-nobody}
+use Rattle.tl_coherence.proofs.deliveries.Matching.{stepped-nobody}
 use Rattle.tl_world.proofs.Queues.{moved-still, moved-then, messages-grow}
-use Rattle.tl_world.proofs.Steps.{clients-with_messages, manager-with_messages, stepped-asked, stepped-empty, stepped-to-client, stepped-to-manager}
+use Rattle.tl_coherence.proofs.queues.Steps.{clients-with_messages, manager-with_messages, stepped-asked, stepped-empty, stepped-to-client, stepped-to-manager}
 use Rattle.tl_world.proofs.Unmoved.{stayed-client, stayed-manager, judged-refused, judged-stayed, judged-taken, took-refused, took-stalled, took-sent}
 
 -- one of several

@@ -17,9 +17,9 @@ use Rattle.tl_manager.specs.Handing.{Handed}
 use Rattle.tl_manager.specs.End as manager_end
 use Rattle.tl_manager.specs.Offer as manager
 use Rattle.tl_world.specs.Holds.{is_stay}
-use Rattle.tl_world.specs.Step.{only, handing, handed_by, judged, outcome_of, manager_took}
-use Rattle.tl_world.specs.System.{System, with_client, with_manager, with_channel}
-use Rattle.tl_world.specs.declared.event.Outcome.TheVariants as outcome
+use Rattle.tl_coherence.specs.statement.Step.{only, handing, handed_by, judged, outcome_of, manager_took}
+use Rattle.tl_coherence.specs.statement.System.{System, with_client, with_manager, with_channel}
+use Rattle.tl_coherence.specs.declared.event.Outcome.TheVariants as outcome
 
 -- ---- a client
 

@@ -5,7 +5,7 @@ use Rattle.tl_params.specs.declared.config.Config.{Config}
 use Rattle.tl_params.specs.declared.profile.Profile.{Profile}
 use Rattle.tl_client.specs.End.{Terms, End}
 use Rattle.tl_client.specs.End as client
-use Rattle.tl_world.specs.System.{terms_at}
+use Rattle.tl_coherence.specs.statement.System.{terms_at}
 
 -- a client of such a link, to which nothing has happened
 pub record IsHired {w : ℕ} {A : Type 0} (knows : A → End w → Type 0) (terms : A → Terms) (config : ClientConfig) (blocks : ℕ) (profile : Profile) (agent : A) : Type 0 where

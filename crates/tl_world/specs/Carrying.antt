@@ -10,8 +10,8 @@ use Rattle.tl_params.specs.declared.config.Config.{Config}
 use Rattle.tl_world.specs.declared.occupied.Occupied.{Occupied}
 use Rattle.tl_world.specs.declared.ring.Ring.{Ring}
 use Rattle.tl_world.specs.declared.rings.Rings.{Rings}
-use Rattle.tl_world.specs.Delivery.{capacity, sources_of}
-use Rattle.tl_world.specs.System.{System, terms_at}
+use Rattle.tl_coherence.specs.statement.Delivery.{capacity, sources_of}
+use Rattle.tl_coherence.specs.statement.System.{System, terms_at}
 
 abbrev pub number : Channel → ℕ
 number channel.A = 0

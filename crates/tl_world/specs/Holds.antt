@@ -8,14 +8,14 @@ use Rattle.tl_client.specs.declared.verdict.Verdict.TheVariants as verdict
 use Rattle.tl_client.specs.End.{Terms}
 use Rattle.tl_client.specs.End as client
 use Rattle.tl_manager.specs.Knows.{Knows}
-use Rattle.tl_world.specs.declared.event.Event.{Event}
-use Rattle.tl_world.specs.declared.event.Outcome.{Outcome}
+use Rattle.tl_coherence.specs.declared.event.Event.{Event}
+use Rattle.tl_coherence.specs.declared.event.Outcome.{Outcome}
 use Rattle.tl_world.specs.declared.parts.Parts.{Parts}
 use Rattle.tl_world.specs.declared.ring.Ring.{Ring}
 use Rattle.tl_world.specs.Carrying.{place, Carries, Deepen}
-use Rattle.tl_world.specs.Delivery.{capacity, sources_of}
-use Rattle.tl_world.specs.Step.{stepped}
-use Rattle.tl_world.specs.System.{System, terms_at}
+use Rattle.tl_coherence.specs.statement.Delivery.{capacity, sources_of}
+use Rattle.tl_coherence.specs.statement.Step.{stepped}
+use Rattle.tl_coherence.specs.statement.System.{System, terms_at}
 
 abbrev pub clients_of : Config → ℕ
 clients_of config = length config.clients.items

@@ -9,17 +9,17 @@ use Rattle.tl_params.specs.declared.perm.Perm.TheVariants as perm
 use Rattle.tl_params.specs.Config.{config_fault}
 use Rattle.tl_client.specs.End.{Terms, End, held_at}
 use Rattle.tl_client.specs.End as client
-use Rattle.tl_world.specs.declared.event.Event.{Event}
-use Rattle.tl_world.specs.declared.event.Outcome.{Outcome}
+use Rattle.tl_coherence.specs.declared.event.Event.{Event}
+use Rattle.tl_coherence.specs.declared.event.Outcome.{Outcome}
 use Rattle.tl_world.specs.declared.contents.Contents.{Contents}
 use Rattle.tl_world.specs.declared.ring.Ring.{Ring}
 use Rattle.tl_world.specs.Carrying.{place}
-use Rattle.tl_world.specs.Delivery.{IsCarried, capacity, sources_of}
-use Rattle.tl_world.specs.Headline.{IsGiven, IsSound}
+use Rattle.tl_coherence.specs.statement.Delivery.{IsCarried, capacity, sources_of}
+use Rattle.tl_coherence.specs.statement.Headline.{IsGiven, IsSound}
 use Rattle.tl_world.specs.Holds.{clients_of, Holds}
-use Rattle.tl_world.specs.Load.{requests, releases}
-use Rattle.tl_world.specs.Log.{Log, after, logged}
-use Rattle.tl_world.specs.System.{System, terms_at}
+use Rattle.tl_coherence.specs.statement.Load.{requests, releases}
+use Rattle.tl_coherence.specs.statement.Log.{Log, after, logged}
+use Rattle.tl_coherence.specs.statement.System.{System, terms_at}
 
 -- the greatest number of beats that ever stood in a channel
 unfoldable pub deepest : {w : ℕ} → Config → Log w → ℕ → Channel → ℕ

@@ -4,19 +4,19 @@ ghost use Rattle.std.specs.Prelude.{◌≡◌, ◌<◌, length, true, false};
 ghost use Rattle.tl_beat.specs.Width.{IsWidth};
 ghost use Rattle.tl_params.specs.declared.config.Config.{Config};
 ghost use Rattle.tl_world.specs.Holds.{Holds, HasRoom, IsStepped, clients_of, is_stay};
-ghost use Rattle.tl_world.specs.Step;
-ghost use Rattle.tl_world.specs.Step.{stepped};
-ghost use Rattle.tl_world.specs.System.{System};
-ghost use Rattle.tl_world.specs.declared.event.Event.TheVariants.{Ask, Deliver};
+ghost use Rattle.tl_coherence.specs.statement.Step;
+ghost use Rattle.tl_coherence.specs.statement.Step.{stepped};
+ghost use Rattle.tl_coherence.specs.statement.System.{System};
+ghost use Rattle.tl_coherence.specs.declared.event.Event.TheVariants.{Ask, Deliver};
 
 use crate::clients::{ask_at, offer_at};
-use crate::event::{Event, Outcome};
 use crate::parts::Parts;
 use tl_beat::beat::{Beat, Link};
 use tl_beat::channel::Channel;
 use tl_client::agent::Agent;
 use tl_client::operation::Op;
 use tl_client::verdict::Verdict;
+use tl_coherence::event::{Event, Outcome};
 use tl_manager::directory::Directory;
 
 /// Whether a client takes the beats of a channel.

@@ -4,7 +4,7 @@ ghost use Rattle.std.specs.Prelude.{◌≡◌, ◌*◌, ◌/◌, IfOk, length};
 ghost use Rattle.tl_beat.specs.Width.{IsWidth};
 ghost use Rattle.tl_world.specs.Carrying;
 ghost use Rattle.tl_world.specs.Carrying.{AreClear, AreFresh};
-ghost use Rattle.tl_world.specs.Delivery;
+ghost use Rattle.tl_coherence.specs.statement.Delivery;
 
 use crate::occupied::Occupied;
 use crate::ring::Ring;

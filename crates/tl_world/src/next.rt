@@ -4,9 +4,9 @@ ghost use Rattle.std.specs.Prelude.{◌≡◌, ◌<◌, ◌∷◌, [], not};
 ghost use Rattle.tl_beat.specs.Width.{IsWidth};
 ghost use Rattle.tl_params.specs.declared.config.Config.{Config};
 ghost use Rattle.tl_world.specs.Holds.{Holds, clients_of};
-ghost use Rattle.tl_world.specs.Movable;
-ghost use Rattle.tl_world.specs.Movable.{is_movable};
-ghost use Rattle.tl_world.specs.System.{System, terms_at};
+ghost use Rattle.tl_coherence.specs.statement.Movable;
+ghost use Rattle.tl_coherence.specs.statement.Movable.{is_movable};
+ghost use Rattle.tl_coherence.specs.statement.System.{System, terms_at};
 
 use crate::clients::stalls_at;
 use crate::happen::is_to_client;
@@ -61,7 +61,7 @@ impl<const W: usize, A: Agent<W>, D: Directory> Parts<W, A, D> {
     }
 
     /// The first delivery that moves a beat.
-    #[tactic(auto, unfolding(crate::specs::Movable::next_delivery))]
+    #[tactic(auto, unfolding(tl_coherence::specs::statement::Movable::next_delivery))]
     pub fn next_delivery(&self) -> Option<(Link, Channel)>
         requires { IsWidth W }
         ensures { (config : Config) (s : System W) → Holds A.knows A.terms D.perm_of config self.now s →

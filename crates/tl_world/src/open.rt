@@ -2,14 +2,14 @@
 
 ghost use Rattle.std.specs.Prelude.{◌≡◌, ◌+◌, ◌*◌, ◌/◌, true, false};
 ghost use Rattle.tl_beat.specs.Width.{IsWidth};
-ghost use Rattle.tl_world.specs.Load;
+ghost use Rattle.tl_coherence.specs.statement.Load;
 ghost use Rattle.tl_world.specs.Opened.{counted};
 
-use crate::event::{Event, Outcome};
 use tl_beat::beat::Beat;
 use tl_client::operation::Op;
 use tl_client::reply::Reply;
 use tl_client::verdict::Finish;
+use tl_coherence::event::{Event, Outcome};
 
 /// A request was started.
 fn starts_request<const W: usize>(event: &Event<W>, outcome: &Outcome<W>) -> bool

@@ -8,7 +8,7 @@ ghost use Rattle.tl_beat.specs.declared.beat.Beat.{Beat};
 ghost use Rattle.tl_burst.specs.Burst;
 ghost use Rattle.tl_rules.specs.Legality.{beats_from};
 ghost use Rattle.tl_world.specs.declared.ring.Ring.{Ring};
-ghost use Rattle.tl_world.specs.System.{channel_of_message};
+ghost use Rattle.tl_coherence.specs.statement.System.{channel_of_message};
 
 use crate::occupied::Occupied;
 use crate::place::place;
@@ -69,8 +69,8 @@ impl<const W: usize> Rings<W> {
     ghost use Rattle.tl_manager.specs.declared.manager.reply.Sending.TheVariants.{Probes};
     ghost use Rattle.tl_world.specs.Carrying;
     ghost use Rattle.tl_world.specs.Carrying.{Carries, Fit, AreKept, AreMoved};
-    ghost use Rattle.tl_world.specs.Step.{handed_by};
-    ghost use Rattle.tl_world.specs.System.{System, with_channel, with_message, with_messages};
+    ghost use Rattle.tl_coherence.specs.statement.Step.{handed_by};
+    ghost use Rattle.tl_coherence.specs.statement.System.{System, with_channel, with_message, with_messages};
 
     /// The first beat of a channel.
     pub fn first(&self, link: Link, channel: Channel) -> Option<&Beat<W>>

@@ -1,11 +1,11 @@
 //! What the types of events say.
 
 ghost use Rattle.std.specs.Prelude.{◌≡◌, length};
-ghost use Rattle.tl_world.specs.Headline.{IsTyped};
+ghost use Rattle.tl_coherence.specs.statement.Headline.{IsTyped};
 
-use crate::event::Event;
 use tl_burst::message::Message;
 use tl_client::operation::Op;
+use tl_coherence::event::Event;
 
 /// A block has 64 bytes.
 fn long(block: &[u8; 64])

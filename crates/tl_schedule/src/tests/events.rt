@@ -11,8 +11,8 @@ use tl_beat::channel::Channel;
 use tl_beat::opcode::OpA;
 use tl_burst::message::{Message, MessageA};
 use tl_client::operation::Op;
+use tl_coherence::event::Event;
 use tl_params::param::{Grow, Prune};
-use tl_world::event::Event;
 
 const FULL: &str =
     "ffffffffffffffffffffffffffffffffffffffffffffffffffffffffffffffffffffffffffffffffffffffffffffffffffffffffffffffffffffffffffffffff";

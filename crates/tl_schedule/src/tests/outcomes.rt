@@ -11,8 +11,8 @@ use tl_client::busy::Busy;
 use tl_client::operation::Op;
 use tl_client::reply::Reply;
 use tl_client::verdict::Finish;
+use tl_coherence::event::{Event, Outcome};
 use tl_params::perm::Perm;
-use tl_world::event::{Event, Outcome};
 
 const OPENED: &str = "01 E 03 done 02 ";
 

@@ -1,5 +1,5 @@
 use Rattle.std.proofs.Common.{rules, ◌≡◌, ◌≤◌, sym, inl, inr, arith}
-use Rattle.tl_world.specs.Load.{load}
+use Rattle.tl_coherence.specs.statement.Load.{load}
 use Rattle.tl_tool.proofs.Played.{delivered-none, delivered-more, drains-all}
 use Rattle.tl_tool.proofs.play.deliver_all.Goals as goal
 

@@ -2,7 +2,6 @@
 
 ghost use Rattle.tl_beat.specs.Width.{IsWidth};
 
-use crate::event::{Event, Outcome};
 use crate::world::World;
 use crate::world::tests::made::{Covers, Hires, Setup, is_made, world_again};
 use crate::world::tests::replay::replay_again;
@@ -10,6 +9,7 @@ use crate::world::tests::script::{Part, Script, script_again};
 use std::alloc::Global;
 use std::process::Abort;
 use tl_client::agent::Agent;
+use tl_coherence::event::{Event, Outcome};
 use tl_manager::directory::Directory;
 use tl_rules::perm::Perm;
 

@@ -2,12 +2,12 @@
 
 ghost use Rattle.tl_beat.specs.Width.{IsWidth};
 
-use crate::event::{Event, Outcome};
 use crate::world::World;
 use crate::world::tests::made::{Covers, Hires, Setup, hire_all, is_made, make_world};
 use crate::world::tests::script::Script;
 use std::alloc::{AllocError, Global};
 use std::process::Abort;
+use tl_coherence::event::{Event, Outcome};
 use tl_rules::config::NewFault;
 
 /// Room for what comes of a replay.

@@ -2,7 +2,6 @@
 
 ghost use Rattle.tl_beat.specs.Width.{IsWidth};
 
-use crate::event::{Event, Outcome};
 use crate::world::tests::message::{Ends, Says, channel_of, finish, message};
 use std::alloc::{AllocError, Global};
 use std::process::Abort;
@@ -13,6 +12,7 @@ use tl_burst::message::Message;
 use tl_client::operation::Op;
 use tl_client::reply::Reply;
 use tl_client::verdict::Finish;
+use tl_coherence::event::{Event, Outcome};
 use tl_rules::param::{Grow, Prune};
 
 /// What a client is asked for.

@@ -1,5 +1,5 @@
 use Rattle.std.proofs.Common.{arith}
-use Rattle.tl_world.specs.declared.event.Event.TheVariants.{Ask, Deliver}
+use Rattle.tl_coherence.specs.declared.event.Event.TheVariants.{Ask, Deliver}
 use Rattle.tl_world.proofs.Stepping.{steps-nobody}
 use Rattle.tl_world.proofs.parts.Parts.happen.Goals as goal
 

@@ -2,8 +2,8 @@ use Rattle.std.proofs.Common.{ℕ, ◌≡◌, false}
 use Rattle.std.specs.Int.{bit_at}
 use Rattle.tl_params.specs.declared.config.Config.{Config}
 use Rattle.tl_world.specs.Holds.{Holds}
-use Rattle.tl_world.specs.Movable.{is_movable}
-use Rattle.tl_world.specs.System.{System}
+use Rattle.tl_coherence.specs.statement.Movable.{is_movable}
+use Rattle.tl_coherence.specs.statement.System.{System}
 use Rattle.tl_world.proofs.parts.Parts.movable_on.Given as goal
 
 abbrev pub invariant-loop-number : goal.invariant-loop-number

@@ -1,4 +1,4 @@
-use Rattle.tl_world.specs.System.{with_messages}
+use Rattle.tl_coherence.specs.statement.System.{with_messages}
 use Rattle.tl_world.proofs.Queues.{moved-still}
 use Rattle.tl_world.proofs.rings.Rings.send_out.Goals as goal
 

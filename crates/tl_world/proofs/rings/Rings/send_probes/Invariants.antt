@@ -3,7 +3,7 @@ use Rattle.std.specs.Int.{bit_at}
 use Rattle.tl_manager.specs.Handing.{probes}
 use Rattle.tl_manager.specs.Holders.{clients_from}
 use Rattle.tl_world.specs.Carrying.{Carries, Fit, AreKept, AreMoved}
-use Rattle.tl_world.specs.System.{System, with_messages}
+use Rattle.tl_coherence.specs.statement.System.{System, with_messages}
 use Rattle.tl_world.proofs.rings.Rings.send_probes.Given as goal
 
 abbrev pub invariant-loop-client : goal.invariant-loop-client

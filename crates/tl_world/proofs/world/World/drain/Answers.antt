@@ -1,6 +1,6 @@
 use Rattle.std.proofs.Common.{rules, ◌≡◌, Some, sym, arith}
-use Rattle.tl_world.specs.Log.{after}
-use Rattle.tl_world.specs.Movable.{next_delivery, drained}
+use Rattle.tl_coherence.specs.statement.Log.{after}
+use Rattle.tl_coherence.specs.statement.Movable.{next_delivery, drained}
 use Rattle.tl_world.proofs.Drained.{drained-more, drained-so, drained-all}
 use Rattle.tl_world.proofs.world.World.drain.Goals as goal
 

@@ -1,6 +1,6 @@
 use Rattle.std.proofs.Common.{rules, refl, ◌≡◌, ◌∙◌, ◌<◌, sym, length, take, arith}
 use Rattle.std.proofs.lemmas.List.{take_all, length-set}
-use Rattle.tl_world.specs.Log.{logged}
+use Rattle.tl_coherence.specs.statement.Log.{logged}
 use Rattle.tl_world.proofs.Happened.{logged-next}
 use Rattle.tl_world.proofs.world.World.run.Goals as goal
 

@@ -1,6 +1,6 @@
 use Rattle.std.proofs.Common.{◌≡◌, take, length}
 use Rattle.tl_params.specs.declared.config.Config.{Config}
-use Rattle.tl_world.specs.Log.{Log, logged}
+use Rattle.tl_coherence.specs.statement.Log.{Log, logged}
 use Rattle.tl_world.specs.World.{IsReached}
 use Rattle.tl_world.proofs.world.World.run.Given as goal
 

@@ -1,0 +1,15 @@
+pub mod bound
+pub mod client
+pub mod deliveries
+pub mod examples
+pub mod flow
+pub mod lines
+pub mod links
+pub mod manager
+pub mod memory
+pub mod outstanding
+pub mod potential
+pub mod protocol
+pub mod queues
+pub mod simulation
+pub mod theorem

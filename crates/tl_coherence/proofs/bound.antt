@@ -1,0 +1,13 @@
+pub mod Beginnings
+pub mod EventFalls
+pub mod Grown
+pub mod Lessening
+pub mod Owed
+pub mod OwedAfter
+pub mod OwedKinds
+pub mod OwedReports
+pub mod OwedRequests
+pub mod ReportFalls
+pub mod RequestFalls
+pub mod ResponseFalls
+pub mod Settling

@@ -1,0 +1,16 @@
+pub mod AcksAfter
+pub mod AskedAfter
+pub mod AskedWell
+pub mod CarriedReports
+pub mod CarriedRequests
+pub mod HeardAfter
+pub mod HeardAll
+pub mod InvariantKept
+pub mod ManagerDelivered
+pub mod ManagerFollowed
+pub mod ManagerKept
+pub mod ManagersAfter
+pub mod Matching
+pub mod ProbesAfter
+pub mod ReportsAfter
+pub mod RequestsDelivered

@@ -1,0 +1,6 @@
+pub mod Alone
+pub mod Checks
+pub mod Following
+pub mod Holding
+pub mod Play
+pub mod Rows

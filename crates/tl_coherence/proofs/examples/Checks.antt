@@ -1,0 +1,263 @@
+-- Whether what the headline says holds at every event of a list that is played, evaluated: by tests, each with a
+-- number, of which those that fail are listed.
+use Rattle.std.proofs.Common.{◌≡◌}
+use Rattle.std.specs.Prelude.{min, ◌-◌, ℕ, zero, suc, Bool, true, false, not, List, [], ◌∷◌, ◌++◌, ◌==◌, ◌&&◌, ◌||◌, ◌*◌, ◌/◌, ◌^◌, nat_le, length, reverse, Option, Some, None, is_none}
+use Rattle.std.specs.Bool.{beq}
+use Rattle.tl_beat.specs.declared.beat.Beat.{Beat}
+use Rattle.tl_beat.specs.declared.beat.Beat.TheVariants as beat
+use Rattle.tl_beat.specs.declared.beat.Link.{Link}
+use Rattle.tl_beat.specs.declared.channel.Channel.{Channel}
+use Rattle.tl_beat.specs.declared.channel.Channel.TheVariants as channel
+use Rattle.tl_burst.specs.Messages.{same_control, carried_on}
+use Rattle.tl_params.specs.declared.config.Config.{Config}
+use Rattle.tl_params.specs.declared.level.Level.{Level}
+use Rattle.tl_params.specs.declared.perm.Perm.{Perm}
+use Rattle.tl_params.specs.declared.perm.Perm.TheVariants as perm
+use Rattle.tl_params.specs.declared.profile.Profile.{Profile}
+use Rattle.tl_rules.specs.Agent.{lanes_of}
+use Rattle.tl_rules.specs.Conformance.{is_legal, same_perm}
+use Rattle.tl_rules.specs.Effect as memory
+use Rattle.tl_rules.specs.Effect.{Memory, bytes_from, number_from}
+use Rattle.tl_rules.specs.History.{block_at}
+use Rattle.tl_client.specs.declared.operation.Op.{Op}
+use Rattle.tl_client.specs.declared.operation.Op.TheVariants.{Load, Store, Acquire, AcquireWhole, Release, Access}
+use Rattle.tl_client.specs.declared.reply.Reply.{Reply}
+use Rattle.tl_client.specs.declared.reply.Reply.TheVariants as reply
+use Rattle.tl_client.specs.declared.verdict.Finish.{Finish}
+use Rattle.tl_client.specs.declared.verdict.Finish.TheVariants as finish
+use Rattle.tl_client.specs.Ask.{same_bytes, op_block}
+use Rattle.tl_client.specs.End.{held_at}
+use Rattle.tl_manager.specs.Offer.{level_of, must_wait}
+use Rattle.tl_coherence.specs.declared.event.Event.{Event}
+use Rattle.tl_coherence.specs.declared.event.Event.TheVariants.{Ask, Deliver}
+use Rattle.tl_coherence.specs.declared.event.Outcome.{Outcome}
+use Rattle.tl_coherence.specs.declared.event.Outcome.TheVariants as outcome
+use Rattle.tl_coherence.specs.statement.Coherent.{started}
+use Rattle.tl_coherence.specs.statement.Flow.{flow}
+use Rattle.tl_coherence.specs.statement.Draining.{is_delivery, is_moving}
+use Rattle.tl_coherence.specs.statement.Delivery.{capacity, sources_of, sender, receiver}
+use Rattle.tl_coherence.specs.statement.Load.{outstanding, load}
+use Rattle.tl_coherence.specs.statement.Log.{Log}
+use Rattle.tl_coherence.specs.statement.Machine.{Machine, Open, Requests, Releases, first, is_client, is_word_op, pool_of_op, pool_of, finish_with, cap_named, moved, performed}
+use Rattle.tl_coherence.specs.statement.Movable.{is_movable, next_delivery}
+use Rattle.tl_coherence.specs.statement.Remembered.{accesses_answered, performing}
+use Rattle.tl_coherence.specs.statement.Step.{Step, stepped, client_of}
+use Rattle.tl_coherence.specs.statement.System.{System, fresh, terms_at}
+use Rattle.tl_coherence.proofs.examples.Play.{Line, Does, Drains}
+use Rattle.tl_coherence.proofs.queues.Phases.{implies}
+
+-- ---- a whole, what has happened to it, and the one-memory machine beside it
+
+pub record Past (w : ℕ) : Type 0 where
+  pub log : Log w
+  pub system : System w
+  pub machine : Machine w
+  -- how many more deliveries may move a beat before something is asked
+  pub budget : ℕ
+
+abbrev pub begun : {w : ℕ} → Past w
+begun = record { log = []; system = fresh; machine = first; budget = 0 }
+
+abbrev pub budget_after : Bool → Bool → ℕ → ℕ → ℕ
+budget_after false moves budget load = load
+budget_after true true budget load = min (budget - 1) load
+budget_after true false budget load = min budget load
+
+abbrev pub next : {w : ℕ} → Event w → Step w → Past w → Past w
+next event step p = record {
+  log = (event, step.outcome) ∷ p.log;
+  system = step.after;
+  machine = performing (accesses_answered step.handed) (moved event step.outcome p.machine);
+  budget = budget_after (is_delivery event) (is_moving step.outcome) p.budget (load ((event, step.outcome) ∷ p.log));
+}
+
+-- ---- tests
+
+abbrev pub failed : ℕ → Bool → List ℕ → List ℕ
+failed n true rest = rest
+failed n false rest = n ∷ rest
+
+abbrev pub same_finish : Finish → Finish → Bool
+same_finish finish.Ack finish.Ack = true
+same_finish finish.Hint finish.Hint = true
+same_finish (finish.Data m xs) (finish.Data n ys) = (m == n) && same_bytes xs ys
+same_finish (finish.Granted p) (finish.Granted q) = same_perm p q
+same_finish finish.Released finish.Released = true
+same_finish _ _ = false
+
+-- the machine allows the reply
+abbrev pub replies : {w : ℕ} → ℕ → Op w → Reply → Machine w → Bool
+replies client (Load address size) (reply.Value v) m = v == number_from m.memory address (2 ^ size)
+replies client (Store address size value) reply.Stored m = true
+replies client op reply.Miss m = is_word_op op
+replies client op (reply.Busy why) m = true
+replies client op (reply.Started source) m = not (is_word_op op) && is_none (m.opened client (pool_of_op op) source)
+replies client _ _ m = false
+
+abbrev pub ends_access : Finish → Option Finish → Bool
+ends_access f None = false
+ends_access f (Some g) = same_finish f g
+
+abbrev pub finish_if_any : {w : ℕ} → Op w → Option memory.AccessResult → Option Finish
+finish_if_any (Access m) (Some r) = Some (finish_with m r)
+finish_if_any _ _ = None
+
+abbrev pub ends_op : {w : ℕ} → Op w → Option memory.AccessResult → Beat w → Finish → Bool
+ends_op (Access m) answer x f = ends_access f (finish_if_any (Access m) answer)
+ends_op (Acquire block grow) answer x f = same_finish f (finish.Granted (cap_named x))
+ends_op (AcquireWhole block bytes) answer x f = same_finish f (finish.Granted perm.Trunk)
+ends_op (Release block prune) answer x f = same_finish f finish.Released
+ends_op _ answer x f = false
+
+abbrev pub ends : {w : ℕ} → Option (Open w) → Beat w → Finish → Bool
+ends None x f = false
+ends (Some o) x f = ends_op o.asked o.answer x f
+
+abbrev pub allows : {w : ℕ} → Event w → Outcome w → Machine w → Bool
+allows (Ask client op) (outcome.Replied r) m = replies client op r m
+allows (Deliver link channel.D) (outcome.Done x source f) m = ends (m.opened link.0 (pool_of f) source) x f
+allows (Deliver link ch) outcome.Empty m = true
+allows (Deliver link ch) outcome.Stalled m = true
+allows (Deliver link ch) (outcome.Moved x) m = true
+allows _ _ m = false
+
+abbrev pub is_step : {w : ℕ} → Config → Event w → Outcome w → Machine w → Bool
+is_step config e outcome.NoSuchClient m = not (is_client config (client_of e))
+is_step config e o m = is_client config (client_of e) && allows e o m
+
+-- the accesses can be performed one after another
+abbrev pub next_performed : {w : ℕ} → Option (Machine w) → (Machine w → Bool) → Bool
+next_performed None rest = false
+next_performed (Some m) rest = rest m
+
+unfoldable pub performs : {w : ℕ} → List (ℕ × ℕ) → Machine w → Bool
+performs [] m = true
+performs (x ∷ accesses) m = next_performed (performed x.0 x.1 m) (performs accesses)
+
+-- all numbers below n pass the test
+unfoldable pub all_below : ℕ → (ℕ → Bool) → Bool
+all_below zero test = true
+all_below (suc n) test = test n && all_below n test
+
+abbrev pub one_writer : {w : ℕ} → ℕ → Config → System w → Bool
+one_writer clients config s =
+    all_below clients (λ c. all_below clients (λ d. all_below config.blocks (λ block.
+    (c == d) || implies (same_perm (held_at (s.clients c) block) perm.Trunk) (same_perm (held_at (s.clients d) block) perm.None))))
+
+abbrev pub copy_agrees : Option (List ℕ) → List ℕ → Bool
+copy_agrees None bytes = true
+copy_agrees (Some copy) bytes = same_bytes copy bytes
+
+abbrev pub copies_agree : {w : ℕ} → ℕ → Config → System w → Memory → Bool
+copies_agree clients config s memory =
+    all_below clients (λ c. all_below config.blocks (λ block. copy_agrees ((s.clients c).copies block) (bytes_from memory (64 * block) 64)))
+
+abbrev pub same_presence : {w : ℕ} → Option (Open w) → Option (Op w) → Bool
+same_presence None None = true
+same_presence (Some x) (Some y) = true
+same_presence _ _ = false
+
+-- the same sources are open in the machine as by what has happened
+abbrev pub opened_agree : {w : ℕ} → ℕ → Log w → Machine w → Bool
+opened_agree clients log m =
+    all_below clients (λ c. all_below 2 (λ source.
+    same_presence (m.opened c Requests source) (started c Requests source log) && same_presence (m.opened c Releases source) (started c Releases source log)))
+
+abbrev pub is_unrefused : {w : ℕ} → ℕ → System w → Bool
+is_unrefused clients s = all_below clients (λ c. not (s.clients c).closed) && (length s.manager.closed == 0)
+
+abbrev pub fit : {w : ℕ} → Config → ℕ → Channel → System w → Bool
+fit {w} config link ch s = nat_le (length (s.channels link ch)) (capacity (64 / w) (sources_of (terms_at config link)) config.trackers ch)
+
+abbrev pub all_fit : {w : ℕ} → ℕ → Config → System w → Bool
+all_fit clients config s =
+    all_below clients (λ link. fit config link channel.A s && (fit config link channel.B s && (fit config link channel.C s && (fit config link channel.D s && fit config link channel.E s))))
+
+-- a Release of the block by the client is outstanding, with one of two sources
+abbrev pub is_release_of : {w : ℕ} → ℕ → Option (Op w) → Bool
+is_release_of block (Some (Release b prune)) = b == block
+is_release_of block _ = false
+
+abbrev pub moves_so : {w : ℕ} → Config → Log w → System w → ℕ → Channel → List (Beat w) → Bool
+moves_so config log s link ch [] = not (is_movable config link ch s)
+moves_so config log s link ch (beat.A x ∷ rest) = beq (is_movable config link ch s) (not (must_wait config (record { 0 = link }) (beat.A x) s.manager.trace))
+moves_so config log s link ch (beat.B x ∷ rest) =
+    beq (is_movable config link ch s) (not (is_release_of (block_at x.address) (started link Releases 0 log) || is_release_of (block_at x.address) (started link Releases 1 log)))
+moves_so config log s link ch (x ∷ rest) = is_movable config link ch s
+
+abbrev pub all_move_so : {w : ℕ} → ℕ → Config → Log w → System w → Bool
+all_move_so clients config log s =
+    all_below clients (λ link.
+    moves_so config log s link channel.A (s.channels link channel.A) && (moves_so config log s link channel.B (s.channels link channel.B)
+    && (moves_so config log s link channel.C (s.channels link channel.C) && (moves_so config log s link channel.D (s.channels link channel.D)
+    && moves_so config log s link channel.E (s.channels link channel.E)))))
+
+abbrev pub same_beats : {w : ℕ} → List (Beat w) → List (Beat w) → Bool
+same_beats [] [] = true
+same_beats (x ∷ xs) (y ∷ ys) = (same_control x y && same_bytes (lanes_of x) (lanes_of y)) && same_beats xs ys
+same_beats _ _ = false
+
+abbrev pub carries : {w : ℕ} → Log w → System w → ℕ → Channel → Bool
+carries log s link ch =
+    same_beats (carried_on ch (sender ch link s)) (reverse (s.channels link ch) ++ carried_on ch (receiver ch link s))
+    && same_beats (carried_on ch (receiver ch link s)) (carried_on ch (flow link log))
+
+abbrev pub all_carry : {w : ℕ} → ℕ → Log w → System w → Bool
+all_carry clients log s =
+    all_below clients (λ link. carries log s link channel.A && (carries log s link channel.B && (carries log s link channel.C && (carries log s link channel.D && carries log s link channel.E))))
+
+-- at a Grant the client holds what it is granted
+abbrev pub holds_granted : {w : ℕ} → ℕ → Option (Op w) → Perm → System w → Bool
+holds_granted client None p s = false
+holds_granted client (Some op) p s = same_perm (held_at (s.clients client) (op_block op)) p
+
+abbrev pub grants : {w : ℕ} → Event w → Outcome w → Log w → System w → Bool
+grants (Deliver link ch) (outcome.Done x source (finish.Granted p)) before s = holds_granted link.0 (started link.0 Requests source before) p s
+grants _ _ before s = true
+
+-- what fails at an event, and after it
+abbrev pub faults_at : {w : ℕ} → ℕ → Config → Event w → Step w → Past w → Past w → List ℕ → List ℕ
+faults_at clients config event step before p rest =
+    failed 1 (is_step config event step.outcome before.machine)
+    (failed 2 (performs (accesses_answered step.handed) (moved event step.outcome before.machine))
+    (failed 3 (one_writer clients config p.system)
+    (failed 4 (copies_agree clients config p.system p.machine.memory)
+    (failed 5 (opened_agree clients p.log p.machine)
+    (failed 6 (is_unrefused clients p.system)
+    (failed 7 (all_fit clients config p.system)
+    (failed 8 (beq (is_none (next_delivery config p.system)) (outstanding p.log == 0))
+    (failed 9 (all_move_so clients config p.log p.system)
+    (failed 12 (grants event step.outcome before.log p.system)
+    (failed 13 (all_carry clients p.log p.system)
+    (failed 14 (not (is_delivery event && is_moving step.outcome) || nat_le 1 before.budget) rest)))))))))))
+
+abbrev pub is_legal_on : {w : ℕ} → Option Level → Profile → ℕ → Log w → Bool
+is_legal_on None p link log = true
+is_legal_on (Some l) p link log = is_legal l p (flow link log)
+
+-- what fails in the end
+abbrev pub faults_in_the_end : {w : ℕ} → ℕ → Config → Past w → List ℕ
+faults_in_the_end clients config p = failed 10 (all_below clients (λ link. is_legal_on (level_of config link) config.profile link p.log)) []
+
+-- ---- playing
+
+abbrev pub checked : {w : ℕ} → ℕ → Config → Event w → Step w → Past w → (Past w → List ℕ) → List ℕ
+checked {w} clients config event step p later = let q : Past w = next event step p in faults_at clients config event step p q (later q)
+
+abbrev pub on_delivery : {w : ℕ} → ℕ → Config → Option (Link × Channel) → Past w → (Past w → List ℕ) → (Past w → List ℕ) → List ℕ
+on_delivery clients config None p on stop = stop p
+on_delivery clients config (Some d) p on stop = checked clients config (Deliver d.0 d.1) (stepped config (Deliver d.0 d.1) p.system) p on
+
+unfoldable pub faults_draining : {w : ℕ} → ℕ → Config → ℕ → Past w → (Past w → List ℕ) → List ℕ
+faults_draining clients config zero p stop = failed 11 (outstanding p.log == 0) (stop p)
+faults_draining clients config (suc n) p stop = on_delivery clients config (next_delivery config p.system) p (λ q. faults_draining clients config n q stop) stop
+
+-- a drain makes no more deliveries than the load before it
+unfoldable pub faults : {w : ℕ} → ℕ → Config → List (Line w) → Past w → List ℕ
+faults clients config [] p = faults_in_the_end clients config p
+faults clients config (Does e ∷ lines) p = checked clients config e (stepped config e p.system) p (faults clients config lines)
+faults clients config (Drains n ∷ lines) p = faults_draining clients config (load p.log) p (faults clients config lines)
+
+-- nothing that the headline says fails at these lines
+abbrev pub Holds : {w : ℕ} → Config → List (Line w) → Type 0
+Holds {w} config lines = faults {w = w} (length config.clients.items) config lines begun ≡ []

@@ -1,0 +1,138 @@
+-- What comes of lists of events and drains, evaluated, with words for events and beats.
+use Rattle.std.proofs.Common.{◌≡◌, ◌≤◌}
+use Rattle.std.specs.Prelude.{ℕ, zero, suc, Bool, false, List, [], ◌∷◌, map, if◌then◌else◌, Option, Some, None, is_some}
+use Rattle.tl_beat.specs.declared.beat.Beat.{Beat}
+use Rattle.tl_beat.specs.declared.beat.Beat.TheVariants.{A, B, C, D, E}
+use Rattle.tl_beat.specs.declared.beat.Link.{Link}
+use Rattle.tl_beat.specs.declared.channel.Channel.{Channel}
+use Rattle.tl_beat.specs.declared.channel.Channel.TheVariants as channel
+use Rattle.tl_beat.specs.declared.opcode.OpA.{OpA}
+use Rattle.tl_beat.specs.declared.opcode.OpB.{OpB}
+use Rattle.tl_beat.specs.declared.opcode.OpC.{OpC}
+use Rattle.tl_beat.specs.declared.opcode.OpD.{OpD}
+use Rattle.tl_beat.specs.Opcode.{a_code, b_code, c_code, d_code, a_carries_data, b_carries_data, c_carries_data, d_carries_data}
+use Rattle.tl_burst.specs.declared.message.Message.TheVariants as message
+use Rattle.tl_params.specs.declared.config.Config.{Config}
+use Rattle.tl_params.specs.declared.level.Level.{Level}
+use Rattle.tl_params.specs.declared.param.Grow.{Grow}
+use Rattle.tl_params.specs.declared.param.Prune.{Prune}
+use Rattle.tl_params.specs.declared.profile.Profile.{Profile}
+use Rattle.tl_client.specs.declared.operation.Op.TheVariants as op
+use Rattle.tl_coherence.specs.declared.event.Event.{Event}
+use Rattle.tl_coherence.specs.declared.event.Event.TheVariants.{Ask, Deliver}
+use Rattle.tl_client.specs.declared.reply.Reply.{Reply}
+use Rattle.tl_client.specs.declared.verdict.Finish.{Finish}
+use Rattle.tl_coherence.specs.declared.event.Outcome.{Outcome}
+use Rattle.tl_coherence.specs.declared.event.Outcome.TheVariants as outcome
+use Rattle.tl_coherence.specs.statement.Movable.{next_delivery}
+use Rattle.tl_coherence.specs.statement.Step.{Step, stepped}
+use Rattle.tl_coherence.specs.statement.System.{System, fresh}
+
+-- ---- playing
+
+-- an event, or the next deliveries until there is none, of which there are no more than so many
+pub data Line (w : ℕ) : Type 0 where
+  Does : Event w → Line w
+  Drains : ℕ → Line w
+
+abbrev pub and_then : {w : ℕ} → Step w → (System w → List (Outcome w)) → List (Outcome w)
+and_then step later = step.outcome ∷ later step.after
+
+abbrev pub delivering : {w : ℕ} → Config → Option (Link × Channel) → System w → (System w → List (Outcome w)) → (System w → List (Outcome w)) → List (Outcome w)
+delivering config None s on stop = stop s
+delivering config (Some d) s on stop = and_then (stepped config (Deliver d.0 d.1) s) on
+
+unfoldable pub draining : {w : ℕ} → Config → ℕ → System w → (System w → List (Outcome w)) → List (Outcome w)
+draining config zero s stop = stop s
+draining config (suc n) s stop = delivering config (next_delivery config s) s (λ t. draining config n t stop) stop
+
+-- the outcomes of these lines one after another
+unfoldable pub outcomes : {w : ℕ} → Config → List (Line w) → System w → List (Outcome w)
+outcomes config [] s = []
+outcomes config (Does e ∷ lines) s = and_then (stepped config e s) (outcomes config lines)
+outcomes config (Drains n ∷ lines) s = draining config n s (outcomes config lines)
+
+-- ---- outcomes as they are seen: a beat by its fields, without the proof that it carries what it should
+
+abbrev pub Plain : Type 0
+Plain = Channel × List ℕ × Option (List ℕ) × Bool
+
+abbrev pub plain : {w : ℕ} → Beat w → Plain
+plain (A x) = (channel.A, a_code x.opcode ∷ x.param ∷ x.size ∷ x.source ∷ x.address ∷ x.mask ∷ [], x.lanes, x.corrupt)
+plain (B x) = (channel.B, b_code x.opcode ∷ x.param ∷ x.size ∷ x.source ∷ x.address ∷ x.mask ∷ [], x.lanes, x.corrupt)
+plain (C x) = (channel.C, c_code x.opcode ∷ x.param ∷ x.size ∷ x.source ∷ x.address ∷ [], x.lanes, x.corrupt)
+plain (D x) = (channel.D, d_code x.opcode ∷ x.param ∷ x.size ∷ x.source ∷ x.sink ∷ (if x.denied then 1 else 0) ∷ [], x.lanes, x.corrupt)
+plain (E x) = (channel.E, x.sink ∷ [], None, false)
+
+pub data Seen : Type 0 where
+  Says : Reply → Seen
+  Nothing : Seen
+  Waits : Seen
+  Moves : Plain → Seen
+  Ends : Plain → ℕ → Finish → Seen
+  Nobody : Seen
+
+abbrev pub seen : {w : ℕ} → Outcome w → Seen
+seen (outcome.Replied r) = Says r
+seen outcome.Empty = Nothing
+seen outcome.Stalled = Waits
+seen (outcome.Moved x) = Moves (plain x)
+seen (outcome.Done x source finish) = Ends (plain x) source finish
+seen outcome.NoSuchClient = Nobody
+
+-- the lines, played from the beginning, have these outcomes
+abbrev pub Gives : {w : ℕ} → Config → List (Line w) → List (Outcome w) → Type 0
+Gives config lines expected = map seen (outcomes config lines fresh) ≡ map seen expected
+
+-- ---- configurations and lines
+
+abbrev pub world : Profile → ℕ → ℕ → List (Level × ℕ) → Config
+world p blocks trackers clients = record {
+  blocks = blocks;
+  trackers = trackers;
+  clients = record { items = map (λ c. record { level = c.0; sources = c.1 }) clients };
+  profile = p;
+}
+
+abbrev pub deliver : {w : ℕ} → ℕ → Channel → Line w
+deliver link ch = Does (Deliver (record { 0 = link }) ch)
+
+abbrev pub load : {w : ℕ} → ℕ → ℕ → ℕ → Line w
+load client size address = Does (Ask client (op.Load address size))
+
+abbrev pub store : {w : ℕ} → ℕ → ℕ → ℕ → ℕ → Line w
+store client size address value = Does (Ask client (op.Store address size value))
+
+abbrev pub acquire : {w : ℕ} → ℕ → ℕ → Grow → Line w
+acquire client block grow = Does (Ask client (op.Acquire block grow))
+
+abbrev pub whole : {w : ℕ} → ℕ → ℕ → List ℕ → Line w
+whole client block bytes = Does (Ask client (op.AcquireWhole block bytes))
+
+abbrev pub release : {w : ℕ} → ℕ → ℕ → Prune → Line w
+release client block prune = Does (Ask client (op.Release block prune))
+
+abbrev pub access : {w : ℕ} → ℕ → OpA → ℕ → (size : ℕ) → size ≤ 6 → ℕ → ℕ → List ℕ → Line w
+access client opcode param size small address mask payload =
+    Does (Ask client (op.Access (message.A (record { opcode = opcode; param = param; size = size; source = 0; address = address; payload = payload; mask = mask; corrupt = 0; small = small }))))
+
+-- ---- beats by their fields
+
+abbrev pub a_beat : {w : ℕ} → (opcode : OpA) → ℕ → ℕ → ℕ → ℕ → ℕ → (lanes : Option (List ℕ)) → is_some lanes ≡ a_carries_data opcode → Beat w
+a_beat opcode param size source address mask lanes carries =
+    A (record { opcode = opcode; param = param; size = size; source = source; address = address; mask = mask; lanes = lanes; corrupt = false; carries = carries })
+
+abbrev pub b_beat : {w : ℕ} → (opcode : OpB) → ℕ → ℕ → ℕ → ℕ → ℕ → (lanes : Option (List ℕ)) → is_some lanes ≡ b_carries_data opcode → Beat w
+b_beat opcode param size source address mask lanes carries =
+    B (record { opcode = opcode; param = param; size = size; source = source; address = address; mask = mask; lanes = lanes; corrupt = false; carries = carries })
+
+abbrev pub c_beat : {w : ℕ} → (opcode : OpC) → ℕ → ℕ → ℕ → ℕ → (lanes : Option (List ℕ)) → is_some lanes ≡ c_carries_data opcode → Beat w
+c_beat opcode param size source address lanes carries =
+    C (record { opcode = opcode; param = param; size = size; source = source; address = address; lanes = lanes; corrupt = false; carries = carries })
+
+abbrev pub d_beat : {w : ℕ} → (opcode : OpD) → ℕ → ℕ → ℕ → ℕ → (lanes : Option (List ℕ)) → is_some lanes ≡ d_carries_data opcode → Beat w
+d_beat opcode param size source sink lanes carries =
+    D (record { opcode = opcode; param = param; size = size; source = source; sink = sink; denied = false; lanes = lanes; corrupt = false; carries = carries })
+
+abbrev pub e_beat : {w : ℕ} → ℕ → Beat w
+e_beat sink = E (record { sink = sink })

@@ -1,0 +1,5 @@
+use Rattle.tl_coherence.proofs.theorem.Brought.{alone}
+use Rattle.tl_coherence.proofs.law.brings_what_is_asked_alone.Goals as goal
+
+pub returns : goal.returns
+returns g c = λ config log client block source n grow none given drains. alone config log client block source n grow none given drains

@@ -1,0 +1,19 @@
+use Rattle.tl_coherence.proofs.theorem.Brought.{alone}
+use Rattle.tl_coherence.proofs.flow.Flows.{flows}
+use Rattle.tl_coherence.proofs.links.Given.{carries, channels, grants, stalls}
+use Rattle.tl_coherence.proofs.bound.Settling.{bound, drain}
+use Rattle.tl_coherence.proofs.theorem.Soundness.{headline}
+use Rattle.tl_coherence.proofs.law.holds.Goals as goal
+
+pub returns : goal.returns
+returns g c = record {
+  headline = λ config log given. headline config log given;
+  carries = λ config log given link ch. carries config log given link ch;
+  flows = λ config log given link l level. flows config log given link l level;
+  channels = λ config log given link ch. channels config log given link ch;
+  stalls = λ config log given link ch client. stalls config log given link ch client;
+  bound = λ config more log given deliveries. bound config more log given deliveries;
+  drain = λ config log given. drain config log given;
+  grants = λ config log link ch x source p op given asked. grants config log link ch x source p op given asked;
+  alone = λ config log client block source n grow none given drains. alone config log client block source n grow none given drains;
+}

@@ -1,0 +1,5 @@
+use Rattle.tl_coherence.proofs.links.Given.{grants}
+use Rattle.tl_coherence.proofs.law.holds_what_it_is_granted.Goals as goal
+
+pub returns : goal.returns
+returns g c = λ config log link ch x source p op given asked. grants config log link ch x source p op given asked

@@ -1,0 +1,5 @@
+use Rattle.tl_coherence.proofs.links.Given.{carries}
+use Rattle.tl_coherence.proofs.law.loses_nothing.Goals as goal
+
+pub returns : goal.returns
+returns g c = λ config log given link ch. carries config log given link ch

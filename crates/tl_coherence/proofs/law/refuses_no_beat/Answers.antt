@@ -1,0 +1,5 @@
+use Rattle.tl_coherence.proofs.links.Given.{unrefused}
+use Rattle.tl_coherence.proofs.law.refuses_no_beat.Goals as goal
+
+pub returns : goal.returns
+returns g c = λ config log given. unrefused config log given

@@ -1,0 +1,5 @@
+use Rattle.tl_coherence.proofs.links.Given.{stalls}
+use Rattle.tl_coherence.proofs.law.stalls_exactly.Goals as goal
+
+pub returns : goal.returns
+returns g c = λ config log given link ch client. stalls config log given link ch client

@@ -1,0 +1,183 @@
+-- A delivery with which an operation ends: it brings the last beat of the response that is first on channel D.
+use Rattle.std.proofs.Common.{◌≡◌, ℕ, Bool, true, false, List, [], ◌∷◌, Option, Some, None, refl, sym, ◌∙◌, ap, subst}
+use Rattle.std.specs.Prelude.{if◌then◌else◌, Ok}
+use Rattle.tl_beat.specs.Width.{IsWidth}
+use Rattle.tl_beat.specs.declared.beat.Beat.{Beat}
+use Rattle.tl_beat.specs.declared.beat.Beat.TheVariants as beat
+use Rattle.tl_beat.specs.declared.beat.BeatD.{BeatD}
+use Rattle.tl_beat.specs.declared.beat.Link.{Link}
+use Rattle.tl_beat.specs.declared.channel.Channel.{Channel}
+use Rattle.tl_beat.specs.declared.channel.Channel.TheVariants as channel
+use Rattle.tl_burst.specs.declared.message.Message.{Message}
+use Rattle.tl_burst.specs.declared.message.Message.TheVariants as message
+use Rattle.tl_burst.specs.declared.message.MessageD.{MessageD}
+use Rattle.tl_burst.specs.Burst.{beat_of, d_beat_of}
+use Rattle.tl_burst.specs.Messages.{unfinished}
+use Rattle.tl_burst.specs.Part.{completes}
+use Rattle.tl_params.specs.declared.config.Config.{Config}
+use Rattle.tl_client.specs.declared.verdict.Finish.{Finish}
+use Rattle.tl_client.specs.declared.verdict.Verdict.{Verdict}
+use Rattle.tl_client.specs.declared.verdict.Verdict.TheVariants as verdict
+use Rattle.tl_client.specs.End.{End, Terms}
+use Rattle.tl_client.specs.Offer as offer
+use Rattle.tl_coherence.specs.declared.event.Event.TheVariants.{Deliver}
+use Rattle.tl_coherence.specs.declared.event.Outcome.TheVariants as outcome
+use Rattle.tl_coherence.specs.statement.Draining.{is_moving}
+use Rattle.tl_coherence.specs.refinement.Follow.{Shadow, followed, kind_taken, token_taken}
+use Rattle.tl_coherence.specs.statement.Log.{Log, after}
+use Rattle.tl_coherence.specs.protocol.Protocol.{token, is_on}
+use Rattle.tl_coherence.specs.refinement.Render.{message_of_kind, rendered}
+use Rattle.tl_coherence.specs.statement.Step.{Step, stepped, is_to_client, outcome_of}
+use Rattle.tl_coherence.specs.statement.System.{System, terms_at}
+use Rattle.tl_coherence.specs.protocol.Token.{Kind, Request, Acquire, Probe, ProbeAck, Release, Answer, Grant, ReleaseAck, GrantAck, Token}
+use Rattle.tl_coherence.specs.refinement.Whole.{IsMatched, is_caching}
+use Rattle.tl_coherence.proofs.protocol.Due.{answer-due, grant-due, grant-rendered, ack_message}
+use Rattle.tl_coherence.proofs.queues.FirstToken.{IsFirst, first-token}
+use Rattle.tl_coherence.proofs.client.Heard.{finish_at, acked, answer-last, answer-part, same_answers}
+use Rattle.tl_coherence.proofs.deliveries.HeardAfter.{followed-moving}
+use Rattle.tl_coherence.proofs.deliveries.Matching.{not_moving, stepped-nobody}
+use Rattle.tl_coherence.proofs.simulation.Moved.{IsTakenByClient, client-moves, manager-moves}
+use Rattle.tl_coherence.proofs.client.ProbeDelivered.{delivered-b}
+use Rattle.tl_coherence.proofs.manager.RequestsTaken.{next_tracker}
+use Rattle.tl_coherence.proofs.queues.Steps.{stepped-empty}
+
+-- the operation with this source ends so
+pub record IsEnding {w : ℕ} (config : Config) (log : Log w) (link : Link) (ch : Channel) (h : Shadow w) (x : Beat w) (source : ℕ) (f : Finish) : Type 0 where
+  pub on_d : ch ≡ channel.D
+  pub queue : List (Beat w)
+  pub first : IsFirst channel.D link.0 h.mail h.state (after config log) x queue
+  pub response : MessageD w
+  pub response_is : message_of_kind first.kind h.mail h.state link.0 first.number ≡ message.D response
+  pub last : completes x (unfinished channel.D ((after config log).clients link.0).past) ≡ true
+  pub beat_is : x ≡ beat.D (d_beat_of response first.next.k)
+  pub source_is : source ≡ response.source
+  pub finish_is : f ≡ finish_at (d_beat_of response first.next.k) ((after config log).clients link.0)
+  pub follows : followed config (Deliver link channel.D) (after config log) h ≡ kind_taken config (next_tracker (after config log)) link.0 first.kind first.number first.rest h
+
+done_beat : {w : ℕ} (x y : Beat w) (i j : ℕ) (f g : Finish) → outcome.Done x i f ≡ outcome.Done y j g → x ≡ y
+done_beat x y i j f g e = cc
+
+done_source : {w : ℕ} (x y : Beat w) (i j : ℕ) (f g : Finish) → outcome.Done x i f ≡ outcome.Done y j g → i ≡ j
+done_source x y i j f g e = cc
+
+done_finish : {w : ℕ} (x y : Beat w) (i j : ℕ) (f g : Finish) → outcome.Done x i f ≡ outcome.Done y j g → f ≡ g
+done_finish x y i j f g e = cc
+
+done_moved : {w : ℕ} (x y : Beat w) (i : ℕ) (f : Finish) → outcome.Done x i f ≡ outcome.Moved y → ⊥
+done_moved x y i f e = absurd cc
+
+-- the response that is first on channel D
+response_of : {w : ℕ} (config : Config) (log : Log w) (h : Shadow w) (sys : System w) (c : ℕ) (k : Kind) (i : ℕ) (rest : List Token)
+    → IsMatched config log h.mail h.request h.state sys → (h.state.link c).d ≡ token k i ∷ rest → is_on channel.D k ≡ true
+    → (m : MessageD w) × (message_of_kind k h.mail h.state c i ≡ message.D m)
+unfolding rendered
+response_of config log h sys c Answer i rest is tokens own = let due = answer-due (is_caching config) c i rest h.mail h.state is.invariant (is.answered c i) tokens in (due.answer, due.answer_is)
+response_of config log h sys c Grant n rest is tokens own = let due = grant-due (is_caching config) c n rest h.state is.invariant tokens in (_, grant-rendered c n h.state due)
+response_of config log h sys c ReleaseAck n rest is tokens own = (ack_message ((h.state.block n).release_source c), refl)
+response_of config log h sys c Request i rest is tokens own = absurd cc
+response_of config log h sys c Acquire i rest is tokens own = absurd cc
+response_of config log h sys c Probe i rest is tokens own = absurd cc
+response_of config log h sys c ProbeAck i rest is tokens own = absurd cc
+response_of config log h sys c Release i rest is tokens own = absurd cc
+response_of config log h sys c GrantAck i rest is tokens own = absurd cc
+
+ending_d : {w : ℕ} (config : Config) (log : Log w) (link : Link) (h : Shadow w) (terms : Terms) (y : Beat w) (queue : List (Beat w)) (x : Beat w) (source : ℕ)
+    (f : Finish) → IsWidth w → IsMatched config log h.mail h.request h.state (after config log)
+    → terms_at config link.0 ≡ Some terms → (after config log).channels link.0 channel.D ≡ y ∷ queue
+    → (stepped config (Deliver link channel.D) (after config log)).outcome ≡ outcome.Done x source f → IsEnding config log link channel.D h x source f
+ending_d {w} config log link h terms y queue x source f width is known beats done = go (completes y (unfinished channel.D e.past)) refl
+  where
+    sys : System w
+    sys = after config log
+
+    c : ℕ
+    c = link.0
+
+    e : End w
+    e = sys.clients c
+
+    moving : is_moving (stepped config (Deliver link channel.D) sys).outcome ≡ true
+    moving = ap is_moving done
+
+    first : IsFirst channel.D c h.mail h.state sys y queue
+    first = first-token (is_caching config) channel.D c h.mail h.state sys y queue width is.invariant is.carried beats
+
+    t : IsTakenByClient terms c channel.D y queue sys (stepped config (Deliver link channel.D) sys)
+    t = client-moves config link channel.D sys terms y queue known beats refl moving
+
+    m : (m : MessageD w) × (message_of_kind first.kind h.mail h.state c first.number ≡ message.D m)
+    m = response_of config log h sys c first.kind first.number first.rest is first.tokens first.own
+
+    z : BeatD w
+    z = d_beat_of m.0 first.next.k
+
+    y_is : y ≡ beat.D z
+    y_is = first.next.beat_is ∙ ap (λ (i : Message w). beat_of i first.next.k) m.1
+
+    outcome_is : (v : Verdict) (n : Option (Message w)) → (offer.taken (beat.D z) e).answer ≡ Ok (v, n) → outcome.Done x source f ≡ outcome_of y v
+    outcome_is v n answer =
+        sym done ∙ ap (λ (s : Step w). s.outcome) t.step_is
+        ∙ ap (outcome_of y) (same_answers t.verdict_is v t.message n (offer.taken y e).answer t.answer
+        (ap (λ (i : Beat w). (offer.taken i e).answer) y_is ∙ answer)).0
+
+    go : (b : Bool) → completes y (unfinished channel.D e.past) ≡ b → IsEnding config log link channel.D h x source f
+    go false part =
+        let unended : completes (beat.D z) (unfinished channel.D e.past) ≡ false = sym (ap (λ (i : Beat w). completes i (unfinished channel.D e.past)) y_is) ∙ part in
+        absurd (done_moved x y source f (outcome_is verdict.Taken None (answer-part z e unended)))
+    go true last =
+        let ended : completes (beat.D z) (unfinished channel.D e.past) ≡ true = sym (ap (λ (i : Beat w). completes i (unfinished channel.D e.past)) y_is) ∙ last in
+        let o : outcome.Done x source f ≡ outcome.Done y z.source (finish_at z e) = outcome_is (verdict.Done z.source (finish_at z e)) (acked z.opcode z.sink) (answer-last z e ended) in
+        let x_is : x ≡ y = done_beat x y source z.source f (finish_at z e) o in
+        same x_is (done_source x y source z.source f (finish_at z e) o) (done_finish x y source z.source f (finish_at z e) o) last
+      where
+        same : x ≡ y → source ≡ z.source → f ≡ finish_at z e → completes y (unfinished channel.D e.past) ≡ true → IsEnding config log link channel.D h x source f
+        same x_is i j whole = subst (λ (b : Beat w). IsEnding config log link channel.D h b source f) (sym x_is) (record {
+          on_d = refl;
+          queue = queue;
+          first = first;
+          response = m.0;
+          response_is = m.1;
+          last = whole;
+          beat_is = y_is;
+          source_is = i;
+          finish_is = j;
+          follows = followed-moving config link channel.D sys h y queue moving beats
+              ∙ ap (λ (b : Bool). if b then token_taken config (next_tracker sys) c (h.state.link c).d h else h) whole
+              ∙ ap (λ (l : List Token). token_taken config (next_tracker sys) c l h) first.tokens;
+        })
+
+pub ending : {w : ℕ} (config : Config) (log : Log w) (link : Link) (ch : Channel) (h : Shadow w) (x : Beat w) (source : ℕ) (f : Finish) → IsWidth w
+    → IsMatched config log h.mail h.request h.state (after config log)
+    → (stepped config (Deliver link ch) (after config log)).outcome ≡ outcome.Done x source f → IsEnding config log link ch h x source f
+ending {w} config log link ch h x source f width is done = found (terms_at config link.0) refl
+  where
+    sys : System w
+    sys = after config log
+
+    up : (at : Channel) (terms : Terms) (y : Beat w) (queue : List (Beat w)) → terms_at config link.0 ≡ Some terms → sys.channels link.0 at ≡ y ∷ queue
+        → is_to_client at ≡ false → (stepped config (Deliver link at) sys).outcome ≡ outcome.Done x source f → ⊥
+    up at terms y queue known beats down o =
+        let t = manager-moves config link at sys terms y queue known beats down (ap is_moving o) in
+        done_moved x y source f (sym o ∙ ap (λ (s : Step w). s.outcome) t.step_is)
+
+    probe : (terms : Terms) (y : Beat w) (queue : List (Beat w)) → terms_at config link.0 ≡ Some terms → sys.channels link.0 channel.B ≡ y ∷ queue
+        → (stepped config (Deliver link channel.B) sys).outcome ≡ outcome.Done x source f → ⊥
+    probe terms y queue known beats o =
+        let p = delivered-b config log h.mail h.request h.state sys terms (next_tracker sys) link.0 y queue width is known beats in
+        let t = client-moves config link channel.B sys terms y queue known beats refl (ap is_moving o) in
+        done_moved x y source f (sym o ∙ ap (λ (s : Step w). s.outcome) t.step_is
+        ∙ ap (outcome_of y) (same_answers t.verdict_is verdict.Taken t.message _ (offer.taken y (sys.clients link.0)).answer t.answer
+        (ap (λ (i : Beat w). (offer.taken i (sys.clients link.0)).answer) p.1.beat_is)).0)
+
+    moves : (at : Channel) (terms : Terms) (beats : List (Beat w)) → terms_at config link.0 ≡ Some terms → sys.channels link.0 at ≡ beats
+        → (stepped config (Deliver link at) sys).outcome ≡ outcome.Done x source f → IsEnding config log link at h x source f
+    moves at terms [] known none o = absurd (not_moving _ _ (stepped-empty config link at sys terms known none) (ap is_moving o) refl)
+    moves channel.A terms (y ∷ queue) known beats o = absurd (up channel.A terms y queue known beats refl o)
+    moves channel.B terms (y ∷ queue) known beats o = absurd (probe terms y queue known beats o)
+    moves channel.C terms (y ∷ queue) known beats o = absurd (up channel.C terms y queue known beats refl o)
+    moves channel.D terms (y ∷ queue) known beats o = ending_d config log link h terms y queue x source f width is known beats o
+    moves channel.E terms (y ∷ queue) known beats o = absurd (up channel.E terms y queue known beats refl o)
+
+    found : (o : Option Terms) → terms_at config link.0 ≡ o → IsEnding config log link ch h x source f
+    found None none = absurd (not_moving _ _ (stepped-nobody config (Deliver link ch) sys none) (ap is_moving done) refl)
+    found (Some terms) known = moves ch terms (sys.channels link.0 ch) known refl done

@@ -1,0 +1,404 @@
+-- The last beat of a request that is taken: what the protocol does then is what the manager does.
+use Rattle.std.proofs.Common.{◌≡◌, subst, ℕ, suc, ◌≤◌, ◌==◌, Bool, true, false, not, ◌&&◌, List, ◌∷◌, Option, Some, None, length, refl, sym, ◌∙◌, ap, arith}
+use Rattle.std.specs.Prelude.{if◌then◌else◌, nat_le}
+use Rattle.std.proofs.lemmas.Bool.{or_parts}
+use Rattle.std.proofs.Math.Bool.{and_comm}
+use Rattle.tl_beat.specs.declared.beat.Beat.TheVariants as beat
+use Rattle.tl_burst.specs.declared.message.Message.{Message}
+use Rattle.tl_burst.specs.declared.message.Message.TheVariants as message
+use Rattle.tl_burst.specs.declared.message.MessageA.{MessageA}
+use Rattle.tl_burst.specs.Burst.{a_beat_of, beats_of}
+use Rattle.tl_params.specs.declared.config.Config.{Config}
+use Rattle.tl_params.specs.declared.param.Cap.{Cap}
+use Rattle.tl_params.specs.declared.param.Grow.{Grow}
+use Rattle.tl_params.specs.declared.param.Grow.TheVariants as grow
+use Rattle.tl_params.specs.declared.perm.Perm.{Perm}
+use Rattle.tl_params.specs.declared.perm.Perm.TheVariants as perm
+use Rattle.tl_rules.specs.Conformance.{on_link, same_perm}
+use Rattle.tl_rules.specs.History.{ends, block_at, is_acquire}
+use Rattle.tl_rules.proofs.Sent.{is_last}
+use Rattle.tl_client.specs.Send.{acquisition}
+use Rattle.tl_client.proofs.HeldAfter.{same_block, swapped}
+use Rattle.tl_manager.specs.Handing.{performed, cap_granted}
+use Rattle.tl_manager.specs.Holders as holders
+use Rattle.tl_manager.specs.Holders.{recorded, is_nobody, probed, cap_probed, is_spared}
+use Rattle.tl_manager.specs.Service.{services, is_in_service, least_untaken, trackers_of}
+use Rattle.tl_manager.specs.Deed.{deed}
+use Rattle.tl_manager.specs.End.{End}
+use Rattle.tl_manager.specs.Offer.{must_wait}
+use Rattle.tl_manager.proofs.Events.{deed-unprobed, deed-intent}
+use Rattle.tl_coherence.specs.refinement.Follow.{Shadow, some_below, probes_some, access_taken, request_taken, acquire_opcode, is_unheld, gift, acquire_taken, kind_taken}
+use Rattle.tl_coherence.specs.protocol.Invariant.{IsInvariant, cap_asked}
+use Rattle.tl_coherence.specs.statement.Log.{Log}
+use Rattle.tl_coherence.specs.protocol.Phase.{Pair, Acquiring, Wants, is_quiet}
+use Rattle.tl_coherence.specs.protocol.PhaseSteps.{is_above, is_granted_data}
+use Rattle.tl_coherence.specs.protocol.Protocol.{Service, Free, Waits, GrantSent, GrantTaken, Block, State, Asked, InService, Acquires, on, token, view, is_probed, acquire_served, acquire_granted}
+use Rattle.tl_coherence.specs.refinement.Render.{Mail}
+use Rattle.tl_coherence.specs.refinement.Sources.{IsFor}
+use Rattle.tl_coherence.specs.statement.System.{System}
+use Rattle.tl_coherence.specs.protocol.Token.{Kind, Request, Acquire, Token, set}
+use Rattle.tl_coherence.specs.refinement.Whole.{IsMatched, IsServedWith, is_caching}
+use Rattle.tl_coherence.proofs.manager.Admitted.{unserved-free, free-untracked}
+use Rattle.tl_coherence.proofs.manager.Arrivals.{link_of, with_beat, IsComing, ends-coming, service_for, served-last}
+use Rattle.tl_coherence.proofs.manager.AtRequests.{end_after, at_manager-probing, at_manager-answered, at_manager-granted}
+use Rattle.tl_coherence.proofs.manager.Choices.{nobody-same, no-clients, plain-past, waits-used}
+use Rattle.tl_coherence.proofs.queues.Facts.{quiet_at_rest}
+use Rattle.tl_coherence.proofs.protocol.FollowKept.{IsReady, IsServing, kind_taken-kept}
+use Rattle.tl_coherence.proofs.protocol.Fronts.{IsAsked, IsWanted}
+use Rattle.tl_coherence.proofs.manager.ManagedServed.{same_above}
+use Rattle.tl_coherence.proofs.manager.ManagersEnd.{IsAtManager, at_manager-matched}
+use Rattle.tl_coherence.proofs.manager.Performing.{IsAnswering}
+use Rattle.tl_coherence.proofs.manager.Requests.{recorded-beat, IsUnwaited}
+use Rattle.tl_coherence.proofs.queues.Codes.{acquires-so}
+use Rattle.tl_coherence.proofs.manager.ManagerAfter.{IsManagerOf}
+
+-- ---- what a request that needn't wait finds
+
+-- the tracker of the next service
+abbrev pub next_tracker : {w : ℕ} → System w → ℕ
+next_tracker sys = least_untaken (trackers_of (services sys.manager.trace))
+
+pub free-last : {w : ℕ} (config : Config) (log : Log w) (mail : Mail w) (request : ℕ → MessageA w) (s : State (List ℕ)) (sys : System w) (c k : ℕ) (m : MessageA w)
+    → IsMatched config log mail request s sys → IsComing config c k m sys.manager → beats_of (message.A m) ≡ suc k → must_wait config (link_of c) (beat.A (a_beat_of m k)) sys.manager.trace ≡ false
+    → (s.block (block_at m.address)).service ≡ Free
+free-last {w} config log mail request s sys c k m is comes last moves =
+    let ended : ends (beat.A (a_beat_of m k)) (on_link c sys.manager.trace) ≡ true = ends-coming config c k m sys.manager comes ∙ rw last (is_last k (suc k) (omega arith)) in
+    unserved-free request s sys.manager.trace (block_at m.address) is.managed
+    (or_parts (is_in_service (block_at m.address) (services sys.manager.trace)) (nat_le config.trackers (length (services sys.manager.trace)))
+    (rw ended at moves)).0
+
+pub untracked-next : {w : ℕ} (config : Config) (log : Log w) (mail : Mail w) (request : ℕ → MessageA w) (s : State (List ℕ)) (sys : System w)
+    → IsMatched config log mail request s sys → s.tracked (next_tracker sys) ≡ None
+untracked-next config log mail request s sys is = free-untracked (is_caching config) request s sys.manager.trace is.invariant is.managed
+
+-- the access that has a block in service
+serving-for : {w : ℕ} (service : Service) (n : ℕ) (m : MessageA w) → IsFor service n m → IsServing service m
+serving-for Free n m for = tt
+serving-for (Waits r true source k) n m for = tt
+serving-for (Waits r false source k) n m for = (for.0, for.3)
+serving-for (GrantSent q d k) n m for = tt
+serving-for (GrantTaken q) n m for = tt
+
+pub serving-matched : {w : ℕ} (config : Config) (log : Log w) (mail : Mail w) (request : ℕ → MessageA w) (s : State (List ℕ)) (sys : System w)
+    → IsMatched config log mail request s sys → (n : ℕ) → IsServing (s.block n).service (request n)
+serving-matched config log mail request s sys is n = serving-for (s.block n).service n (request n) (is.served.requests n)
+
+-- the invariant is kept
+pub invariant-taken : {w : ℕ} (config : Config) (log : Log w) (h : Shadow w) (sys : System w) (c : ℕ) (k : Kind) (i : ℕ) (rest : List Token) → IsMatched config log h.mail h.request h.state sys
+    → on k (h.state.link c) ≡ token k i ∷ rest → IsReady (next_tracker sys) c k i h → IsInvariant (is_caching config) (kind_taken config (next_tracker sys) c k i rest h).state
+invariant-taken config log h sys c k i rest is first ready =
+    kind_taken-kept (is_caching config) config (next_tracker sys) c k i rest h is.invariant (plain-past config) (λ n. (is.sized n).truth)
+    (serving-matched config log h.mail h.request h.state sys is) first ready
+
+-- ---- who is probed
+
+-- somebody is probed, as the manager's record says, where the protocol says so
+pub probed-some : {w : ℕ} (config : Config) (log : Log w) (mail : Mail w) (request : ℕ → MessageA w) (s : State (List ℕ)) (sys : System w) (c k n : ℕ) (own : Bool) (j : Cap) (m : MessageA w)
+    → IsMatched config log mail request s sys → is_acquire m.opcode ≡ own → block_at m.address ≡ n
+    → is_nobody (probed config (service_for c m sys.manager.trace) j (with_beat c m k sys.manager.trace))
+    ≡ not (some_below (length config.clients.items) (λ d. is_probed c own j ((s.block n).pair d).recorded d))
+probed-some {w} config log mail request s sys c k n own j m is kind block =
+    nobody-same config (λ d. holders.is_above j (recorded d (block_at m.address) (with_beat c m k sys.manager.trace))
+    && not (is_spared (service_for c m sys.manager.trace) d)) (λ d. is_probed c own j ((s.block n).pair d).recorded d)
+    (λ d. rw (block, recorded-beat c k m sys.manager.trace d n, is.managed.recorded_is d n, kind, same_above j ((s.block n).pair d).recorded, swapped c d)
+    (and_comm (is_above j ((s.block n).pair d).recorded) (not (own && (d == c)))))
+
+copies_so : (p : Perm) → holders.has_copy p ≡ not (same_perm p perm.None)
+copies_so perm.None = refl
+copies_so perm.Branch = refl
+copies_so perm.Trunk = refl
+
+-- nobody has a copy, as the manager's record says, where the protocol says so
+pub unheld-same : {w : ℕ} (config : Config) (log : Log w) (mail : Mail w) (request : ℕ → MessageA w) (s : State (List ℕ)) (sys : System w) (c k n : ℕ)
+    (m : MessageA w) → IsMatched config log mail request s sys
+    → holders.is_unheld config n (with_beat c m k sys.manager.trace) ≡ is_unheld (length config.clients.items) (s.block n).pair
+unheld-same {w} config log mail request s sys c k n m is =
+    nobody-same config (λ d. holders.has_copy (recorded d n (with_beat c m k sys.manager.trace))) (λ d. not (same_perm ((s.block n).pair d).recorded perm.None))
+    (λ d. rw (recorded-beat c k m sys.manager.trace d n, is.managed.recorded_is d n) (copies_so ((s.block n).pair d).recorded))
+
+-- nothing is under way of a block that is free
+quiet-free : {w : ℕ} (config : Config) (log : Log w) (mail : Mail w) (request : ℕ → MessageA w) (s : State (List ℕ)) (sys : System w) (n : ℕ)
+    → IsMatched config log mail request s sys → (s.block n).service ≡ Free
+    → (d : ℕ) → is_quiet ((s.block n).pair d).probing ≡ true
+quiet-free config log mail request s sys n is free d = quiet_at_rest ((s.block n).pair d) (view (s.block n).service d) ((is.invariant.blocks n).phases d) (rw free refl)
+
+pub beyond-none : {w : ℕ} (config : Config) (log : Log w) (mail : Mail w) (request : ℕ → MessageA w) (s : State (List ℕ)) (sys : System w) (n : ℕ) → IsMatched config log mail request s sys
+    → (d : ℕ) → length config.clients.items ≤ d → ((s.block n).pair d).recorded ≡ perm.None
+beyond-none config log mail request s sys n is d past = ap (λ (p : Pair). p.recorded) ((is.invariant.blocks n).outside d (plain-past config d past))
+
+-- ---- what is done
+
+-- nobody is probed: the request is performed
+pub deed-performed : {w : ℕ} (config : Config) (log : Log w) (mail : Mail w) (request : ℕ → MessageA w) (s : State (List ℕ)) (sys : System w) (c k n : ℕ)
+    (own : Bool) (m : MessageA w) → IsMatched config log mail request s sys
+    → IsComing config c k m sys.manager → beats_of (message.A m) ≡ suc k → is_acquire m.opcode ≡ own → block_at m.address ≡ n
+    → probes_some (length config.clients.items) c own (cap_probed m.opcode m.param) (s.block n).pair ≡ false
+    → deed config (link_of c) (beat.A (a_beat_of m k)) sys.manager ≡ performed config (service_for c m sys.manager.trace) (with_beat c m k sys.manager.trace) sys.manager.memory
+deed-performed {w} config log mail request s sys c k n own m is comes last kind block none = go (cap_probed m.opcode m.param) refl
+  where
+    e : End w
+    e = sys.manager
+
+    go : (o : Option Cap) → cap_probed m.opcode m.param ≡ o → deed config (link_of c) (beat.A (a_beat_of m k)) e ≡ performed config (service_for c m e.trace) (with_beat c m k e.trace) e.memory
+    go None f = deed-intent config (link_of c) (a_beat_of m k) (service_for c m e.trace) e (served-last config c k m e comes last) f
+    go (Some j) f =
+        let nobody : is_nobody (probed config (service_for c m e.trace) j (with_beat c m k e.trace)) ≡ true =
+        probed-some config log mail request s sys c k n own j m is kind block ∙ ap not (rw f at none) in
+        deed-unprobed config (link_of c) (a_beat_of m k) (service_for c m e.trace) j e (served-last config c k m e comes last) f
+        (no-clients (probed config (service_for c m e.trace) j (with_beat c m k e.trace)) nobody)
+
+-- somebody is, with this cap
+pub somebody-probed : {w : ℕ} (config : Config) (log : Log w) (mail : Mail w) (request : ℕ → MessageA w) (s : State (List ℕ)) (sys : System w) (c k n : ℕ)
+    (own : Bool) (m : MessageA w) → IsMatched config log mail request s sys
+    → is_acquire m.opcode ≡ own → block_at m.address ≡ n → probes_some (length config.clients.items) c own (cap_probed m.opcode m.param) (s.block n).pair ≡ true
+    → (j : Cap) × (cap_probed m.opcode m.param ≡ Some j) × (is_nobody (probed config (service_for c m sys.manager.trace) j (with_beat c m k sys.manager.trace)) ≡ false)
+somebody-probed {w} config log mail request s sys c k n own m is kind block some = go (cap_probed m.opcode m.param) refl
+  where
+    go : (o : Option Cap) → cap_probed m.opcode m.param ≡ o → (j : Cap) × (cap_probed m.opcode m.param ≡ Some j)
+        × (is_nobody (probed config (service_for c m sys.manager.trace) j (with_beat c m k sys.manager.trace)) ≡ false)
+    go None f = absurd (let no : false ≡ true = rw f at some in cc)
+    go (Some j) f = (j, f, probed-some config log mail request s sys c k n own j m is kind block ∙ ap not (rw f at some))
+
+-- ---- an access
+
+pub unwaited-asked : {w : ℕ} (config : Config) (log : Log w) (mail : Mail w) (request : ℕ → MessageA w) (s : State (List ℕ)) (sys : System w) (c source : ℕ)
+    → IsMatched config log mail request s sys → s.uses c source ≡ Asked → IsUnwaited c source s
+unwaited-asked {w} config log mail request s sys c source is used i src own j e same = go own (waits-used (is_caching config) s i c src own j is.invariant e)
+  where
+    here : s.uses c src ≡ Asked
+    here = ap (s.uses c) (sym same) ∙ used
+
+    go : (b : Bool) → s.uses c src ≡ (if b then Acquires i else InService i) → ⊥
+    go true f = let no : Asked ≡ Acquires i = sym here ∙ f in cc
+    go false f = let no : Asked ≡ InService i = sym here ∙ f in cc
+
+with-same : {w : ℕ} (mail after : Mail w) (service : Service) (m : MessageA w) → after.request ≡ mail.request → IsServedWith mail service m → IsServedWith after service m
+with-same mail after Free m same ok = tt
+with-same mail after (Waits r true source k) m same ok = tt
+with-same {w} mail after (Waits r false source k) m same ok = ap (λ (f : ℕ → ℕ → Message w). f r source) same ∙ ok
+with-same mail after (GrantSent q d k) m same ok = tt
+with-same mail after (GrantTaken q) m same ok = tt
+
+-- other answers change nothing
+pub at_manager-answers : {w : ℕ} (config : Config) (mail after : Mail w) (request : ℕ → MessageA w) (s : State (List ℕ)) (e : End w)
+    → after.request ≡ mail.request → IsAtManager config mail request s e → IsAtManager config after request s e
+at_manager-answers config mail after request s e same is = record {
+  managed = is.managed;
+  served = is.served;
+  served_with = λ n. with-same mail after (s.block n).service (request n) same (is.served_with n);
+  manager_kept = is.manager_kept;
+  memory = is.memory;
+  all_live = is.all_live;
+}
+
+pub ready-request : {w : ℕ} (config : Config) (log : Log w) (h : Shadow w) (sys : System w) (c source k : ℕ) → IsMatched config log h.mail h.request h.state sys
+    → (asked : IsAsked config c source h.mail h.state)
+    → IsComing config c k asked.request sys.manager → beats_of (message.A asked.request) ≡ suc k → must_wait config (link_of c) (beat.A (a_beat_of asked.request k)) sys.manager.trace ≡ false
+    → IsReady (next_tracker sys) c Request source h
+ready-request config log h sys c source k is asked comes last moves =
+    (asked.request, asked.is_it, asked.access, free-last config log h.mail h.request h.state sys c k asked.request is comes last moves, untracked-next config log h.mail h.request h.state sys is)
+
+-- after the last beat of an access that was taken
+pub at_manager-request_taken : {w : ℕ} (config : Config) (log : Log w) (h : Shadow w) (sys : System w) (c source k : ℕ) (rest : List Token) → IsMatched config log h.mail h.request h.state sys
+    → (h.state.link c).a ≡ token Request source ∷ rest → (asked : IsAsked config c source h.mail h.state)
+    → IsComing config c k asked.request sys.manager → beats_of (message.A asked.request) ≡ suc k → must_wait config (link_of c) (beat.A (a_beat_of asked.request k)) sys.manager.trace ≡ false
+    → IsManagerOf config (kind_taken config (next_tracker sys) c Request source rest h) (end_after config c k asked.request sys.manager)
+at_manager-request_taken {w} config log h sys c source k rest is first asked comes last moves =
+    subst (λ (i : Message w). IsManagerOf config (request_taken clients c source i tracker rest h) after) (sym asked.is_it)
+    (go (probes_some clients c false (cap_probed m.opcode m.param) b.pair) (cap_probed m.opcode m.param) refl refl
+    (subst (λ (i : Message w). IsInvariant (is_caching config) (request_taken clients c source i tracker rest h).state) asked.is_it inv))
+  where
+    m : MessageA w
+    m = asked.request
+
+    n : ℕ
+    n = block_at m.address
+
+    b : Block (List ℕ)
+    b = h.state.block n
+
+    e : End w
+    e = sys.manager
+
+    after : End w
+    after = end_after config c k m e
+
+    clients : ℕ
+    clients = length config.clients.items
+
+    tracker : ℕ
+    tracker = next_tracker sys
+
+    free : b.service ≡ Free
+    free = free-last config log h.mail h.request h.state sys c k m is comes last moves
+
+    unwaited : IsUnwaited c source h.state
+    unwaited = unwaited-asked config log h.mail h.request h.state sys c source is asked.used
+
+    inv : IsInvariant (is_caching config) (kind_taken config tracker c Request source rest h).state
+    inv = invariant-taken config log h sys c Request source rest is first (ready-request config log h sys c source k is asked comes last moves)
+
+    answering : IsAnswering config c k n m h.state e
+    answering = record { comes = comes; last = last; access = asked.access; block = refl; free = free; unwaited = λ i src own j f same. unwaited i src own j f (sym asked.source_is ∙ same) }
+
+    answered : (p : Bool) (o : Option Cap) → IsInvariant (is_caching config) (access_taken c source m tracker p o rest h).state
+        → access_taken c source m tracker p o rest h ≡ access_taken c source m tracker false None rest h
+        → deed config (link_of c) (beat.A (a_beat_of m k)) e ≡ performed config (service_for c m e.trace) (with_beat c m k e.trace) e.memory
+        → IsManagerOf config (access_taken c source m tracker p o rest h) after
+    answered p o kept same done =
+        subst (λ (i : Shadow w). IsManagerOf config i after) (sym same)
+        (at_manager-answered (is_caching config) config (access_taken c source m tracker false None rest h).mail h.request c k n m h.state (access_taken c source m tracker false None rest h).state e
+        (subst (λ (i : Shadow w). IsInvariant (is_caching config) i.state) same kept) (λ i. refl) answering asked.lawful done
+        (at_manager-answers config h.mail (access_taken c source m tracker false None rest h).mail h.request h.state e refl (at_manager-matched config log h.mail h.request h.state sys is)))
+
+    done : probes_some clients c false (cap_probed m.opcode m.param) b.pair ≡ false
+        → deed config (link_of c) (beat.A (a_beat_of m k)) e ≡ performed config (service_for c m e.trace) (with_beat c m k e.trace) e.memory
+    done none = deed-performed config log h.mail h.request h.state sys c k n false m is comes last asked.access refl none
+
+    some_cap : (x y : Option Cap) (i j : Cap) → x ≡ Some i → x ≡ y → y ≡ Some j → i ≡ j
+    some_cap x y i j f g l = let same : Some i ≡ Some j = sym f ∙ g ∙ l in cc
+
+    go : (p : Bool) (o : Option Cap) → probes_some clients c false (cap_probed m.opcode m.param) b.pair ≡ p → cap_probed m.opcode m.param ≡ o
+        → IsInvariant (is_caching config) (access_taken c source m tracker p o rest h).state → IsManagerOf config (access_taken c source m tracker p o rest h) after
+    go true None f g kept = absurd (let no : false ≡ true = rw g at f in cc)
+    go false None f g kept = answered false None kept refl (done f)
+    go false (Some j) f g kept = answered false (Some j) kept refl (done f)
+    go true (Some j) f g kept =
+        let some = somebody-probed config log h.mail h.request h.state sys c k n false m is asked.access refl f in
+        let same : some.0 ≡ j = some_cap (cap_probed m.opcode m.param) (Some j) some.0 j some.1 g refl in
+        at_manager-probing (is_caching config) config h.mail h.request c k n false source j m h.state (access_taken c source m tracker true (Some j) rest h).state e kept (λ i. refl)
+        (record {
+          comes = comes;
+          last = last;
+          for = (asked.access, asked.source_is, refl, g);
+          free = free;
+          quiet = quiet-free config log h.mail h.request h.state sys n is free;
+          beyond = beyond-none config log h.mail h.request h.state sys n is;
+          unwaited = unwaited;
+        })
+        (rw same at some.2) asked.is_it (at_manager-matched config log h.mail h.request h.state sys is)
+
+-- ---- an Acquire
+
+unwaited-acquires : {w : ℕ} (config : Config) (log : Log w) (mail : Mail w) (request : ℕ → MessageA w) (s : State (List ℕ)) (sys : System w) (c source n : ℕ)
+    → IsMatched config log mail request s sys → s.uses c source ≡ Acquires n
+    → (s.block n).service ≡ Free → IsUnwaited c source s
+unwaited-acquires {w} config log mail request s sys c source n is used free i src own j e same = go own e (waits-used (is_caching config) s i c src own j is.invariant e)
+  where
+    here : s.uses c src ≡ Acquires n
+    here = ap (s.uses c) (sym same) ∙ used
+
+    number_is : (a b : ℕ) → Acquires a ≡ Acquires b → b ≡ a
+    number_is a b f = cc
+
+    go : (b : Bool) → (s.block i).service ≡ Waits c b src j → s.uses c src ≡ (if b then Acquires i else InService i) → ⊥
+    go true f g = let at_n : i ≡ n = number_is n i (sym here ∙ g) in let no : Free ≡ Waits c true src j = sym free ∙ ap (λ l. (s.block l).service) (sym at_n) ∙ f in cc
+    go false f g = let no : Acquires n ≡ InService i = sym here ∙ g in cc
+
+pub caps_asked : (w : ℕ) (whole : Bool) (g : Grow) (source n : ℕ)
+    → cap_probed (acquisition {w = w} (acquire_opcode whole) g source n).opcode (acquisition {w = w} (acquire_opcode whole) g source n).param ≡ Some
+    (cap_asked (Wants whole g))
+caps_asked w true grow.NtoB source n = refl
+caps_asked w true grow.NtoT source n = refl
+caps_asked w true grow.BtoT source n = refl
+caps_asked w false grow.NtoB source n = refl
+caps_asked w false grow.NtoT source n = refl
+caps_asked w false grow.BtoT source n = refl
+
+-- the Acquire that is wanted
+abbrev pub acquire_wanted : {w : ℕ} (c n : ℕ) (s : State (List ℕ)) → IsWanted w c n s → MessageA w
+acquire_wanted c n s is = acquisition (acquire_opcode is.whole) is.grow ((s.block n).source c) n
+
+pub ready-acquire : {w : ℕ} (config : Config) (log : Log w) (h : Shadow w) (sys : System w) (c n k : ℕ) → IsMatched config log h.mail h.request h.state sys → (asked : IsWanted w c n h.state)
+    → IsComing config c k (acquire_wanted c n h.state asked) sys.manager → beats_of (message.A (acquire_wanted c n h.state asked)) ≡ suc k
+    → must_wait config (link_of c) (beat.A (a_beat_of (acquire_wanted c n h.state asked) k)) sys.manager.trace ≡ false
+    → IsReady (next_tracker sys) c Acquire n h
+ready-acquire config log h sys c n k is asked comes last moves = (
+  ap (λ i. (h.state.block i).service) (sym (same_block n))
+      ∙ free-last config log h.mail h.request h.state sys c k (acquire_wanted c n h.state asked) is comes last moves,
+  untracked-next config log h.mail h.request h.state sys is,
+)
+
+-- after an Acquire that was taken
+pub at_manager-acquire_taken : {w : ℕ} (config : Config) (log : Log w) (h : Shadow w) (sys : System w) (c n k : ℕ) (rest : List Token) → IsMatched config log h.mail h.request h.state sys
+    → (h.state.link c).a ≡ token Acquire n ∷ rest → (asked : IsWanted w c n h.state)
+    → IsComing config c k (acquire_wanted c n h.state asked) sys.manager → beats_of (message.A (acquire_wanted c n h.state asked)) ≡ suc k
+    → must_wait config (link_of c) (beat.A (a_beat_of (acquire_wanted c n h.state asked) k)) sys.manager.trace ≡ false
+    → IsManagerOf config (kind_taken config (next_tracker sys) c Acquire n rest h) (end_after config c k (acquire_wanted c n h.state asked) sys.manager)
+at_manager-acquire_taken {w} config log h sys c n k rest is first asked comes last moves =
+    subst (λ (i : Acquiring). IsManagerOf config (acquire_taken clients config.profile c n i tracker rest h) after) (sym asked.wants)
+    (go (some_below clients (λ d. is_probed c true j (b.pair d).recorded d)) refl
+    (subst (λ (i : Acquiring). IsInvariant (is_caching config) (acquire_taken clients config.profile c n i tracker rest h).state) asked.wants inv))
+  where
+    b : Block (List ℕ)
+    b = h.state.block n
+
+    m : MessageA w
+    m = acquire_wanted c n h.state asked
+
+    e : End w
+    e = sys.manager
+
+    after : End w
+    after = end_after config c k m e
+
+    clients : ℕ
+    clients = length config.clients.items
+
+    tracker : ℕ
+    tracker = next_tracker sys
+
+    j : Cap
+    j = cap_asked (Wants asked.whole asked.grow)
+
+    ready : IsReady tracker c Acquire n h
+    ready = ready-acquire config log h sys c n k is asked comes last moves
+
+    inv : IsInvariant (is_caching config) (kind_taken config tracker c Acquire n rest h).state
+    inv = invariant-taken config log h sys c Acquire n rest is first ready
+
+    acquires : is_acquire m.opcode ≡ true
+    acquires = acquires-so asked.whole
+
+    caps : cap_probed m.opcode m.param ≡ Some j
+    caps = caps_asked w asked.whole asked.grow (b.source c) n
+
+    unwaited : IsUnwaited c m.source h.state
+    unwaited = unwaited-acquires config log h.mail h.request h.state sys c m.source n is asked.used ready.0
+
+    nobody : is_nobody (probed config (service_for c m e.trace) j (with_beat c m k e.trace)) ≡ not (some_below clients (λ d. is_probed c true j (b.pair d).recorded d))
+    nobody = probed-some config log h.mail h.request h.state sys c k n true j m is acquires (same_block n)
+
+    given : Cap
+    given = gift config.profile asked.whole asked.grow (is_unheld clients b.pair)
+
+    -- the state afterwards
+    state_of : Bool → State (List ℕ)
+    state_of x = if x then acquire_served c n (b.source c) tracker j rest h.state else acquire_granted c n tracker (is_granted_data asked.whole asked.grow (b.pair c).recorded) given rest h.state
+
+    go : (x : Bool) → some_below clients (λ d. is_probed c true j (b.pair d).recorded d) ≡ x → IsInvariant (is_caching config) (state_of x)
+        → IsAtManager config h.mail (set n m h.request) (state_of x) after
+    go true f kept =
+        at_manager-probing (is_caching config) config h.mail h.request c k n true m.source j m h.state (state_of true) e kept (λ i. refl)
+        (record {
+          comes = comes;
+          last = last;
+          for = (acquires, refl, same_block n, caps);
+          free = ready.0;
+          quiet = quiet-free config log h.mail h.request h.state sys n is ready.0;
+          beyond = beyond-none config log h.mail h.request h.state sys n is;
+          unwaited = unwaited;
+        })
+        (nobody ∙ ap not f) tt (at_manager-matched config log h.mail h.request h.state sys is)
+    go false f kept =
+        at_manager-granted (is_caching config) config h.mail h.request c k n (is_granted_data asked.whole asked.grow (b.pair c).recorded) given m h.state (state_of false) e kept (λ i. refl)
+        (record {
+          comes = comes;
+          last = last;
+          acquires = acquires;
+          block = same_block n;
+          given = ap (cap_granted config.profile m.opcode m.param) (unheld-same config log h.mail h.request h.state sys c k n m is);
+          unwaited = unwaited;
+        })
+        (deed-performed config log h.mail h.request h.state sys c k n true m is comes last acquires (same_block n) (rw caps f))
+        (at_manager-matched config log h.mail h.request h.state sys is)

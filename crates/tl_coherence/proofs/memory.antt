@@ -1,0 +1,9 @@
+pub mod Beside
+pub mod BesideAsked
+pub mod BesideKinds
+pub mod BesideRequests
+pub mod BesideTaken
+pub mod Bytes
+pub mod Coherence
+pub mod OneMemory
+pub mod Runs

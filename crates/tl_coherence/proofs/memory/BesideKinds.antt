@@ -1,0 +1,416 @@
+-- The one-memory machine beside the protocol, after each message that is taken.
+use Rattle.std.proofs.Common.{◌≡◌, subst, ℕ, ◌≤◌, Bool, true, false, not, ◌&&◌, List, [], ◌∷◌, Option, Some, None, length, refl, sym, ◌∙◌, ap, ◌⊎◌, inl, inr}
+use Rattle.std.specs.Prelude.{◌==◌, if◌then◌else◌, ⊤}
+use Rattle.std.proofs.lemmas.Bool.{cases_eq, ne_eqb}
+use Rattle.std.proofs.Math.Bool.{and-false}
+use Rattle.tl_burst.specs.declared.message.Message.{Message}
+use Rattle.tl_burst.specs.declared.message.Message.TheVariants as message
+use Rattle.tl_burst.specs.declared.message.MessageA.{MessageA}
+use Rattle.tl_params.specs.declared.config.Config.{Config}
+use Rattle.tl_params.specs.declared.param.Cap.{Cap}
+use Rattle.tl_params.specs.declared.param.Report.{Report}
+use Rattle.tl_params.specs.declared.profile.Profile.{Profile}
+use Rattle.tl_rules.specs.Effect.{IsBlock, effect}
+use Rattle.tl_rules.specs.History.{block_at}
+use Rattle.tl_client.specs.declared.operation.Op.{Op}
+use Rattle.tl_client.specs.declared.operation.Op.TheVariants as op
+use Rattle.tl_manager.specs.Holders.{cap_probed}
+use Rattle.tl_coherence.specs.refinement.Beside.{op_of, IsOpened, IsLet, IsBeside}
+use Rattle.tl_coherence.specs.refinement.Follow.{Shadow, some_below, bytes_at, performs, answers, probes_some, access_taken, request_taken, acquire_taken, granted_after, last_taken, ack_taken, is_whole}
+use Rattle.tl_coherence.specs.protocol.Invariant.{acquires_of, IsInvariant}
+use Rattle.tl_coherence.specs.statement.Machine.{Machine, Open, Requests, Releases, with_open, with_memory, memory_after, after_end}
+use Rattle.tl_coherence.specs.protocol.Phase.{Pair, Answered, Acquiring, Calm, Wants, is_kept, is_quiet}
+use Rattle.tl_coherence.specs.protocol.PhaseSteps.{after_served, after_grant_sent, after_report, after_release_ack, after_grant}
+use Rattle.tl_coherence.specs.protocol.Protocol.{Service, Free, Waits, GrantSent, GrantTaken, Block, State, Use, Closed, InService, Replied, Acquires, is_wanting, is_probed}
+use Rattle.tl_coherence.specs.protocol.Protocol.{written, performed_block, served_block, granted_at_once, reported_block, ended_block, granted_block, granted_pair}
+use Rattle.tl_coherence.specs.protocol.Protocol.{taken_block, granted_truth, let_go_block, access_answered, access_served, report_taken, report_answers, answer_taken}
+use Rattle.tl_coherence.specs.protocol.Protocol.{grant_taken, release_ack_taken}
+use Rattle.tl_coherence.specs.statement.Remembered.{performing}
+use Rattle.tl_coherence.specs.refinement.Render.{Mail}
+use Rattle.tl_coherence.specs.protocol.Token.{Kind, Request, ProbeAck, Token, set, set_at}
+use Rattle.tl_coherence.proofs.memory.Beside.{open-here, open-there, open-releases, open-requests, beside-still, beside-used, beside-let, same_acquire}
+use Rattle.tl_coherence.proofs.memory.BesideAsked.{acquires-else}
+use Rattle.tl_coherence.proofs.memory.BesideTaken.{IsPerformed, beside-performed, memory-unprobed, memory-reported, intent-reply}
+use Rattle.tl_coherence.proofs.memory.OneMemory.{block-besides}
+use Rattle.tl_manager.proofs.Blocks.{block-put}
+use Rattle.tl_coherence.proofs.queues.Tokens.{same_number, set-same, set-other, set-part}
+use Rattle.tl_coherence.proofs.protocol.BothParts.{is_of-is, acquires_of-is}
+use Rattle.tl_coherence.proofs.queues.Codes.{low_cap}
+
+-- ---- which accesses are performed, and what ends
+
+abbrev pub access_list : ℕ → ℕ → Bool → Option Cap → List (ℕ × ℕ)
+access_list c source true (Some k) = []
+access_list c source _ _ = (c, source) ∷ []
+
+abbrev pub request_accesses : {w : ℕ} → ℕ → ℕ → ℕ → Message w → Shadow w → List (ℕ × ℕ)
+request_accesses clients c source (message.A m) h =
+    access_list c source (probes_some clients c false (cap_probed m.opcode m.param) (h.state.block (block_at m.address)).pair) (cap_probed m.opcode m.param)
+request_accesses clients c source _ h = []
+
+abbrev pub last_accesses : Service → List (ℕ × ℕ)
+last_accesses (Waits q false source k) = (q, source) ∷ []
+last_accesses _ = []
+
+-- the accesses that are answered as this message is taken
+abbrev pub accesses_by : {w : ℕ} → Config → ℕ → Kind → ℕ → Shadow w → List (ℕ × ℕ)
+accesses_by config c Request i h = request_accesses (length config.clients.items) c i (h.mail.request c i) h
+accesses_by config c ProbeAck n h =
+    if some_below (length config.clients.items) (λ d. not (d == c) && not (is_quiet ((h.state.block n).pair d).probing))
+    then []
+    else last_accesses (h.state.block n).service
+accesses_by config c _ i h = []
+
+-- ---- one block changes, and no source
+
+pub beside_block : {w : ℕ} (n : ℕ) (new : Block (List ℕ)) (mail : Mail w) (s s' : State (List ℕ)) (m : Machine w) → ((i : ℕ) → s'.block i ≡ set n new s.block i)
+    → ((d i : ℕ) → s'.uses d i ≡ s.uses d i) → ((d i : ℕ) → s'.lets d i ≡ s.lets d i)
+    → new.truth ≡ (s.block n).truth → ((d : ℕ) → (new.pair d).acquiring ≡ ((s.block n).pair d).acquiring) → ((d : ℕ) → new.waiting d ≡ (s.block n).waiting d) → IsBeside mail s m → IsBeside mail s' m
+beside_block {w} n new mail s s' m blocks uses lets truth acquiring waiting h = beside-still mail s s' m m (record {
+  memory = λ i. subst (λ (bytes : List ℕ). IsBlock m.memory i bytes)
+      (sym (ap (λ (b : Block (List ℕ)). b.truth) (blocks i) ∙ set-part (λ (b : Block (List ℕ)). b.truth) n new s.block truth i)) (h.memory i);
+  uses = uses;
+  lets = lets;
+  opened = λ d pool i. refl;
+  acquires = λ d i. (
+    ap (λ (b : Block (List ℕ)). (b.pair d).acquiring) (blocks i) ∙ set-part (λ (b : Block (List ℕ)). (b.pair d).acquiring) n new s.block (acquiring d) i,
+    ap (λ (b : Block (List ℕ)). b.waiting d) (blocks i) ∙ set-part (λ (b : Block (List ℕ)). b.waiting d) n new s.block (waiting d) i,
+  );
+}) h
+
+-- one client's pair changes, and not what it acquires
+pub same_acquiring : (c : ℕ) (p : Pair) (f : ℕ → Pair) → p.acquiring ≡ (f c).acquiring → (d : ℕ) → (set c p f d).acquiring ≡ (f d).acquiring
+same_acquiring c p f e d = set-part (λ (q : Pair). q.acquiring) c p f e d
+
+served_acquiring : (r : ℕ) (own : Bool) (k : Cap) (pair : ℕ → Pair) (d : ℕ) → (if own && (d == r) then pair d else after_served k (pair d)).acquiring ≡ (pair d).acquiring
+served_acquiring r own k pair d = go (own && (d == r))
+  where
+    go : (x : Bool) → (if x then pair d else after_served k (pair d)).acquiring ≡ (pair d).acquiring
+    go true = refl
+    go false = refl
+
+granted_acquiring : (c q : ℕ) (r : Report) (k : Cap) (pair : ℕ → Pair) (d : ℕ) → (granted_pair c q r k pair d).acquiring ≡ (pair d).acquiring
+granted_acquiring c q r k pair d = elim (cases_eq d q) [
+  | inl same ↦ ap (λ (j : ℕ). (granted_pair c q r k pair j).acquiring) same
+      ∙ ap (λ (p : Pair). p.acquiring) (set-same q (after_grant_sent k (pair q)) (set c (after_report r (pair c)) pair))
+      ∙ sym (ap (λ (j : ℕ). (pair j).acquiring) same)
+  | inr other ↦ ap (λ (p : Pair). p.acquiring) (set-other q d (after_grant_sent k (pair q)) (set c (after_report r (pair c)) pair) other) ∙ same_acquiring c (after_report r (pair c)) pair refl d
+]
+
+-- ---- a request
+
+beside_served : {w : ℕ} (config : Config) (c source : ℕ) (x : MessageA w) (tracker : ℕ) (k : Cap) (rest : List Token) (mail : Mail w) (s : State (List ℕ))
+    (m : Machine w) → IsPerformed config c source x mail s m
+    → IsBeside mail s m → IsBeside mail (access_served c (block_at x.address) source tracker k rest s) m
+beside_served {w} config c source x tracker k rest mail s m is h =
+    beside-used c source (InService n) mail mail s s' m m (record {
+      memory = λ i. subst (λ (bytes : List ℕ). IsBlock m.memory i bytes) (sym (set-part (λ (b : Block (List ℕ)). b.truth) n new s.block refl i)) (h.memory i);
+      uses = λ d i. refl;
+      lets = λ d i. refl;
+      here = is.opened;
+      there = λ d i else_. refl;
+      releases = λ d i. refl;
+      requests = λ d i else_. refl;
+      answers = λ d i else_. refl;
+      acquires = λ d i else_. same_acquire d s s' (s.uses d i)
+          (λ j. (
+            set-part (λ (b : Block (List ℕ)). (b.pair d).acquiring) n new s.block (served_acquiring c false k (s.block n).pair d) j,
+            set-part (λ (b : Block (List ℕ)). b.waiting d) n new s.block refl j,
+          ));
+    }) h
+  where
+    n : ℕ
+    n = block_at x.address
+
+    new : Block (List ℕ)
+    new = served_block c false source tracker k (s.block n)
+
+    s' : State (List ℕ)
+    s' = access_served c n source tracker k rest s
+
+beside_answered : {w : ℕ} (config : Config) (c source : ℕ) (x : MessageA w) (rest : List Token) (mail : Mail w) (s : State (List ℕ)) (m : Machine w) → IsPerformed config c source x mail s m
+    → ((s.block (block_at x.address)).memory ≡ (s.block (block_at x.address)).truth) ⊎ (cap_probed x.opcode x.param ≡ None) → IsBeside mail s m
+    → IsBeside (record { request = mail.request; answer = set_at c source (answers x (s.block (block_at x.address)).memory) mail.answer })
+    (access_answered c (block_at x.address) source (performs x) rest s) (performing ((c, source) ∷ []) m)
+beside_answered {w} config c source x rest mail s m is same h =
+    beside-performed config c source x (s.block n).memory mail s (access_answered c n source (performs x) rest s) m is (λ f block. reply_same same)
+    (λ i ne. ap (λ (b : Block (List ℕ)). b.truth) (set-other n i new s.block ne)) (ap (λ (b : Block (List ℕ)). b.truth) (set-same n new s.block))
+    (λ d i. refl) (λ d i. refl) (λ d i. (set-part (λ (b : Block (List ℕ)). (b.pair d).acquiring) n new s.block refl i, set-part (λ (b : Block (List ℕ)). b.waiting d) n new s.block refl i)) h
+  where
+    n : ℕ
+    n = block_at x.address
+
+    new : Block (List ℕ)
+    new = performed_block (performs x) (s.block n)
+
+    reply_same : ((s.block n).memory ≡ (s.block n).truth) ⊎ (cap_probed x.opcode x.param ≡ None)
+        → (effect (message.A x) (bytes_at n (s.block n).truth)).1 ≡ (effect (message.A x) (bytes_at n (s.block n).memory)).1
+    reply_same (inl e) = ap (λ (b : List ℕ). (effect (message.A x) (bytes_at n b)).1) (sym e)
+    reply_same (inr e) = intent-reply x (bytes_at n (s.block n).truth) (bytes_at n (s.block n).memory) e
+
+pub beside-request : {w : ℕ} (caching : ℕ → Bool) (config : Config) (c source tracker : ℕ) (x : MessageA w) (rest : List Token) (h : Shadow w) (m : Machine w) → IsInvariant caching h.state
+    → ((d : ℕ) → length config.clients.items ≤ d → caching d ≡ false) → IsPerformed config c source x h.mail h.state m → IsBeside h.mail h.state m
+    → IsBeside (request_taken (length config.clients.items) c source (message.A x) tracker rest h).mail (request_taken (length config.clients.items) c source (message.A x) tracker rest h).state
+    (performing (request_accesses (length config.clients.items) c source (message.A x) h) m)
+unfolding performing
+beside-request {w} caching config c source tracker x rest h m inv plain is beside = go (probes_some clients c false (cap_probed x.opcode x.param) b.pair) (cap_probed x.opcode x.param) refl refl
+  where
+    clients : ℕ
+    clients = length config.clients.items
+
+    b : Block (List ℕ)
+    b = h.state.block (block_at x.address)
+
+    go : (p : Bool) (o : Option Cap) → probes_some clients c false (cap_probed x.opcode x.param) b.pair ≡ p → cap_probed x.opcode x.param ≡ o
+        → IsBeside (access_taken c source x tracker p o rest h).mail (access_taken c source x tracker p o rest h).state (performing (access_list c source p o) m)
+    go true (Some k) e f = beside_served config c source x tracker k rest h.mail h.state m is beside
+    go true None e f = beside_answered config c source x rest h.mail h.state m is (inr f) beside
+    go false None e f = beside_answered config c source x rest h.mail h.state m is (inr f) beside
+    go false (Some k) e f =
+        let none : some_below clients (λ d. is_probed c false k (b.pair d).recorded d) ≡ false = rw f at e in
+        beside_answered config c source x rest h.mail h.state m is (inl (memory-unprobed clients caching c k b plain (inv.blocks (block_at x.address)) (low_cap x.opcode x.param k f) none)) beside
+
+-- ---- an Acquire
+
+pub beside-acquire : {w : ℕ} (clients : ℕ) (p : Profile) (c n : ℕ) (x : Acquiring) (tracker : ℕ) (rest : List Token) (h : Shadow w) (m : Machine w) → IsBeside h.mail h.state m
+    → IsBeside (acquire_taken clients p c n x tracker rest h).mail (acquire_taken clients p c n x tracker rest h).state m
+beside-acquire clients p c n Calm tracker rest h m beside = beside
+beside-acquire {w} clients p c n (Wants whole g) tracker rest h m beside =
+    either _ _ _ (beside_block n (served_block c true (b.source c) tracker _ b) h.mail h.state _ m (λ i. refl) (λ d i. refl) (λ d i. refl) refl
+    (λ d. served_acquiring c true _ b.pair d) (λ d. refl) beside)
+    (beside_block n (granted_at_once c tracker _ _ b) h.mail h.state _ m (λ i. refl) (λ d i. refl) (λ d i. refl) refl
+    (λ d. same_acquiring c (after_grant_sent _ (b.pair c)) b.pair refl d) (λ d. refl) beside)
+  where
+    b : Block (List ℕ)
+    b = h.state.block n
+
+    either : (y : Bool) (s t : State (List ℕ)) → IsBeside h.mail s m → IsBeside h.mail t m → IsBeside h.mail (if y then s else t) m
+    either true s t f g = f
+    either false s t f g = g
+
+-- ---- a report
+
+-- the access that waits, with what its source has open
+abbrev pub IsWaiting : {w : ℕ} → Config → ℕ → Service → Shadow w → Machine w → Type 0
+IsWaiting config n (Waits q false source k) h m = IsPerformed config q source (h.request n) h.mail h.state m × (block_at (h.request n).address ≡ n)
+IsWaiting config n _ h m = ⊤
+
+beside_ended : {w : ℕ} (caching : ℕ → Bool) (config : Config) (c q n source : ℕ) (r : Report) (k : Cap) (rest : List Token) (h : Shadow w) (m : Machine w) → IsInvariant caching h.state
+    → (h.state.block n).service ≡ Waits q false source k → ((h.state.block n).pair c).probing ≡ Answered r → ((d : ℕ) → (d ≡ c → ⊥) → is_quiet ((h.state.block n).pair d).probing ≡ true)
+    → IsPerformed config q source (h.request n) h.mail h.state m → block_at (h.request n).address ≡ n → IsBeside h.mail h.state m
+    → IsBeside (record {
+      request = h.mail.request;
+      answer =
+          set_at q source (answers (h.request n) (written r (h.state.block n).truth (h.state.block n).memory)) h.mail.answer;
+    })
+    (report_answers c q n source r (performs (h.request n)) rest h.state)
+    (performing ((q, source) ∷ []) m)
+beside_ended {w} caching config c q n source r k rest h m inv waits answered settled is at beside =
+    beside-performed config q source x (written r b.truth b.memory) h.mail h.state s' m is (λ f block. reply_same)
+    (λ i ne. ap (λ (y : Block (List ℕ)). y.truth) (set-other n i new h.state.block (λ e. ne (e ∙ sym at))))
+    (subst (λ (j : ℕ). (set n new h.state.block j).truth ≡ performs x (h.state.block j).truth) (sym at) (ap (λ (y : Block (List ℕ)). y.truth) (set-same n new h.state.block)))
+    (λ d i. refl) (λ d i. refl)
+    (λ d i. (
+      set-part (λ (y : Block (List ℕ)). (y.pair d).acquiring) n new h.state.block (same_acquiring c (after_report r (b.pair c)) b.pair refl d) i,
+      set-part (λ (y : Block (List ℕ)). y.waiting d) n new h.state.block refl i,
+    )) beside
+  where
+    b : Block (List ℕ)
+    b = h.state.block n
+
+    x : MessageA w
+    x = h.request n
+
+    new : Block (List ℕ)
+    new = ended_block c r (performs x) b
+
+    s' : State (List ℕ)
+    s' = report_answers c q n source r (performs x) rest h.state
+
+    told : written r b.truth b.memory ≡ b.truth
+    told = memory-reported caching c q source r k b (inv.blocks n) waits answered settled
+
+    reply_same : (effect (message.A x) (bytes_at (block_at x.address) (h.state.block (block_at x.address)).truth)).1
+        ≡ (effect (message.A x) (bytes_at (block_at x.address) (written r b.truth b.memory))).1
+    reply_same = ap (λ (bytes : List ℕ). (effect (message.A x) (bytes_at (block_at x.address) bytes)).1) (ap (λ (j : ℕ). (h.state.block j).truth) at ∙ sym told)
+
+beside_last : {w : ℕ} (caching : ℕ → Bool) (config : Config) (clients : ℕ) (p : Profile) (c n : ℕ) (r : Report) (v : Service) (rest : List Token) (h : Shadow w)
+    (m : Machine w) → IsInvariant caching h.state → (h.state.block n).service ≡ v
+    → ((h.state.block n).pair c).probing ≡ Answered r → ((d : ℕ) → (d ≡ c → ⊥) → is_quiet ((h.state.block n).pair d).probing ≡ true) → IsWaiting config n v h m → IsBeside h.mail h.state m
+    → IsBeside (last_taken clients p c n r v rest h).mail (last_taken clients p c n r v rest h).state (performing (last_accesses v) m)
+unfolding performing
+beside_last caching config clients p c n r Free rest h m inv e answered settled is beside = beside
+beside_last caching config clients p c n r (GrantSent q d k) rest h m inv e answered settled is beside = beside
+beside_last caching config clients p c n r (GrantTaken q) rest h m inv e answered settled is beside = beside
+beside_last caching config clients p c n r (Waits q false source k) rest h m inv e answered settled is beside =
+    beside_ended caching config c q n source r k rest h m inv e answered settled is.0 is.1 beside
+beside_last {w} caching config clients p c n r (Waits q true source k) rest h m inv e answered settled is beside = go ((h.state.block n).pair q).acquiring
+  where
+    go : (x : Acquiring) → IsBeside (granted_after clients p c q n r x rest h).mail (granted_after clients p c q n r x rest h).state m
+    go Calm = beside
+    go (Wants whole g) = beside_block n (granted_block c q r _ _ (h.state.block n)) h.mail h.state _ m (λ i. refl) (λ d i. refl) (λ d i. refl) refl
+        (λ d. granted_acquiring c q r _ (h.state.block n).pair d) (λ d. refl) beside
+
+pub beside-report : {w : ℕ} (caching : ℕ → Bool) (config : Config) (c n : ℕ) (r : Report) (rest : List Token) (h : Shadow w) (m : Machine w)
+    → IsInvariant caching h.state → ((h.state.block n).pair c).probing ≡ Answered r
+    → (some_below (length config.clients.items) (λ d. not (d == c) && not (is_quiet ((h.state.block n).pair d).probing)) ≡ false → (d : ℕ) → (d ≡ c → ⊥)
+    → is_quiet ((h.state.block n).pair d).probing ≡ true)
+    → IsWaiting config n (h.state.block n).service h m → IsBeside h.mail h.state m
+    → IsBeside (ack_taken (length config.clients.items) config.profile c n r rest h).mail
+    (ack_taken (length config.clients.items) config.profile c n r rest h).state (performing (accesses_by config c ProbeAck n h) m)
+unfolding performing
+beside-report {w} caching config c n r rest h m inv answered settled is beside =
+    go (some_below (length config.clients.items) (λ d. not (d == c) && not (is_quiet ((h.state.block n).pair d).probing))) refl
+  where
+    reported : Shadow w
+    reported = record h { state = report_taken c n r rest h.state }
+
+    last : Shadow w
+    last = last_taken (length config.clients.items) config.profile c n r (h.state.block n).service rest h
+
+    go : (y : Bool) → some_below (length config.clients.items) (λ d. not (d == c) && not (is_quiet ((h.state.block n).pair d).probing)) ≡ y
+        → IsBeside (if y then reported else last).mail (if y then reported else last).state (performing (if y then [] else last_accesses (h.state.block n).service) m)
+    go true e = beside_block n (reported_block c r (h.state.block n)) h.mail h.state reported.state m (λ i. refl) (λ d i. refl) (λ d i. refl) refl
+        (λ d. same_acquiring c (after_report r ((h.state.block n).pair c)) (h.state.block n).pair refl d) (λ d. refl) beside
+    go false e = beside_last caching config (length config.clients.items) config.profile c n r (h.state.block n).service rest h m inv refl answered (settled e) is beside
+
+-- ---- responses
+
+pub beside-answer : {w : ℕ} (c source : ℕ) (rest : List Token) (mail : Mail w) (s : State (List ℕ)) (m : Machine w) → s.uses c source ≡ Replied → IsBeside mail s m
+    → IsBeside mail (answer_taken c source rest s) (after_end c Requests source (m.opened c Requests source) m)
+beside-answer {w} c source rest mail s m used h = go (m.opened c Requests source) refl (replied (s.uses c source) used (h.requests c source))
+  where
+    replied : (u : Use) → u ≡ Replied → IsOpened c source mail s u (m.opened c Requests source) → IsOpened c source mail s Replied (m.opened c Requests source)
+    replied u e i = rw e at i
+
+    go : (o : Option (Open w)) → m.opened c Requests source ≡ o → IsOpened c source mail s Replied (m.opened c Requests source)
+        → IsBeside mail (answer_taken c source rest s) (after_end c Requests source o m)
+    go None e i = absurd (let no : Some (record { asked = op.Access (message.A i.1.0); answer = Some i.0 }) ≡ None = sym i.1.2 ∙ e in cc)
+    go (Some o) e i =
+        let asked : o ≡ record { asked = op.Access (message.A i.1.0); answer = Some i.0 } = some_is o (record { asked = op.Access (message.A i.1.0); answer = Some i.0 }) (sym e ∙ i.1.2) in
+        subst (λ (y : Open w). IsBeside mail (answer_taken c source rest s) (after_end c Requests source (Some y) m)) (sym asked)
+        (beside-used c source Closed mail mail s (answer_taken c source rest s) m (with_open c Requests source None m) (record {
+          memory = h.memory;
+          uses = λ d j. refl;
+          lets = λ d j. refl;
+          here = open-here c Requests source None m;
+          there = λ d j else_. open-there c Requests source None m d j else_;
+          releases = λ d j. open-releases c source None m d j;
+          requests = λ d j else_. refl;
+          answers = λ d j else_. refl;
+          acquires = λ d j else_. same_acquire d s (answer_taken c source rest s) (s.uses d j) (λ k. (refl, refl));
+        }) h)
+      where
+        some_is : (x y : Open w) → Some x ≡ Some y → x ≡ y
+        some_is x y e = cc
+
+-- the client's Acquire of the block is the one with its source
+only_source : (caching : ℕ → Bool) (s : State (List ℕ)) (c n i : ℕ) → IsInvariant caching s → (i ≡ (s.block n).source c → ⊥) → s.uses c i ≡ Acquires n → ⊥
+only_source caching s c n i inv ne e =
+    let yes : acquires_of n (s.uses c i) ≡ true = ap (acquires_of n) e ∙ same_number n in
+    let named : acquires_of n (s.uses c i) ≡ (is_wanting ((s.block n).pair c).acquiring && (i == (s.block n).source c)) = inv.named.acquires c i n in
+    let no : (is_wanting ((s.block n).pair c).acquiring && (i == (s.block n).source c)) ≡ false =
+    ap (λ (b : Bool). is_wanting ((s.block n).pair c).acquiring && b) (ne_eqb i ((s.block n).source c) ne)
+    ∙ and-false (is_wanting ((s.block n).pair c).acquiring) in
+    let differ : true ≡ false = sym yes ∙ named ∙ no in cc
+
+pub beside-grant : {w : ℕ} (caching : ℕ → Bool) (c n : ℕ) (d : Bool) (k : Cap) (rest : List Token) (mail : Mail w) (s : State (List ℕ)) (m : Machine w)
+    → IsInvariant caching s → is_wanting ((s.block n).pair c).acquiring ≡ true → IsBeside mail s m
+    → IsBeside mail (grant_taken c n (is_whole ((s.block n).pair c).acquiring) d k rest s) (after_end c Requests ((s.block n).source c) (m.opened c Requests ((s.block n).source c)) m)
+beside-grant {w} caching c n d k rest mail s m inv wants h =
+    subst (λ (o : Option (Open w)). IsBeside mail s' (after_end c Requests source o m)) (sym opened)
+    (beside-used c source Closed mail mail s s' m ended (record {
+      memory = λ i. block_now i (cases_eq i n);
+      uses = λ e i. refl;
+      lets = λ e i. refl;
+      here = open-here c Requests source None (with_memory (memory_after asked m.memory) m);
+      there = λ e i else_. open-there c Requests source None (with_memory (memory_after asked m.memory) m) e i else_;
+      releases = λ e i. open-releases c source None (with_memory (memory_after asked m.memory) m) e i;
+      requests = λ e i else_. refl;
+      answers = λ e i else_. refl;
+      acquires = acquires-else c n source new (after_grant k (b.pair c)) s s' (λ i. refl) (λ e. refl) (λ e ne. refl) (λ i ne e. only_source caching s c n i inv ne e);
+    }) h)
+  where
+    b : Block (List ℕ)
+    b = s.block n
+
+    source : ℕ
+    source = b.source c
+
+    whole : Bool
+    whole = is_whole (b.pair c).acquiring
+
+    new : Block (List ℕ)
+    new = taken_block c whole d k b
+
+    s' : State (List ℕ)
+    s' = grant_taken c n whole d k rest s
+
+    asked : Op w
+    asked = op_of (b.pair c).acquiring n (b.waiting c)
+
+    ended : Machine w
+    ended = with_open c Requests source None (with_memory (memory_after asked m.memory) m)
+
+    used : s.uses c source ≡ Acquires n
+    used = acquires_of-is n (s.uses c source) (inv.named.acquires c source n ∙ rw (wants, same_number source) refl)
+
+    opened : m.opened c Requests source ≡ Some (record { asked = asked; answer = None })
+    opened = acquires (s.uses c source) used (h.requests c source)
+      where
+        acquires : (u : Use) → u ≡ Acquires n → IsOpened c source mail s u (m.opened c Requests source) → IsOpened c source mail s (Acquires n) (m.opened c Requests source)
+        acquires u e i = rw e at i
+
+    here : (x : Acquiring) (waits : List ℕ) → is_wanting x ≡ true → IsBlock (memory_after (op_of {w = w} x n waits) m.memory) n (granted_truth (is_whole x) waits b.truth)
+    here Calm waits e = absurd cc
+    here (Wants true g) waits e = block-put m.memory n waits
+    here (Wants false g) waits e = h.memory n
+
+    there : (x : Acquiring) (waits : List ℕ) (i : ℕ) → is_wanting x ≡ true → (i ≡ n → ⊥) → IsBlock (memory_after (op_of {w = w} x n waits) m.memory) i (s.block i).truth
+    there Calm waits i e ne = absurd cc
+    there (Wants true g) waits i e ne = block-besides m.memory n i waits (s.block i).truth ne (h.memory i)
+    there (Wants false g) waits i e ne = h.memory i
+
+    block_now : (i : ℕ) → (i ≡ n) ⊎ (i ≡ n → ⊥) → IsBlock (memory_after asked m.memory) i (set n new s.block i).truth
+    block_now i (inl same) =
+        subst (λ (j : ℕ). IsBlock (memory_after asked m.memory) j (set n new s.block j).truth) (sym same)
+        (subst (λ (y : Block (List ℕ)). IsBlock (memory_after asked m.memory) n y.truth) (sym (set-same n new s.block)) (here (b.pair c).acquiring (b.waiting c) wants))
+    block_now i (inr other) = subst (λ (y : Block (List ℕ)). IsBlock (memory_after asked m.memory) i y.truth) (sym (set-other n i new s.block other))
+        (there (b.pair c).acquiring (b.waiting c) i wants other)
+
+pub beside-release_ack : {w : ℕ} (caching : ℕ → Bool) (c n : ℕ) (rest : List Token) (mail : Mail w) (s : State (List ℕ)) (m : Machine w) → IsInvariant caching s
+    → is_kept ((s.block n).pair c).letting ≡ false → IsBeside mail s m
+    → IsBeside mail (release_ack_taken c n rest s) (after_end c Releases ((s.block n).release_source c) (m.opened c Releases ((s.block n).release_source c)) m)
+beside-release_ack {w} caching c n rest mail s m inv acked h =
+    subst (λ (o : Option (Open w)). IsBeside mail s' (after_end c Releases source o m)) (sym released.1)
+    (beside-let c source None mail s s' m (with_open c Releases source None m) (record {
+      memory = λ i. subst (λ (bytes : List ℕ). IsBlock m.memory i bytes) (sym (set-part (λ (y : Block (List ℕ)). y.truth) n new s.block refl i)) (h.memory i);
+      uses = λ e i. refl;
+      lets = λ e i. refl;
+      here = open-here c Releases source None m;
+      there = λ e i else_. open-there c Releases source None m e i else_;
+      requests = λ e i. open-requests c source None m e i;
+      acquires = λ e i. (
+        set-part (λ (y : Block (List ℕ)). (y.pair e).acquiring) n new s.block
+            (same_acquiring c (after_release_ack ((s.block n).pair c)) (s.block n).pair refl e) i,
+        set-part (λ (y : Block (List ℕ)). y.waiting e) n new s.block refl i,
+      );
+    }) h)
+  where
+    source : ℕ
+    source = (s.block n).release_source c
+
+    new : Block (List ℕ)
+    new = let_go_block c (s.block n)
+
+    s' : State (List ℕ)
+    s' = release_ack_taken c n rest s
+
+    let_is : s.lets c source ≡ Some n
+    let_is = is_of-is n (s.lets c source) (inv.named.releases c source n ∙ rw (acked, same_number source) refl)
+
+    released : IsLet (Some n) (m.opened c Releases source)
+    released = go (s.lets c source) let_is (h.releases c source)
+      where
+        go : (l : Option ℕ) → l ≡ Some n → IsLet l (m.opened c Releases source) → IsLet (Some n) (m.opened c Releases source)
+        go l e i = rw e at i

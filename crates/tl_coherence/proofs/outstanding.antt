@@ -1,0 +1,7 @@
+pub mod Counted
+pub mod Movement
+pub mod Moving
+pub mod OpenAsks
+pub mod OpenKinds
+pub mod Outstanding
+pub mod Progress

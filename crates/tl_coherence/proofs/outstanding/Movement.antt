@@ -1,0 +1,163 @@
+-- A delivery is next exactly while something is outstanding.
+use Rattle.std.proofs.Common.{◌≡◌, ℕ, zero, suc, ◌+◌, ◌<◌, Bool, true, false, List, [], ◌∷◌, length, refl, sym, ◌∙◌, ap, ◌⊎◌, inl, inr, arith, Option, Some, None}
+use Rattle.std.specs.Prelude.{◌==◌, is_none}
+use Rattle.std.proofs.lemmas.Bool.{cases_eq, eqb-true}
+use Rattle.tl_beat.specs.Width.{IsWidth}
+use Rattle.tl_beat.specs.declared.beat.Beat.{Beat}
+use Rattle.tl_beat.specs.declared.beat.Link.{Link}
+use Rattle.tl_beat.specs.declared.channel.Channel.{Channel}
+use Rattle.tl_beat.specs.declared.channel.Channel.TheVariants as channel
+use Rattle.tl_burst.specs.declared.message.MessageA.{MessageA}
+use Rattle.tl_params.specs.declared.config.Config.{Config}
+use Rattle.tl_client.specs.End.{Terms}
+use Rattle.tl_coherence.specs.statement.Coherent.{IsCoherent}
+use Rattle.tl_coherence.specs.statement.Load.{outstanding}
+use Rattle.tl_coherence.specs.statement.Log.{Log, after}
+use Rattle.tl_coherence.specs.statement.Movable.{next_delivery}
+use Rattle.tl_coherence.specs.bound.Potential.{total, is_used, is_let, open_requests, open_releases}
+use Rattle.tl_coherence.specs.protocol.Protocol.{State, Use, Closed, Asked, InService, Replied, Acquires}
+use Rattle.tl_coherence.specs.statement.Remembered.{remembered}
+use Rattle.tl_coherence.specs.refinement.Render.{Mail}
+use Rattle.tl_coherence.specs.statement.System.{terms_at}
+use Rattle.tl_coherence.specs.protocol.Token.{Token, one_if}
+use Rattle.tl_coherence.specs.refinement.Whole.{IsMatched}
+use Rattle.tl_coherence.proofs.simulation.Bounded.{matched-bounded}
+use Rattle.tl_coherence.proofs.protocol.Capacities.{AreBounded}
+use Rattle.tl_coherence.proofs.outstanding.Counted.{AreCounted, outstanding-open}
+use Rattle.tl_coherence.proofs.outstanding.Moving.{bare-when-standing, closed-when-standing, standing-when-closed}
+use Rattle.tl_coherence.proofs.protocol.OpenCounts.{clients_in, sources_in}
+use Rattle.tl_coherence.proofs.simulation.Owned.{sources-own}
+use Rattle.tl_coherence.proofs.links.Stalling.{IsFirst}
+use Rattle.tl_coherence.proofs.queues.Standing.{client_below}
+use Rattle.tl_coherence.proofs.protocol.Still.{IsClosed}
+use Rattle.tl_coherence.proofs.simulation.Strangers as strangers
+use Rattle.tl_coherence.proofs.queues.Sums.{total-zero}
+
+-- a sum is 0 where each of its numbers is
+pub total-none : (n : ℕ) (f : ℕ → ℕ) → total n f ≡ 0 → (i : ℕ) → i < n → f i ≡ 0
+unfolding total
+total-none zero f e i lt = absurd (omega (arith, lt))
+total-none (suc n) f e i lt = go (cases_eq i n) (total-none n f (omega (arith, e)) i)
+  where
+    go : (i ≡ n) ⊎ (i ≡ n → ⊥) → (i < n → f i ≡ 0) → f i ≡ 0
+    go (inl same) rest = let last : f i ≡ f n = ap f same in omega (arith, last, e)
+    go (inr differs) rest = rest (omega (arith, lt, differs))
+
+not_used : (u : Use) → one_if (is_used u) ≡ 0 → u ≡ Closed
+not_used Closed e = refl
+not_used Asked e = absurd (omega (arith, e))
+not_used (InService n) e = absurd (omega (arith, e))
+not_used Replied e = absurd (omega (arith, e))
+not_used (Acquires n) e = absurd (omega (arith, e))
+
+not_let : (o : Option ℕ) → one_if (is_let o) ≡ 0 → o ≡ None
+not_let None e = refl
+not_let (Some n) e = absurd (omega (arith, e))
+
+nothing_in : (xs : List Token) → length xs ≡ 0 → xs ≡ []
+nothing_in [] e = refl
+nothing_in (x ∷ xs) e = absurd (omega (arith, e))
+
+-- nothing is counted where nothing is open
+pub none-counted : {X : Type 0} (config : Config) (s : State X) → IsClosed s → ((c : ℕ) → (s.link c).e ≡ []) → open_requests config s + open_releases config s ≡ 0
+none-counted config s closed no_acks =
+    let requests : open_requests config s ≡ 0 = total-zero (clients_in config) (λ c. total (sources_in config c) (λ i. one_if (is_used (s.uses c i))) + length (s.link c).e) (λ c few.
+    let uses : total (sources_in config c) (λ i. one_if (is_used (s.uses c i))) ≡ 0 =
+    total-zero (sources_in config c) (λ i. one_if (is_used (s.uses c i))) (λ i lt. ap (λ (u : Use). one_if (is_used u)) (closed.uses c i)) in
+    let acks : length (s.link c).e ≡ 0 = ap length (no_acks c) in
+    omega (arith, uses, acks)) in
+    let releases : open_releases config s ≡ 0 = total-zero (clients_in config) (λ c. total (sources_in config c) (λ i. one_if (is_let (s.lets c i)))) (λ c few.
+    total-zero (sources_in config c) (λ i. one_if (is_let (s.lets c i))) (λ i lt. ap (λ (o : Option ℕ). one_if (is_let o)) (closed.lets c i))) in
+    omega (arith, requests, releases)
+
+module _ {w : ℕ} (config : Config) (log : Log w) (mail : Mail w) (request : ℕ → MessageA w) (s : State (List ℕ)) (matched : IsMatched config log mail request s (after config log))
+    (width : IsWidth w) (none : open_requests config s + open_releases config s ≡ 0) where
+  -- the two sums of one client
+  of_client : (c : ℕ) → c < clients_in config → (total (sources_in config c) (λ i. one_if (is_used (s.uses c i))) + length (s.link c).e ≡ 0)
+      × (total (sources_in config c) (λ i. one_if (is_let (s.lets c i))) ≡ 0)
+  of_client c few = (
+    total-none (clients_in config) (λ d. total (sources_in config d) (λ i. one_if (is_used (s.uses d i))) + length (s.link d).e) (omega (arith, none)) c few,
+    total-none (clients_in config) (λ d. total (sources_in config d) (λ i. one_if (is_let (s.lets d i)))) (omega (arith, none)) c few,
+  )
+
+  bounds : (c : ℕ) → AreBounded c (sources_in config c) config.trackers s
+  bounds c = matched-bounded config log mail request s (after config log) matched c (sources-own config log c width)
+
+  closed_use : (c source : ℕ) (terms : Terms) → terms_at config c ≡ Some terms → s.uses c source ≡ Closed
+  closed_use c source terms at = go (s.uses c source) refl
+    where
+      zero_there : source < sources_in config c → one_if (is_used (s.uses c source)) ≡ 0
+      zero_there lt =
+          let both = (of_client c (client_below config c terms at)).0 in
+          total-none (sources_in config c) (λ i. one_if (is_used (s.uses c i))) (omega (arith, both)) source lt
+
+      used : (u : Use) → s.uses c source ≡ u → (u ≡ Closed → ⊥) → s.uses c source ≡ Closed
+      used u e open_ = not_used (s.uses c source) (zero_there ((bounds c).requests source (λ closed. open_ (sym e ∙ closed))))
+
+      go : (u : Use) → s.uses c source ≡ u → s.uses c source ≡ Closed
+      go Closed e = e
+      go Asked e = used Asked e (λ f. absurd cc)
+      go (InService n) e = used (InService n) e (λ f. absurd cc)
+      go Replied e = used Replied e (λ f. absurd cc)
+      go (Acquires n) e = used (Acquires n) e (λ f. absurd cc)
+
+  closed_let : (c source : ℕ) (terms : Terms) → terms_at config c ≡ Some terms → s.lets c source ≡ None
+  closed_let c source terms at = go (s.lets c source) refl
+    where
+      go : (o : Option ℕ) → s.lets c source ≡ o → s.lets c source ≡ None
+      go None e = e
+      go (Some n) e =
+          not_let (s.lets c source) (total-none (sources_in config c) (λ i. one_if (is_let (s.lets c i))) (of_client c (client_below config c terms at)).1 source ((bounds c).releases source n e))
+
+  no_ack : (c : ℕ) (terms : Terms) → terms_at config c ≡ Some terms → (s.link c).e ≡ []
+  no_ack c terms at = let both = (of_client c (client_below config c terms at)).0 in nothing_in (s.link c).e (omega (arith, both))
+
+  pub closed-when-counted : IsClosed s
+  closed-when-counted = record { uses = λ c source. use_is c source (terms_at config c) refl; lets = λ c source. let_is c source (terms_at config c) refl }
+    where
+      use_is : (c source : ℕ) (o : Option Terms) → terms_at config c ≡ o → s.uses c source ≡ Closed
+      use_is c source None at = matched.strangers c source at
+      use_is c source (Some terms) at = closed_use c source terms at
+
+      let_is : (c source : ℕ) (o : Option Terms) → terms_at config c ≡ o → s.lets c source ≡ None
+      let_is c source None at = strangers.no_let config log mail request s matched width c at source
+      let_is c source (Some terms) at = closed_let c source terms at
+
+  pub no-acks-counted : (c : ℕ) → (s.link c).e ≡ []
+  no-acks-counted c = go (terms_at config c) refl
+    where
+      go : (o : Option Terms) → terms_at config c ≡ o → (s.link c).e ≡ []
+      go None at = strangers.no_tokens config log mail request s matched width c at channel.E
+      go (Some terms) at = no_ack c terms at
+
+-- A delivery is next exactly while something is outstanding.
+pub next-while-outstanding : {w : ℕ} (config : Config) (log : Log w) (mail : Mail w) (request : ℕ → MessageA w) (s : State (List ℕ)) (matched : IsMatched config log mail request s (after config log))
+    → IsCoherent (after config log) log (remembered config log) → 0 < config.trackers
+    → ((c : ℕ) (terms : Terms) (ch : Channel) (x : Beat w) (rest : List (Beat w)) → terms_at config c ≡ Some terms → (after config log).channels c ch ≡ x ∷ rest
+    → IsFirst config terms c ch x (after config log))
+    → IsWidth w → AreCounted config log s → is_none (next_delivery config (after config log)) ≡ (outstanding log == 0)
+next-while-outstanding {w} config log mail request s matched coherent trackers firsts width counted = go (next_delivery config (after config log)) refl (outstanding log == 0) refl
+  where
+    sum : outstanding log ≡ open_requests config s + open_releases config s
+    sum = outstanding-open config log s counted
+
+    zero_is : (n : ℕ) → n ≡ 0 → (n == 0) ≡ true
+    zero_is n e = rw e refl
+
+    go : (o : Option (Link × Channel)) → next_delivery config (after config log) ≡ o → (b : Bool) → (outstanding log == 0) ≡ b → is_none o ≡ b
+    go None e true f = refl
+    go None e false f =
+        let bare = bare-when-standing config log mail request s matched coherent trackers firsts e width in
+        let none = none-counted config s (closed-when-standing config log mail request s matched coherent trackers firsts width e) bare.silent.e in
+        absurd (let yes = zero_is (outstanding log) (sum ∙ none) in let both : true ≡ false = sym yes ∙ f in cc)
+    go (Some d) e false f = refl
+    go (Some d) e true f =
+        let none : open_requests config s + open_releases config s ≡ 0 = sym sum ∙ eqb-true (outstanding log) 0 f in
+        let stands = standing-when-closed config log mail request s matched coherent trackers firsts
+        (closed-when-counted config log mail request s matched width none) (no-acks-counted config log mail request s matched width none) in
+        absurd (let both : Some d ≡ None = sym e ∙ stands in cc)
+
+-- where no delivery is next, nothing is outstanding
+pub none-outstanding : {w : ℕ} (config : Config) (log : Log w) → is_none (next_delivery config (after config log)) ≡ (outstanding log == 0)
+    → next_delivery config (after config log) ≡ None → outstanding log ≡ 0
+none-outstanding config log moving none = eqb-true (outstanding log) 0 (sym moving ∙ ap is_none none)

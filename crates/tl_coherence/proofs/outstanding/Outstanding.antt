@@ -1,0 +1,410 @@
+-- What is outstanding is what is open: at every event the requests and Releases that it starts and ends are those that it
+-- opens and closes.
+use Rattle.std.proofs.Common.{◌≡◌, subst, ℕ, zero, suc, ◌+◌, ◌<◌, Bool, true, false, List, [], ◌∷◌, refl, sym, ◌∙◌, ap, arith, Option, Some, None}
+use Rattle.std.specs.Prelude.{◌==◌, if◌then◌else◌, map, Result, Ok, Err}
+use Rattle.tl_beat.specs.Width.{IsWidth}
+use Rattle.tl_beat.specs.declared.beat.Beat.{Beat}
+use Rattle.tl_beat.specs.declared.beat.Beat.TheVariants as beat
+use Rattle.tl_beat.specs.declared.beat.BeatD.{BeatD}
+use Rattle.tl_beat.specs.declared.beat.Link.{Link}
+use Rattle.tl_beat.specs.declared.channel.Channel.{Channel}
+use Rattle.tl_beat.specs.declared.channel.Channel.TheVariants as channel
+use Rattle.tl_beat.specs.declared.opcode.OpD.{OpD}
+use Rattle.tl_beat.specs.declared.opcode.OpD.TheVariants as opd
+use Rattle.tl_burst.specs.declared.message.Message.{Message}
+use Rattle.tl_burst.specs.declared.message.MessageD.{MessageD}
+use Rattle.tl_burst.specs.Burst.{beat_of, beats_of, d_beat_of}
+use Rattle.tl_burst.specs.Messages.{channel_of, unfinished}
+use Rattle.tl_burst.specs.Part.{completes}
+use Rattle.tl_params.specs.declared.config.Config.{Config}
+use Rattle.tl_params.specs.declared.rule.Rule.{Rule}
+use Rattle.tl_rules.specs.History.{is_release_ack}
+use Rattle.tl_client.specs.declared.verdict.Verdict.{Verdict}
+use Rattle.tl_client.specs.declared.verdict.Verdict.TheVariants as verdict
+use Rattle.tl_client.specs.End as client
+use Rattle.tl_client.specs.End.{Terms}
+use Rattle.tl_client.specs.Offer as offer
+use Rattle.tl_client.specs.Offer.{finish_of}
+use Rattle.tl_manager.specs.Handing.{grant_opcode}
+use Rattle.tl_manager.specs.Service.{is_access_answer}
+use Rattle.tl_coherence.specs.declared.event.Event.{Event}
+use Rattle.tl_coherence.specs.declared.event.Event.TheVariants.{Ask, Deliver}
+use Rattle.tl_coherence.specs.declared.event.Outcome.{Outcome}
+use Rattle.tl_coherence.specs.declared.event.Outcome.TheVariants as outcome
+use Rattle.tl_coherence.specs.statement.Draining.{is_moving}
+use Rattle.tl_coherence.specs.refinement.Follow.{Shadow, followed, followed_by, kind_taken, token_taken}
+use Rattle.tl_coherence.specs.statement.Load.{starts_request, starts_release, ends_request, ends_release}
+use Rattle.tl_coherence.specs.statement.Log.{Log, after}
+use Rattle.tl_coherence.specs.refinement.Matched.{receiver}
+use Rattle.tl_coherence.specs.bound.Potential.{open_requests, open_releases}
+use Rattle.tl_coherence.specs.protocol.Protocol.{Block, token, is_on, on}
+use Rattle.tl_coherence.specs.refinement.Render.{message_of, message_of_kind, rendered}
+use Rattle.tl_coherence.specs.statement.Step.{Step, is_to_client, outcome_of, stepped, stepped_at, delivered}
+use Rattle.tl_coherence.specs.statement.System.{System, terms_at}
+use Rattle.tl_coherence.specs.protocol.Token.{Kind, Request, Acquire, Probe, ProbeAck, Release, Answer, Grant, ReleaseAck, GrantAck, Token, one_if}
+use Rattle.tl_coherence.specs.refinement.Whole.{IsMatched, is_caching}
+use Rattle.tl_coherence.proofs.simulation.Bounded.{matched-bounded}
+use Rattle.tl_coherence.proofs.protocol.Capacities.{AreBounded}
+use Rattle.tl_coherence.proofs.queues.Carried.{IsNext}
+use Rattle.tl_coherence.proofs.client.ClientStep.{on_same}
+use Rattle.tl_coherence.proofs.protocol.Due.{answer-due, grant-due, grant_message, ack_message, grant-rendered}
+use Rattle.tl_coherence.proofs.queues.FirstToken.{IsFirst, first-token}
+use Rattle.tl_coherence.proofs.client.Heard.{finish_at, answer-last, answer-part, same_answers, acked}
+use Rattle.tl_coherence.proofs.deliveries.HeardAll.{rendered_release_ack}
+use Rattle.tl_coherence.proofs.deliveries.HeardAfter.{followed-moving, followed-still}
+use Rattle.tl_coherence.proofs.deliveries.ManagersAfter.{IsAtManager, at-manager}
+use Rattle.tl_coherence.proofs.simulation.Moved.{IsTakenByClient, client-moves}
+use Rattle.tl_coherence.proofs.outstanding.OpenAsks.{balance-asked}
+use Rattle.tl_coherence.proofs.protocol.OpenCounts.{clients_in, sources_in, IsBalance}
+use Rattle.tl_coherence.proofs.outstanding.OpenKinds.{is_ending, is_letting_go, balance-kind}
+use Rattle.tl_coherence.proofs.simulation.Owned.{sources-own}
+use Rattle.tl_coherence.proofs.queues.Standing.{client_below}
+use Rattle.tl_coherence.proofs.manager.RequestsTaken.{next_tracker}
+use Rattle.tl_coherence.proofs.queues.Codes.{access_kind}
+
+-- ---- what an outcome ends
+
+abbrev Ends : {w : ℕ} → Outcome w → Bool → Bool → Type 0
+Ends o ends lets_go = (ends_request o ≡ ends) × (ends_release o ≡ lets_go)
+
+still-ends : {w : ℕ} (o : Outcome w) → is_moving o ≡ false → Ends o false false
+still-ends (outcome.Replied r) e = (refl, refl)
+still-ends outcome.Empty e = (refl, refl)
+still-ends outcome.Stalled e = (refl, refl)
+still-ends outcome.NoSuchClient e = (refl, refl)
+still-ends (outcome.Moved x) e = absurd cc
+still-ends (outcome.Done x source f) e = absurd cc
+
+abbrev is_e : Channel → Bool
+is_e channel.E = true
+is_e _ = false
+
+moved-ends : {w : ℕ} (x : Beat w) → Ends (outcome.Moved x) (is_e (channel_of x)) false
+moved-ends (beat.A x) = (refl, refl)
+moved-ends (beat.B x) = (refl, refl)
+moved-ends (beat.C x) = (refl, refl)
+moved-ends (beat.D x) = (refl, refl)
+moved-ends (beat.E x) = (refl, refl)
+
+-- a response ends what its opcode says
+finish-ends : {w : ℕ} (x : Beat w) (source : ℕ) (o : OpD) (param size address : ℕ) (payload : List ℕ)
+    → Ends (outcome.Done x source (finish_of w o param size address payload)) (is_access_answer o) (is_release_ack o)
+finish-ends x source opd.AccessAck param size address payload = (refl, refl)
+finish-ends x source opd.AccessAckData param size address payload = (refl, refl)
+finish-ends x source opd.HintAck param size address payload = (refl, refl)
+finish-ends x source opd.Grant param size address payload = (refl, refl)
+finish-ends x source opd.GrantData param size address payload = (refl, refl)
+finish-ends x source opd.ReleaseAck param size address payload = (refl, refl)
+
+-- ---- what a message of the manager's channels ends
+
+manager-kind : (ch : Channel) (k : Kind) → is_to_client ch ≡ false → is_on ch k ≡ true → (is_ending k ≡ is_e ch) × (is_letting_go k ≡ false)
+manager-kind channel.A Request down own = (refl, refl)
+manager-kind channel.A Acquire down own = (refl, refl)
+manager-kind channel.C ProbeAck down own = (refl, refl)
+manager-kind channel.C Release down own = (refl, refl)
+manager-kind channel.E GrantAck down own = (refl, refl)
+manager-kind channel.A Probe down own = absurd cc
+manager-kind channel.A ProbeAck down own = absurd cc
+manager-kind channel.A Release down own = absurd cc
+manager-kind channel.A Answer down own = absurd cc
+manager-kind channel.A Grant down own = absurd cc
+manager-kind channel.A ReleaseAck down own = absurd cc
+manager-kind channel.A GrantAck down own = absurd cc
+manager-kind channel.C Request down own = absurd cc
+manager-kind channel.C Acquire down own = absurd cc
+manager-kind channel.C Probe down own = absurd cc
+manager-kind channel.C Answer down own = absurd cc
+manager-kind channel.C Grant down own = absurd cc
+manager-kind channel.C ReleaseAck down own = absurd cc
+manager-kind channel.C GrantAck down own = absurd cc
+manager-kind channel.E Request down own = absurd cc
+manager-kind channel.E Acquire down own = absurd cc
+manager-kind channel.E Probe down own = absurd cc
+manager-kind channel.E ProbeAck down own = absurd cc
+manager-kind channel.E Release down own = absurd cc
+manager-kind channel.E Answer down own = absurd cc
+manager-kind channel.E Grant down own = absurd cc
+manager-kind channel.E ReleaseAck down own = absurd cc
+manager-kind channel.B k down own = absurd cc
+manager-kind channel.D k down own = absurd cc
+
+-- a GrantAck is one beat
+ack_whole : (w c n : ℕ) (b : Block (List ℕ)) → beats_of (rendered {w = w} GrantAck c n b) ≡ 1
+unfolding rendered
+ack_whole w c n b = refl
+
+one_whole : (k n : ℕ) → n ≡ 1 → k < n → (k + 1 == n) ≡ true
+one_whole zero n e lt = rw e refl
+one_whole (suc k) n e lt = absurd (omega (arith, e, lt))
+
+grant_kind : (b : Bool) → (is_access_answer (grant_opcode b) ≡ false) × (is_release_ack (grant_opcode b) ≡ false)
+grant_kind true = (refl, refl)
+grant_kind false = (refl, refl)
+
+probe_on_b : (w c n k : ℕ) (b : Block (List ℕ)) → channel_of (beat_of (rendered {w = w} Probe c n b) k) ≡ channel.B
+unfolding rendered
+probe_on_b w c n k b = refl
+
+-- a Probe ends nothing
+answer_verdict : {w : ℕ} → Result (Verdict × Option (Message w)) Rule → Verdict
+answer_verdict (Ok p) = p.0
+answer_verdict (Err rule) = verdict.Stalled
+
+probe-verdict : {w : ℕ} (x : Beat w) (e : client.End w) (v : Verdict) (m : Option (Message w)) → channel_of x ≡ channel.B → (offer.taken x e).answer ≡ Ok (v, m) → v ≡ verdict.Taken
+unfolding answer_verdict
+probe-verdict {w} (beat.B y) e v m of_b answer = sym (ap (answer_verdict {w = w}) answer)
+probe-verdict (beat.A y) e v m of_b answer = absurd cc
+probe-verdict (beat.C y) e v m of_b answer = absurd cc
+probe-verdict (beat.D y) e v m of_b answer = absurd cc
+probe-verdict (beat.E y) e v m of_b answer = absurd cc
+
+probe-ends : {w : ℕ} (x : Beat w) (e : client.End w) (v : Verdict) (m : Option (Message w)) → channel_of x ≡ channel.B → (offer.taken x e).answer ≡ Ok (v, m) → Ends (outcome_of x v) false false
+probe-ends {w} x e v m of_b answer =
+    let ends = moved-ends x in
+    subst (λ (u : Verdict). Ends (outcome_of x u) false false) (sym (probe-verdict x e v m of_b answer)) (ends.0 ∙ ap is_e of_b, ends.1)
+
+-- the first beat of channel B is one of a Probe
+first-probe : {w : ℕ} (c : ℕ) (h : Shadow w) (sys : System w) (x : Beat w) (queue : List (Beat w)) (first : IsFirst channel.B c h.mail h.state sys x queue)
+    → (channel_of x ≡ channel.B) × ((is_ending first.kind ≡ false) × (is_letting_go first.kind ≡ false))
+first-probe {w} c h sys x queue first = go first.kind first.own first.next
+  where
+    go : (k : Kind) → is_on channel.B k ≡ true → IsNext x (unfinished channel.B (receiver channel.B c sys)) (message_of_kind k h.mail h.state c first.number)
+        (map (message_of h.mail h.state c) first.rest) queue
+        → (channel_of x ≡ channel.B) × ((is_ending k ≡ false) × (is_letting_go k ≡ false))
+    go Probe own next = (ap (λ (z : Beat w). channel_of z) next.beat_is ∙ probe_on_b w c first.number next.k (h.state.block first.number), (refl, refl))
+    go Request own next = absurd cc
+    go Acquire own next = absurd cc
+    go ProbeAck own next = absurd cc
+    go Release own next = absurd cc
+    go Answer own next = absurd cc
+    go Grant own next = absurd cc
+    go ReleaseAck own next = absurd cc
+    go GrantAck own next = absurd cc
+
+-- a delivery that moves a beat is one of a client's link, which has that beat
+pub first-moved : {w : ℕ} (config : Config) (link : Link) (ch : Channel) (sys : System w) → is_moving (stepped config (Deliver link ch) sys).outcome ≡ true
+    → (x : Beat w) × (queue : List (Beat w)) × (terms : Terms) × ((sys.channels link.0 ch ≡ x ∷ queue) × (terms_at config link.0 ≡ Some terms))
+unfolding stepped
+first-moved {w} config link ch sys moving = go (terms_at config link.0) refl moving
+  where
+    First : Type 0
+    First = (x : Beat w) × (queue : List (Beat w)) × (terms : Terms) × ((sys.channels link.0 ch ≡ x ∷ queue) × (terms_at config link.0 ≡ Some terms))
+
+    at : (terms : Terms) → terms_at config link.0 ≡ Some terms → (beats : List (Beat w)) → sys.channels link.0 ch ≡ beats
+        → is_moving (delivered config terms link.0 ch beats sys).outcome ≡ true → First
+    at terms e [] f m = absurd cc
+    at terms e (x ∷ queue) f m = (x, queue, terms, (f, e))
+
+    go : (o : Option Terms) → terms_at config link.0 ≡ o → is_moving (stepped_at config o (Deliver link ch) sys).outcome ≡ true → First
+    go None e m = absurd cc
+    go (Some terms) e m = at terms e (sys.channels link.0 ch) refl m
+
+-- ---- one event
+
+module _ {w : ℕ} (config : Config) (log : Log w) (h : Shadow w) (width : IsWidth w) (matched : IsMatched config log h.mail h.request h.state (after config log)) where
+  -- what this event, with this outcome, starts and ends is what is opened and closed
+  abbrev pub IsCounted : Event w → Outcome w → Shadow w → Type 0
+  IsCounted event o h' = IsBalance config h.state h'.state (starts_request event o) (ends_request o) (starts_release event o) (ends_release o)
+
+  bounds : (c : ℕ) → AreBounded c (sources_in config c) config.trackers h.state
+  bounds c = matched-bounded config log h.mail h.request h.state (after config log) matched c (sources-own config log c width)
+
+  counted-as : (link : Link) (ch : Channel) (o : Outcome w) (h' : Shadow w) (ends lets : Bool) → Ends o ends lets
+      → IsBalance config h.state h'.state false ends false lets → IsCounted (Deliver link ch) o h'
+  counted-as link ch o h' ends lets e b = record {
+    requests = ap (λ (x : Bool). open_requests config h'.state + one_if x) e.0 ∙ b.requests;
+    releases = ap (λ (x : Bool). open_releases config h'.state + one_if x) e.1 ∙ b.releases;
+  }
+
+  unopened : IsBalance config h.state h.state false false false false
+  unopened = record { requests = refl; releases = refl }
+
+  -- the last beat of a message, or another one
+  counted-either : (link : Link) (ch : Channel) (o : Outcome w) (tracker : ℕ) (k : Kind) (i : ℕ) (rest : List Token) (b : Bool) → link.0 < clients_in config
+      → on k (h.state.link link.0) ≡ token k i ∷ rest
+      → (b ≡ true → Ends o (is_ending k) (is_letting_go k)) → (b ≡ false → Ends o false false) → IsCounted (Deliver link ch) o (if b then kind_taken config tracker link.0 k i rest h else h)
+  counted-either link ch o tracker k i rest true few first last part = counted-as link ch o (kind_taken config tracker link.0 k i rest h) (is_ending k)
+      (is_letting_go k) (last refl) (balance-kind config log tracker link.0 k i rest h (after config log) matched few (bounds link.0) first)
+  counted-either link ch o tracker k i rest false few first last part = counted-as link ch o h false false (part refl) unopened
+
+  -- ---- what the manager takes
+
+  whole_e : (c : ℕ) (k : Kind) (n : ℕ) → is_on channel.E k ≡ true → beats_of (message_of_kind k h.mail h.state c n) ≡ 1
+  whole_e c GrantAck n on_it = ack_whole w c n (h.state.block n)
+  whole_e c Request n on_it = absurd cc
+  whole_e c Acquire n on_it = absurd cc
+  whole_e c Probe n on_it = absurd cc
+  whole_e c ProbeAck n on_it = absurd cc
+  whole_e c Release n on_it = absurd cc
+  whole_e c Answer n on_it = absurd cc
+  whole_e c Grant n on_it = absurd cc
+  whole_e c ReleaseAck n on_it = absurd cc
+
+  part_apart : (ch : Channel) (c : ℕ) (x : Beat w) (queue : List (Beat w)) → IsFirst ch c h.mail h.state (after config log) x queue
+      → completes x (unfinished ch (receiver ch c (after config log))) ≡ false → is_e ch ≡ false
+  part_apart channel.A c x queue first part = refl
+  part_apart channel.B c x queue first part = refl
+  part_apart channel.C c x queue first part = refl
+  part_apart channel.D c x queue first part = refl
+  part_apart channel.E c x queue first part =
+      let one = whole_e c first.kind first.number first.own in
+      let yes = first.next.completes_is ∙ one_whole first.next.k (beats_of (message_of_kind first.kind h.mail h.state c first.number)) one first.next.within in
+      absurd (let both : true ≡ false = sym yes ∙ part in cc)
+
+  counted-manager : (link : Link) (ch : Channel) (terms : Terms) (x : Beat w) (queue : List (Beat w)) → terms_at config link.0 ≡ Some terms
+      → is_to_client ch ≡ false → (after config log).channels link.0 ch ≡ x ∷ queue
+      → is_moving (stepped config (Deliver link ch) (after config log)).outcome ≡ true
+      → IsCounted (Deliver link ch) (stepped config (Deliver link ch) (after config log)).outcome (followed config (Deliver link ch) (after config log) h)
+  counted-manager link ch terms x queue known down beats moving =
+      subst (λ (o : Outcome w). IsCounted (Deliver link ch) o (followed config (Deliver link ch) (after config log) h)) (sym (ap (λ (y : Step w). y.outcome) at.step_is))
+      (subst (λ (z : Shadow w). IsCounted (Deliver link ch) (outcome.Moved x) z) (sym at.follows)
+      (counted-either link ch (outcome.Moved x) (next_tracker (after config log)) at.first.kind at.first.number at.first.rest
+      (completes x (unfinished ch (receiver ch link.0 (after config log)))) (client_below config link.0 terms known)
+      (on_same ch at.first.kind (h.state.link link.0) at.first.own ∙ at.first.tokens)
+      (λ last. (ends.0 ∙ sym kinds.0, ends.1 ∙ sym kinds.1)) (λ part. (ends.0 ∙ part_apart ch link.0 x queue at.first part, ends.1))))
+    where
+      at : IsAtManager config log link ch h x queue
+      at = at-manager config log link ch h terms x queue width matched known down beats moving
+
+      ends : Ends (outcome.Moved x) (is_e ch) false
+      ends = subst (λ (i : Channel). Ends (outcome.Moved x) (is_e i) false) at.of_it (moved-ends x)
+
+      kinds : (is_ending at.first.kind ≡ is_e ch) × (is_letting_go at.first.kind ≡ false)
+      kinds = manager-kind ch at.first.kind down at.first.own
+
+  -- ---- what a client takes
+
+  -- the first token of the channel, and what its message ends
+  counted-client : (link : Link) (ch : Channel) (terms : Terms) (x : Beat w) (queue : List (Beat w)) → terms_at config link.0 ≡ Some terms → (after config log).channels link.0 ch ≡ x ∷ queue
+      → is_moving (stepped config (Deliver link ch) (after config log)).outcome ≡ true → (first : IsFirst ch link.0 h.mail h.state (after config log) x queue)
+      → IsTakenByClient terms link.0 ch x queue (after config log) (stepped config (Deliver link ch) (after config log))
+      → ((v : Verdict) (m : Option (Message w)) → (offer.taken x ((after config log).clients link.0)).answer ≡ Ok (v, m)
+      → (completes x (unfinished ch (receiver ch link.0 (after config log))) ≡ true → Ends (outcome_of x v) (is_ending first.kind) (is_letting_go first.kind))
+      × (completes x (unfinished ch (receiver ch link.0 (after config log))) ≡ false → Ends (outcome_of x v) false false))
+      → IsCounted (Deliver link ch) (stepped config (Deliver link ch) (after config log)).outcome (followed config (Deliver link ch) (after config log) h)
+  counted-client link ch terms x queue known beats moving first t ends =
+      subst (λ (o : Outcome w). IsCounted (Deliver link ch) o (followed config (Deliver link ch) (after config log) h)) (sym (ap (λ (y : Step w). y.outcome) t.step_is))
+      (subst (λ (z : Shadow w). IsCounted (Deliver link ch) (outcome_of x t.verdict_is) z) (sym follows)
+      (counted-either link ch (outcome_of x t.verdict_is) (next_tracker (after config log)) first.kind first.number first.rest done (client_below config link.0 terms known)
+      (on_same ch first.kind (h.state.link link.0) first.own ∙ first.tokens) (ends t.verdict_is t.message t.answer).0 (ends t.verdict_is t.message t.answer).1))
+    where
+      done : Bool
+      done = completes x (unfinished ch (receiver ch link.0 (after config log)))
+
+      follows : followed config (Deliver link ch) (after config log) h ≡ (if done then kind_taken config (next_tracker (after config log)) link.0 first.kind first.number first.rest h else h)
+      follows =
+          followed-moving config link ch (after config log) h x queue moving beats
+          ∙ ap (λ (l : List Token). if done then token_taken config (next_tracker (after config log)) link.0 l h else h) first.tokens
+
+  counted-b : (link : Link) (terms : Terms) (x : Beat w) (queue : List (Beat w)) → terms_at config link.0 ≡ Some terms → (after config log).channels link.0 channel.B ≡ x ∷ queue
+      → is_moving (stepped config (Deliver link channel.B) (after config log)).outcome ≡ true
+      → IsCounted (Deliver link channel.B) (stepped config (Deliver link channel.B) (after config log)).outcome
+      (followed config (Deliver link channel.B) (after config log) h)
+  counted-b link terms x queue known beats moving =
+      counted-client link channel.B terms x queue known beats moving first (client-moves config link channel.B (after config log) terms x queue known beats refl moving) (λ v m answer.
+      let none = probe-ends x ((after config log).clients link.0) v m probe.0 answer in
+      (λ last. (none.0 ∙ sym probe.1.0, none.1 ∙ sym probe.1.1), λ part. none))
+    where
+      first : IsFirst channel.B link.0 h.mail h.state (after config log) x queue
+      first = first-token (is_caching config) channel.B link.0 h.mail h.state (after config log) x queue width matched.invariant matched.carried beats
+
+      probe : (channel_of x ≡ channel.B) × ((is_ending first.kind ≡ false) × (is_letting_go first.kind ≡ false))
+      probe = first-probe link.0 h (after config log) x queue first
+
+  -- a response, by the opcode of its message
+  response-ends : (c : ℕ) (k : Kind) (mm : MessageD w) (i : ℕ) (x : Beat w) → x ≡ beat.D (d_beat_of mm i) → is_access_answer mm.opcode ≡ is_ending k → is_release_ack mm.opcode ≡ is_letting_go k
+      → (v : Verdict) (m : Option (Message w)) → (offer.taken x ((after config log).clients c)).answer ≡ Ok (v, m)
+      → (completes x (unfinished channel.D ((after config log).clients c).past) ≡ true → Ends (outcome_of x v) (is_ending k) (is_letting_go k))
+      × (completes x (unfinished channel.D ((after config log).clients c).past) ≡ false → Ends (outcome_of x v) false false)
+  response-ends c k mm i x x_is access ack v m answer = (last, part)
+    where
+      e : client.End w
+      e = (after config log).clients c
+
+      y : BeatD w
+      y = d_beat_of mm i
+
+      at : (b : Bool) → completes x (unfinished channel.D e.past) ≡ b → completes (beat.D y) (unfinished channel.D e.past) ≡ b
+      at b f = sym (ap (λ (z : Beat w). completes z (unfinished channel.D e.past)) x_is) ∙ f
+
+      last : completes x (unfinished channel.D e.past) ≡ true → Ends (outcome_of x v) (is_ending k) (is_letting_go k)
+      last f =
+          let same = (same_answers v (verdict.Done y.source (finish_at y e)) m (acked y.opcode y.sink) (offer.taken x e).answer answer
+          (ap (λ (z : Beat w). (offer.taken z e).answer) x_is ∙ answer-last y e (at true f))).0 in
+          let ends = finish-ends x y.source y.opcode y.param y.size _ _ in
+          subst (λ (u : Verdict). Ends (outcome_of x u) (is_ending k) (is_letting_go k)) (sym same) (ends.0 ∙ access, ends.1 ∙ ack)
+
+      part : completes x (unfinished channel.D e.past) ≡ false → Ends (outcome_of x v) false false
+      part f =
+          let same = (same_answers v verdict.Taken m None (offer.taken x e).answer answer (ap (λ (z : Beat w). (offer.taken z e).answer) x_is ∙ answer-part y e (at false f))).0 in
+          let ends = moved-ends x in
+          subst (λ (u : Verdict). Ends (outcome_of x u) false false) (sym same) (ends.0 ∙ ap (λ (z : Beat w). is_e (channel_of z)) x_is, ends.1)
+
+  counted-d : (link : Link) (terms : Terms) (x : Beat w) (queue : List (Beat w)) → terms_at config link.0 ≡ Some terms → (after config log).channels link.0 channel.D ≡ x ∷ queue
+      → is_moving (stepped config (Deliver link channel.D) (after config log)).outcome ≡ true
+      → IsCounted (Deliver link channel.D) (stepped config (Deliver link channel.D) (after config log)).outcome
+      (followed config (Deliver link channel.D) (after config log) h)
+  counted-d link terms x queue known beats moving =
+      counted-client link channel.D terms x queue known beats moving first
+      (client-moves config link channel.D (after config log) terms x queue known beats refl moving) (kinds first.kind first.tokens first.own first.next)
+    where
+      c : ℕ
+      c = link.0
+
+      first : IsFirst channel.D c h.mail h.state (after config log) x queue
+      first = first-token (is_caching config) channel.D c h.mail h.state (after config log) x queue width matched.invariant matched.carried beats
+
+      Here : Kind → Type 0
+      Here k = (v : Verdict) (m : Option (Message w)) → (offer.taken x ((after config log).clients c)).answer ≡ Ok (v, m)
+          → (completes x (unfinished channel.D ((after config log).clients c).past) ≡ true → Ends (outcome_of x v) (is_ending k) (is_letting_go k))
+          × (completes x (unfinished channel.D ((after config log).clients c).past) ≡ false → Ends (outcome_of x v) false false)
+
+      kinds : (k : Kind) → (h.state.link c).d ≡ token k first.number ∷ first.rest → is_on channel.D k ≡ true
+          → IsNext x (unfinished channel.D (receiver channel.D c (after config log))) (message_of_kind k h.mail h.state c first.number) (map (message_of h.mail h.state c) first.rest) queue → Here k
+      kinds Answer tokens own next =
+          let due = answer-due (is_caching config) c first.number first.rest h.mail h.state matched.invariant (matched.answered c first.number) tokens in
+          response-ends c Answer due.answer next.k x (next.beat_is ∙ ap (λ (m : Message w). beat_of m next.k) due.answer_is) due.answers_access (access_kind due.answer.opcode due.answers_access).1
+      kinds Grant tokens own next =
+          let due = grant-due (is_caching config) c first.number first.rest h.state matched.invariant tokens in
+          response-ends c Grant (grant_message due.data_too due.k ((h.state.block first.number).source c) (h.state.block first.number).tracker (h.state.block first.number).truth) next.k x
+          (next.beat_is ∙ ap (λ (m : Message w). beat_of m next.k) (grant-rendered c first.number h.state due)) (grant_kind due.data_too).0 (grant_kind due.data_too).1
+      kinds ReleaseAck tokens own next =
+          response-ends c ReleaseAck (ack_message ((h.state.block first.number).release_source c)) next.k x
+          (next.beat_is ∙ ap (λ (m : Message w). beat_of m next.k) (rendered_release_ack c first.number (h.state.block first.number))) refl refl
+      kinds Request tokens own next = absurd cc
+      kinds Acquire tokens own next = absurd cc
+      kinds Probe tokens own next = absurd cc
+      kinds ProbeAck tokens own next = absurd cc
+      kinds Release tokens own next = absurd cc
+      kinds GrantAck tokens own next = absurd cc
+
+  -- ---- any event
+
+  counted-delivery : (link : Link) (ch : Channel) (b : Bool) → is_moving (stepped config (Deliver link ch) (after config log)).outcome ≡ b
+      → IsCounted (Deliver link ch) (stepped config (Deliver link ch) (after config log)).outcome (followed config (Deliver link ch) (after config log) h)
+  counted-delivery link ch false still =
+      subst (λ (z : Shadow w). IsCounted (Deliver link ch) (stepped config (Deliver link ch) (after config log)).outcome z) (sym (followed-still config link ch (after config log) h still))
+      (counted-as link ch (stepped config (Deliver link ch) (after config log)).outcome h false false (still-ends (stepped config (Deliver link ch) (after config log)).outcome still) unopened)
+  counted-delivery link ch true moving = go ch (first-moved config link ch (after config log) moving) moving
+    where
+      go : (i : Channel) → ((x : Beat w) × (queue : List (Beat w)) × (terms : Terms)
+          × (((after config log).channels link.0 i ≡ x ∷ queue) × (terms_at config link.0 ≡ Some terms)))
+          → is_moving (stepped config (Deliver link i) (after config log)).outcome ≡ true
+          → IsCounted (Deliver link i) (stepped config (Deliver link i) (after config log)).outcome (followed config (Deliver link i) (after config log) h)
+      go channel.A p m = counted-manager link channel.A p.2 p.0 p.1 p.3.1 refl p.3.0 m
+      go channel.B p m = counted-b link p.2 p.0 p.1 p.3.1 p.3.0 m
+      go channel.C p m = counted-manager link channel.C p.2 p.0 p.1 p.3.1 refl p.3.0 m
+      go channel.D p m = counted-d link p.2 p.0 p.1 p.3.1 p.3.0 m
+      go channel.E p m = counted-manager link channel.E p.2 p.0 p.1 p.3.1 refl p.3.0 m
+
+  -- What an event starts and ends is what it opens and closes.
+  pub counted-followed : (event : Event w) → IsCounted event (stepped config event (after config log)).outcome (followed config event (after config log) h)
+  unfolding stepped
+  counted-followed (Deliver link ch) = counted-delivery link ch (is_moving (stepped config (Deliver link ch) (after config log)).outcome) refl
+  counted-followed (Ask c o) = go (terms_at config c) refl
+    where
+      go : (t : Option Terms) → terms_at config c ≡ t → IsCounted (Ask c o) (stepped_at config t (Ask c o) (after config log)).outcome
+          (followed_by config (Ask c o) (stepped_at config t (Ask c o) (after config log)).outcome (after config log) h)
+      go None e = record { requests = refl; releases = refl }
+      go (Some terms) e = balance-asked config log h (after config log) terms c o matched e (client_below config c terms e)

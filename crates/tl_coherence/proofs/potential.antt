@@ -1,0 +1,5 @@
+pub mod Falls
+pub mod Frames
+pub mod Owing
+pub mod Remainders
+pub mod Weights

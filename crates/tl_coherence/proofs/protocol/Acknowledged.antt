@@ -1,0 +1,204 @@
+-- A ReleaseAck and a GrantAck that are taken keep the invariant.
+use Rattle.std.proofs.Common.{◌≡◌, refl, sym, ◌∙◌, ap, inl, inr}
+use Rattle.std.specs.Prelude.{ℕ, Bool, true, false, not, List, ◌∷◌, ◌==◌, ◌&&◌, Some, None}
+use Rattle.std.proofs.lemmas.Bool.{cases_eq, ne_eqb}
+use Rattle.std.proofs.Math.Bool.{and-false}
+use Rattle.tl_beat.specs.declared.channel.Channel.{Channel}
+use Rattle.tl_beat.specs.declared.channel.Channel.TheVariants as channel
+use Rattle.tl_coherence.specs.protocol.Phase.{Pair, View, Idle, Acknowledging, GrantedOther, Acked, is_kept, is_quiet}
+use Rattle.tl_coherence.specs.protocol.PhaseSteps.{after_release_ack}
+use Rattle.tl_coherence.specs.protocol.Token.{Kind, Request, Acquire, Probe, ProbeAck, Release, Answer, Grant, ReleaseAck, GrantAck, Token, set, set_at}
+use Rattle.tl_coherence.specs.protocol.Protocol.{GrantTaken, Block, State, Link, view, token, shows, is_transfer, is_wanting, is_unserved, is_sent, is_answered}
+use Rattle.tl_coherence.specs.protocol.Protocol.{is_releasing, is_acked, is_granting, is_acknowledging, let_go_block, release_ack_taken, freed_block, grant_ack_taken}
+use Rattle.tl_coherence.specs.refinement.Move.{Move, Stays, Pushes, Pops, AreMoved, agrees, is_own_move, channel_for}
+use Rattle.tl_coherence.specs.protocol.Invariant.{is_out, is_of, acquires_of, serves_of, acquires_with, serves_with, releases_with, tracks_with, IsWell, IsInvariant}
+use Rattle.tl_coherence.proofs.queues.Moves.{moves_at, event-at, bare-at, names-block, names-set, names-set_at, invariant-moved, same_again}
+use Rattle.tl_coherence.proofs.queues.Tokens.{same_number, set-same, set-other, set-part}
+use Rattle.tl_coherence.proofs.queues.PhaseSteps.{release_ack-ok, ack_taken-ok, ack_taken_other-ok}
+use Rattle.tl_coherence.proofs.protocol.Blocks.{gentle-same, awaited-same, asked_cap-same, alone-set, owned-set, outside-set, busy-inside}
+use Rattle.tl_coherence.proofs.protocol.BothParts.{is_of-is}
+
+-- ---- a ReleaseAck
+
+pub let_go-block : {X : Type 0} (caching : ℕ → Bool) (c : ℕ) (b : Block X) → IsWell caching b → (b.pair c).letting ≡ Acked → IsWell caching (let_go_block c b)
+let_go-block caching c b h acked =
+    let after : Pair = after_release_ack (b.pair c) in
+    let held_same = set-part (λ (p : Pair). p.held) c after b.pair refl in
+    let recorded_same = set-part (λ (p : Pair). p.recorded) c after b.pair refl in
+    record {
+      phases = λ d. elim (cases_eq d c) [
+        | inl same ↦ rw (same, set-same c after b.pair) (release_ack-ok (b.pair c) (view b.service c) (h.phases c) acked)
+        | inr other ↦ rw (set-other c d after b.pair other) (h.phases d)
+      ];
+      awaited = awaited-same b.service b.pair (set c after b.pair) (set-part (λ (p : Pair). is_quiet p.probing) c after b.pair refl) h.awaited;
+      asked_cap = asked_cap-same b.service b.pair (set c after b.pair) (set-part (λ (p : Pair). p.acquiring) c after b.pair refl) h.asked_cap;
+      own_source = h.own_source;
+      alone = alone-set c after b.pair (gentle-same (b.pair c) after refl refl) h.alone;
+      one_owner = owned-set c after b.pair (gentle-same (b.pair c) after refl refl) h.one_owner;
+      outside = outside-set caching c after b.pair (busy-inside caching c b.pair (λ p. is_acked p.letting) refl (rw acked refl) h.outside) h.outside;
+      copies = λ d some. h.copies d (rw (held_same d) at some);
+      memory = λ none. h.memory (λ d. rw (recorded_same d) at (none d));
+    }
+
+abbrev pub let_go_moves : ℕ → Channel → Move
+let_go_moves n channel.D = Pops ReleaseAck n
+let_go_moves n _ = Stays
+
+let_go_shows : (n : ℕ) (k : Kind) (p : Pair) (v : View) → is_transfer k ≡ true → p.letting ≡ Acked → agrees (let_go_moves n (channel_for k)) k n (shows k p v) (shows k (after_release_ack p) v) ≡ true
+let_go_shows n Request p v t e = absurd cc
+let_go_shows n Answer p v t e = absurd cc
+let_go_shows n Acquire p v t e = same_again (is_wanting p.acquiring && is_unserved v)
+let_go_shows n Probe p v t e = same_again (is_sent p.probing)
+let_go_shows n ProbeAck p v t e = same_again (is_answered p.probing)
+let_go_shows n Release p v t e = rw e refl
+let_go_shows n Grant p v t e = same_again (is_granting v)
+let_go_shows n ReleaseAck p v t e = rw (same_number n) refl
+let_go_shows n GrantAck p v t e = same_again (is_acknowledging v)
+
+pub release_ack_taken-kept : {X : Type 0} (caching : ℕ → Bool) (c n : ℕ) (rest : List Token) (s : State X) → IsInvariant caching s → (s.link c).d ≡ token ReleaseAck n ∷ rest
+    → ((s.block n).pair c).letting ≡ Acked → IsInvariant caching (release_ack_taken c n rest s)
+release_ack_taken-kept {X} caching c n rest s inv first acked =
+    invariant-moved caching n new (set c here s.link) (moves_at c (let_go_moves n)) (set_at c source None s.lets) s.tracked s inv
+    (event-at caching c n new here (let_go_moves n) s (record {
+      well = let_go-block caching c (s.block n) (inv.blocks n) acked;
+      moved = moved;
+      own = own;
+      fits = λ k t. rw (set-same c after old) (let_go_shows n k (old c) (view (s.block n).service c) t acked);
+      others = λ d ne k t. ap (λ (p : Pair). shows k p (view (s.block n).service d)) (set-other c d after old ne);
+      in_order = λ m e. absurd (let f : Stays ≡ Pushes ProbeAck m = e in cc);
+    }))
+    (bare-at c (let_go_moves n) refl refl)
+    (record {
+      acquires = λ d. names-block acquires_of (acquires_with d) (s.uses d) n new s.block (λ i. rw (set-part (λ (p : Pair). p.acquiring) c after old refl d) refl) (inv.named.acquires d);
+      serves = λ d. names-block serves_of (serves_with d) (s.uses d) n new s.block (λ i. refl) (inv.named.serves d);
+      releases = names-set_at is_of releases_with c source None s.lets n new s.block (rw (set-same c after old) refl) (λ m ne. rw used (sym (ne_eqb m n ne)))
+          (λ i ne. rw (set-same c after old, ne_eqb i source ne) (sym (and-false (not (is_kept (old c).letting))))) (λ d i ne. rw (set-other c d after old ne) refl) inv.named.releases;
+      trackers = names-block is_of tracks_with s.tracked n new s.block (λ i. refl) inv.named.trackers;
+    })
+  where
+    old : ℕ → Pair
+    old = (s.block n).pair
+
+    after : Pair
+    after = after_release_ack (old c)
+
+    new : Block X
+    new = let_go_block c (s.block n)
+
+    here : Link
+    here = record (s.link c) { d = rest }
+
+    source : ℕ
+    source = (s.block n).release_source c
+
+    used : s.lets c source ≡ Some n
+    used = is_of-is n (s.lets c source) (inv.named.releases c source n ∙ rw (acked, same_number source) refl)
+
+    moved : AreMoved (let_go_moves n) (s.link c) here
+    moved channel.A = refl
+    moved channel.B = refl
+    moved channel.C = refl
+    moved channel.D = first
+    moved channel.E = refl
+
+    own : (ch : Channel) → is_own_move ch (let_go_moves n ch) ≡ true
+    own channel.A = refl
+    own channel.B = refl
+    own channel.C = refl
+    own channel.D = refl
+    own channel.E = refl
+
+-- ---- a GrantAck
+
+pub freed-block : {X : Type 0} (caching : ℕ → Bool) (c : ℕ) (b : Block X) → IsWell caching b → b.service ≡ GrantTaken c → IsWell caching (freed_block b)
+freed-block caching c b h taken = record {
+  phases = λ d. elim (cases_eq d c) [
+    | inl same ↦ rw same (ack_taken-ok (b.pair c) (view b.service c) (h.phases c) (rw (taken, same_number c) refl))
+    | inr other ↦ ack_taken_other-ok (b.pair d) (view b.service d) (h.phases d) (rw (taken, ne_eqb d c other) refl)
+  ];
+  awaited = tt;
+  asked_cap = tt;
+  own_source = tt;
+  alone = h.alone;
+  one_owner = h.one_owner;
+  outside = h.outside;
+  copies = h.copies;
+  memory = λ none. h.memory (λ d. ungranted d (d == c) refl ∙ none d);
+}
+  where
+    ungranted : (d : ℕ) (x : Bool) → (d == c) ≡ x → is_out (b.pair d) (view b.service d) ≡ is_out (b.pair d) Idle
+    ungranted d true e = rw (taken, e) refl
+    ungranted d false e = rw (taken, e) refl
+
+abbrev pub freed_moves : ℕ → Channel → Move
+freed_moves n channel.E = Pops GrantAck n
+freed_moves n _ = Stays
+
+freed_shows : (n : ℕ) (k : Kind) (p : Pair) → is_transfer k ≡ true → agrees (freed_moves n (channel_for k)) k n (shows k p Acknowledging) (shows k p Idle) ≡ true
+freed_shows n Request p t = absurd cc
+freed_shows n Answer p t = absurd cc
+freed_shows n Acquire p t = same_again (is_wanting p.acquiring && true)
+freed_shows n Probe p t = same_again (is_sent p.probing)
+freed_shows n ProbeAck p t = same_again (is_answered p.probing)
+freed_shows n Release p t = same_again (is_releasing p.letting)
+freed_shows n Grant p t = refl
+freed_shows n ReleaseAck p t = same_again (is_acked p.letting)
+freed_shows n GrantAck p t = rw (same_number n) refl
+
+freed_beside : (k : Kind) (p : Pair) → shows k p Idle ≡ shows k p GrantedOther
+freed_beside Request p = refl
+freed_beside Answer p = refl
+freed_beside Acquire p = refl
+freed_beside Probe p = refl
+freed_beside ProbeAck p = refl
+freed_beside Release p = refl
+freed_beside Grant p = refl
+freed_beside ReleaseAck p = refl
+freed_beside GrantAck p = refl
+
+pub grant_ack_taken-kept : {X : Type 0} (caching : ℕ → Bool) (c n : ℕ) (rest : List Token) (s : State X) → IsInvariant caching s → (s.link c).e ≡ token GrantAck n ∷ rest
+    → (s.block n).service ≡ GrantTaken c
+    → IsInvariant caching (grant_ack_taken c n rest s)
+grant_ack_taken-kept {X} caching c n rest s inv first taken =
+    invariant-moved caching n new (set c here s.link) (moves_at c (freed_moves n)) s.lets (set tracker None s.tracked) s inv
+    (event-at caching c n new here (freed_moves n) s (record {
+      well = freed-block caching c (s.block n) (inv.blocks n) taken;
+      moved = moved;
+      own = own;
+      fits = λ k t. rw (taken, same_number c) (freed_shows n k ((s.block n).pair c) t);
+      others = λ d ne k t. rw (taken, ne_eqb d c ne) (freed_beside k ((s.block n).pair d));
+      in_order = λ m e. absurd (let f : Stays ≡ Pushes ProbeAck m = e in cc);
+    }))
+    (bare-at c (freed_moves n) refl refl)
+    (record {
+      acquires = λ d. names-block acquires_of (acquires_with d) (s.uses d) n new s.block (λ i. refl) (inv.named.acquires d);
+      serves = λ d. names-block serves_of (serves_with d) (s.uses d) n new s.block (λ i. rw taken refl) (inv.named.serves d);
+      releases = λ d. names-block is_of (releases_with d) (s.lets d) n new s.block (λ i. refl) (inv.named.releases d);
+      trackers = names-set is_of tracks_with s.tracked tracker None n new s.block refl (λ m ne. rw used (sym (ne_eqb m n ne))) (λ i ne. rw (taken, ne_eqb i tracker ne) refl) inv.named.trackers;
+    })
+  where
+    new : Block X
+    new = freed_block (s.block n)
+
+    here : Link
+    here = record (s.link c) { e = rest }
+
+    tracker : ℕ
+    tracker = (s.block n).tracker
+
+    used : s.tracked tracker ≡ Some n
+    used = is_of-is n (s.tracked tracker) (inv.named.trackers tracker n ∙ rw (taken, same_number tracker) refl)
+
+    moved : AreMoved (freed_moves n) (s.link c) here
+    moved channel.A = refl
+    moved channel.B = refl
+    moved channel.C = refl
+    moved channel.D = refl
+    moved channel.E = first
+
+    own : (ch : Channel) → is_own_move ch (freed_moves n ch) ≡ true
+    own channel.A = refl
+    own channel.B = refl
+    own channel.C = refl
+    own channel.D = refl
+    own channel.E = refl

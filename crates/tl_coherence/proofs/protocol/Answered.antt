@@ -1,0 +1,148 @@
+-- An access that is answered as it is taken, and an answer that is taken, keep the invariant.
+use Rattle.std.proofs.Common.{◌≡◌, refl, sym, ◌∙◌, ap, ◌⊎◌, inl, inr}
+use Rattle.std.specs.Prelude.{ℕ, Bool, true, false, List, ◌∷◌}
+use Rattle.tl_beat.specs.declared.channel.Channel.{Channel}
+use Rattle.tl_beat.specs.declared.channel.Channel.TheVariants as channel
+use Rattle.tl_params.specs.declared.perm.Perm.TheVariants as perm
+use Rattle.tl_rules.specs.Conformance.{same_perm}
+use Rattle.tl_coherence.specs.protocol.Token.{Kind, Request, Acquire, Probe, ProbeAck, Release, Answer, Grant, ReleaseAck, GrantAck, Token, set}
+use Rattle.tl_coherence.specs.protocol.Protocol.{Block, State, Link, Closed, Asked, Replied, view, token, shown, is_transfer, performed_block, answered_link, access_answered, answer_taken}
+use Rattle.tl_coherence.specs.refinement.Move.{Move, Stays, Pushes, Pops, AreMoved, is_own_move, channel_for}
+use Rattle.tl_coherence.specs.protocol.Invariant.{is_of, acquires_of, serves_of, acquires_with, serves_with, releases_with, tracks_with, IsWell, IsInvariant}
+use Rattle.tl_coherence.proofs.queues.Moves.{moves_at, event-at, bare-elsewhere, spares, spared-agrees, invariant-moved_access, names-block, names-set_at, invariant-moved_use}
+use Rattle.tl_coherence.proofs.queues.Tokens.{same_number}
+use Rattle.tl_coherence.proofs.queues.Facts.{held_at_most}
+use Rattle.tl_coherence.proofs.queues.Perms.{nothing_below}
+
+-- ---- the block
+
+-- the access leaves the bytes as they are, or nobody has a copy
+abbrev pub Spares : {X : Type 0} → (X → X) → Block X → Type 0
+Spares f b = (f b.truth ≡ b.truth) ⊎ ((d : ℕ) → same_perm (b.pair d).recorded perm.None ≡ true)
+
+pub performed-block : {X : Type 0} (caching : ℕ → Bool) (f : X → X) (b : Block X) → IsWell caching b → Spares f b → IsWell caching (performed_block f b)
+performed-block {X} caching f b h spared = record {
+  phases = h.phases;
+  awaited = h.awaited;
+  asked_cap = h.asked_cap;
+  own_source = h.own_source;
+  alone = h.alone;
+  one_owner = h.one_owner;
+  outside = h.outside;
+  copies = λ d some. copy_is d some spared;
+  memory = λ none. ap f (h.memory none);
+}
+  where
+    copy_is : (d : ℕ) → same_perm (b.pair d).held perm.None ≡ false → Spares f b → b.copy d ≡ f b.truth
+    copy_is d some (inl same) = h.copies d some ∙ sym same
+    copy_is d some (inr none) =
+        absurd (let no = nothing_below (b.pair d).held (b.pair d).recorded (held_at_most (b.pair d) (view b.service d) (h.phases d)) (none d) in let differs : true ≡ false = sym no ∙ some in cc)
+
+-- ---- the whole
+
+-- an access is taken and its answer handed out
+abbrev pub answer_moves : ℕ → Channel → Move
+answer_moves source channel.A = Pops Request source
+answer_moves source channel.D = Pushes Answer source
+answer_moves source _ = Stays
+
+answer_spared : (source : ℕ) (k : Kind) → is_transfer k ≡ true → spares (answer_moves source (channel_for k)) k ≡ true
+answer_spared source Request t = absurd cc
+answer_spared source Answer t = absurd cc
+answer_spared source Acquire t = refl
+answer_spared source Probe t = refl
+answer_spared source ProbeAck t = refl
+answer_spared source Release t = refl
+answer_spared source Grant t = refl
+answer_spared source ReleaseAck t = refl
+answer_spared source GrantAck t = refl
+
+pub access_answered-kept : {X : Type 0} (caching : ℕ → Bool) (c n source : ℕ) (f : X → X) (rest : List Token) (s : State X) → IsInvariant caching s → (s.link c).a ≡ token Request source ∷ rest
+    → s.uses c source ≡ Asked
+    → Spares f (s.block n) → IsInvariant caching (access_answered c n source f rest s)
+access_answered-kept {X} caching c n source f rest s inv first asked spared =
+    invariant-moved_use caching n new (set c here s.link) (moves_at c (answer_moves source)) c source Replied s.tracked s inv
+    (event-at caching c n new here (answer_moves source) s (record {
+      well = performed-block caching f (s.block n) (inv.blocks n) spared;
+      moved = moved;
+      own = own;
+      fits = λ k t. spared-agrees (answer_moves source (channel_for k)) k n (shown k c (s.block n)) (answer_spared source k t);
+      others = λ d ne k t. refl;
+      in_order = λ m e. absurd (let f : Stays ≡ Pushes ProbeAck m = e in cc);
+    }))
+    (rw (same_number c, same_number source) refl) (rw (same_number c, asked, same_number source) refl) (bare-elsewhere c (answer_moves source))
+    (record {
+      acquires = names-set_at acquires_of acquires_with c source Replied s.uses n new s.block (rw asked at (inv.named.acquires c source n))
+          (λ m ne. rw asked refl) (λ i ne. refl) (λ d i ne. refl) inv.named.acquires;
+      serves = names-set_at serves_of serves_with c source Replied s.uses n new s.block (rw asked at (inv.named.serves c source n)) (λ m ne. rw asked refl)
+          (λ i ne. refl) (λ d i ne. refl) inv.named.serves;
+      releases = λ d. names-block is_of (releases_with d) (s.lets d) n new s.block (λ i. refl) (inv.named.releases d);
+      trackers = names-block is_of tracks_with s.tracked n new s.block (λ i. refl) inv.named.trackers;
+    })
+  where
+    new : Block X
+    new = performed_block f (s.block n)
+
+    here : Link
+    here = answered_link (token Answer source) rest (s.link c)
+
+    moved : AreMoved (answer_moves source) (s.link c) here
+    moved channel.A = first
+    moved channel.B = refl
+    moved channel.C = refl
+    moved channel.D = refl
+    moved channel.E = refl
+
+    own : (ch : Channel) → is_own_move ch (answer_moves source ch) ≡ true
+    own channel.A = refl
+    own channel.B = refl
+    own channel.C = refl
+    own channel.D = refl
+    own channel.E = refl
+
+-- an answer is taken
+abbrev pub done_moves : ℕ → Channel → Move
+done_moves source channel.D = Pops Answer source
+done_moves source _ = Stays
+
+done_spared : (source : ℕ) (k : Kind) → is_transfer k ≡ true → spares (done_moves source (channel_for k)) k ≡ true
+done_spared source Request t = absurd cc
+done_spared source Answer t = absurd cc
+done_spared source Acquire t = refl
+done_spared source Probe t = refl
+done_spared source ProbeAck t = refl
+done_spared source Release t = refl
+done_spared source Grant t = refl
+done_spared source ReleaseAck t = refl
+done_spared source GrantAck t = refl
+
+pub answer_taken-kept : {X : Type 0} (caching : ℕ → Bool) (c source : ℕ) (rest : List Token) (s : State X) → IsInvariant caching s → (s.link c).d ≡ token Answer source ∷ rest
+    → s.uses c source ≡ Replied
+    → IsInvariant caching (answer_taken c source rest s)
+answer_taken-kept caching c source rest s inv first replied = invariant-moved_access caching c source Closed here (done_moves source) s inv (record {
+  moved = moved;
+  own = own;
+  spared = done_spared source;
+  still = refl;
+  asked = rw replied refl;
+  replied = rw (same_number source) refl;
+  acquires = λ m. rw replied refl;
+  serves = λ m. rw replied refl;
+})
+  where
+    here : Link
+    here = record (s.link c) { d = rest }
+
+    moved : AreMoved (done_moves source) (s.link c) here
+    moved channel.A = refl
+    moved channel.B = refl
+    moved channel.C = refl
+    moved channel.D = first
+    moved channel.E = refl
+
+    own : (ch : Channel) → is_own_move ch (done_moves source ch) ≡ true
+    own channel.A = refl
+    own channel.B = refl
+    own channel.C = refl
+    own channel.D = refl
+    own channel.E = refl

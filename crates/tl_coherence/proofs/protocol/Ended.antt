@@ -1,0 +1,241 @@
+-- The last ProbeAck that is taken, with which the access that waited is answered, keeps the invariant.
+use Rattle.std.proofs.Common.{◌≡◌, refl, sym, subst, ◌∙◌, ap, ◌⊎◌, inl, inr}
+use Rattle.std.specs.Prelude.{ℕ, Bool, true, false, List, ◌∷◌, ◌==◌, ◌&&◌, if◌then◌else◌, Some, None}
+use Rattle.std.proofs.lemmas.Bool.{cases_eq, ne_eqb, eqb-true}
+use Rattle.tl_beat.specs.declared.channel.Channel.{Channel}
+use Rattle.tl_beat.specs.declared.channel.Channel.TheVariants as channel
+use Rattle.tl_params.specs.declared.param.Cap.{Cap}
+use Rattle.tl_params.specs.declared.param.Cap.TheVariants as cap
+use Rattle.tl_params.specs.declared.param.Report.{Report}
+use Rattle.tl_params.specs.declared.perm.Perm.TheVariants as perm
+use Rattle.tl_params.specs.Param.{report_left, report_right}
+use Rattle.tl_rules.specs.Conformance.{same_perm}
+use Rattle.tl_coherence.specs.protocol.Phase.{Pair, Idle, Other, Answered, ok, same_cap, is_quiet}
+use Rattle.tl_coherence.specs.protocol.PhaseSteps.{after_report}
+use Rattle.tl_coherence.specs.protocol.Token.{Kind, Request, Acquire, Probe, ProbeAck, Release, Answer, Grant, ReleaseAck, GrantAck, Token, set}
+use Rattle.tl_coherence.specs.protocol.Protocol.{Waits, Block, State, Link, InService, Replied, view, token, tokens_on, shows, shown, is_transfer, is_wanting, is_sent}
+use Rattle.tl_coherence.specs.protocol.Protocol.{is_answered, is_releasing, is_acked, written, with_d, popped_link, ended_block, ended_link, report_answers}
+use Rattle.tl_coherence.specs.refinement.Move.{Move, Stays, Pushes, Pops, IsMoved, agrees, is_own_move, channel_for}
+use Rattle.tl_coherence.specs.protocol.Invariant.{is_out, is_of, acquires_of, serves_of, acquires_with, serves_with, releases_with, tracks_with, IsWell, IsInvariant}
+use Rattle.tl_coherence.proofs.queues.Moves.{names-block, names-set, names-set_at, invariant-moved_use, same_again}
+use Rattle.tl_coherence.proofs.queues.Tokens.{same_number, set-same, set-other, set-part}
+use Rattle.tl_coherence.proofs.queues.PhaseSteps.{report-ok, ended-ok}
+use Rattle.tl_coherence.proofs.queues.Facts.{held_at_most, spared_within, reported_within, cap_is_low, report_begins}
+use Rattle.tl_coherence.proofs.protocol.Granted.{low_within, both_trunk, low_none}
+use Rattle.tl_coherence.proofs.protocol.Reported.{gentle-report}
+use Rattle.tl_coherence.proofs.protocol.Blocks.{alone-set, owned-set, outside-set, busy-inside}
+use Rattle.tl_coherence.proofs.protocol.BothParts.{is_of-is, serves_of-is, quiet-is}
+use Rattle.tl_coherence.proofs.queues.Perms.{nothing_below, not_out}
+
+-- ---- the block
+
+-- c's ProbeAck is the last one that an access of q waits for, and the access leaves the bytes as they are, or probed all
+pub record IsLastOf {X : Type 0} (c q : ℕ) (r : Report) (f : X → X) (source : ℕ) (k : Cap) (b : Block X) : Type 0 where
+  pub waits : b.service ≡ Waits q false source k
+  pub answered : (b.pair c).probing ≡ Answered r
+  pub settled : (d : ℕ) → (d ≡ c → ⊥) → is_quiet (b.pair d).probing ≡ true
+  pub spares : (f b.truth ≡ b.truth) ⊎ (k ≡ cap.ToN)
+
+pub ended-block : {X : Type 0} (caching : ℕ → Bool) (c q : ℕ) (r : Report) (f : X → X) (source : ℕ) (k : Cap) (b : Block X) → IsWell caching b → IsLastOf c q r f source k b
+    → IsWell caching (ended_block c r f b)
+ended-block {X} caching c q r f source k b h last = record {
+  phases = phase;
+  awaited = tt;
+  asked_cap = tt;
+  own_source = tt;
+  alone = alone-set c after b.pair (gentle-report r (b.pair c) begins) h.alone;
+  one_owner = owned-set c after b.pair (gentle-report r (b.pair c) begins) h.one_owner;
+  outside = outside-set caching c after b.pair (busy-inside caching c b.pair (λ p. is_answered p.probing) refl (rw last.answered refl) h.outside) h.outside;
+  copies = λ d some. copy_is d some last.spares;
+  memory = λ none. ap f (memory_is (same_perm (report_left r) perm.Trunk) refl);
+}
+  where
+    after : Pair
+    after = after_report r (b.pair c)
+
+    other : (d : ℕ) → view b.service d ≡ Other k
+    other d = rw last.waits refl
+
+    begins : same_perm (report_left r) (b.pair c).recorded ≡ true
+    begins = report_begins r (b.pair c) (view b.service c) (h.phases c) last.answered
+
+    low : same_cap k cap.ToT ≡ false
+    low = cap_is_low k (b.pair c) (view b.service c) (h.phases c) (other c)
+
+    phase : (d : ℕ) → ok (set c after b.pair d) Idle ≡ true
+    phase d = elim (cases_eq d c) [
+      | inl same ↦ rw (same, set-same c after b.pair) (report-ok r (b.pair c) (view b.service c) (h.phases c) last.answered).1
+      | inr ne ↦ rw (set-other c d after b.pair ne) (ended-ok k (b.pair d) (view b.service d) (h.phases d) (other d) (quiet-is (b.pair d).probing (last.settled d ne))).0
+    ]
+
+    held_same : (d : ℕ) → (set c after b.pair d).held ≡ (b.pair d).held
+    held_same = set-part (λ (p : Pair). p.held) c after b.pair refl
+
+    -- where all were probed, nobody is recorded any more
+    nobody : k ≡ cap.ToN → (d : ℕ) → same_perm (set c after b.pair d).recorded perm.None ≡ true
+    nobody e d = elim (cases_eq d c) [
+      | inl same ↦ rw (same, set-same c after b.pair) (low_none k (report_right r) e (reported_within k r (b.pair c) (view b.service c) (h.phases c) (other c) last.answered))
+      | inr ne ↦ rw (set-other c d after b.pair ne) (low_none k (b.pair d).recorded e
+          (spared_within k (b.pair d) (view b.service d) (h.phases d) (other d) (quiet-is (b.pair d).probing (last.settled d ne))))
+    ]
+
+    copy_is : (d : ℕ) → same_perm (set c after b.pair d).held perm.None ≡ false → (f b.truth ≡ b.truth) ⊎ (k ≡ cap.ToN) → b.copy d ≡ f b.truth
+    copy_is d some (inl same) = h.copies d (rw (held_same d) at some) ∙ sym same
+    copy_is d some (inr all) =
+        let no = nothing_below (set c after b.pair d).held (set c after b.pair d).recorded (held_at_most (set c after b.pair d) Idle (phase d)) (nobody all d) in
+        absurd (let differs : true ≡ false = sym no ∙ some in cc)
+
+    -- before, nobody had a Trunk but the client whose ProbeAck is taken, if that carries data
+    none_out : same_perm (report_left r) perm.Trunk ≡ false → (d : ℕ) → is_out (b.pair d) (view b.service d) ≡ false
+    none_out bare d = not_out (b.pair d) (view b.service d) (elim (cases_eq d c) [
+      | inl same ↦ rw same (both_trunk (report_left r) (b.pair c).recorded begins bare)
+      | inr ne ↦ low_within (b.pair d).recorded k (spared_within k (b.pair d) (view b.service d) (h.phases d) (other d) (quiet-is (b.pair d).probing (last.settled d ne))) low
+    ])
+
+    memory_is : (data_too : Bool) → same_perm (report_left r) perm.Trunk ≡ data_too → written r b.truth b.memory ≡ b.truth
+    memory_is true e = rw e refl
+    memory_is false e = rw e (h.memory (none_out e))
+
+-- ---- one link
+
+-- what a client's link does: x tells whether its ProbeAck is taken, and y whether its access is answered
+abbrev pub ended_move : Bool → Bool → ℕ → ℕ → Channel → Move
+ended_move x y n source channel.C = if x then Pops ProbeAck n else Stays
+ended_move x y n source channel.D = if y then Pushes Answer source else Stays
+ended_move x y n source _ = Stays
+
+ended_shows : (n source : ℕ) (j : Kind) (x y : Bool) (r : Report) (k : Cap) (p : Pair) → is_transfer j ≡ true → (x ≡ true → p.probing ≡ Answered r)
+    → agrees (ended_move x y n source (channel_for j)) j n (shows j p (Other k)) (shows j (if x then after_report r p else p) Idle) ≡ true
+ended_shows n source Request x y r k p t e = absurd cc
+ended_shows n source Answer x y r k p t e = absurd cc
+ended_shows n source Acquire true y r k p t e = same_again (is_wanting p.acquiring && true)
+ended_shows n source Acquire false y r k p t e = same_again (is_wanting p.acquiring && true)
+ended_shows n source Probe true y r k p t e = rw (e refl) refl
+ended_shows n source Probe false y r k p t e = same_again (is_sent p.probing)
+ended_shows n source ProbeAck true y r k p t e = rw (same_number n) refl
+ended_shows n source ProbeAck false y r k p t e = same_again (is_answered p.probing)
+ended_shows n source Release true y r k p t e = same_again (is_releasing p.letting)
+ended_shows n source Release false y r k p t e = same_again (is_releasing p.letting)
+ended_shows n source Grant x true r k p t e = refl
+ended_shows n source Grant x false r k p t e = refl
+ended_shows n source ReleaseAck true true r k p t e = same_again (is_acked p.letting)
+ended_shows n source ReleaseAck true false r k p t e = same_again (is_acked p.letting)
+ended_shows n source ReleaseAck false true r k p t e = same_again (is_acked p.letting)
+ended_shows n source ReleaseAck false false r k p t e = same_again (is_acked p.letting)
+ended_shows n source GrantAck x y r k p t e = refl
+
+ended_own : (ch : Channel) (x y : Bool) (n source : ℕ) → is_own_move ch (ended_move x y n source ch) ≡ true
+ended_own channel.A x y n source = refl
+ended_own channel.B x y n source = refl
+ended_own channel.C true y n source = refl
+ended_own channel.C false y n source = refl
+ended_own channel.D x true n source = refl
+ended_own channel.D x false n source = refl
+ended_own channel.E x y n source = refl
+
+pub ended_moved : (ch : Channel) (x y : Bool) (n source : ℕ) (l : Link) (rest : List Token) → (x ≡ true → l.c ≡ token ProbeAck n ∷ rest)
+    → IsMoved (ended_move x y n source ch) (tokens_on ch l)
+    (tokens_on ch (if y then with_d (token Answer source) (if x then record l { c = rest } else l) else (if x then record l { c = rest } else l)))
+ended_moved channel.A true true n source l rest e = refl
+ended_moved channel.A true false n source l rest e = refl
+ended_moved channel.A false true n source l rest e = refl
+ended_moved channel.A false false n source l rest e = refl
+ended_moved channel.B true true n source l rest e = refl
+ended_moved channel.B true false n source l rest e = refl
+ended_moved channel.B false true n source l rest e = refl
+ended_moved channel.B false false n source l rest e = refl
+ended_moved channel.C true true n source l rest e = e refl
+ended_moved channel.C true false n source l rest e = e refl
+ended_moved channel.C false true n source l rest e = refl
+ended_moved channel.C false false n source l rest e = refl
+ended_moved channel.D true true n source l rest e = refl
+ended_moved channel.D true false n source l rest e = refl
+ended_moved channel.D false true n source l rest e = refl
+ended_moved channel.D false false n source l rest e = refl
+ended_moved channel.E true true n source l rest e = refl
+ended_moved channel.E true false n source l rest e = refl
+ended_moved channel.E false true n source l rest e = refl
+ended_moved channel.E false false n source l rest e = refl
+
+-- ---- the whole
+
+pub report_answers-kept : {X : Type 0} (caching : ℕ → Bool) (c q n : ℕ) (r : Report) (f : X → X) (source : ℕ) (k : Cap) (rest : List Token) (s : State X) → IsInvariant caching s
+    → (s.link c).c ≡ token ProbeAck n ∷ rest → IsLastOf c q r f source k (s.block n) → IsInvariant caching (report_answers c q n source r f rest s)
+report_answers-kept {X} caching c q n r f source k rest s inv first last =
+    invariant-moved_use caching n new links (λ d. ended_move (d == c) (d == q) n source) q source Replied (set tracker None s.tracked) s inv (record {
+      well = ended-block caching c q r f source k (s.block n) (inv.blocks n) last;
+      moved = λ d ch. by_link d ch (ended_moved ch (d == c) (d == q) n source (s.link d) rest (first_at d));
+      own = λ d ch. ended_own ch (d == c) (d == q) n source;
+      fits = λ d j t. by_pair d j (ended_move (d == c) (d == q) n source (channel_for j)) (ended_shows n source j (d == c) (d == q) r k (old d) t (answered_at d));
+      in_order = λ d m e. absurd (never_pushed (d == c) m e);
+    })
+    (rw used refl) (rw (same_number q, used, same_number source) refl) (λ d ne. (refl, rw (ne_eqb d q ne) refl))
+    (record {
+      acquires = names-set_at acquires_of acquires_with q source Replied s.uses n new s.block ((rw used at (inv.named.acquires q source n)) ∙ sym (acquires_same q source)) (λ m ne. rw used refl)
+          (λ i ne. acquires_same q i) (λ d i ne. acquires_same d i) inv.named.acquires;
+      serves = names-set_at serves_of serves_with q source Replied s.uses n new s.block refl (λ m ne. rw used (sym (ne_eqb m n ne)))
+          (λ i ne. rw (last.waits, same_number q, ne_eqb i source ne) refl) (λ d i ne. rw (last.waits, ne_eqb d q ne) refl) inv.named.serves;
+      releases = λ d. names-block is_of (releases_with d) (s.lets d) n new s.block (λ i. rw (set-part (λ (p : Pair). p.letting) c after old refl d) refl) (inv.named.releases d);
+      trackers = names-set is_of tracks_with s.tracked tracker None n new s.block refl (λ m ne. rw tracked (sym (ne_eqb m n ne)))
+          (λ i ne. rw (last.waits, ne_eqb i tracker ne) refl) inv.named.trackers;
+    })
+  where
+    old : ℕ → Pair
+    old = (s.block n).pair
+
+    after : Pair
+    after = after_report r (old c)
+
+    new : Block X
+    new = ended_block c r f (s.block n)
+
+    links : ℕ → Link
+    links = ended_link c q (token Answer source) rest s.link
+
+    tracker : ℕ
+    tracker = (s.block n).tracker
+
+    used : s.uses q source ≡ InService n
+    used = serves_of-is n (s.uses q source) (inv.named.serves q source n ∙ rw (last.waits, same_number q, same_number source) refl)
+
+    tracked : s.tracked tracker ≡ Some n
+    tracked = is_of-is n (s.tracked tracker) (inv.named.trackers tracker n ∙ rw (last.waits, same_number tracker) refl)
+
+    acquires_same : (d i : ℕ) → acquires_with d i new ≡ acquires_with d i (s.block n)
+    acquires_same d i = rw (set-part (λ (p : Pair). p.acquiring) c after old refl d) refl
+
+    never_pushed : (x : Bool) (m : ℕ) → (if x then Pops ProbeAck n else Stays) ≡ Pushes ProbeAck m → ⊥
+    never_pushed true m e = cc
+    never_pushed false m e = cc
+
+    first_at : (d : ℕ) → (d == c) ≡ true → (s.link d).c ≡ token ProbeAck n ∷ rest
+    first_at d e = rw (eqb-true d c e) first
+
+    answered_at : (d : ℕ) → (d == c) ≡ true → (old d).probing ≡ Answered r
+    answered_at d e = rw (eqb-true d c e) last.answered
+
+    -- the link and the pair of a client, by whether it is c
+    popped : (d : ℕ) → popped_link c rest s.link d ≡ (if d == c then record (s.link d) { c = rest } else s.link d)
+    popped d = elim (cases_eq d c) [
+      | inl same ↦ rw (same, same_number c) refl
+      | inr ne ↦ rw (ne_eqb d c ne) refl
+    ]
+
+    by_link : (d : ℕ) (ch : Channel)
+        → IsMoved (ended_move (d == c) (d == q) n source ch) (tokens_on ch (s.link d))
+        (tokens_on ch (if d == q then with_d (token Answer source) (if d == c then record (s.link d) { c = rest } else s.link d) else (if d == c then record (s.link d) { c = rest } else s.link d)))
+        → IsMoved (ended_move (d == c) (d == q) n source ch) (tokens_on ch (s.link d)) (tokens_on ch (links d))
+    by_link d ch h =
+        subst (λ (l : Link). IsMoved (ended_move (d == c) (d == q) n source ch) (tokens_on ch (s.link d)) (tokens_on ch (if d == q then with_d (token Answer source) l else l))) (sym (popped d)) h
+
+    pair_is : (d : ℕ) → set c after old d ≡ (if d == c then after_report r (old d) else old d)
+    pair_is d = elim (cases_eq d c) [
+      | inl same ↦ rw (same, same_number c) refl
+      | inr ne ↦ rw (ne_eqb d c ne) refl
+    ]
+
+    by_pair : (d : ℕ) (j : Kind) (m : Move) → agrees m j n (shows j (old d) (Other k)) (shows j (if d == c then after_report r (old d) else old d) Idle) ≡ true
+        → agrees m j n (shown j d (s.block n)) (shown j d new) ≡ true
+    by_pair d j m h =
+        let seen : view (s.block n).service d ≡ Other k = rw last.waits refl in
+        rw seen (subst (λ (p : Pair). agrees m j n (shows j (old d) (Other k)) (shows j p Idle) ≡ true) (sym (pair_is d)) h)

@@ -1,0 +1,232 @@
+-- The last ProbeAck that is taken, with which the Acquire that waited is granted, keeps what holds of a block.
+use Rattle.std.proofs.Common.{◌≡◌, refl, sym, ◌∙◌, ap, ◌⊎◌, inl, inr}
+use Rattle.std.specs.Prelude.{ℕ, Bool, true, false}
+use Rattle.std.proofs.lemmas.Bool.{cases_eq, ne_eqb, not-true}
+use Rattle.tl_params.specs.declared.param.Cap.{Cap}
+use Rattle.tl_params.specs.declared.param.Cap.TheVariants as cap
+use Rattle.tl_params.specs.declared.param.Grow.{Grow}
+use Rattle.tl_params.specs.declared.param.Grow.TheVariants as grow
+use Rattle.tl_params.specs.declared.param.Report.{Report}
+use Rattle.tl_params.specs.declared.perm.Perm.{Perm}
+use Rattle.tl_params.specs.declared.perm.Perm.TheVariants as perm
+use Rattle.tl_params.specs.Param.{cap_right, report_left, report_right}
+use Rattle.tl_rules.specs.Conformance.{same_perm}
+use Rattle.tl_coherence.specs.protocol.Phase.{Pair, Own, Other, Granting, GrantedOther, Quiet, Answered, Calm, Wants, ok, same_cap, perm_le, is_quiet, cap_fits}
+use Rattle.tl_coherence.specs.protocol.PhaseSteps.{is_granted_data, after_grant_sent, after_report}
+use Rattle.tl_coherence.specs.protocol.Token.{set}
+use Rattle.tl_coherence.specs.protocol.Protocol.{Waits, GrantSent, Block, view, written, granted_pair, granted_block}
+use Rattle.tl_coherence.specs.protocol.Invariant.{cap_asked, IsAskedCap, resting, is_out, IsWell}
+use Rattle.tl_coherence.proofs.queues.Tokens.{same_number, set-same, set-other, set-part}
+use Rattle.tl_coherence.proofs.queues.PhaseSteps.{grant_last-ok, report-ok, ended-ok}
+use Rattle.tl_coherence.proofs.queues.Facts.{spared_within, reported_within, cap_is_low, own_low, own_quiet, report_begins}
+use Rattle.tl_coherence.proofs.protocol.BothParts.{quiet-is}
+use Rattle.tl_coherence.proofs.queues.Perms.{not_out}
+
+-- ---- the views before and after
+
+own_view : (q s : ℕ) (k : Cap) → view (Waits q true s k) q ≡ Own
+own_view q s k = rw (same_number q) refl
+
+other_view : (q s d : ℕ) (k : Cap) → (d ≡ q → ⊥) → view (Waits q true s k) d ≡ Other k
+other_view q s d k ne = rw (ne_eqb d q ne) refl
+
+granting_view : (q : ℕ) (d : Bool) (k : Cap) → view (GrantSent q d k) q ≡ Granting d k
+granting_view q d k = rw (same_number q) refl
+
+granted_view : (q c : ℕ) (d : Bool) (k : Cap) → (c ≡ q → ⊥) → view (GrantSent q d k) c ≡ GrantedOther
+granted_view q c d k ne = rw (ne_eqb c q ne) refl
+
+-- ---- permissions
+
+-- what is within a low cap isn't Trunk
+pub low_within : (p : Perm) (k : Cap) → perm_le p (cap_right k) ≡ true → same_cap k cap.ToT ≡ false → same_perm p perm.Trunk ≡ false
+low_within perm.None k e low = refl
+low_within perm.Branch k e low = refl
+low_within perm.Trunk cap.ToT e low = absurd cc
+low_within perm.Trunk cap.ToB e low = absurd cc
+low_within perm.Trunk cap.ToN e low = absurd cc
+
+pub both_trunk : (p q : Perm) → same_perm p q ≡ true → same_perm p perm.Trunk ≡ false → same_perm q perm.Trunk ≡ false
+both_trunk perm.None perm.None e f = refl
+both_trunk perm.None perm.Branch e f = refl
+both_trunk perm.None perm.Trunk e f = absurd cc
+both_trunk perm.Branch perm.None e f = refl
+both_trunk perm.Branch perm.Branch e f = refl
+both_trunk perm.Branch perm.Trunk e f = absurd cc
+both_trunk perm.Trunk q e f = absurd cc
+
+pub none_or_trunk : (p : Perm) → same_perm p perm.None ≡ true → same_perm p perm.Trunk ≡ true → ⊥
+none_or_trunk perm.None e f = absurd cc
+none_or_trunk perm.Branch e f = absurd cc
+none_or_trunk perm.Trunk e f = absurd cc
+
+-- a Grant that fits gives Trunk or Branch
+pub gives : (whole : Bool) (g : Grow) (k : Cap) → cap_fits whole g k ≡ true → (same_cap k cap.ToT ≡ true) ⊎ (same_perm (cap_right k) perm.Trunk ≡ false)
+gives whole g cap.ToT e = inl refl
+gives whole g cap.ToB e = inr refl
+gives whole g cap.ToN e = inr refl
+
+-- ---- the block
+
+-- what the premises say: c's ProbeAck is the last one that q's Acquire waits for
+pub record IsLast {X : Type 0} (c q : ℕ) (r : Report) (whole : Bool) (g : Grow) (gift : Cap) (source : ℕ) (k : Cap) (b : Block X) : Type 0 where
+  pub waits : b.service ≡ Waits q true source k
+  pub answered : (b.pair c).probing ≡ Answered r
+  pub settled : (d : ℕ) → (d ≡ c → ⊥) → is_quiet (b.pair d).probing ≡ true
+  pub wants : (b.pair q).acquiring ≡ Wants whole g
+  pub fits : cap_fits whole g gift ≡ true
+  -- Trunk is granted only where nobody else is recorded
+  pub room : same_cap gift cap.ToT ≡ true → (d : ℕ) → (d ≡ q → ⊥) → same_perm (set c (after_report r (b.pair c)) b.pair d).recorded perm.None ≡ true
+
+pub granted-block : {X : Type 0} (caching : ℕ → Bool) (c q : ℕ) (r : Report) (whole : Bool) (g : Grow) (gift : Cap) (source : ℕ) (k : Cap) (b : Block X) → IsWell caching b
+    → IsLast c q r whole g gift source k b
+    → IsWell caching (granted_block c q r (is_granted_data whole g (b.pair q).recorded) gift b)
+granted-block {X} caching c q r whole g gift source k b h last = record {
+  phases = λ d. elim (cases_eq d q) [
+    | inl same ↦ rw (same, granted_here, granting_view q with_data gift) (grant_last-ok whole g gift (b.pair q) (view b.service q) (h.phases q) own last.wants last.fits)
+    | inr ne ↦ rw (granted_elsewhere d ne, granted_view q d with_data gift ne) (reported_phase d ne (cases_eq d c))
+  ];
+  awaited = tt;
+  asked_cap = tt;
+  own_source = tt;
+  alone = λ i j trunk probed ne. all_quiet j;
+  one_owner = λ i j trunk ne. owner (gives whole g gift last.fits) i j trunk ne;
+  outside = λ d plain. elim (cases_eq d q) [
+    | inl same ↦ absurd (not_calm (b.pair q) last.wants (h.outside q (rw same at plain)))
+    | inr ne ↦ rw (granted_elsewhere d ne) (elim (cases_eq d c) [
+      | inl also ↦ absurd (not_quiet (b.pair c) last.answered (h.outside c (rw also at plain)))
+      | inr neither ↦ rw (set-other c d after b.pair neither) (h.outside d plain)
+    ])
+  ];
+  copies = λ d some. h.copies d (rw (held_same d) at some);
+  memory = λ none. memory_is (same_perm (report_left r) perm.Trunk) refl;
+}
+  where
+    with_data : Bool
+    with_data = is_granted_data whole g (b.pair q).recorded
+
+    after : Pair
+    after = after_report r (b.pair c)
+
+    own : view b.service q ≡ Own
+    own = rw last.waits (own_view q source k)
+
+    other : (d : ℕ) → (d ≡ q → ⊥) → view b.service d ≡ Other k
+    other d ne = rw last.waits (other_view q source d k ne)
+
+    apart : c ≡ q → ⊥
+    apart e =
+        let quiet : is_quiet (b.pair q).probing ≡ true = own_quiet (b.pair q) (view b.service q) (h.phases q) own in
+        let answered : (b.pair q).probing ≡ Answered r = rw e at last.answered in
+        let no : is_quiet (Answered r) ≡ true = rw answered at quiet in
+        absurd cc
+
+    low : same_cap k cap.ToT ≡ false
+    low = cap_is_low k (b.pair c) (view b.service c) (h.phases c) (other c apart)
+
+    granted_here : granted_pair c q r gift b.pair q ≡ after_grant_sent gift (b.pair q)
+    granted_here = set-same q (after_grant_sent gift (b.pair q)) (set c after b.pair)
+
+    granted_elsewhere : (d : ℕ) → (d ≡ q → ⊥) → granted_pair c q r gift b.pair d ≡ set c after b.pair d
+    granted_elsewhere d ne = set-other q d (after_grant_sent gift (b.pair q)) (set c after b.pair) ne
+
+    reported_phase : (d : ℕ) → (d ≡ q → ⊥) → (d ≡ c) ⊎ (d ≡ c → ⊥) → ok (set c after b.pair d) GrantedOther ≡ true
+    reported_phase d ne (inl same) = rw (same, set-same c after b.pair) (report-ok r (b.pair c) (view b.service c) (h.phases c) last.answered).2
+    reported_phase d ne (inr neither) =
+        rw (set-other c d after b.pair neither) (ended-ok k (b.pair d) (view b.service d) (h.phases d) (other d ne) (quiet-is (b.pair d).probing (last.settled d neither))).1
+
+    held_same : (d : ℕ) → (granted_pair c q r gift b.pair d).held ≡ (b.pair d).held
+    held_same d =
+        let first : (set c after b.pair q).held ≡ (b.pair q).held = set-part (λ (p : Pair). p.held) c after b.pair refl q in
+        set-part (λ (p : Pair). p.held) q (after_grant_sent gift (b.pair q)) (set c after b.pair) (sym first) d ∙ set-part (λ (p : Pair). p.held) c after b.pair refl d
+
+    all_quiet : (j : ℕ) → is_quiet (granted_pair c q r gift b.pair j).probing ≡ true
+    all_quiet j = elim (cases_eq j q) [
+      | inl same ↦ rw (same, granted_here) (own_quiet (b.pair q) (view b.service q) (h.phases q) own)
+      | inr ne ↦ rw (granted_elsewhere j ne) (elim (cases_eq j c) [
+        | inl also ↦ rw (also, set-same c after b.pair) refl
+        | inr neither ↦ rw (set-other c j after b.pair neither) (last.settled j neither)
+      ])
+    ]
+
+    -- those who aren't granted have no Trunk
+    low_elsewhere : (d : ℕ) → (d ≡ q → ⊥) → same_perm (set c after b.pair d).recorded perm.Trunk ≡ false
+    low_elsewhere d ne = elim (cases_eq d c) [
+      | inl same ↦ rw (same, set-same c after b.pair) (low_within (report_right r) k (reported_within k r (b.pair c) (view b.service c) (h.phases c) (other c apart) last.answered) low)
+      | inr neither ↦ rw (set-other c d after b.pair neither)
+          (low_within (b.pair d).recorded k (spared_within k (b.pair d) (view b.service d) (h.phases d) (other d ne) (quiet-is (b.pair d).probing (last.settled d neither))) low)
+    ]
+
+    owner : (same_cap gift cap.ToT ≡ true) ⊎ (same_perm (cap_right gift) perm.Trunk ≡ false) → (i j : ℕ) → same_perm (granted_pair c q r gift b.pair i).recorded perm.Trunk ≡ true → (j ≡ i → ⊥)
+        → same_perm (granted_pair c q r gift b.pair j).recorded perm.None ≡ true
+    owner (inl top) i j trunk ne = elim (cases_eq i q) [
+      | inl same ↦ let differs : j ≡ q → ⊥ = λ e. ne (e ∙ sym same) in rw (granted_elsewhere j differs) (last.room top j differs)
+      | inr differs ↦ absurd (none_or_trunk (set c after b.pair i).recorded (last.room top i differs) (rw (granted_elsewhere i differs) at trunk))
+    ]
+    owner (inr less) i j trunk ne = elim (cases_eq i q) [
+      | inl same ↦ absurd (let t : same_perm (cap_right gift) perm.Trunk ≡ true = rw (same, granted_here) at trunk in cc)
+      | inr differs ↦ absurd (let t : same_perm (set c after b.pair i).recorded perm.Trunk ≡ true = rw (granted_elsewhere i differs) at trunk in let u = low_elsewhere i differs in cc)
+    ]
+
+    -- before, nobody had a Trunk but the client whose ProbeAck is taken, if that carries data
+    none_out : same_perm (report_left r) perm.Trunk ≡ false → (d : ℕ) → is_out (b.pair d) (view b.service d) ≡ false
+    none_out bare d = not_out (b.pair d) (view b.service d) (elim (cases_eq d q) [
+      | inl same ↦ rw same (not-true (same_perm (b.pair q).recorded perm.Trunk) (own_low (b.pair q) (view b.service q) (h.phases q) own))
+      | inr ne ↦ elim (cases_eq d c) [
+        | inl also ↦ rw also (both_trunk (report_left r) (b.pair c).recorded (report_begins r (b.pair c) (view b.service c) (h.phases c) last.answered) bare)
+        | inr neither ↦ low_within (b.pair d).recorded k (spared_within k (b.pair d) (view b.service d) (h.phases d) (other d ne) (quiet-is (b.pair d).probing (last.settled d neither))) low
+      ]
+    ])
+
+    memory_is : (data_too : Bool) → same_perm (report_left r) perm.Trunk ≡ data_too → written r b.truth b.memory ≡ b.truth
+    memory_is true e = rw e refl
+    memory_is false e = rw e (h.memory (none_out e))
+
+    not_calm : (p : Pair) → p.acquiring ≡ Wants whole g → p ≡ resting → ⊥
+    not_calm p e f = let i : p.acquiring ≡ Calm = ap (λ (x : Pair). x.acquiring) f in let j : Wants whole g ≡ Calm = sym e ∙ i in absurd cc
+
+    not_quiet : (p : Pair) → p.probing ≡ Answered r → p ≡ resting → ⊥
+    not_quiet p e f = let i : p.probing ≡ Quiet = ap (λ (x : Pair). x.probing) f in let j : Answered r ≡ Quiet = sym e ∙ i in absurd cc
+
+-- ---- the cap of a Grant that gives Trunk
+
+abbrev pub grows_to_trunk : Grow → Bool
+grows_to_trunk grow.NtoB = false
+grows_to_trunk _ = true
+
+-- ---- Trunk is granted only where nobody else is recorded
+
+pub low_none : (k : Cap) (p : Perm) → k ≡ cap.ToN → perm_le p (cap_right k) ≡ true → same_perm p perm.None ≡ true
+low_none k perm.None e f = refl
+low_none k perm.Branch e f = absurd (let g : perm_le perm.Branch (cap_right cap.ToN) ≡ true = rw e at f in cc)
+low_none k perm.Trunk e f = absurd (let g : perm_le perm.Trunk (cap_right cap.ToN) ≡ true = rw e at f in cc)
+
+is_none : (k : Cap) → same_cap k cap.ToN ≡ true → k ≡ cap.ToN
+is_none cap.ToT e = absurd cc
+is_none cap.ToB e = absurd cc
+is_none cap.ToN e = refl
+
+asks_none : (k : Cap) (whole : Bool) (g : Grow) → grows_to_trunk g ≡ true → same_cap k (cap_asked (Wants whole g)) ≡ true → k ≡ cap.ToN
+asks_none k whole grow.NtoB e f = absurd cc
+asks_none k whole grow.NtoT e f = is_none k f
+asks_none k whole grow.BtoT e f = is_none k f
+
+-- where the Acquire asks for Trunk, all others were probed to None
+pub room-trunk : {X : Type 0} (caching : ℕ → Bool) (c q : ℕ) (r : Report) (whole : Bool) (g : Grow) (source : ℕ) (k : Cap) (b : Block X) → IsWell caching b → b.service ≡ Waits q true source k
+    → (b.pair c).probing ≡ Answered r
+    → ((d : ℕ) → (d ≡ c → ⊥) → is_quiet (b.pair d).probing ≡ true) → (b.pair q).acquiring ≡ Wants whole g → grows_to_trunk g ≡ true → (c ≡ q → ⊥) → (d : ℕ) → (d ≡ q → ⊥)
+    → same_perm (set c (after_report r (b.pair c)) b.pair d).recorded perm.None ≡ true
+room-trunk caching c q r whole g source k b h waits answered settled wants trunk apart d ne = elim (cases_eq d c) [
+  | inl same ↦ rw (same, set-same c (after_report r (b.pair c)) b.pair) (low_none k (report_right r) cap_is (reported_within k r (b.pair c) (view b.service c) (h.phases c) (seen c apart) answered))
+  | inr neither ↦ rw (set-other c d (after_report r (b.pair c)) b.pair neither)
+      (low_none k (b.pair d).recorded cap_is (spared_within k (b.pair d) (view b.service d) (h.phases d) (seen d ne) (quiet-is (b.pair d).probing (settled d neither))))
+]
+  where
+    seen : (i : ℕ) → (i ≡ q → ⊥) → view b.service i ≡ Other k
+    seen i differs = rw waits (other_view q source i k differs)
+
+    asked : IsAskedCap (Waits q true source k) b.pair
+    asked = rw waits at h.asked_cap
+
+    cap_is : k ≡ cap.ToN
+    cap_is = asks_none k whole g trunk (rw wants at asked)

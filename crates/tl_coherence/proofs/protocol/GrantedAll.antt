@@ -1,0 +1,240 @@
+-- The last ProbeAck that is taken, with which the Acquire that waited is granted, keeps the invariant.
+use Rattle.std.proofs.Common.{◌≡◌, ℕ, Bool, true, false, ◌&&◌, List, [], ◌∷◌, ◌++◌, refl, sym, ◌∙◌, ap, ap₂, ◌⊎◌, inl, inr}
+use Rattle.std.specs.Prelude.{◌==◌, if◌then◌else◌}
+use Rattle.std.proofs.lemmas.Bool.{cases_eq, ne_eqb}
+use Rattle.std.specs.Bool.{beq}
+use Rattle.tl_beat.specs.declared.channel.Channel.{Channel}
+use Rattle.tl_beat.specs.declared.channel.Channel.TheVariants as channel
+use Rattle.tl_params.specs.declared.param.Cap.{Cap}
+use Rattle.tl_params.specs.declared.param.Grow.{Grow}
+use Rattle.tl_params.specs.declared.param.Report.{Report}
+use Rattle.tl_coherence.specs.protocol.Phase.{Pair, Own, Other, Granting, GrantedOther, Answered, is_quiet}
+use Rattle.tl_coherence.specs.protocol.PhaseSteps.{is_granted_data, after_grant_sent, after_report}
+use Rattle.tl_coherence.specs.protocol.Token.{Kind, Request, Acquire, Probe, ProbeAck, Release, Answer, Grant, ReleaseAck, GrantAck, Token, set}
+use Rattle.tl_coherence.specs.protocol.Protocol.{Block, State, Link, view, token, tokens_on, is_transfer, is_wanting, is_sent, is_answered, is_releasing, is_acked, shows}
+use Rattle.tl_coherence.specs.protocol.Protocol.{shown, granted_block, granted_link, report_grants}
+use Rattle.tl_coherence.specs.refinement.Move.{Move, Stays, Pushes, Pops, IsMoved, agrees, is_own_move, channel_for}
+use Rattle.tl_coherence.specs.protocol.Invariant.{IsInvariant}
+use Rattle.tl_coherence.proofs.queues.Facts.{own_quiet}
+use Rattle.tl_coherence.proofs.protocol.Granted.{IsLast, granted-block}
+use Rattle.tl_coherence.proofs.queues.Moves.{spares, same_again, names-kept, invariant-moved, moved_as}
+use Rattle.tl_coherence.proofs.queues.Tokens.{same_number, set-same, set-other, set-part}
+
+-- c's ProbeAck goes, and q's Grant comes
+abbrev pub granted_moves : ℕ → ℕ → ℕ → ℕ → Channel → Move
+granted_moves n c q d channel.C = if d == c then Pops ProbeAck n else Stays
+granted_moves n c q d channel.D = if d == q then Pushes Grant n else Stays
+granted_moves n c q d _ = Stays
+
+-- what one shows before and after it, by the parts that the event leaves
+at_sender : (n : ℕ) (k : Kind) (p : Pair) (d : Bool) (gift : Cap) → is_transfer k ≡ true
+    → agrees (granted_moves n 0 1 1 (channel_for k)) k n (shows k p Own) (shows k (after_grant_sent gift p) (Granting d gift)) ≡ true
+at_sender n Request p d gift t = absurd cc
+at_sender n Answer p d gift t = absurd cc
+at_sender n Acquire p d gift t = go (is_wanting p.acquiring)
+  where
+    go : (b : Bool) → beq (b && false) (b && false) ≡ true
+    go true = refl
+    go false = refl
+at_sender n Probe p d gift t = same_again (is_sent p.probing)
+at_sender n ProbeAck p d gift t = same_again (is_answered p.probing)
+at_sender n Release p d gift t = same_again (is_releasing p.letting)
+at_sender n Grant p d gift t = rw (same_number n) refl
+at_sender n ReleaseAck p d gift t = same_again (is_acked p.letting)
+at_sender n GrantAck p d gift t = refl
+
+at_reporter : (n : ℕ) (k : Kind) (r : Report) (p : Pair) (j : Cap) → is_transfer k ≡ true → p.probing ≡ Answered r
+    → agrees (granted_moves n 1 0 1 (channel_for k)) k n (shows k p (Other j)) (shows k (after_report r p) GrantedOther) ≡ true
+at_reporter n Request r p j t e = absurd cc
+at_reporter n Answer r p j t e = absurd cc
+at_reporter n Acquire r p j t e = same_again (is_wanting p.acquiring && true)
+at_reporter n Probe r p j t e = rw e refl
+at_reporter n ProbeAck r p j t e = rw (same_number n) refl
+at_reporter n Release r p j t e = same_again (is_releasing p.letting)
+at_reporter n Grant r p j t e = refl
+at_reporter n ReleaseAck r p j t e = same_again (is_acked p.letting)
+at_reporter n GrantAck r p j t e = refl
+
+at_other : (n : ℕ) (k : Kind) (p : Pair) (j : Cap) → is_transfer k ≡ true → agrees Stays k n (shows k p (Other j)) (shows k p GrantedOther) ≡ true
+at_other n Request p j t = absurd cc
+at_other n Answer p j t = absurd cc
+at_other n Acquire p j t = same_again (is_wanting p.acquiring && true)
+at_other n Probe p j t = same_again (is_sent p.probing)
+at_other n ProbeAck p j t = same_again (is_answered p.probing)
+at_other n Release p j t = same_again (is_releasing p.letting)
+at_other n Grant p j t = refl
+at_other n ReleaseAck p j t = same_again (is_acked p.letting)
+at_other n GrantAck p j t = refl
+
+-- moves by the place of the client
+moves_of_sender : (n c q : ℕ) (ch : Channel) → (q ≡ c → ⊥) → granted_moves n c q q ch ≡ granted_moves n 0 1 1 ch
+moves_of_sender n c q channel.A ne = refl
+moves_of_sender n c q channel.B ne = refl
+moves_of_sender n c q channel.C ne = rw (ne_eqb q c ne) refl
+moves_of_sender n c q channel.D ne = rw (same_number q) refl
+moves_of_sender n c q channel.E ne = refl
+
+moves_of_reporter : (n c q : ℕ) (ch : Channel) → (c ≡ q → ⊥) → granted_moves n c q c ch ≡ granted_moves n 1 0 1 ch
+moves_of_reporter n c q channel.A ne = refl
+moves_of_reporter n c q channel.B ne = refl
+moves_of_reporter n c q channel.C ne = rw (same_number c) refl
+moves_of_reporter n c q channel.D ne = rw (ne_eqb c q ne) refl
+moves_of_reporter n c q channel.E ne = refl
+
+moves_of_other : (n c q d : ℕ) (ch : Channel) → (d ≡ c → ⊥) → (d ≡ q → ⊥) → granted_moves n c q d ch ≡ Stays
+moves_of_other n c q d channel.A o m = refl
+moves_of_other n c q d channel.B o m = refl
+moves_of_other n c q d channel.C o m = rw (ne_eqb d c o) refl
+moves_of_other n c q d channel.D o m = rw (ne_eqb d q m) refl
+moves_of_other n c q d channel.E o m = refl
+
+pub report_grants-kept : {X : Type 0} (caching : ℕ → Bool) (c q n : ℕ) (r : Report) (whole : Bool) (g : Grow) (gift : Cap) (source : ℕ) (k : Cap) (rest : List Token) (s : State X)
+    → IsInvariant caching s
+    → (s.link c).c ≡ token ProbeAck n ∷ rest → IsLast c q r whole g gift source k (s.block n)
+    → IsInvariant caching (report_grants c q n r (is_granted_data whole g ((s.block n).pair q).recorded) gift rest s)
+report_grants-kept {X} caching c q n r whole g gift source k rest s inv first last =
+    invariant-moved caching n new links (granted_moves n c q) s.lets s.tracked s inv (record {
+      well = granted-block caching c q r whole g gift source k (s.block n) (inv.blocks n) last;
+      moved = λ d ch. moved d ch;
+      own = λ d ch. own d ch;
+      fits = λ d j t. fits d j t (cases_eq d q) (cases_eq d c);
+      in_order = λ d m e. never (d == c) m e;
+    }) (λ d. (refl, bare (d == q)))
+    (names-kept n new links s inv.named (λ d i. rw (acquiring_same d) refl) (λ d i. rw last.waits refl) (λ d i. rw (letting_same d) refl) (λ i. rw last.waits refl))
+  where
+    with_data : Bool
+    with_data = is_granted_data whole g ((s.block n).pair q).recorded
+
+    new : Block X
+    new = granted_block c q r with_data gift (s.block n)
+
+    links : ℕ → Link
+    links = granted_link c q n rest s.link
+
+    apart : c ≡ q → ⊥
+    apart e =
+        let own : view (s.block n).service q ≡ Own = rw (last.waits, same_number q) refl in
+        let quiet : is_quiet ((s.block n).pair q).probing ≡ true = own_quiet ((s.block n).pair q) (view (s.block n).service q) ((inv.blocks n).phases q) own in
+        let answered : ((s.block n).pair q).probing ≡ Answered r = rw e at last.answered in
+        let differs : is_quiet (Answered r) ≡ true = rw answered at quiet in
+        absurd cc
+
+    apart_too : q ≡ c → ⊥
+    apart_too e = apart (sym e)
+
+    bare : (b : Bool) → spares (if b then Pushes Grant n else Stays) Answer ≡ true
+    bare true = refl
+    bare false = refl
+
+    never : (b : Bool) (m : ℕ) → (if b then Pops ProbeAck n else Stays) ≡ Pushes ProbeAck m → {A : Type 0} → A
+    never true m e = absurd cc
+    never false m e = absurd cc
+
+    own : (d : ℕ) (ch : Channel) → is_own_move ch (granted_moves n c q d ch) ≡ true
+    own d channel.A = refl
+    own d channel.B = refl
+    own d channel.C = go (d == c)
+      where
+        go : (b : Bool) → is_own_move channel.C (if b then Pops ProbeAck n else Stays) ≡ true
+        go true = refl
+        go false = refl
+    own d channel.D = go (d == q)
+      where
+        go : (b : Bool) → is_own_move channel.D (if b then Pushes Grant n else Stays) ≡ true
+        go true = refl
+        go false = refl
+    own d channel.E = refl
+
+    at_q : Link
+    at_q = record (s.link q) { d = (s.link q).d ++ token Grant n ∷ [] }
+
+    at_c : Link
+    at_c = record (s.link c) { c = rest }
+
+    links_q : links q ≡ at_q
+    links_q = set-same q at_q (set c at_c s.link)
+
+    links_c : links c ≡ at_c
+    links_c = set-other q c at_q (set c at_c s.link) apart ∙ set-same c at_c s.link
+
+    links_other : (d : ℕ) → (d ≡ q → ⊥) → (d ≡ c → ⊥) → links d ≡ s.link d
+    links_other d m o = set-other q d at_q (set c at_c s.link) m ∙ set-other c d at_c s.link o
+
+    moved_q : (ch : Channel) → IsMoved (granted_moves n 0 1 1 ch) (tokens_on ch (s.link q)) (tokens_on ch at_q)
+    moved_q channel.A = refl
+    moved_q channel.B = refl
+    moved_q channel.C = refl
+    moved_q channel.D = refl
+    moved_q channel.E = refl
+
+    moved_c : (ch : Channel) → IsMoved (granted_moves n 1 0 1 ch) (tokens_on ch (s.link c)) (tokens_on ch at_c)
+    moved_c channel.A = refl
+    moved_c channel.B = refl
+    moved_c channel.C = first
+    moved_c channel.D = refl
+    moved_c channel.E = refl
+
+    moved : (d : ℕ) (ch : Channel) → IsMoved (granted_moves n c q d ch) (tokens_on ch (s.link d)) (tokens_on ch (links d))
+    moved d ch = elim (cases_eq d q) [
+      | inl same ↦ rw same (moved_as (granted_moves n c q q ch) (granted_moves n 0 1 1 ch) (tokens_on ch (s.link q)) (tokens_on ch (links q))
+          (tokens_on ch at_q) (moves_of_sender n c q ch apart_too) (ap (tokens_on ch) links_q) (moved_q ch))
+      | inr m ↦ elim (cases_eq d c) [
+        | inl same ↦ rw same (moved_as (granted_moves n c q c ch) (granted_moves n 1 0 1 ch) (tokens_on ch (s.link c)) (tokens_on ch (links c))
+            (tokens_on ch at_c) (moves_of_reporter n c q ch apart) (ap (tokens_on ch) links_c) (moved_c ch))
+        | inr o ↦ moved_as (granted_moves n c q d ch) Stays (tokens_on ch (s.link d)) (tokens_on ch (links d)) (tokens_on ch (s.link d))
+            (moves_of_other n c q d ch o m) (ap (tokens_on ch) (links_other d m o)) refl
+      ]
+    ]
+
+    agrees_as : (j : Kind) (m p : Move) (a b x y : Bool) → m ≡ p → a ≡ x → b ≡ y → agrees p j n x y ≡ true → agrees m j n a b ≡ true
+    agrees_as j m p a b x y e f h t = rw (e, f, h) t
+
+    old : ℕ → Pair
+    old = (s.block n).pair
+
+    after : Pair
+    after = after_report r (old c)
+
+    pair_q : new.pair q ≡ after_grant_sent gift (old q)
+    pair_q = set-same q (after_grant_sent gift (old q)) (set c after old)
+
+    pair_c : new.pair c ≡ after
+    pair_c = set-other q c (after_grant_sent gift (old q)) (set c after old) apart ∙ set-same c after old
+
+    pair_other : (d : ℕ) → (d ≡ q → ⊥) → (d ≡ c → ⊥) → new.pair d ≡ old d
+    pair_other d m o = set-other q d (after_grant_sent gift (old q)) (set c after old) m ∙ set-other c d after old o
+
+    view_q : view (s.block n).service q ≡ Own
+    view_q = rw (last.waits, same_number q) refl
+
+    view_other : (d : ℕ) → (d ≡ q → ⊥) → view (s.block n).service d ≡ Other k
+    view_other d m = rw (last.waits, ne_eqb d q m) refl
+
+    new_q : view new.service q ≡ Granting with_data gift
+    new_q = rw (same_number q) refl
+
+    new_other : (d : ℕ) → (d ≡ q → ⊥) → view new.service d ≡ GrantedOther
+    new_other d m = rw (ne_eqb d q m) refl
+
+    acquiring_same : (d : ℕ) → (new.pair d).acquiring ≡ (old d).acquiring
+    acquiring_same d =
+        let first_ : (set c after old q).acquiring ≡ (old q).acquiring = set-part (λ (p : Pair). p.acquiring) c after old refl q in
+        set-part (λ (p : Pair). p.acquiring) q (after_grant_sent gift (old q)) (set c after old) (sym first_) d ∙ set-part (λ (p : Pair). p.acquiring) c after old refl d
+
+    letting_same : (d : ℕ) → (new.pair d).letting ≡ (old d).letting
+    letting_same d =
+        let first_ : (set c after old q).letting ≡ (old q).letting = set-part (λ (p : Pair). p.letting) c after old refl q in
+        set-part (λ (p : Pair). p.letting) q (after_grant_sent gift (old q)) (set c after old) (sym first_) d ∙ set-part (λ (p : Pair). p.letting) c after old refl d
+
+    fits : (d : ℕ) (j : Kind) → is_transfer j ≡ true → (d ≡ q) ⊎ (d ≡ q → ⊥) → (d ≡ c) ⊎ (d ≡ c → ⊥) → agrees (granted_moves n c q d (channel_for j)) j n (shown j d (s.block n)) (shown j d new) ≡ true
+    fits d j t (inl same) o =
+        rw same (agrees_as j (granted_moves n c q q (channel_for j)) (granted_moves n 0 1 1 (channel_for j)) (shown j q (s.block n)) (shown j q new)
+        (shows j (old q) Own) (shows j (after_grant_sent gift (old q)) (Granting with_data gift))
+        (moves_of_sender n c q (channel_for j) apart_too) (ap (shows j (old q)) view_q) (ap₂ (shows j) pair_q new_q) (at_sender n j (old q) with_data gift t))
+    fits d j t (inr m) (inl same) =
+        rw same (agrees_as j (granted_moves n c q c (channel_for j)) (granted_moves n 1 0 1 (channel_for j)) (shown j c (s.block n)) (shown j c new)
+        (shows j (old c) (Other k)) (shows j after GrantedOther)
+        (moves_of_reporter n c q (channel_for j) apart) (ap (shows j (old c)) (view_other c apart)) (ap₂ (shows j) pair_c (new_other c apart)) (at_reporter n j r (old c) k t last.answered))
+    fits d j t (inr m) (inr o) =
+        agrees_as j (granted_moves n c q d (channel_for j)) Stays (shown j d (s.block n)) (shown j d new) (shows j (old d) (Other k)) (shows j (old d) GrantedOther)
+        (moves_of_other n c q d (channel_for j) o m) (ap (shows j (old d)) (view_other d m)) (ap₂ (shows j) (pair_other d m o) (new_other d m)) (at_other n j (old d) k t)

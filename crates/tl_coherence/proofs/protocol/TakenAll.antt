@@ -1,0 +1,94 @@
+-- A Grant that is taken keeps the invariant.
+use Rattle.std.proofs.Common.{◌≡◌, refl, sym, ◌∙◌}
+use Rattle.std.specs.Prelude.{ℕ, Bool, true, false, List, ◌∷◌, ◌&&◌}
+use Rattle.std.proofs.lemmas.Bool.{ne_eqb}
+use Rattle.std.proofs.Math.Bool.{and-false}
+use Rattle.tl_beat.specs.declared.channel.Channel.{Channel}
+use Rattle.tl_beat.specs.declared.channel.Channel.TheVariants as channel
+use Rattle.tl_params.specs.declared.param.Cap.{Cap}
+use Rattle.tl_params.specs.declared.param.Grow.{Grow}
+use Rattle.tl_coherence.specs.protocol.Phase.{Pair, Granting, Acknowledging, Wants}
+use Rattle.tl_coherence.specs.protocol.PhaseSteps.{after_grant}
+use Rattle.tl_coherence.specs.protocol.Token.{Kind, Request, Acquire, Probe, ProbeAck, Release, Answer, Grant, ReleaseAck, GrantAck, Token, set}
+use Rattle.tl_coherence.specs.protocol.Protocol.{GrantSent, Block, State, Link, Closed, Acquires, token, shows, is_transfer, is_wanting, is_sent, is_answered, is_releasing}
+use Rattle.tl_coherence.specs.protocol.Protocol.{is_acked, taken_block, taken_link, grant_taken}
+use Rattle.tl_coherence.specs.refinement.Move.{Move, Stays, Pushes, Pops, AreMoved, agrees, is_own_move, channel_for}
+use Rattle.tl_coherence.specs.protocol.Invariant.{is_of, acquires_of, serves_of, acquires_with, serves_with, releases_with, tracks_with, IsInvariant}
+use Rattle.tl_coherence.proofs.queues.Moves.{moves_at, event-at, bare-elsewhere, names-block, names-set_at, invariant-moved_use, same_again}
+use Rattle.tl_coherence.proofs.queues.Tokens.{same_number, set-same, set-other, set-part}
+use Rattle.tl_coherence.proofs.protocol.Taken.{taken-block}
+use Rattle.tl_coherence.proofs.protocol.BothParts.{acquires_of-is}
+
+abbrev pub taken_moves : ℕ → Channel → Move
+taken_moves n channel.D = Pops Grant n
+taken_moves n channel.E = Pushes GrantAck n
+taken_moves n _ = Stays
+
+taken_shows : (n : ℕ) (j : Kind) (d : Bool) (k : Cap) (p : Pair) → is_transfer j ≡ true
+    → agrees (taken_moves n (channel_for j)) j n (shows j p (Granting d k)) (shows j (after_grant k p) Acknowledging) ≡ true
+taken_shows n Request d k p t = absurd cc
+taken_shows n Answer d k p t = absurd cc
+taken_shows n Acquire d k p t = go (is_wanting p.acquiring)
+  where
+    go : (b : Bool) → agrees Stays Acquire n (b && false) false ≡ true
+    go true = refl
+    go false = refl
+taken_shows n Probe d k p t = same_again (is_sent p.probing)
+taken_shows n ProbeAck d k p t = same_again (is_answered p.probing)
+taken_shows n Release d k p t = same_again (is_releasing p.letting)
+taken_shows n Grant d k p t = rw (same_number n) refl
+taken_shows n ReleaseAck d k p t = same_again (is_acked p.letting)
+taken_shows n GrantAck d k p t = rw (same_number n) refl
+
+pub grant_taken-kept : {X : Type 0} (caching : ℕ → Bool) (c n : ℕ) (d whole : Bool) (g : Grow) (k : Cap) (rest : List Token) (s : State X) → IsInvariant caching s → (s.link c).d ≡ token Grant n ∷ rest
+    → (s.block n).service ≡ GrantSent c d k → ((s.block n).pair c).acquiring ≡ Wants whole g → IsInvariant caching (grant_taken c n whole d k rest s)
+grant_taken-kept {X} caching c n d whole g k rest s inv first granting wants =
+    invariant-moved_use caching n new (set c here s.link) (moves_at c (taken_moves n)) c source Closed s.tracked s inv
+    (event-at caching c n new here (taken_moves n) s (record {
+      well = taken-block caching c d whole g k (s.block n) (inv.blocks n) granting wants;
+      moved = moved;
+      own = own;
+      fits = λ j t. rw (granting, set-same c after old, same_number c) (taken_shows n j d k (old c) t);
+      others = λ i ne j t. rw (granting, set-other c i after old ne, ne_eqb i c ne) refl;
+      in_order = λ m e. absurd (let f : Stays ≡ Pushes ProbeAck m = e in cc);
+    }))
+    (rw (same_number c, used) refl) (rw (same_number c, used) refl) (bare-elsewhere c (taken_moves n))
+    (record {
+      acquires = names-set_at acquires_of acquires_with c source Closed s.uses n new s.block (rw (set-same c after old) refl) (λ m ne. rw used (sym (ne_eqb m n ne)))
+          (λ i ne. rw (set-same c after old, ne_eqb i source ne) (sym (and-false (is_wanting (old c).acquiring)))) (λ i j ne. rw (set-other c i after old ne) refl) inv.named.acquires;
+      serves = names-set_at serves_of serves_with c source Closed s.uses n new s.block refl (λ m ne. rw used refl) (λ i ne. rw granting refl) (λ i j ne. rw granting refl) inv.named.serves;
+      releases = λ i. names-block is_of (releases_with i) (s.lets i) n new s.block (λ j. rw (set-part (λ (p : Pair). p.letting) c after old refl i) refl) (inv.named.releases i);
+      trackers = names-block is_of tracks_with s.tracked n new s.block (λ i. rw granting refl) inv.named.trackers;
+    })
+  where
+    old : ℕ → Pair
+    old = (s.block n).pair
+
+    after : Pair
+    after = after_grant k (old c)
+
+    new : Block X
+    new = taken_block c whole d k (s.block n)
+
+    here : Link
+    here = taken_link n rest (s.link c)
+
+    source : ℕ
+    source = (s.block n).source c
+
+    used : s.uses c source ≡ Acquires n
+    used = acquires_of-is n (s.uses c source) (inv.named.acquires c source n ∙ rw (wants, same_number source) refl)
+
+    moved : AreMoved (taken_moves n) (s.link c) here
+    moved channel.A = refl
+    moved channel.B = refl
+    moved channel.C = refl
+    moved channel.D = first
+    moved channel.E = refl
+
+    own : (ch : Channel) → is_own_move ch (taken_moves n ch) ≡ true
+    own channel.A = refl
+    own channel.B = refl
+    own channel.C = refl
+    own channel.D = refl
+    own channel.E = refl

@@ -1,0 +1,124 @@
+-- Tokens with names of their own: where each name below a bound is of one token at most, there are no more tokens.
+use Rattle.std.proofs.Common.{◌≡◌, ℕ, ◌+◌, ◌<◌, ◌≤◌, Bool, true, false, List, [], ◌∷◌, refl, sym, ◌∙◌, ap, ◌⊎◌, inl, inr, arith}
+use Rattle.std.specs.Prelude.{◌==◌, ◌&&◌, if◌then◌else◌, not, length, Option, Some, None}
+use Rattle.std.proofs.lemmas.Bool.{cases_eq, ne_eqb, eqb-true, and_parts}
+use Rattle.std.proofs.lemmas.Option.{same_Some}
+use Rattle.tl_coherence.specs.bound.Potential.{total}
+use Rattle.tl_coherence.specs.protocol.Token.{Kind, Token, is, one_if, count}
+use Rattle.tl_coherence.proofs.queues.Rendered.{same_kind_again}
+use Rattle.tl_coherence.proofs.queues.Tokens.{same_number}
+use Rattle.tl_coherence.proofs.queues.Sums.{total-same, total-le, total-plus, total-zero, total-one, total-const}
+
+-- how many tokens pass a test
+unfoldable pub passing : (Token → Bool) → List Token → ℕ
+passing test [] = 0
+passing test (x ∷ xs) = one_if (test x) + passing test xs
+
+pub is-itself : (x : Token) → is x.kind x.number x ≡ true
+is-itself x = rw (same_kind_again x.kind, same_number x.number) refl
+
+pub all-pass : (xs : List Token) → passing (λ x. true) xs ≡ length xs
+unfolding passing
+all-pass [] = refl
+all-pass (x ∷ xs) = omega (arith, all-pass xs)
+
+-- those that pass and those that don't are all
+pub pass-or-not : (test : Token → Bool) (xs : List Token) → length xs ≡ passing test xs + passing (λ x. not (test x)) xs
+unfolding passing
+pass-or-not test [] = omega arith
+pass-or-not test (x ∷ xs) = omega (arith, pass-or-not test xs, one (test x))
+  where
+    one : (b : Bool) → one_if b + one_if (not b) ≡ 1
+    one true = refl
+    one false = refl
+
+-- ---- the tokens of a list
+
+abbrev pub IsThere : Token → List Token → Type 0
+IsThere x xs = 0 < count x.kind x.number xs
+
+pub first-there : (x : Token) (xs : List Token) → IsThere x (x ∷ xs)
+unfolding count
+first-there x xs = let one : one_if (is x.kind x.number x) ≡ 1 = rw (is-itself x) refl in omega (arith, one)
+
+pub later-there : (y x : Token) (xs : List Token) → IsThere y xs → IsThere y (x ∷ xs)
+unfolding count
+later-there y x xs there = omega (arith, there)
+
+-- ---- all that pass are one token
+
+pub passing-one : (test : Token → Bool) (k : Kind) (n : ℕ) (xs : List Token) → ((x : Token) → IsThere x xs → test x ≡ true → is k n x ≡ true) → passing test xs ≤ count k n xs
+unfolding passing count
+passing-one test k n [] one = omega arith
+passing-one test k n (x ∷ xs) one =
+    let rest = passing-one test k n xs (λ y there. one y (later-there y x xs there)) in
+    omega (arith, rest, here (test x) (is k n x) (one x (first-there x xs)))
+  where
+    here : (b c : Bool) → (b ≡ true → c ≡ true) → one_if b ≤ one_if c
+    here true c so = rw (so refl) (omega arith)
+    here false c so = omega arith
+
+pub passing-none : (test : Token → Bool) (xs : List Token) → ((x : Token) → IsThere x xs → test x ≡ false) → passing test xs ≡ 0
+unfolding passing
+passing-none test [] none = refl
+passing-none test (x ∷ xs) none =
+    let here : one_if (test x) ≡ 0 = rw (none x (first-there x xs)) refl in
+    omega (arith, here, passing-none test xs (λ y there. none y (later-there y x xs there)))
+
+-- ---- names
+
+-- it passes, and has this name
+abbrev pub named : (Token → Bool) → (Token → ℕ) → ℕ → Token → Bool
+named test name i x = test x && (name x == i)
+
+one-name : (b : Bool) (n bound : ℕ) → (b ≡ true → n < bound) → total bound (λ i. one_if (b && (n == i))) ≡ one_if b
+one-name false n bound below = total-zero bound (λ i. 0) (λ i lt. refl)
+one-name true n bound below =
+    total-same bound (λ i. one_if (n == i)) (λ i. if i == n then 1 else 0) (λ i lt. at i (cases_eq i n)) ∙ total-one bound n 1 (below refl)
+  where
+    at : (i : ℕ) → (i ≡ n) ⊎ (i ≡ n → ⊥) → one_if (n == i) ≡ (if i == n then 1 else 0)
+    at i (inl e) = rw (e, same_number n) refl
+    at i (inr ne) = let other : n ≡ i → ⊥ = λ e. ne (sym e) in rw (ne_eqb i n ne, ne_eqb n i other) refl
+
+-- each that passes has one name
+by-names : (test : Token → Bool) (name : Token → ℕ) (bound : ℕ) (xs : List Token) → ((x : Token) → IsThere x xs → test x ≡ true → name x < bound)
+    → passing test xs ≡ total bound (λ i. passing (named test name i) xs)
+unfolding passing
+by-names test name bound [] below = sym (total-zero bound (λ i. 0) (λ i lt. refl))
+by-names test name bound (x ∷ xs) below =
+    let rest = by-names test name bound xs (λ y there. below y (later-there y x xs there)) in
+    let both = total-plus bound (λ i. one_if (named test name i x)) (λ i. passing (named test name i) xs) in
+    omega (arith, rest, both, one-name (test x) (name x) bound (below x (first-there x xs)))
+
+-- No token stands twice, each that passes has a name below the bound, and is the one that the name is of: so there are
+-- no more than the bound.
+pub few : (test : Token → Bool) (name : Token → ℕ) (owner : ℕ → Option Token) (bound : ℕ) (xs : List Token)
+    → ((k : Kind) (n : ℕ) → count k n xs ≤ 1) → ((x : Token) → IsThere x xs → test x ≡ true → (owner (name x) ≡ Some x) × (name x < bound))
+    → passing test xs ≤ bound
+few test name owner bound xs once own =
+    let each = total-le bound (λ i. passing (named test name i) xs) (λ i. 1) (λ i lt. at i (owner i) refl) in
+    omega (arith, each, by-names test name bound xs (λ x there pass. (own x there pass).1), total-const bound 1)
+  where
+    at : (i : ℕ) (o : Option Token) → owner i ≡ o → passing (named test name i) xs ≤ 1
+    at i None e =
+        let none = passing-none (named test name i) xs (λ x there. unnamed x there (named test name i x) refl) in
+        omega (arith, none)
+      where
+        unnamed : (x : Token) → IsThere x xs → (b : Bool) → named test name i x ≡ b → b ≡ false
+        unnamed x there false h = refl
+        unnamed x there true h =
+            let parts = and_parts (test x) (name x == i) h in
+            let same : name x ≡ i = eqb-true (name x) i parts.1 in
+            let is : owner i ≡ Some x = ap owner (sym same) ∙ (own x there parts.0).0 in
+            absurd cc
+    at i (Some t) e =
+        let one = passing-one (named test name i) t.kind t.number xs (λ x there h. same_token x there (and_parts (test x) (name x == i) h)) in
+        omega (arith, one, once t.kind t.number)
+      where
+        same_token : (x : Token) → IsThere x xs → (test x ≡ true) × ((name x == i) ≡ true) → is t.kind t.number x ≡ true
+        same_token x there parts =
+            let same : name x ≡ i = eqb-true (name x) i parts.1 in
+            let is_it : owner i ≡ Some x = ap owner (sym same) ∙ (own x there parts.0).0 in
+            let it : Some t ≡ Some x = sym e ∙ is_it in
+            let that : t ≡ x = same_Some _ _ it in
+            rw that (is-itself x)

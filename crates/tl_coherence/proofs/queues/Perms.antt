@@ -1,0 +1,44 @@
+-- Permissions: which are none, which are above another, and which are out.
+use Rattle.std.specs.Prelude.{false, true}
+use Rattle.std.proofs.Common.{false, refl, true, ◌≡◌}
+use Rattle.tl_params.specs.declared.param.Cap.{Cap}
+use Rattle.tl_params.specs.declared.param.Cap.TheVariants as cap
+use Rattle.tl_params.specs.declared.perm.Perm.{Perm}
+use Rattle.tl_params.specs.declared.perm.Perm.TheVariants as perm
+use Rattle.tl_rules.specs.Conformance.{same_perm}
+use Rattle.tl_client.specs.Kept.{holds}
+use Rattle.tl_coherence.specs.protocol.Invariant.{is_out}
+use Rattle.tl_coherence.specs.protocol.Phase.{Pair, View, perm_le}
+use Rattle.tl_coherence.specs.protocol.PhaseSteps.{is_above}
+
+pub trunk-some : (p : Perm) → same_perm p perm.Trunk ≡ true → same_perm p perm.None ≡ false
+trunk-some perm.Trunk e = refl
+trunk-some perm.None e = absurd cc
+trunk-some perm.Branch e = absurd cc
+
+pub held-some : (p : Perm) → holds p ≡ true → same_perm p perm.None ≡ false
+held-some perm.Branch e = refl
+held-some perm.Trunk e = refl
+held-some perm.None e = absurd cc
+
+pub nothing-above : (j : Cap) → is_above j perm.None ≡ false
+nothing-above cap.ToT = refl
+nothing-above cap.ToB = refl
+nothing-above cap.ToN = refl
+
+pub none-above : (p : Perm) → is_above cap.ToN p ≡ false → same_perm p perm.None ≡ true
+none-above perm.None e = refl
+none-above perm.Branch e = absurd cc
+none-above perm.Trunk e = absurd cc
+
+pub nothing_below : (p q : Perm) → perm_le p q ≡ true → same_perm q perm.None ≡ true → same_perm p perm.None ≡ true
+nothing_below perm.None q e f = refl
+nothing_below perm.Branch perm.None e f = absurd cc
+nothing_below perm.Branch perm.Branch e f = absurd cc
+nothing_below perm.Branch perm.Trunk e f = absurd cc
+nothing_below perm.Trunk perm.None e f = absurd cc
+nothing_below perm.Trunk perm.Branch e f = absurd cc
+nothing_below perm.Trunk perm.Trunk e f = absurd cc
+
+pub not_out : (p : Pair) (v : View) → same_perm p.recorded perm.Trunk ≡ false → is_out p v ≡ false
+not_out p v e = rw e refl

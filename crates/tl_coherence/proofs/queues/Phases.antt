@@ -1,0 +1,197 @@
+-- Every phase that is well, by computation.
+use Rattle.std.proofs.Common.{◌≡◌, refl}
+use Rattle.std.specs.Prelude.{Bool, true, false, ◌&&◌, ⊤}
+use Rattle.tl_params.specs.declared.param.Cap.{Cap}
+use Rattle.tl_params.specs.declared.param.Cap.TheVariants as cap
+use Rattle.tl_params.specs.declared.param.Grow.{Grow}
+use Rattle.tl_params.specs.declared.param.Grow.TheVariants as grow
+use Rattle.tl_params.specs.declared.param.Prune.{Prune}
+use Rattle.tl_params.specs.declared.param.Prune.TheVariants as prune
+use Rattle.tl_params.specs.declared.param.Report.{Report}
+use Rattle.tl_params.specs.declared.param.Report.TheVariants as report
+use Rattle.tl_params.specs.declared.perm.Perm.{Perm}
+use Rattle.tl_params.specs.declared.perm.Perm.TheVariants as perm
+use Rattle.tl_coherence.specs.protocol.Phase.{Pair, View, Idle, Own, Other, Granting, Acknowledging, GrantedOther, Probing, Quiet, Sent, Answered, Letting, Kept, Releasing}
+use Rattle.tl_coherence.specs.protocol.Phase.{Acked, Acquiring, Calm, Wants, ok_first, ok_second, ok_third, ok}
+
+-- ---- tests of all values of a type
+
+-- what follows is tried only where the test holds
+abbrev pub where_true : Bool → (⊤ → Bool) → Bool
+where_true true f = f tt
+where_true false f = true
+
+abbrev pub each_bool : (Bool → Bool) → Bool
+each_bool f = f true && f false
+
+abbrev pub each_perm : (Perm → Bool) → Bool
+each_perm f = f perm.None && (f perm.Branch && f perm.Trunk)
+
+abbrev pub each_cap : (Cap → Bool) → Bool
+each_cap f = f cap.ToT && (f cap.ToB && f cap.ToN)
+
+abbrev pub each_grow : (Grow → Bool) → Bool
+each_grow f = f grow.NtoB && (f grow.NtoT && f grow.BtoT)
+
+abbrev pub each_prune : (Prune → Bool) → Bool
+each_prune f = f prune.TtoB && (f prune.TtoN && f prune.BtoN)
+
+abbrev pub each_report : (Report → Bool) → Bool
+each_report f = f report.TtoB && (f report.TtoN && (f report.BtoN && (f report.TtoT && (f report.BtoB && f report.NtoN))))
+
+abbrev pub each_probing : (Probing → Bool) → Bool
+each_probing f = f Quiet && (each_cap (λ k. f (Sent k)) && each_report (λ r. f (Answered r)))
+
+abbrev pub each_letting : (Letting → Bool) → Bool
+each_letting f = f Kept && (each_prune (λ r. f (Releasing r)) && f Acked)
+
+abbrev pub each_acquiring : (Acquiring → Bool) → Bool
+each_acquiring f = f Calm && each_bool (λ whole. each_grow (λ g. f (Wants whole g)))
+
+abbrev pub each_view : (View → Bool) → Bool
+each_view f =
+    f Idle && (f Own && (each_cap (λ k. f (Other k)) && (each_bool (λ d. each_cap (λ k. f (Granting d k))) && (f Acknowledging && f GrantedOther))))
+
+abbrev pub pair_of : Perm → Probing → Letting → Perm → Acquiring → Pair
+pair_of recorded probing letting held acquiring =
+    record { recorded = recorded; probing = probing; letting = letting; held = held; acquiring = acquiring }
+
+-- the test holds in each phase that is well
+unfoldable pub each_phase : (Pair → View → Bool) → Bool
+each_phase f =
+    each_view (λ v. each_probing (λ probing. where_true (ok_first probing v) (λ a.
+    each_letting (λ letting. each_acquiring (λ acquiring. where_true (ok_second probing letting acquiring v) (λ b.
+    each_perm (λ recorded. each_perm (λ held. where_true (ok_third (pair_of recorded probing letting held acquiring) v) (λ c.
+    f (pair_of recorded probing letting held acquiring) v)))))))))
+
+-- ---- a test that holds of all holds of each
+
+pub and_left : (a b : Bool) → (a && b) ≡ true → a ≡ true
+and_left true b e = refl
+and_left false b e = absurd cc
+
+pub and_right : (a b : Bool) → (a && b) ≡ true → b ≡ true
+and_right true b e = e
+and_right false b e = absurd cc
+
+pub where_is : (a : Bool) (f : ⊤ → Bool) → where_true a f ≡ true → a ≡ true → f tt ≡ true
+where_is true f e h = e
+where_is false f e h = absurd cc
+
+abbrev IsThree : Bool → Bool → Bool → Type 0
+IsThree a b c = (a ≡ true) × (b ≡ true) × (c ≡ true)
+
+abbrev IsSix : Bool → Bool → Bool → Bool → Bool → Bool → Type 0
+IsSix a b c d e f = (a ≡ true) × (b ≡ true) × (c ≡ true) × (d ≡ true) × (e ≡ true) × (f ≡ true)
+
+three : (a b c : Bool) → (a && (b && c)) ≡ true → IsThree a b c
+three true true c e = (refl, refl, e)
+three true false c e = absurd cc
+three false b c e = absurd cc
+
+six : (a b c d e f : Bool) → (a && (b && (c && (d && (e && f))))) ≡ true → IsSix a b c d e f
+six a b c d e f h =
+    let p = three a b (c && (d && (e && f))) h in
+    let q = three c d (e && f) p.2 in
+    (p.0, p.1, q.0, q.1, and_left e f q.2, and_right e f q.2)
+
+pub of_bool : (f : Bool → Bool) → each_bool f ≡ true → (x : Bool) → f x ≡ true
+of_bool f e true = and_left (f true) (f false) e
+of_bool f e false = and_right (f true) (f false) e
+
+pub of_perm : (f : Perm → Bool) → each_perm f ≡ true → (x : Perm) → f x ≡ true
+of_perm f e perm.None = (three (f perm.None) (f perm.Branch) (f perm.Trunk) e).0
+of_perm f e perm.Branch = (three (f perm.None) (f perm.Branch) (f perm.Trunk) e).1
+of_perm f e perm.Trunk = (three (f perm.None) (f perm.Branch) (f perm.Trunk) e).2
+
+pub of_cap : (f : Cap → Bool) → each_cap f ≡ true → (x : Cap) → f x ≡ true
+of_cap f e cap.ToT = (three (f cap.ToT) (f cap.ToB) (f cap.ToN) e).0
+of_cap f e cap.ToB = (three (f cap.ToT) (f cap.ToB) (f cap.ToN) e).1
+of_cap f e cap.ToN = (three (f cap.ToT) (f cap.ToB) (f cap.ToN) e).2
+
+pub of_grow : (f : Grow → Bool) → each_grow f ≡ true → (x : Grow) → f x ≡ true
+of_grow f e grow.NtoB = (three (f grow.NtoB) (f grow.NtoT) (f grow.BtoT) e).0
+of_grow f e grow.NtoT = (three (f grow.NtoB) (f grow.NtoT) (f grow.BtoT) e).1
+of_grow f e grow.BtoT = (three (f grow.NtoB) (f grow.NtoT) (f grow.BtoT) e).2
+
+pub of_prune : (f : Prune → Bool) → each_prune f ≡ true → (x : Prune) → f x ≡ true
+of_prune f e prune.TtoB = (three (f prune.TtoB) (f prune.TtoN) (f prune.BtoN) e).0
+of_prune f e prune.TtoN = (three (f prune.TtoB) (f prune.TtoN) (f prune.BtoN) e).1
+of_prune f e prune.BtoN = (three (f prune.TtoB) (f prune.TtoN) (f prune.BtoN) e).2
+
+-- a test of six reports
+abbrev SixReports : (Report → Bool) → Type 0
+SixReports f = IsSix (f report.TtoB) (f report.TtoN) (f report.BtoN) (f report.TtoT) (f report.BtoB) (f report.NtoN)
+
+six_reports : (f : Report → Bool) → each_report f ≡ true → SixReports f
+six_reports f e = six (f report.TtoB) (f report.TtoN) (f report.BtoN) (f report.TtoT) (f report.BtoB) (f report.NtoN) e
+
+pub of_report : (f : Report → Bool) → each_report f ≡ true → (x : Report) → f x ≡ true
+of_report f e report.TtoB = (six_reports f e).0
+of_report f e report.TtoN = (six_reports f e).1
+of_report f e report.BtoN = (six_reports f e).2
+of_report f e report.TtoT = (six_reports f e).3
+of_report f e report.BtoB = (six_reports f e).4
+of_report f e report.NtoN = (six_reports f e).5
+
+pub of_probing : (f : Probing → Bool) → each_probing f ≡ true → (x : Probing) → f x ≡ true
+of_probing f e Quiet = (three (f Quiet) (each_cap (λ k. f (Sent k))) (each_report (λ r. f (Answered r))) e).0
+of_probing f e (Sent k) = of_cap (λ j. f (Sent j)) (three (f Quiet) (each_cap (λ j. f (Sent j))) (each_report (λ r. f (Answered r))) e).1 k
+of_probing f e (Answered r) = of_report (λ j. f (Answered j)) (three (f Quiet) (each_cap (λ k. f (Sent k))) (each_report (λ j. f (Answered j))) e).2 r
+
+pub of_letting : (f : Letting → Bool) → each_letting f ≡ true → (x : Letting) → f x ≡ true
+of_letting f e Kept = (three (f Kept) (each_prune (λ r. f (Releasing r))) (f Acked) e).0
+of_letting f e (Releasing r) = of_prune (λ j. f (Releasing j)) (three (f Kept) (each_prune (λ j. f (Releasing j))) (f Acked) e).1 r
+of_letting f e Acked = (three (f Kept) (each_prune (λ r. f (Releasing r))) (f Acked) e).2
+
+pub of_acquiring : (f : Acquiring → Bool) → each_acquiring f ≡ true → (x : Acquiring) → f x ≡ true
+of_acquiring f e Calm = and_left (f Calm) (each_bool (λ whole. each_grow (λ g. f (Wants whole g)))) e
+of_acquiring f e (Wants whole g) =
+    of_grow (λ h. f (Wants whole h)) (of_bool (λ b. each_grow (λ h. f (Wants b h))) (and_right (f Calm) (each_bool (λ b. each_grow (λ h. f (Wants b h)))) e) whole) g
+
+abbrev SixViews : (View → Bool) → Type 0
+SixViews f = IsSix (f Idle) (f Own) (each_cap (λ k. f (Other k))) (each_bool (λ d. each_cap (λ k. f (Granting d k)))) (f Acknowledging) (f GrantedOther)
+
+six_views : (f : View → Bool) → each_view f ≡ true → SixViews f
+six_views f e = six (f Idle) (f Own) (each_cap (λ k. f (Other k))) (each_bool (λ d. each_cap (λ k. f (Granting d k)))) (f Acknowledging) (f GrantedOther) e
+
+pub of_view : (f : View → Bool) → each_view f ≡ true → (x : View) → f x ≡ true
+of_view f e Idle = (six_views f e).0
+of_view f e Own = (six_views f e).1
+of_view f e (Other k) = of_cap (λ j. f (Other j)) (six_views f e).2 k
+of_view f e (Granting d k) = of_cap (λ j. f (Granting d j)) (of_bool (λ b. each_cap (λ j. f (Granting b j))) (six_views f e).3 d) k
+of_view f e Acknowledging = (six_views f e).4
+of_view f e GrantedOther = (six_views f e).5
+
+-- so a test of all phases holds in each that is well
+pub of_phase : (f : Pair → View → Bool) → each_phase f ≡ true → (p : Pair) (v : View) → ok p v ≡ true → f p v ≡ true
+unfolding each_phase ok
+of_phase f e p v h =
+    let rest = and_right (ok_first p.probing v) (ok_second p.probing p.letting p.acquiring v && ok_third p v) h in
+    let first : ok_first p.probing v ≡ true = and_left (ok_first p.probing v) (ok_second p.probing p.letting p.acquiring v && ok_third p v) h in
+    let second : ok_second p.probing p.letting p.acquiring v ≡ true = and_left (ok_second p.probing p.letting p.acquiring v) (ok_third p v) rest in
+    let third : ok_third p v ≡ true = and_right (ok_second p.probing p.letting p.acquiring v) (ok_third p v) rest in
+    let last = λ (probing : Probing) (letting : Letting) (acquiring : Acquiring) (u : View) (recorded held : Perm).
+    where_true (ok_third (pair_of recorded probing letting held acquiring) u) (λ c. f (pair_of recorded probing letting held acquiring) u) in
+    let middle = λ (probing : Probing) (u : View) (letting : Letting) (acquiring : Acquiring).
+    where_true (ok_second probing letting acquiring u) (λ b. each_perm (λ recorded. each_perm (λ held. last probing letting acquiring u recorded held))) in
+    let outer = λ (u : View) (probing : Probing).
+    where_true (ok_first probing u) (λ a. each_letting (λ letting. each_acquiring (λ acquiring. middle probing u letting acquiring))) in
+    let one = of_probing (λ probing. outer v probing) (of_view (λ u. each_probing (λ probing. outer u probing)) e v) p.probing in
+    let two = where_is (ok_first p.probing v) (λ a. each_letting (λ letting. each_acquiring (λ acquiring. middle p.probing v letting acquiring))) one first in
+    let three_ = of_acquiring (λ acquiring. middle p.probing v p.letting acquiring)
+    (of_letting (λ letting. each_acquiring (λ acquiring. middle p.probing v letting acquiring)) two p.letting) p.acquiring in
+    let four = where_is (ok_second p.probing p.letting p.acquiring v) (λ b. each_perm (λ recorded. each_perm (λ held. last p.probing p.letting p.acquiring v recorded held))) three_ second in
+    let five = of_perm (λ held. last p.probing p.letting p.acquiring v p.recorded held)
+    (of_perm (λ recorded. each_perm (λ held. last p.probing p.letting p.acquiring v recorded held)) four p.recorded) p.held in
+    where_is (ok_third p v) (λ c. f p v) five third
+
+-- ---- tests that are tried only where another one holds
+
+abbrev pub implies : Bool → Bool → Bool
+implies true b = b
+implies false b = true
+
+pub implies_is : (a b : Bool) → implies a b ≡ true → a ≡ true → b ≡ true
+implies_is true b h e = h
+implies_is false b h e = absurd cc

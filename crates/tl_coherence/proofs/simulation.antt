@@ -1,0 +1,14 @@
+pub mod Bounded
+pub mod CarriedEvents
+pub mod CarriedProbes
+pub mod FollowCases
+pub mod Fresh
+pub mod Goods
+pub mod InvariantAtClients
+pub mod Moved
+pub mod Owned
+pub mod Popped
+pub mod Sized
+pub mod SizedAfter
+pub mod SoundAfter
+pub mod Strangers

@@ -1,0 +1,174 @@
+-- As a world begins, it is matched by the protocol as that begins.
+use Rattle.std.proofs.Common.{◌≡◌, ℕ, zero, suc, ◌*◌, ◌+◌, true, List, [], ◌∷◌, replicate, Bool, refl, sym, ap, arith}
+use Rattle.std.proofs.lemmas.List.{get_or-replicate}
+use Rattle.tl_beat.specs.declared.channel.Channel.{Channel}
+use Rattle.tl_beat.specs.declared.channel.Channel.TheVariants as channel
+use Rattle.tl_burst.specs.Messages.{unfinished}
+use Rattle.tl_params.specs.declared.config.Config.{Config}
+use Rattle.tl_rules.specs.Conformance.{on_link}
+use Rattle.tl_rules.specs.Effect.{bytes_from, IsBlock}
+use Rattle.tl_rules.specs.History.{held, pending}
+use Rattle.tl_client.specs.End.{zeros}
+use Rattle.tl_client.proofs.Accounted.{accounted-fresh}
+use Rattle.tl_client.proofs.KeptOffered.{kept-fresh}
+use Rattle.tl_manager.specs.Service.{services}
+use Rattle.tl_manager.proofs.Keeping.{fresh-kept}
+use Rattle.tl_coherence.specs.refinement.Carried.{IsCarried}
+use Rattle.tl_coherence.specs.statement.Flow.{flow}
+use Rattle.tl_coherence.specs.refinement.Follow.{first_block, first_link, first_state, first_shadow}
+use Rattle.tl_coherence.specs.protocol.Invariant.{IsWell, IsInvariant}
+use Rattle.tl_coherence.specs.refinement.Matched.{receiver}
+use Rattle.tl_coherence.specs.protocol.Phase.{ok}
+use Rattle.tl_coherence.specs.protocol.Protocol.{on, shown, is_transfer, tokens_on}
+use Rattle.tl_coherence.specs.statement.Remembered.{remembered}
+use Rattle.tl_coherence.specs.refinement.Render.{messages_on}
+use Rattle.tl_coherence.specs.statement.System.{fresh}
+use Rattle.tl_coherence.specs.protocol.Token.{Kind, Request, Acquire, Probe, ProbeAck, Release, Answer, Grant, ReleaseAck, GrantAck, count, Holds, IsOrdered}
+use Rattle.tl_coherence.specs.refinement.Whole.{IsMatched, AreFlowed, is_caching}
+
+-- ---- the protocol
+
+first-well : (caching : ℕ → Bool) → IsWell caching first_block
+unfolding ok
+first-well caching = record {
+  phases = λ c. refl;
+  awaited = tt;
+  asked_cap = tt;
+  own_source = tt;
+  alone = λ c d trunk probed ne. refl;
+  one_owner = λ c d trunk ne. refl;
+  outside = λ c plain. refl;
+  copies = λ c some. refl;
+  memory = λ none. refl;
+}
+
+none-shown : (c : ℕ) (k : Kind) → is_transfer k ≡ true → Holds k (on k first_link) (λ n. shown k c first_block)
+unfolding count
+none-shown c Request t n = refl
+none-shown c Acquire t n = refl
+none-shown c Probe t n = refl
+none-shown c ProbeAck t n = refl
+none-shown c Release t n = refl
+none-shown c Answer t n = refl
+none-shown c Grant t n = refl
+none-shown c ReleaseAck t n = refl
+none-shown c GrantAck t n = refl
+
+none-there : (ch : Channel) (k : Kind) (n : ℕ) → count k n (tokens_on ch first_link) ≡ 0
+unfolding count
+none-there channel.A k n = refl
+none-there channel.B k n = refl
+none-there channel.C k n = refl
+none-there channel.D k n = refl
+none-there channel.E k n = refl
+
+pub first-invariant : (caching : ℕ → Bool) → IsInvariant caching first_state
+unfolding count IsOrdered
+first-invariant caching = record {
+  blocks = λ n. first-well caching;
+  transfers = none-shown;
+  requests = λ c n. refl;
+  answers = λ c n. refl;
+  own_kinds = λ c ch k n off. none-there ch k n;
+  ordered = λ c n. tt;
+  named = record { acquires = λ c i n. refl; serves = λ c i n. refl; releases = λ c i n. refl; trackers = λ i n. refl };
+}
+
+-- ---- bytes
+
+zeros-from : (x n : ℕ) → bytes_from (λ address. 0) x n ≡ replicate n 0
+unfolding bytes_from
+zeros-from x zero = refl
+zeros-from x (suc n) = ap (λ (bytes : List ℕ). 0 ∷ bytes) (zeros-from (x + 1) n)
+
+zeros-block : (n : ℕ) → IsBlock (λ address. 0) n zeros
+zeros-block n i lt = sym (get_or-replicate {A = ℕ} 64 i 0 0 lt)
+
+-- ---- the whole
+
+none-carried : (w c : ℕ) (ch : Channel) → IsCarried {w = w} (unfinished ch (receiver ch c fresh)) (messages_on ch (first_shadow {w = w}).mail first_state c) []
+unfolding unfinished on_link
+none-carried w c channel.A = (refl, refl)
+none-carried w c channel.B = (refl, refl)
+none-carried w c channel.C = (refl, refl)
+none-carried w c channel.D = (refl, refl)
+none-carried w c channel.E = (refl, refl)
+
+none-left : (w c : ℕ) (ch : Channel) → unfinished {w = w} ch [] ≡ unfinished ch (receiver ch c fresh)
+unfolding unfinished on_link
+none-left w c channel.A = refl
+none-left w c channel.B = refl
+none-left w c channel.C = refl
+none-left w c channel.D = refl
+none-left w c channel.E = refl
+
+-- a whole of ends and channels that are fresh is that of the protocol's first state
+pub fresh-matched : {w : ℕ} (config : Config) → IsMatched {w = w} config [] first_shadow.mail first_shadow.request first_state fresh
+unfolding held pending unfinished on_link services remembered
+fresh-matched {w} config = record {
+  invariant = first-invariant (is_caching config);
+  sized = λ n. record { truth = refl; waiting = λ c storing. refl };
+  strangers = λ c source none. refl;
+  carried = none-carried w;
+  sound = λ c ch k x lt. absurd (omega (arith, lt));
+  typed = λ c ch k x lt. absurd (omega (arith, lt));
+  sourced = λ c source. tt;
+  answered = λ c source. tt;
+  given = λ n. tt;
+  known = λ c. record {
+    held_is = λ n. refl;
+    acquires = λ n. refl;
+    releases = λ n. refl;
+    probes = λ n. refl;
+    opens = λ source. refl;
+    rest_is = refl;
+    sinks = λ sink. refl;
+    grants = λ n. refl;
+  };
+  opened = λ c. record { requests = λ source. refl; releases = λ source. refl; released = λ source n some. absurd cc; sizes = λ source n some. absurd cc };
+  kept = λ c. kept-fresh w;
+  accounted = λ c. accounted-fresh w;
+  copies = λ c n some. absurd cc;
+  waiting = λ c n storing. absurd cc;
+  live = λ c. refl;
+  managed = record {
+    recorded_is = λ c n. refl;
+    probes = λ c n. refl;
+    acquires = λ c n. refl;
+    grant_acks = λ c n. refl;
+    serving_is = λ n. refl;
+  };
+  served = record {
+    sources = λ c source. refl;
+    sinks = λ c sink. refl;
+    requests = λ n. tt;
+    asked = λ n r source own k waits. absurd cc;
+    probes = λ c n probed. absurd cc;
+  };
+  served_with = λ n. tt;
+  acquired = λ n. tt;
+  manager_kept = fresh-kept config;
+  memory = λ n. zeros-from (64 * n) 64;
+  all_live = refl;
+  beside = record { memory = zeros-block; requests = λ c source. refl; releases = λ c source. refl };
+}
+
+-- and nothing was delivered
+pub fresh-flowed : {w : ℕ} → AreFlowed {w = w} [] first_shadow.mail first_state fresh
+unfolding held pending unfinished on_link flow
+fresh-flowed {w} c = record {
+  rest_is = none-left w c;
+  held_is = λ n. refl;
+  requests = λ source. refl;
+  asked_is = λ source some. absurd cc;
+  acquires = λ n. refl;
+  release_sources = λ source. refl;
+  released = λ source n some more. absurd cc;
+  sizes = λ source n some more. absurd cc;
+  releases = λ n. refl;
+  sinks = λ sink. refl;
+  grants = λ n. refl;
+  probes = λ n. refl;
+  probed = λ n some. absurd cc;
+  sunk = λ n some. absurd cc;
+}

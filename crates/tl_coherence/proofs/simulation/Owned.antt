@@ -1,0 +1,82 @@
+-- Each client's open sources are its own, in every world; and so no channel holds more than it is made for.
+use Rattle.std.proofs.Common.{◌≡◌, ℕ, ◌/◌, ◌≤◌, true, List, refl}
+use Rattle.std.specs.Prelude.{Option, Some, None, length}
+use Rattle.tl_beat.specs.Width.{IsWidth}
+use Rattle.tl_beat.specs.declared.channel.Channel.{Channel}
+use Rattle.tl_burst.specs.declared.message.MessageA.{MessageA}
+use Rattle.tl_params.specs.declared.config.Config.{Config}
+use Rattle.tl_params.specs.declared.key.Key.{Key}
+use Rattle.tl_params.specs.declared.key.Key.TheVariants.{RequestSource, ReleaseSource}
+use Rattle.tl_rules.specs.History.{pending}
+use Rattle.tl_client.specs.End.{End, Terms, fresh}
+use Rattle.tl_client.specs.Inside.{IsInside}
+use Rattle.tl_client.specs.Kept.{IsKept}
+use Rattle.tl_client.proofs.Inside.{inside-fresh, inside-asked, inside-offered}
+use Rattle.tl_client.proofs.KeptAsked.{kept-asked}
+use Rattle.tl_client.proofs.KeptOffered.{kept-fresh, kept-offered}
+use Rattle.tl_coherence.specs.statement.Delivery.{capacity, sources_of}
+use Rattle.tl_coherence.specs.statement.Log.{Log, after}
+use Rattle.tl_coherence.specs.protocol.Protocol.{State}
+use Rattle.tl_coherence.specs.refinement.Render.{Mail}
+use Rattle.tl_coherence.specs.statement.System.{terms_at}
+use Rattle.tl_coherence.specs.refinement.Whole.{IsMatched, is_caching}
+use Rattle.tl_coherence.proofs.simulation.Bounded.{IsOwn, matched-bounded}
+use Rattle.tl_coherence.proofs.queues.Ends.{AreKept, ends-kept}
+use Rattle.tl_coherence.proofs.protocol.Room.{channel-few}
+
+-- a client's end is within its terms, and there is nothing where there is no client
+pub record IsWithin {w : ℕ} (config : Config) (c : ℕ) (e : End w) : Type 0 where
+  pub kept : IsKept e
+  pub inside : (terms : Terms) → terms_at config c ≡ Some terms → IsInside terms e.past
+  pub nobody : terms_at config c ≡ None → e ≡ fresh
+
+some_is : {terms other : Terms} (o : Option Terms) → o ≡ Some terms → o ≡ Some other → terms ≡ other
+some_is o e f = cc
+
+none_is : {A : Type 0} {terms : Terms} (o : Option Terms) → o ≡ Some terms → o ≡ None → A
+none_is o e f = absurd cc
+
+within-kept : {w : ℕ} (config : Config) → IsWidth w → AreKept {w = w} config (IsWithin config)
+within-kept {w} config width = record {
+  fresh = λ c. record { kept = kept-fresh w; inside = λ terms is. inside-fresh w terms; nobody = λ is. refl };
+  asked = λ c terms op e is was. record {
+    kept = kept-asked terms op e width was.kept;
+    inside = λ other so. rw (some_is (terms_at config c) so is) (inside-asked terms op e width was.kept (was.inside terms is));
+    nobody = λ so. none_is (terms_at config c) is so;
+  };
+  offered = λ c terms ch x e is was. record {
+    kept = kept-offered terms ch x e width was.kept;
+    inside = λ other so. rw (some_is (terms_at config c) so is) (inside-offered terms ch x e width was.kept (was.inside terms is));
+    nobody = λ so. none_is (terms_at config c) is so;
+  };
+}
+
+pub ends-within : {w : ℕ} (config : Config) (log : Log w) (c : ℕ) → IsWidth w → IsWithin config c ((after config log).clients c)
+ends-within config log c width = ends-kept config (IsWithin config) (within-kept config width) log c
+
+pub sources-own : {w : ℕ} (config : Config) (log : Log w) (c : ℕ) → IsWidth w → IsOwn config c (after config log)
+unfolding pending
+sources-own {w} config log c width = go (terms_at config c) refl
+  where
+    within : IsWithin config c ((after config log).clients c)
+    within = ends-within config log c width
+
+    not_pending : (k : Key) → ((after config log).clients c) ≡ fresh → pending k ((after config log).clients c).past ≡ true → pending k (fresh {w = w}).past ≡ true
+    not_pending k e p = rw e at p
+
+    go : (o : Option Terms) → terms_at config c ≡ o → IsOwn config c (after config log)
+    go None is = record {
+      requests = λ source p. absurd (let q = not_pending (RequestSource source) (within.nobody is) p in cc);
+      releases = λ source p. absurd (let q = not_pending (ReleaseSource source) (within.nobody is) p in cc);
+    }
+    go (Some terms) is = record {
+      requests = λ source p. rw is ((within.inside terms is).requests_below source p);
+      releases = λ source p. rw is ((within.inside terms is).releases_below source p);
+    }
+
+-- no channel holds more than it is made for
+pub channels-few : {w : ℕ} (config : Config) (log : Log w) (mail : Mail w) (request : ℕ → MessageA w) (s : State (List ℕ)) → IsWidth w → IsMatched config log mail request s (after config log)
+    → (c : ℕ) (ch : Channel) → length ((after config log).channels c ch) ≤ capacity (64 / w) (sources_of (terms_at config c)) config.trackers ch
+channels-few {w} config log mail request s width matched c ch =
+    channel-few (is_caching config) mail s c (sources_of (terms_at config c)) config.trackers ch _ _ width matched.invariant
+    (matched-bounded config log mail request s (after config log) matched c (sources-own config log c width)) (matched.carried c ch)

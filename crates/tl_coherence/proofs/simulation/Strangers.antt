@@ -1,0 +1,111 @@
+-- Where there is no client, nothing is on a channel.
+use Rattle.std.proofs.Common.{◌≡◌, ℕ, ◌<◌, Bool, true, false, List, [], ◌∷◌, refl, sym, ◌∙◌, ap, arith}
+use Rattle.std.specs.Prelude.{◌==◌, ◌&&◌, if◌then◌else◌, Option, Some, None, option_map, slice_get}
+use Rattle.std.proofs.lemmas.Bool.{eqb-true}
+use Rattle.tl_beat.specs.Width.{IsWidth}
+use Rattle.tl_beat.specs.declared.channel.Channel.{Channel}
+use Rattle.tl_burst.specs.declared.message.Message.{Message}
+use Rattle.tl_burst.specs.declared.message.Message.TheVariants as message
+use Rattle.tl_burst.specs.declared.message.MessageA.{MessageA}
+use Rattle.tl_params.specs.declared.config.ClientConfig.{ClientConfig}
+use Rattle.tl_params.specs.declared.config.Config.{Config}
+use Rattle.tl_params.specs.declared.level.Level.{Level}
+use Rattle.tl_client.specs.End.{Terms}
+use Rattle.tl_manager.specs.Kept as kept
+use Rattle.tl_manager.specs.Service.{services, service_of_block}
+use Rattle.tl_manager.specs.Offer.{level_of}
+use Rattle.tl_manager.proofs.Granted.{of_served}
+use Rattle.tl_coherence.specs.protocol.Invariant.{resting}
+use Rattle.tl_coherence.specs.statement.Log.{Log, after}
+use Rattle.tl_coherence.specs.refinement.Managed.{client_in, service_with}
+use Rattle.tl_coherence.specs.protocol.Phase.{Own, Other, Granting, Acknowledging, GrantedOther}
+use Rattle.tl_coherence.specs.protocol.Protocol.{Service, Free, Waits, GrantSent, GrantTaken, State, Closed, Asked, view, tokens_on, is_on, is_acknowledging, shown}
+use Rattle.tl_coherence.specs.refinement.Render.{Mail}
+use Rattle.tl_coherence.specs.statement.System.{terms_at}
+use Rattle.tl_coherence.specs.protocol.Token.{Kind, Request, Acquire, Probe, ProbeAck, Release, Answer, Grant, ReleaseAck, GrantAck, Token, count}
+use Rattle.tl_coherence.specs.refinement.Whole.{IsMatched}
+use Rattle.tl_coherence.proofs.protocol.Capacities.{shown_there, kind_there, acquire_named, grant_named, release_named, release_ack_named, request_named, answer_named}
+use Rattle.tl_coherence.proofs.queues.Distinct.{IsThere, first-there}
+use Rattle.tl_coherence.proofs.simulation.Owned.{sources-own}
+
+no_level : (config : Config) (c : ℕ) → terms_at config c ≡ None → level_of config c ≡ None
+no_level config c is = go (slice_get config.clients.items c) is
+  where
+    go : (o : Option ClientConfig) → option_map {U = Terms}
+        (λ x. record { level = x.level; profile = config.profile; sources = x.sources; blocks = config.blocks }) o ≡ None → option_map (λ x. x.level) o ≡ None
+    go None e = refl
+    go (Some x) e = absurd cc
+
+acknowledged_to : (service : Service) (c : ℕ) → is_acknowledging (view service c) ≡ true → client_in service ≡ Some c
+acknowledged_to Free c e = absurd cc
+acknowledged_to (Waits r own source k) c e = never (own && (c == r)) e
+  where
+    never : (b : Bool) → is_acknowledging (if b then Own else Other k) ≡ true → client_in (Waits r own source k) ≡ Some c
+    never true f = absurd cc
+    never false f = absurd cc
+acknowledged_to (GrantSent q d k) c e = never (c == q) e
+  where
+    never : (b : Bool) → is_acknowledging (if b then Granting d k else GrantedOther) ≡ true → client_in (GrantSent q d k) ≡ Some c
+    never true f = absurd cc
+    never false f = absurd cc
+acknowledged_to (GrantTaken q) c e = go (c == q) refl e
+  where
+    go : (b : Bool) → (c == q) ≡ b → is_acknowledging (if b then Acknowledging else GrantedOther) ≡ true → Some q ≡ Some c
+    go true same f = ap (λ (i : ℕ). Some i) (sym (eqb-true c q same))
+    go false differs f = absurd cc
+
+module _ {w : ℕ} (config : Config) (log : Log w) (mail : Mail w) (request : ℕ → MessageA w) (s : State (List ℕ)) (matched : IsMatched config log mail request s (after config log))
+    (width : IsWidth w) (c : ℕ) (is : terms_at config c ≡ None) where
+  pub no_use : (source : ℕ) → s.uses c source ≡ Closed
+  no_use source = matched.strangers c source is
+
+  pub no_let : (source : ℕ) → s.lets c source ≡ None
+  no_let source = go (s.lets c source) refl
+    where
+      go : (o : Option ℕ) → s.lets c source ≡ o → o ≡ None
+      go None e = refl
+      go (Some n) e =
+          let below = (sources-own config log c width).releases source ((matched.opened c).releases source ∙ rw e refl) in
+          absurd (let none : source < 0 = rw is at below in omega (arith, none))
+
+  at_rest : (n : ℕ) → (s.block n).pair c ≡ resting
+  at_rest n = (matched.invariant.blocks n).outside c (rw (no_level config c is) refl)
+
+  not_acknowledging : (n : ℕ) → shown GrantAck c (s.block n) ≡ true → ⊥
+  not_acknowledging n e =
+      let served : service_of_block n (services (after config log).manager.trace) ≡ service_with (Some c) (s.block n).tracker (request n) =
+      matched.managed.serving_is n ∙ ap (λ (o : Option ℕ). service_with o (s.block n).tracker (request n)) (acknowledged_to (s.block n).service c e) in
+      let performable = of_served (kept.IsPerformable config) n (services (after config log).manager.trace) _ served matched.manager_kept.requests in
+      lawless (level_of config c) (message.A (request n)) (no_level config c is) performable.lawful
+    where
+      lawless : (o : Option Level) (m : Message w) → o ≡ None → kept.illegal_message_at o m ≡ None → ⊥
+      lawless None m h f = absurd cc
+      lawless (Some l) m h f = absurd cc
+
+  nothing_shown : (ch : Channel) (k : Kind) (n : ℕ) → is_on ch k ≡ true → 0 < count k n (tokens_on ch (s.link c)) → ⊥
+  nothing_shown ch Request n on_it there =
+      absurd (let e = request_named _ s c n matched.invariant (shown_there _ s c ch Request n matched.invariant on_it there) in let both : Asked ≡ Closed = sym e ∙ no_use n in cc)
+  nothing_shown ch Answer n on_it there =
+      absurd (let e = answer_named _ s c n matched.invariant (shown_there _ s c ch Answer n matched.invariant on_it there) in let both = sym e ∙ no_use n in cc)
+  nothing_shown ch Acquire n on_it there =
+      absurd (let e = acquire_named _ s c n matched.invariant (shown_there _ s c ch Acquire n matched.invariant on_it there) in let both = sym e ∙ no_use _ in cc)
+  nothing_shown ch Grant n on_it there =
+      absurd (let e = grant_named _ s c n matched.invariant (shown_there _ s c ch Grant n matched.invariant on_it there) in let both = sym e ∙ no_use _ in cc)
+  nothing_shown ch Release n on_it there =
+      absurd (let e = release_named _ s c n matched.invariant (shown_there _ s c ch Release n matched.invariant on_it there) in let both = sym e ∙ no_let _ in cc)
+  nothing_shown ch ReleaseAck n on_it there =
+      absurd (let e = release_ack_named _ s c n matched.invariant (shown_there _ s c ch ReleaseAck n matched.invariant on_it there) in let both = sym e ∙ no_let _ in cc)
+  nothing_shown ch Probe n on_it there =
+      absurd (let it = shown_there _ s c ch Probe n matched.invariant on_it there in let none : shown Probe c (s.block n) ≡ false =
+      rw (at_rest n) refl in let both : true ≡ false = sym it ∙ none in cc)
+  nothing_shown ch ProbeAck n on_it there =
+      absurd (let it = shown_there _ s c ch ProbeAck n matched.invariant on_it there in let none : shown ProbeAck c (s.block n) ≡ false =
+      rw (at_rest n) refl in let both : true ≡ false = sym it ∙ none in cc)
+  nothing_shown ch GrantAck n on_it there = not_acknowledging n (shown_there _ s c ch GrantAck n matched.invariant on_it there)
+
+  pub no_tokens : (ch : Channel) → tokens_on ch (s.link c) ≡ []
+  no_tokens ch = go (tokens_on ch (s.link c)) (λ x there. nothing_shown ch x.kind x.number (kind_there _ s c ch x matched.invariant there) there)
+    where
+      go : (xs : List Token) → ((x : Token) → IsThere x xs → ⊥) → xs ≡ []
+      go [] none = refl
+      go (x ∷ xs) none = absurd (none x (first-there x xs))

@@ -1,0 +1,4 @@
+pub mod bound
+pub mod protocol
+pub mod refinement
+pub mod statement

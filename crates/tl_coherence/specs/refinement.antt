@@ -1,0 +1,11 @@
+pub mod Beside
+pub mod Carried
+pub mod Flowed
+pub mod Follow
+pub mod Known
+pub mod Managed
+pub mod Matched
+pub mod Move
+pub mod Render
+pub mod Sources
+pub mod Whole

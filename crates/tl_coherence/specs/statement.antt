@@ -1,0 +1,14 @@
+pub mod Coherent
+pub mod Delivery
+pub mod Draining
+pub mod Flow
+pub mod Headline
+pub mod Load
+pub mod Log
+pub mod Machine
+pub mod Movable
+pub mod Ranged
+pub mod Remembered
+pub mod Step
+pub mod System
+pub mod Theorem

@@ -1,0 +1,100 @@
+-- What holds of every delivery.
+use Rattle.std.specs.Prelude.{ℕ, Bool, true, false, not, List, ◌∷◌, ◌++◌, ◌≡◌, ◌≤◌, ◌&&◌, ◌↔◌, ◌+◌, ◌*◌, ◌/◌, if◌then◌else◌, length, reverse, Option, Some, None}
+use Rattle.tl_beat.specs.declared.beat.Beat.{Beat}
+use Rattle.tl_beat.specs.declared.beat.Beat.TheVariants as beat
+use Rattle.tl_beat.specs.declared.channel.Channel.{Channel}
+use Rattle.tl_beat.specs.declared.channel.Channel.TheVariants as channel
+use Rattle.tl_burst.specs.Messages.{History, channel_of, carried_on}
+use Rattle.tl_burst.specs.Part.{is_empty}
+use Rattle.tl_params.specs.declared.config.Config.{Config}
+use Rattle.tl_params.specs.declared.level.Level.{Level}
+use Rattle.tl_params.specs.declared.param.Prune.{Prune}
+use Rattle.tl_rules.specs.Conformance.{on_link, is_legal}
+use Rattle.tl_rules.specs.History.{block_at}
+use Rattle.tl_client.specs.declared.operation.Op.TheVariants.{Release}
+use Rattle.tl_client.specs.End.{Terms}
+use Rattle.tl_manager.specs.Offer.{level_of, must_wait}
+use Rattle.tl_coherence.specs.declared.event.Event.TheVariants.{Deliver}
+use Rattle.tl_coherence.specs.declared.event.Outcome.{Outcome}
+use Rattle.tl_coherence.specs.declared.event.Outcome.TheVariants as outcome
+use Rattle.tl_coherence.specs.statement.Coherent.{started}
+use Rattle.tl_coherence.specs.statement.Flow.{flow}
+use Rattle.tl_coherence.specs.statement.Log.{Log, after}
+use Rattle.tl_coherence.specs.statement.Machine.{Releases, is_client}
+use Rattle.tl_coherence.specs.statement.Movable.{is_movable}
+use Rattle.tl_coherence.specs.statement.Step.{is_to_client, stepped}
+use Rattle.tl_coherence.specs.statement.System.{System, terms_at}
+use Rattle.tl_coherence.specs.statement.Headline.{IsGiven}
+
+-- ---- channels and flows
+
+-- the history of the end that sends on a channel of a link, and of the one that takes
+abbrev pub sender : {w : ℕ} → Channel → ℕ → System w → History w
+sender ch link s = if is_to_client ch then on_link link s.manager.trace else (s.clients link).past
+
+abbrev pub receiver : {w : ℕ} → Channel → ℕ → System w → History w
+receiver ch link s = if is_to_client ch then (s.clients link).past else on_link link s.manager.trace
+
+-- A channel holds, in order, the beats that one end handed out and the other hasn't taken, and those that
+-- were taken are those that were delivered.
+pub record IsCarried {w : ℕ} (s : System w) (log : Log w) (link : ℕ) (ch : Channel) : Type 0 where
+  pub under_way : carried_on ch (sender ch link s) ≡ reverse (s.channels link ch) ++ carried_on ch (receiver ch link s)
+  pub delivered : carried_on ch (receiver ch link s) ≡ carried_on ch (flow link log)
+
+abbrev pub Carries : ℕ → Type 0
+Carries w = (config : Config) (log : Log w) → IsGiven config log → (link : ℕ) (ch : Channel) → IsCarried (after config log) log link ch
+
+-- what is delivered on each link breaks no rule
+abbrev pub Flows : ℕ → Type 0
+Flows w = (config : Config) (log : Log w) → IsGiven config log → (link : ℕ) (l : Level) → level_of config link ≡ Some l →
+    is_legal l config.profile (flow link log) ≡ true
+
+-- how many beats a channel is made for, with n beats a block, by sources and trackers
+abbrev pub capacity : ℕ → ℕ → ℕ → Channel → ℕ
+capacity n sources trackers channel.A = n * sources
+capacity n sources trackers channel.B = trackers
+capacity n sources trackers channel.C = n * (sources + trackers)
+capacity n sources trackers channel.D = (n + 1) * sources
+capacity n sources trackers channel.E = trackers
+
+abbrev pub sources_of : Option Terms → ℕ
+sources_of None = 0
+sources_of (Some terms) = terms.sources
+
+-- no channel ever holds more
+abbrev pub Channels : ℕ → Type 0
+Channels w = (config : Config) (log : Log w) → IsGiven config log → (link : ℕ) (ch : Channel) →
+    length ((after config log).channels link ch) ≤ capacity (64 / w) (sources_of (terms_at config link)) config.trackers ch
+
+-- ---- stalls
+
+-- what a delivery is answered
+abbrev pub outcome_of_delivery : {w : ℕ} → Config → Log w → ℕ → Channel → Outcome w
+outcome_of_delivery config log link ch = (stepped config (Deliver (record { 0 = link }) ch) (after config log)).outcome
+
+abbrev pub is_emptiness : {w : ℕ} → Outcome w → Bool
+is_emptiness outcome.Empty = true
+is_emptiness _ = false
+
+abbrev pub is_stall : {w : ℕ} → Outcome w → Bool
+is_stall outcome.Stalled = true
+is_stall _ = false
+
+-- a Release of the block by the client is outstanding
+abbrev pub IsReleasing : {w : ℕ} → ℕ → ℕ → Log w → Type 0
+IsReleasing k block log = (source : ℕ) × (prune : Prune) × (started k Releases source log ≡ Some (Release block prune))
+
+-- when a delivery moves the first beat of a channel of a client's link
+abbrev pub Moves : {w : ℕ} → Config → Log w → ℕ → Beat w → Type 0
+Moves config log link (beat.A x) = is_movable config link channel.A (after config log) ≡ not (must_wait config (record { 0 = link }) (beat.A x) (after config log).manager.trace)
+Moves config log link (beat.B x) = (is_movable config link channel.B (after config log) ≡ false) ↔ IsReleasing link (block_at x.address) log
+Moves config log link x = is_movable config link (channel_of x) (after config log) ≡ true
+
+-- a delivery on a client's link
+pub record IsExact {w : ℕ} (config : Config) (log : Log w) (link : ℕ) (ch : Channel) : Type 0 where
+  pub empty : is_emptiness (outcome_of_delivery config log link ch) ≡ is_empty ((after config log).channels link ch)
+  pub stalled : is_stall (outcome_of_delivery config log link ch) ≡ not (is_empty ((after config log).channels link ch)) && not (is_movable config link ch (after config log))
+  pub moves : (x : Beat w) (rest : List (Beat w)) → (after config log).channels link ch ≡ x ∷ rest → Moves config log link x
+
+abbrev pub Stalls : ℕ → Type 0
+Stalls w = (config : Config) (log : Log w) → IsGiven config log → (link : ℕ) (ch : Channel) → is_client config link ≡ true → IsExact config log link ch

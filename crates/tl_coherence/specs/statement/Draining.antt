@@ -1,0 +1,79 @@
+-- How many deliveries end what is outstanding, and what an Acquire has brought then.
+use Rattle.std.specs.Prelude.{ℕ, Bool, true, false, ◌∷◌, ◌++◌, ◌≡◌, ◌≤◌, ◌+◌, All, filter, length, Some, None}
+use Rattle.tl_beat.specs.declared.beat.Beat.{Beat}
+use Rattle.tl_beat.specs.declared.beat.Link.{Link}
+use Rattle.tl_beat.specs.declared.channel.Channel.{Channel}
+use Rattle.tl_params.specs.declared.config.Config.{Config}
+use Rattle.tl_params.specs.declared.param.Grow.{Grow}
+use Rattle.tl_params.specs.declared.param.Grow.TheVariants as grow
+use Rattle.tl_params.specs.declared.perm.Perm.{Perm}
+use Rattle.tl_params.specs.declared.perm.Perm.TheVariants as perm
+use Rattle.tl_params.specs.declared.profile.Profile.{Profile}
+use Rattle.tl_params.specs.declared.profile.Profile.TheVariants as profile
+use Rattle.tl_params.specs.Param.{grow_right}
+use Rattle.tl_rules.specs.Conformance.{same_perm}
+use Rattle.tl_client.specs.declared.operation.Op.{Op}
+use Rattle.tl_client.specs.declared.operation.Op.TheVariants.{Acquire}
+use Rattle.tl_client.specs.declared.reply.Reply.TheVariants.{Started}
+use Rattle.tl_client.specs.declared.verdict.Finish.TheVariants.{Granted}
+use Rattle.tl_client.specs.Ask.{op_block}
+use Rattle.tl_client.specs.End.{held_at}
+use Rattle.tl_coherence.specs.declared.event.Event.{Event}
+use Rattle.tl_coherence.specs.declared.event.Event.TheVariants.{Ask, Deliver}
+use Rattle.tl_coherence.specs.declared.event.Outcome.{Outcome}
+use Rattle.tl_coherence.specs.declared.event.Outcome.TheVariants as outcome
+use Rattle.tl_coherence.specs.statement.Coherent.{started}
+use Rattle.tl_coherence.specs.statement.Load.{outstanding, load}
+use Rattle.tl_coherence.specs.statement.Log.{Log, after}
+use Rattle.tl_coherence.specs.statement.Machine.{Requests}
+use Rattle.tl_coherence.specs.statement.Movable.{next_delivery, drained}
+use Rattle.tl_coherence.specs.statement.Headline.{IsGiven}
+
+-- ---- the bound
+
+abbrev pub is_delivery : {w : ℕ} → Event w → Bool
+is_delivery (Ask client op) = false
+is_delivery (Deliver link ch) = true
+
+abbrev pub is_moving : {w : ℕ} → Outcome w → Bool
+is_moving (outcome.Moved x) = true
+is_moving (outcome.Done x source finish) = true
+is_moving _ = false
+
+-- how many deliveries moved a beat
+abbrev pub beats_moved : {w : ℕ} → Log w → ℕ
+beats_moved log = length (filter (λ x. is_moving x.1) log)
+
+-- deliveries move no more beats than the load before them
+abbrev pub Bound : ℕ → Type 0
+Bound w = (config : Config) (more log : Log w) → IsGiven config (more ++ log) → All (λ x. is_delivery x.0 ≡ true) more → beats_moved more ≤ load log
+
+-- n deliveries, each the next one, end what is outstanding
+pub record IsDrained {w : ℕ} (config : Config) (log : Log w) (n : ℕ) : Type 0 where
+  pub so_many : length (drained config n log) ≡ n + length log
+  pub few : n ≤ load log
+  pub stands : next_delivery config (after config (drained config n log)) ≡ None
+  pub nothing_left : outstanding (drained config n log) ≡ 0
+
+abbrev pub Drain : ℕ → Type 0
+Drain w = (config : Config) (log : Log w) → IsGiven config log → (n : ℕ) × IsDrained config log n
+
+-- ---- what an Acquire brings
+
+-- at a Grant the client holds what it is granted
+abbrev pub Grants : ℕ → Type 0
+Grants w = (config : Config) (log : Log w) (link : Link) (ch : Channel) (x : Beat w) (source : ℕ) (p : Perm) (op : Op w) →
+    IsGiven config ((Deliver link ch, outcome.Done x source (Granted p)) ∷ log) → started link.0 Requests source log ≡ Some op →
+    held_at ((after config ((Deliver link ch, outcome.Done x source (Granted p)) ∷ log)).clients link.0) (op_block op) ≡ p
+
+-- what the client may hold that asked so, and of whom nothing else was asked
+abbrev pub grown_to : Profile → Grow → Perm → Bool
+grown_to profile.Two grow.NtoB perm.Trunk = true
+grown_to p grow held = same_perm (grow_right grow) held
+
+-- an Acquire that is started alone brings what it asks for
+abbrev pub Alone : ℕ → Type 0
+Alone w = (config : Config) (log : Log w) (client block source n : ℕ) (grow : Grow) → outstanding log ≡ 0 →
+    IsGiven config ((Ask client (Acquire block grow), outcome.Replied (Started source)) ∷ log) →
+    IsDrained config ((Ask client (Acquire block grow), outcome.Replied (Started source)) ∷ log) n →
+    grown_to config.profile grow (held_at ((after config (drained config n ((Ask client (Acquire block grow), outcome.Replied (Started source)) ∷ log))).clients client) block) ≡ true

@@ -1,0 +1,20 @@
+-- What has been delivered on a link.
+use Rattle.std.specs.Prelude.{ℕ, List, [], ◌∷◌, ◌++◌, ◌==◌, if◌then◌else◌}
+use Rattle.tl_beat.specs.declared.beat.Beat.{Beat}
+use Rattle.tl_burst.specs.Messages.{History}
+use Rattle.tl_coherence.specs.declared.event.Event.{Event}
+use Rattle.tl_coherence.specs.declared.event.Event.TheVariants.{Deliver}
+use Rattle.tl_coherence.specs.declared.event.Outcome.{Outcome}
+use Rattle.tl_coherence.specs.declared.event.Outcome.TheVariants.{Moved, Done}
+use Rattle.tl_coherence.specs.statement.Log.{Log}
+
+-- the beat that was taken on the link at an event
+abbrev pub taken_on : {w : ℕ} → ℕ → Event w → Outcome w → List (Beat w)
+taken_on n (Deliver link ch) (Moved x) = if link.0 == n then x ∷ [] else []
+taken_on n (Deliver link ch) (Done x source finish) = if link.0 == n then x ∷ [] else []
+taken_on n _ _ = []
+
+-- the beats that were taken on the link, the newest first
+unfoldable pub flow : {w : ℕ} → ℕ → Log w → History w
+flow n [] = []
+flow n (x ∷ log) = taken_on n x.0 x.1 ++ flow n log

@@ -1,0 +1,95 @@
+-- What comes of an event: a function of the event and of the whole.
+use Rattle.std.specs.Prelude.{ℕ, Bool, true, false, List, [], ◌∷◌, if◌then◌else◌, Option, Some, None, Result, Ok, Err}
+use Rattle.tl_beat.specs.declared.beat.Beat.{Beat}
+use Rattle.tl_beat.specs.declared.channel.Channel.{Channel}
+use Rattle.tl_beat.specs.declared.channel.Channel.TheVariants as channel
+use Rattle.tl_burst.specs.declared.message.Message.{Message}
+use Rattle.tl_params.specs.declared.config.Config.{Config}
+use Rattle.tl_params.specs.declared.rule.Rule.{Rule}
+use Rattle.tl_client.specs.declared.verdict.Verdict.{Verdict}
+use Rattle.tl_client.specs.declared.verdict.Verdict.TheVariants as verdict
+use Rattle.tl_client.specs.Ask.{Asked, asked}
+use Rattle.tl_client.specs.End as client
+use Rattle.tl_client.specs.Offer.{Offered, offered}
+use Rattle.tl_manager.specs.Handing.{Handed}
+use Rattle.tl_manager.specs.End as manager_end
+use Rattle.tl_manager.specs.Offer as manager
+use Rattle.tl_coherence.specs.declared.event.Event.{Event}
+use Rattle.tl_coherence.specs.declared.event.Event.TheVariants.{Ask, Deliver}
+use Rattle.tl_coherence.specs.declared.event.Outcome.{Outcome}
+use Rattle.tl_coherence.specs.declared.event.Outcome.TheVariants as outcome
+use Rattle.tl_coherence.specs.statement.System.{System, terms_at, with_client, with_manager, with_channel, with_messages}
+
+-- what comes of an event: its outcome, the messages that are handed out, and the whole afterwards
+pub record Step (w : ℕ) : Type 0 where
+  pub outcome : Outcome w
+  pub handed : Handed w
+  pub after : System w
+
+-- nothing is handed out
+abbrev pub only : {w : ℕ} → Outcome w → System w → Step w
+only o s = record { outcome = o; handed = []; after = s }
+
+abbrev pub handing : {w : ℕ} → Outcome w → Handed w → System w → Step w
+handing o handed s = record { outcome = o; handed = handed; after = with_messages handed s }
+
+-- the message that a client hands out, with its link
+abbrev pub handed_by : {w : ℕ} → ℕ → Option (Message w) → Handed w
+handed_by link None = []
+handed_by link (Some m) = (record { 0 = link }, m) ∷ []
+
+-- ---- a client is asked
+
+abbrev pub replied : {w : ℕ} → ℕ → Asked w → System w → Step w
+replied link a s = handing (outcome.Replied a.reply) (handed_by link a.message) (with_client link a.after s)
+
+-- ---- a beat is delivered, behind which the channel has the rest
+
+-- to a client: what comes of its verdict
+abbrev pub outcome_of : {w : ℕ} → Beat w → Verdict → Outcome w
+outcome_of x verdict.Stalled = outcome.Stalled
+outcome_of x verdict.Taken = outcome.Moved x
+outcome_of x (verdict.Done source finish) = outcome.Done x source finish
+
+-- A stall leaves all as it was. A beat that is refused stays where it is: but that never happens.
+abbrev pub judged : {w : ℕ} → Result (Verdict × Option (Message w)) Rule → ℕ → Channel → Beat w → List (Beat w) → client.End w → System w → Step w
+judged (Err rule) link ch x rest e s = only outcome.Stalled (with_client link e s)
+judged (Ok (verdict.Stalled, m)) link ch x rest e s = only outcome.Stalled s
+judged (Ok (v, m)) link ch x rest e s = handing (outcome_of x v) (handed_by link m) (with_client link e (with_channel link ch rest s))
+
+abbrev pub client_took : {w : ℕ} → ℕ → Channel → Beat w → List (Beat w) → Offered w → System w → Step w
+client_took link ch x rest o s = judged o.answer link ch x rest o.after s
+
+-- to the manager
+abbrev pub manager_took : {w : ℕ} → ℕ → Channel → Beat w → List (Beat w) → manager.Reception w × manager_end.End w → System w → Step w
+manager_took link ch x rest (manager.Refused rule, e) s = only outcome.Stalled (with_manager e s)
+manager_took link ch x rest (manager.Stalled, e) s = only outcome.Stalled s
+manager_took link ch x rest (manager.Sent handed, e) s = handing (outcome.Moved x) handed (with_manager e (with_channel link ch rest s))
+
+-- the client takes the beats of these channels, and the manager those of the others
+abbrev pub is_to_client : Channel → Bool
+is_to_client channel.B = true
+is_to_client channel.D = true
+is_to_client _ = false
+
+abbrev pub delivered : {w : ℕ} → Config → client.Terms → ℕ → Channel → List (Beat w) → System w → Step w
+delivered config terms link ch [] s = only outcome.Empty s
+delivered config terms link ch (x ∷ rest) s =
+    if is_to_client ch
+    then client_took link ch x rest (offered terms ch x (s.clients link)) s
+    else manager_took link ch x rest (manager.offered config (record { 0 = link }) ch x s.manager) s
+
+-- ---- an event
+
+abbrev pub client_of : {w : ℕ} → Event w → ℕ
+client_of (Ask client operation) = client
+client_of (Deliver link ch) = link.0
+
+abbrev pub stepped_at : {w : ℕ} → Config → Option client.Terms → Event w → System w → Step w
+stepped_at config None event s = only outcome.NoSuchClient s
+stepped_at config (Some terms) (Ask client operation) s = replied client (asked terms operation (s.clients client)) s
+stepped_at config (Some terms) (Deliver link ch) s = delivered config terms link.0 ch (s.channels link.0 ch) s
+
+-- What comes of an event.
+unfoldable pub stepped : {w : ℕ} → Config → Event w → System w → Step w
+stepped config event s = stepped_at config (terms_at config (client_of event)) event s

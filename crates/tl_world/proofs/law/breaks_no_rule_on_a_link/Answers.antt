@@ -1,5 +1,0 @@
-use Rattle.tl_world.proofs.Flows.{flows}
-use Rattle.tl_world.proofs.law.breaks_no_rule_on_a_link.Goals as goal
-
-pub returns : goal.returns
-returns g c = λ config log given link l level. flows config log given link l level

@@ -1,5 +1,0 @@
-use Rattle.tl_world.proofs.Brought.{alone}
-use Rattle.tl_world.proofs.law.brings_what_is_asked_alone.Goals as goal
-
-pub returns : goal.returns
-returns g c = λ config log client block source n grow none given drains. alone config log client block source n grow none given drains

@@ -1,5 +1,0 @@
-use Rattle.tl_world.proofs.Settling.{drain}
-use Rattle.tl_world.proofs.law.drains_within_the_load.Goals as goal
-
-pub returns : goal.returns
-returns g c = λ config log given. drain config log given

@@ -1,5 +1,0 @@
-use Rattle.tl_world.proofs.Given.{grants}
-use Rattle.tl_world.proofs.law.holds_what_it_is_granted.Goals as goal
-
-pub returns : goal.returns
-returns g c = λ config log link ch x source p op given asked. grants config log link ch x source p op given asked

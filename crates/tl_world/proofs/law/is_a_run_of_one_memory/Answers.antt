@@ -1,5 +1,0 @@
-use Rattle.tl_world.proofs.Soundness.{one_memory}
-use Rattle.tl_world.proofs.law.is_a_run_of_one_memory.Goals as goal
-
-pub returns : goal.returns
-returns g c = λ config log given. one_memory config log given

@@ -1,5 +1,0 @@
-use Rattle.tl_world.proofs.Given.{coherent}
-use Rattle.tl_world.proofs.law.keeps_copies_coherent.Goals as goal
-
-pub returns : goal.returns
-returns g c = λ config log given. coherent config log given

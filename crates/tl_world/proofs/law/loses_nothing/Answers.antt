@@ -1,5 +1,0 @@
-use Rattle.tl_world.proofs.Given.{carries}
-use Rattle.tl_world.proofs.law.loses_nothing.Goals as goal
-
-pub returns : goal.returns
-returns g c = λ config log given link ch. carries config log given link ch

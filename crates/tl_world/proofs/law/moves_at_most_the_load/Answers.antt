@@ -1,5 +1,0 @@
-use Rattle.tl_world.proofs.Settling.{bound}
-use Rattle.tl_world.proofs.law.moves_at_most_the_load.Goals as goal
-
-pub returns : goal.returns
-returns g c = λ config more log given deliveries. bound config more log given deliveries

@@ -1,5 +1,0 @@
-use Rattle.tl_world.proofs.Progress.{moving}
-use Rattle.tl_world.proofs.law.moves_while_outstanding.Goals as goal
-
-pub returns : goal.returns
-returns g c = λ config log given. moving config log given

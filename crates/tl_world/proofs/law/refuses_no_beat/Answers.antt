@@ -1,5 +1,0 @@
-use Rattle.tl_world.proofs.Given.{unrefused}
-use Rattle.tl_world.proofs.law.refuses_no_beat.Goals as goal
-
-pub returns : goal.returns
-returns g c = λ config log given. unrefused config log given

@@ -1,5 +1,0 @@
-use Rattle.tl_world.proofs.Given.{stalls}
-use Rattle.tl_world.proofs.law.stalls_exactly.Goals as goal
-
-pub returns : goal.returns
-returns g c = λ config log given link ch client. stalls config log given link ch client

@@ -5,8 +5,8 @@ use Rattle.std.proofs.lemmas.Bool.{ltb-true, and_parts}
 use Rattle.std.specs.Prelude.{Ok, slice_index, ◌&&◌, nat_lt}
 use Rattle.std.specs.Int.{from_be_bytes}
 use mir.Syntax.{w32}
-use Rattle.tl_beat.specs.Digits.{is_digit, digit_value}
-use Rattle.tl_beat.specs.FromLeft.{value_or_16, digits_at, field_at, head_at}
+use Rattle.tl_beat.specs.statement.Digits.{is_digit, digit_value}
+use Rattle.tl_beat.specs.code.FromLeft.{value_or_16, digits_at, field_at, head_at}
 
 -- a byte whose value is below 16 is a digit
 pub record IsDigit (c v : ℕ) : Type 0 where

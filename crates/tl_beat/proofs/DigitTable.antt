@@ -4,8 +4,8 @@ use Rattle.std.specs.Prelude.{◌==◌, ◌&&◌, ◌⊎◌, slice_index_or}
 use Rattle.std.proofs.lemmas.Bool.{eqb-true, and_parts}
 use Rattle.tl_beat.specs.declared.read.field.TheConstants.{VALUES}
 use Rattle.tl_beat.specs.declared.text.TheConstants.{DIGITS}
-use Rattle.tl_beat.specs.Digits.{digit_char}
-use Rattle.tl_beat.specs.FromLeft.{value_or_16}
+use Rattle.tl_beat.specs.statement.Digits.{digit_char}
+use Rattle.tl_beat.specs.code.FromLeft.{value_or_16}
 
 -- the first n entries are right
 abbrev right : ℕ → Bool

@@ -3,7 +3,7 @@ use Rattle.std.proofs.Common.{◌≡◌, ℕ, suc, ◌+◌, ◌*◌, ◌^◌, �
 use Rattle.std.proofs.Math.Nat.{pow-suc, pow-le-pow_right}
 use Rattle.std.specs.Prelude.{Ok, Err}
 use Rattle.tl_beat.specs.declared.fault.LineFault.{LineFault}
-use Rattle.tl_beat.specs.FromLeft.{digit_at, digits_at}
+use Rattle.tl_beat.specs.code.FromLeft.{digit_at, digits_at}
 
 pub digits-step : (n w k d : ℕ) (bytes rest : List ℕ) → w ≡ suc k → digit_at bytes ≡ Ok (d, rest) → digits_at n w bytes ≡ digits_at (16 * n + d) k rest
 unfolding digits_at

@@ -17,11 +17,11 @@ use Rattle.tl_beat.specs.declared.opcode.OpC.{OpC}
 use Rattle.tl_beat.specs.declared.opcode.OpD.{OpD}
 use Rattle.tl_beat.specs.declared.fault.LineFault.{LineFault}
 use Rattle.tl_beat.specs.declared.fault.LineFault.TheVariants.{F1, F3, F4, F5, F6}
-use Rattle.tl_beat.specs.Opcode.{a_with, b_with, c_with, d_with, a_carries_data, b_carries_data, c_carries_data, d_carries_data}
-use Rattle.tl_beat.specs.Digits.{is_digits, value_of, is_data, is_dash, data_of, lanes_before, is_bit, bit_of}
-use Rattle.tl_beat.specs.Line.{pieces, field, channel_named, is_misplaced, channel_fault, fields_fault, line_fault, without_last}
-use Rattle.tl_beat.specs.Reading.{◌>>=◌, at_most, agreement, made_a, made_b, made_c, made_d, linked, reading_a, reading_b, reading_c, reading_d, reading_e, reading_on, reading_fields, reading}
-use Rattle.tl_beat.specs.First.{first_if}
+use Rattle.tl_beat.specs.statement.Opcode.{a_with, b_with, c_with, d_with, a_carries_data, b_carries_data, c_carries_data, d_carries_data}
+use Rattle.tl_beat.specs.statement.Digits.{is_digits, value_of, is_data, is_dash, data_of, lanes_before, is_bit, bit_of}
+use Rattle.tl_beat.specs.statement.Line.{pieces, field, channel_named, is_misplaced, channel_fault, fields_fault, line_fault, without_last}
+use Rattle.tl_beat.specs.code.Reading.{◌>>=◌, at_most, agreement, made_a, made_b, made_c, made_d, linked, reading_a, reading_b, reading_c, reading_d, reading_e, reading_on, reading_fields, reading}
+use Rattle.tl_beat.specs.statement.First.{first_if}
 
 abbrev built : {A : Type 0} → A → Result A LineFault
 built x = Ok x

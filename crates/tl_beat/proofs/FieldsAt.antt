@@ -8,9 +8,9 @@ use Rattle.std.proofs.lemmas.Bool.{eqb-true, le-leb}
 use Rattle.tl_beat.specs.declared.fault.LineFault.{LineFault}
 use Rattle.tl_beat.specs.declared.fault.LineFault.TheVariants.{F3}
 use Rattle.tl_beat.specs.declared.read.line.Head.{Head}
-use Rattle.tl_beat.specs.Digits.{is_digit, digit_value, is_digits, value_from, value_of, is_pairs, lanes_before, is_dash, is_data, data_of, is_bit, bit_of}
-use Rattle.tl_beat.specs.Reading.{◌>>=◌, number_in, data_in, bit_in}
-use Rattle.tl_beat.specs.FromLeft.{value_or_fault, digits_at, space_at, field_at, bit_of_byte, bit_field_at, lanes_at, some_lanes, data_at, head_at, tail_at, at_end}
+use Rattle.tl_beat.specs.statement.Digits.{is_digit, digit_value, is_digits, value_from, value_of, is_pairs, lanes_before, is_dash, is_data, data_of, is_bit, bit_of}
+use Rattle.tl_beat.specs.code.Reading.{◌>>=◌, number_in, data_in, bit_in}
+use Rattle.tl_beat.specs.code.FromLeft.{value_or_fault, digits_at, space_at, field_at, bit_of_byte, bit_field_at, lanes_at, some_lanes, data_at, head_at, tail_at, at_end}
 use Rattle.tl_beat.proofs.Pieces.{NoSpace, NoSpace-get}
 
 abbrev with_number : ℕ → List ℕ → Result (ℕ × List ℕ) LineFault

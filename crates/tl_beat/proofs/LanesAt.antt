@@ -6,8 +6,8 @@ use Rattle.std.proofs.lemmas.Bool.Decides.{nat_tests}
 use Rattle.std.specs.Prelude.{Result, Ok, Err, ◌==◌, true, false}
 use Rattle.tl_beat.specs.declared.fault.LineFault.{LineFault}
 use Rattle.tl_beat.specs.declared.fault.LineFault.TheVariants.{F3}
-use Rattle.tl_beat.specs.Width.{IsWidth}
-use Rattle.tl_beat.specs.FromLeft.{pair_at, lanes_at}
+use Rattle.tl_beat.specs.statement.Width.{IsWidth}
+use Rattle.tl_beat.specs.code.FromLeft.{pair_at, lanes_at}
 
 -- before the first lane
 pub lanes-init : (n : ℕ) (bytes : List ℕ) → lanes_at (drop (n - 0) (replicate n 0)) (n - 0) bytes ≡ lanes_at [] n bytes

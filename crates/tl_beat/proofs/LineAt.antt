@@ -9,9 +9,9 @@ use Rattle.tl_beat.specs.declared.beat.Beat.TheVariants.{E}
 use Rattle.tl_beat.specs.declared.channel.Channel.TheVariants as channel
 use Rattle.tl_beat.specs.declared.fault.LineFault.{LineFault}
 use Rattle.tl_beat.specs.declared.fault.LineFault.TheVariants.{F1, F2}
-use Rattle.tl_beat.specs.Line.{spaced, pieces, channel_named, without_last}
-use Rattle.tl_beat.specs.Reading.{◌>>=◌, linked, reading_a, reading_b, reading_c, reading_d, reading_e, reading_on, reading_fields, reading}
-use Rattle.tl_beat.specs.FromLeft.{digits_at, at_end, line_a_at, line_b_at, line_c_at, line_d_at, line_e_at, letter_in, spaces_in, line_with, body_at, line_at}
+use Rattle.tl_beat.specs.statement.Line.{spaced, pieces, channel_named, without_last}
+use Rattle.tl_beat.specs.code.Reading.{◌>>=◌, linked, reading_a, reading_b, reading_c, reading_d, reading_e, reading_on, reading_fields, reading}
+use Rattle.tl_beat.specs.code.FromLeft.{digits_at, at_end, line_a_at, line_b_at, line_c_at, line_d_at, line_e_at, letter_in, spaces_in, line_with, body_at, line_at}
 use Rattle.tl_beat.proofs.Pieces.{NoSpace, NoSpaces, NoSpaces-pieces, length-pieces, spaced-pieces, after_first-piece}
 use Rattle.tl_beat.proofs.FieldsAt.{then_head, then_number, then_bit, then_tail, digits_at-end}
 

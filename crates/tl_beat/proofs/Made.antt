@@ -12,8 +12,8 @@ use Rattle.tl_beat.specs.declared.opcode.OpC.{OpC}
 use Rattle.tl_beat.specs.declared.opcode.OpD.{OpD}
 use Rattle.tl_beat.specs.declared.fault.LineFault.{LineFault}
 use Rattle.tl_beat.specs.declared.fault.LineFault.TheVariants.{F6}
-use Rattle.tl_beat.specs.Opcode.{a_carries_data, b_carries_data, c_carries_data, d_carries_data, a_with, b_with, c_with, d_with}
-use Rattle.tl_beat.specs.Reading.{agreement, at_most, made_a, made_b, made_c, made_d}
+use Rattle.tl_beat.specs.statement.Opcode.{a_carries_data, b_carries_data, c_carries_data, d_carries_data, a_with, b_with, c_with, d_with}
+use Rattle.tl_beat.specs.code.Reading.{agreement, at_most, made_a, made_b, made_c, made_d}
 
 abbrev ok_of : {a b : Bool} → a ≡ b → Result (a ≡ b) LineFault
 ok_of h = Ok h

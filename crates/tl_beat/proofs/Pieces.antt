@@ -4,8 +4,8 @@ use Rattle.std.specs.Prelude.{◌==◌, ⊤}
 use Rattle.std.specs.List.{after_first, position_or_len}
 use Rattle.std.proofs.lemmas.List.Sums.{sum_by-cons}
 use Rattle.std.proofs.lemmas.Bool.{eqb-true}
-use Rattle.tl_beat.specs.Line.{pieces, onto_first, spaced}
-use Rattle.tl_beat.specs.FromLeft.{spaces_in}
+use Rattle.tl_beat.specs.statement.Line.{pieces, onto_first, spaced}
+use Rattle.tl_beat.specs.code.FromLeft.{spaces_in}
 
 -- no byte of the piece is a space
 abbrev pub NoSpace : List ℕ → Type 0

@@ -16,15 +16,15 @@ use Rattle.tl_beat.specs.declared.channel.Channel.{Channel}
 use Rattle.tl_beat.specs.declared.channel.Channel.TheVariants as channel
 use Rattle.tl_beat.specs.declared.fault.LineFault.{LineFault}
 use Rattle.tl_beat.specs.declared.fault.LineFault.TheVariants.{F1, F4, F5}
-use Rattle.tl_beat.specs.Opcode.{a_code, b_code, c_code, d_code, a_with, b_with, c_with, d_with, a_carries_data, b_carries_data, c_carries_data, d_carries_data}
-use Rattle.tl_beat.specs.Digits.{digits, lanes_text, bit_text}
-use Rattle.tl_beat.specs.Line.{fields_of, spaced, IsWritable, IsInRange, Spells, pieces, field, letter, channel_named, without_last}
-use Rattle.tl_beat.specs.Reading.{◌>>=◌, number_in, data_in, bit_in, at_most, agreement, made_a, made_b, made_c, made_d, linked, reading_a, reading_b}
-use Rattle.tl_beat.specs.Reading.{reading_c, reading_d, reading_e, reading_on, reading_fields, reading}
-use Rattle.tl_beat.specs.Width.{IsWidth}
+use Rattle.tl_beat.specs.statement.Opcode.{a_code, b_code, c_code, d_code, a_with, b_with, c_with, d_with, a_carries_data, b_carries_data, c_carries_data, d_carries_data}
+use Rattle.tl_beat.specs.statement.Digits.{digits, lanes_text, bit_text}
+use Rattle.tl_beat.specs.statement.Line.{fields_of, spaced, IsWritable, IsInRange, Spells, pieces, field, letter, channel_named, without_last}
+use Rattle.tl_beat.specs.code.Reading.{◌>>=◌, number_in, data_in, bit_in, at_most, agreement, made_a, made_b, made_c, made_d, linked, reading_a, reading_b}
+use Rattle.tl_beat.specs.code.Reading.{reading_c, reading_d, reading_e, reading_on, reading_fields, reading}
+use Rattle.tl_beat.specs.statement.Width.{IsWidth}
 use Rattle.tl_beat.proofs.Pieces.{spaced-pieces}
 use Rattle.tl_beat.proofs.SpelledDigits.{number_in-ok, bit_in-ok, data_in-ok}
-use Rattle.tl_beat.specs.Names.{letter_of}
+use Rattle.tl_beat.specs.statement.Names.{letter_of}
 use Rattle.tl_beat.proofs.SpelledLines.{a_code-with, b_code-with, c_code-with, d_code-with, mask-below}
 
 abbrev pub ok_of : {A : Type 0} → A → Result A LineFault

@@ -9,9 +9,9 @@ use Rattle.std.proofs.lemmas.List.Elements.{All-append, All-cons}
 use Rattle.std.proofs.Math.Nat.{div-div-eq-div-mul, div-one}
 use Rattle.tl_beat.specs.declared.fault.LineFault.{LineFault}
 use Rattle.tl_beat.specs.declared.fault.LineFault.TheVariants.{F3}
-use Rattle.tl_beat.specs.Digits.{digit_char, digits, lane_digits, lanes_text, bit_text, is_digit, digit_value, is_digits, value_from, value_of, is_pairs, lanes_before, is_dash}
-use Rattle.tl_beat.specs.Line.{AreLanes}
-use Rattle.tl_beat.specs.Reading.{number_in, data_in, bit_in}
+use Rattle.tl_beat.specs.statement.Digits.{digit_char, digits, lane_digits, lanes_text, bit_text, is_digit, digit_value, is_digits, value_from, value_of, is_pairs, lanes_before, is_dash}
+use Rattle.tl_beat.specs.statement.Line.{AreLanes}
+use Rattle.tl_beat.specs.code.Reading.{number_in, data_in, bit_in}
 
 abbrev ok_if : Bool → ℕ → Result ℕ LineFault
 ok_if b n = cond b (Ok n) (Err F3)

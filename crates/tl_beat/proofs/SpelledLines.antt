@@ -18,11 +18,11 @@ use Rattle.tl_beat.specs.declared.opcode.OpC.TheVariants as c
 use Rattle.tl_beat.specs.declared.opcode.OpD.{OpD}
 use Rattle.tl_beat.specs.declared.opcode.OpD.TheVariants as d
 use Rattle.tl_beat.specs.declared.fault.LineFault.{LineFault}
-use Rattle.tl_beat.specs.Opcode.{a_code, b_code, c_code, d_code, a_opcodes, b_opcodes, c_opcodes, d_opcodes, a_with, b_with, c_with, d_with}
-use Rattle.tl_beat.specs.Digits.{digits, lane_digits, lanes_text, bit_text}
-use Rattle.tl_beat.specs.Line.{fields_of, spaced, IsWritable, AreLanes, IsInRange, Spells, pieces, without_last}
-use Rattle.tl_beat.specs.Reading.{at_most, reading_a, reading_b, reading_c, reading_d, reading_e, reading_fields, reading}
-use Rattle.tl_beat.specs.Width.{IsWidth}
+use Rattle.tl_beat.specs.statement.Opcode.{a_code, b_code, c_code, d_code, a_opcodes, b_opcodes, c_opcodes, d_opcodes, a_with, b_with, c_with, d_with}
+use Rattle.tl_beat.specs.statement.Digits.{digits, lane_digits, lanes_text, bit_text}
+use Rattle.tl_beat.specs.statement.Line.{fields_of, spaced, IsWritable, AreLanes, IsInRange, Spells, pieces, without_last}
+use Rattle.tl_beat.specs.code.Reading.{at_most, reading_a, reading_b, reading_c, reading_d, reading_e, reading_fields, reading}
+use Rattle.tl_beat.specs.statement.Width.{IsWidth}
 use Rattle.tl_beat.proofs.Pieces.{NoSpace, NoSpaces, pieces-spaced}
 use Rattle.tl_beat.proofs.SpelledDigits.{digit_char-no_space, length-digits, number_in-digits, bit_in-text, length-lane_digits, data_in-text}
 use Rattle.tl_beat.proofs.Made.{made_a-ok, made_b-ok, made_c-ok, made_d-ok}

@@ -4,7 +4,7 @@ use Rattle.std.proofs.Math.Nat.{pow-suc}
 use Rattle.std.proofs.lemmas.Bool.Decides.{nat_tests}
 use Rattle.std.proofs.lemmas.Simd.{mask_l-lt}
 use Rattle.std.specs.Prelude.{⊤}
-use Rattle.tl_beat.specs.FromLeft.{value_or_16, lanes_at}
+use Rattle.tl_beat.specs.code.FromLeft.{value_or_16, lanes_at}
 use Rattle.tl_beat.proofs.AtPlaces.{digit_is}
 use lib.Lanes.{top, mask_l}
 

@@ -13,10 +13,10 @@ use Rattle.tl_beat.specs.declared.beat.Beat.{Beat}
 use Rattle.tl_beat.specs.declared.read.line.Head.{Head}
 use Rattle.tl_beat.specs.declared.fault.LineFault.{LineFault}
 use Rattle.tl_beat.specs.declared.fault.LineFault.TheVariants.{F3}
-use Rattle.tl_beat.specs.Digits.{is_digit, digit_value, is_dash}
-use Rattle.tl_beat.specs.Reading.{◌>>=◌}
-use Rattle.tl_beat.specs.FromLeft.{value_or_fault, digits_at, space_at, field_at, bit_of_byte, bit_field_at, lanes_at, some_lanes, data_at, at_end, head_at}
-use Rattle.tl_beat.specs.FromLeft.{tail_at, line_a_at, line_b_at, line_c_at, line_d_at, line_e_at, letter_in, spaces_in, body_at}
+use Rattle.tl_beat.specs.statement.Digits.{is_digit, digit_value, is_dash}
+use Rattle.tl_beat.specs.code.Reading.{◌>>=◌}
+use Rattle.tl_beat.specs.code.FromLeft.{value_or_fault, digits_at, space_at, field_at, bit_of_byte, bit_field_at, lanes_at, some_lanes, data_at, at_end, head_at}
+use Rattle.tl_beat.specs.code.FromLeft.{tail_at, line_a_at, line_b_at, line_c_at, line_d_at, line_e_at, letter_in, spaces_in, body_at}
 use Rattle.tl_beat.proofs.Pieces.{NoSpace, after_first-piece}
 use Rattle.tl_beat.proofs.SpelledDigits.{is_dash-true}
 use Rattle.tl_beat.proofs.ReadLines.{ok_of, ok_is, ok_step}

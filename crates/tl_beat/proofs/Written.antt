@@ -2,7 +2,7 @@
 use Rattle.std.proofs.Common.{◌≡◌, ℕ, suc, ◌+◌, ◌-◌, ◌*◌, ◌/◌, ◌%◌, ◌^◌, ◌<◌, List, [], ◌∷◌, ◌++◌, length, get_or, take, refl, sym, ap, ◌∙◌, arith, append_assoc}
 use Rattle.std.proofs.lemmas.List.{append-nil, take_more}
 use Rattle.tl_beat.proofs.SpelledDigits.{lane_digits-last}
-use Rattle.tl_beat.specs.Digits.{digit_char, digits, lane_digits}
+use Rattle.tl_beat.specs.statement.Digits.{digit_char, digits, lane_digits}
 
 digits-more : (w k n : ℕ) → w ≡ suc k → digits w n ≡ digit_char (n / 2 ^ (4 * k) % 16) ∷ digits k n
 unfolding digits

@@ -1,9 +1,2 @@
-pub mod Digits
-pub mod First
-pub mod FromLeft
-pub mod Line
-pub mod Names
-pub mod Opcode
-pub mod Reading
-pub mod Width
-pub mod Writing
+pub mod code
+pub mod statement

@@ -2,7 +2,7 @@
 //! 1.8, "Signal Descriptions").
 
 ghost use Rattle.std.specs.Prelude.{◌≡◌, is_some};
-ghost use Rattle.tl_beat.specs.Opcode.{a_carries_data, b_carries_data, c_carries_data, d_carries_data};
+ghost use Rattle.tl_beat.specs.statement.Opcode.{a_carries_data, b_carries_data, c_carries_data, d_carries_data};
 
 use crate::opcode::{OpA, OpB, OpC, OpD};
 

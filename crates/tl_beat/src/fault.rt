@@ -1,7 +1,7 @@
 //! What is wrong with a line of text that spells no beat.
 
 ghost use Rattle.std.specs.Prelude.{◌≡◌};
-ghost use Rattle.tl_beat.specs.Names.{line_fault_name};
+ghost use Rattle.tl_beat.specs.statement.Names.{line_fault_name};
 
 /// The first fault of a line, in this order; `F1` comes again behind `F2`, for a number of fields
 /// that isn't the channel's.

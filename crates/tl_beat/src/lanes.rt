@@ -1,7 +1,7 @@
 //! Digits to lanes, sixteen digits at a time.
 
 ghost use Rattle.std.specs.Prelude.{◌≡◌, ◌+◌, ◌++◌, ℕ, List, IfSome};
-ghost use Rattle.tl_beat.specs.FromLeft.{lanes_at};
+ghost use Rattle.tl_beat.specs.code.FromLeft.{lanes_at};
 
 use std::simd::prelude::*;
 

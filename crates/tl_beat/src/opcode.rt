@@ -52,8 +52,8 @@ pub enum OpD {
 }
 
 impl OpA {
-    ghost use Rattle.tl_beat.specs.Opcode.{a_code, a_carries_data, a_with};
-    ghost use Rattle.tl_beat.specs.Names.{a_name};
+    ghost use Rattle.tl_beat.specs.statement.Opcode.{a_code, a_carries_data, a_with};
+    ghost use Rattle.tl_beat.specs.statement.Names.{a_name};
 
     /// The number that stands for the opcode on the wires.
     pub fn code(self) -> u8
@@ -122,8 +122,8 @@ impl OpA {
 }
 
 impl OpB {
-    ghost use Rattle.tl_beat.specs.Opcode.{b_code, b_carries_data, b_with};
-    ghost use Rattle.tl_beat.specs.Names.{b_name};
+    ghost use Rattle.tl_beat.specs.statement.Opcode.{b_code, b_carries_data, b_with};
+    ghost use Rattle.tl_beat.specs.statement.Names.{b_name};
 
     /// The number that stands for the opcode on the wires.
     pub fn code(self) -> u8
@@ -192,8 +192,8 @@ impl OpB {
 }
 
 impl OpC {
-    ghost use Rattle.tl_beat.specs.Opcode.{c_code, c_carries_data, c_with};
-    ghost use Rattle.tl_beat.specs.Names.{c_name};
+    ghost use Rattle.tl_beat.specs.statement.Opcode.{c_code, c_carries_data, c_with};
+    ghost use Rattle.tl_beat.specs.statement.Names.{c_name};
 
     /// The number that stands for the opcode on the wires.
     pub fn code(self) -> u8
@@ -258,8 +258,8 @@ impl OpC {
 }
 
 impl OpD {
-    ghost use Rattle.tl_beat.specs.Opcode.{d_code, d_carries_data, d_with};
-    ghost use Rattle.tl_beat.specs.Names.{d_name};
+    ghost use Rattle.tl_beat.specs.statement.Opcode.{d_code, d_carries_data, d_with};
+    ghost use Rattle.tl_beat.specs.statement.Names.{d_name};
 
     /// The number that stands for the opcode on the wires.
     pub fn code(self) -> u8

@@ -8,9 +8,9 @@ ghost use Rattle.std.specs.List.{after_first};
 ghost use Rattle.std.specs.Result.{result_err};
 ghost use Rattle.tl_beat.specs.declared.beat.Link.{Link};
 ghost use Rattle.tl_beat.specs.declared.beat.Beat.{Beat};
-ghost use Rattle.tl_beat.specs.FromLeft.{letter_in, spaces_in, body_at, line_at, line_with};
-ghost use Rattle.tl_beat.specs.Line.{Spells, line_fault};
-ghost use Rattle.tl_beat.specs.Width.{IsWidth};
+ghost use Rattle.tl_beat.specs.code.FromLeft.{letter_in, spaces_in, body_at, line_at, line_with};
+ghost use Rattle.tl_beat.specs.statement.Line.{Spells, line_fault};
+ghost use Rattle.tl_beat.specs.statement.Width.{IsWidth};
 
 use crate::beat::{Beat, Link};
 use crate::fault::LineFault;

@@ -1,6 +1,6 @@
 //! Lines of every kind, read and written.
 
-ghost use Rattle.tl_beat.specs.Width.{IsWidth};
+ghost use Rattle.tl_beat.specs.statement.Width.{IsWidth};
 
 use crate::beat::{Beat, Link};
 use crate::fault::LineFault;

@@ -1,8 +1,8 @@
 //! Text of up to 64 bytes, put together from digits, lanes and bits.
 
 ghost use Rattle.std.specs.Prelude.{◌≡◌, ◌<◌, ◌≤◌, ◌+◌, ◌*◌, ◌++◌, ◌∷◌, [], length};
-ghost use Rattle.tl_beat.specs.Digits.{digit_char, digits, lane_digits, lanes_text, bit_text};
-ghost use Rattle.tl_beat.specs.Width.{IsWidth};
+ghost use Rattle.tl_beat.specs.statement.Digits.{digit_char, digits, lane_digits, lanes_text, bit_text};
+ghost use Rattle.tl_beat.specs.statement.Width.{IsWidth};
 
 use arrayvec::ArrayVec;
 

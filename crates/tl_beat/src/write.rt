@@ -4,11 +4,11 @@ ghost use Rattle.std.specs.Prelude.{◌≡◌, ◌<◌, ◌≤◌, ◌+◌, ◌/
 ghost use Rattle.tl_beat.specs.declared.beat.Beat.{Beat};
 ghost use Rattle.tl_beat.specs.declared.beat.Beat.TheVariants as beat_of;
 ghost use Rattle.tl_beat.specs.declared.beat.Link.{Link};
-ghost use Rattle.tl_beat.specs.Digits.{digits};
-ghost use Rattle.tl_beat.specs.Line.{line_of, fields_of, spaced, IsWritable};
-ghost use Rattle.tl_beat.specs.Opcode.{a_code, b_code, c_code, d_code};
-ghost use Rattle.tl_beat.specs.Width.{IsWidth};
-ghost use Rattle.tl_beat.specs.Writing.{next_number, next_bit, head_text, tail_text};
+ghost use Rattle.tl_beat.specs.statement.Digits.{digits};
+ghost use Rattle.tl_beat.specs.statement.Line.{line_of, fields_of, spaced, IsWritable};
+ghost use Rattle.tl_beat.specs.statement.Opcode.{a_code, b_code, c_code, d_code};
+ghost use Rattle.tl_beat.specs.statement.Width.{IsWidth};
+ghost use Rattle.tl_beat.specs.code.Writing.{next_number, next_bit, head_text, tail_text};
 
 use crate::beat::{Beat, BeatA, BeatB, BeatC, BeatD, BeatE, Link};
 use crate::text::{append_bit, append_data, append_digits};

@@ -6,9 +6,9 @@ use Rattle.tl_beat.specs.declared.beat.Beat.{Beat}
 use Rattle.tl_beat.specs.declared.beat.Beat.TheVariants as beat
 use Rattle.tl_burst.specs.declared.message.Message.{Message}
 use Rattle.tl_burst.specs.declared.message.Message.TheVariants.{A, B, C, D, E}
-use Rattle.tl_burst.specs.Burst.{beats_of, beat_of, begun, IsBlankAfter, IsBurst, a_beat_of, b_beat_of, c_beat_of, d_beat_of}
-use Rattle.tl_burst.specs.Messages.{same_control, breaks_burst, burst_length, grown}
-use Rattle.tl_burst.specs.Part.{completes, part_of, place}
+use Rattle.tl_burst.specs.statement.Burst.{beats_of, beat_of, begun, IsBlankAfter, IsBurst, a_beat_of, b_beat_of, c_beat_of, d_beat_of}
+use Rattle.tl_burst.specs.statement.Messages.{same_control, breaks_burst, burst_length, grown}
+use Rattle.tl_burst.specs.statement.Part.{completes, part_of, place}
 use Rattle.tl_burst.specs.declared.part.Broken.TheVariants.{S1}
 use Rattle.tl_burst.proofs.ControlFields.{control_a, control_b, control_c, control_d}
 

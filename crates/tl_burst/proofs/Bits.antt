@@ -2,7 +2,7 @@
 use Rattle.std.proofs.Common.{◌≡◌, ℕ, Bool, true, false, ◌+◌, ◌*◌, ◌/◌, ◌%◌, ◌-◌, ◌<◌, ◌≤◌, ◌^◌, ◌==◌, refl, sym, ap, ◌∙◌, arith, lit<}
 use Rattle.std.proofs.Math.Nat.{add-mul-mod_self_right, mod-eq_of_lt, mul-le-mul_left, pow-le-pow_right}
 use Rattle.std.proofs.lemmas.Nat.{field_of, shr_high, pow-add, mul-add-lt, shl_whole}
-use Rattle.tl_burst.specs.Burst.{mask_at, bit}
+use Rattle.tl_burst.specs.statement.Burst.{mask_at, bit}
 use mir.Val.{bool_byte}
 
 turned : (m a b : ℕ) → m + b * 2 ^ a ≡ b * 2 ^ a + m

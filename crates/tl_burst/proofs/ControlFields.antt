@@ -20,9 +20,9 @@ use Rattle.tl_beat.specs.declared.beat.BeatD.{BeatD}
 use Rattle.tl_beat.specs.declared.opcode.OpD.{OpD}
 use Rattle.tl_beat.specs.declared.opcode.OpD.TheVariants as d
 use Rattle.tl_burst.specs.declared.message.MessageD.{MessageD}
-use Rattle.tl_beat.specs.Opcode.{a_code, b_code, c_code, d_code, a_carries_data, b_carries_data, c_carries_data, d_carries_data}
-use Rattle.tl_burst.specs.Burst.{lanes_at, mask_at, bit, a_beat_of, b_beat_of, c_beat_of, d_beat_of}
-use Rattle.tl_burst.specs.Messages.{same_control}
+use Rattle.tl_beat.specs.statement.Opcode.{a_code, b_code, c_code, d_code, a_carries_data, b_carries_data, c_carries_data, d_carries_data}
+use Rattle.tl_burst.specs.statement.Burst.{lanes_at, mask_at, bit, a_beat_of, b_beat_of, c_beat_of, d_beat_of}
+use Rattle.tl_burst.specs.statement.Messages.{same_control}
 use Rattle.tl_burst.proofs.Same.{same_a, same_b, same_c, same_d}
 
 same_bools : (a b : Bool) → beq a b ≡ true → a ≡ b

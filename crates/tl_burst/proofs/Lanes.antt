@@ -1,11 +1,11 @@
 -- Where the lanes of a beat stand in a payload.
 use Rattle.std.proofs.Common.{◌≡◌, ℕ, ◌+◌, ◌*◌, ◌/◌, ◌<◌, ◌≤◌, ◌^◌, Bool, true, false, cond, refl, arith, inl, inr, lit<, nat_lt}
 use Rattle.std.proofs.Math.Nat.{pow-le-pow_right}
-use Rattle.tl_beat.specs.Width.{IsWidth}
+use Rattle.tl_beat.specs.statement.Width.{IsWidth}
 use Rattle.tl_burst.specs.declared.message.Message.{Message}
 use Rattle.tl_burst.specs.declared.message.Message.TheVariants.{A, B, C, D, E}
-use Rattle.tl_beat.specs.Opcode.{a_carries_data, b_carries_data, c_carries_data, d_carries_data}
-use Rattle.tl_burst.specs.Burst.{beats_of, data_beats, lanes_at, IsZeroFrom}
+use Rattle.tl_beat.specs.statement.Opcode.{a_carries_data, b_carries_data, c_carries_data, d_carries_data}
+use Rattle.tl_burst.specs.statement.Burst.{beats_of, data_beats, lanes_at, IsZeroFrom}
 use Rattle.tl_burst.proofs.Bits.{next_place}
 use Rattle.std.proofs.Common.{List, length, take, drop, sym, ap, ◌∙◌, ◌-◌, replicate}
 use Rattle.std.specs.Prelude.{Some, slice_range}

@@ -7,19 +7,19 @@ use Rattle.std.proofs.lemmas.Nat.{le-div}
 use Rattle.std.proofs.lemmas.Bool.{eqb-true, true≢false}
 use Rattle.std.specs.Prelude.{Option, Some, None, Result, Ok}
 use Rattle.std.specs.Bool.{beq}
-use Rattle.tl_beat.specs.Opcode.{a_code, b_code, c_code, d_code}
-use Rattle.tl_burst.specs.Burst.{IsBlankAfter}
-use Rattle.tl_burst.specs.Messages.{same_control, breaks_burst}
-use Rattle.tl_burst.specs.Part.{completes}
+use Rattle.tl_beat.specs.statement.Opcode.{a_code, b_code, c_code, d_code}
+use Rattle.tl_burst.specs.statement.Burst.{IsBlankAfter}
+use Rattle.tl_burst.specs.statement.Messages.{same_control, breaks_burst}
+use Rattle.tl_burst.specs.statement.Part.{completes}
 use Rattle.tl_burst.specs.declared.part.Broken.{Broken}
-use Rattle.tl_beat.specs.Width.{IsWidth}
-use Rattle.tl_beat.specs.Opcode.{a_carries_data, b_carries_data, c_carries_data, d_carries_data}
+use Rattle.tl_beat.specs.statement.Width.{IsWidth}
+use Rattle.tl_beat.specs.statement.Opcode.{a_carries_data, b_carries_data, c_carries_data, d_carries_data}
 use Rattle.tl_beat.specs.declared.beat.Beat.{Beat}
 use Rattle.tl_beat.specs.declared.channel.Channel.{Channel}
 use Rattle.tl_burst.specs.declared.message.Message.{Message}
 use Rattle.tl_burst.specs.declared.message.Message.TheVariants.{A, B, C, D, E}
-use Rattle.tl_burst.specs.Burst.{data_beats, beats_of, beat_of, begun, burst_of, IsBurst}
-use Rattle.tl_burst.specs.Messages.{History, burst_length, grown, unfinished, carried_on, on, bursts, AllWhole, Splits}
+use Rattle.tl_burst.specs.statement.Burst.{data_beats, beats_of, beat_of, begun, burst_of, IsBurst}
+use Rattle.tl_burst.specs.statement.Messages.{History, burst_length, grown, unfinished, carried_on, on, bursts, AllWhole, Splits}
 use Rattle.tl_burst.proofs.Begun.{length-begun}
 use Rattle.tl_burst.proofs.Whole.{burst_decides}
 

@@ -11,7 +11,7 @@ use Rattle.std.proofs.lemmas.Nat.{mod-pow-add}
 use Rattle.tl_beat.specs.declared.beat.Beat.{Beat}
 use Rattle.tl_beat.specs.declared.beat.Beat.TheVariants as beat
 use Rattle.tl_beat.specs.declared.beat.BeatE.{BeatE}
-use Rattle.tl_beat.specs.Opcode.{a_carries_data, b_carries_data, c_carries_data, d_carries_data}
+use Rattle.tl_beat.specs.statement.Opcode.{a_carries_data, b_carries_data, c_carries_data, d_carries_data}
 use Rattle.tl_burst.specs.declared.message.Message.{Message}
 use Rattle.tl_burst.specs.declared.message.Message.TheVariants.{A, B, C, D, E}
 use Rattle.tl_beat.specs.declared.beat.BeatA.{BeatA}
@@ -26,7 +26,7 @@ use Rattle.tl_burst.specs.declared.message.MessageC.{MessageC}
 use Rattle.tl_beat.specs.declared.beat.BeatD.{BeatD}
 use Rattle.tl_beat.specs.declared.opcode.OpD.{OpD}
 use Rattle.tl_burst.specs.declared.message.MessageD.{MessageD}
-use Rattle.tl_burst.specs.Burst.{lanes_at, mask_at, bit, a_beat_of, b_beat_of, c_beat_of, d_beat_of, beat_of, beats_of, begun, IsZeroFrom, IsBlankAfter, IsBurst}
+use Rattle.tl_burst.specs.statement.Burst.{lanes_at, mask_at, bit, a_beat_of, b_beat_of, c_beat_of, d_beat_of, beat_of, beats_of, begun, IsZeroFrom, IsBlankAfter, IsBurst}
 use Rattle.tl_burst.proofs.Begun.{length-begun}
 
 slice_from : (w k : ℕ) (p : List ℕ) → slice_range p (w * k) (w * k + w) ≡ take w (drop (w * k) p)

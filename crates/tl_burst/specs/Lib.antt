@@ -1,3 +1,1 @@
-pub mod Burst
-pub mod Messages
-pub mod Part
+pub mod statement

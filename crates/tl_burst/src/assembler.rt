@@ -3,12 +3,12 @@
 ghost use Rattle.std.specs.Prelude.{slice_get, ℕ, Bool, List, [], ◌∷◌, not, IsTrue, OnErr, OnOk, IfOk, if◌then◌else◌, option_to_list, ◌++◌, ◌==◌, IfSome, is_some, is_err, ◌≡◌, ◌<◌, ◌+◌};
 ghost use Rattle.std.specs.Bool.{OnTrue, OnFalse};
 ghost use Rattle.tl_beat.specs.declared.beat.Beat.{Beat};
-ghost use Rattle.tl_beat.specs.Width.{IsWidth};
+ghost use Rattle.tl_beat.specs.statement.Width.{IsWidth};
 ghost use Rattle.tl_burst.specs.declared.message.Message.{Message};
-ghost use Rattle.tl_burst.specs.Burst;
-ghost use Rattle.tl_burst.specs.Burst.{begun, beat_of, IsBlankAfter, IsBurst};
-ghost use Rattle.tl_burst.specs.Messages.{breaks_burst, same_control, grown, Splits};
-ghost use Rattle.tl_burst.specs.Part.{IsTakeable, completes, part_of};
+ghost use Rattle.tl_burst.specs.statement.Burst;
+ghost use Rattle.tl_burst.specs.statement.Burst.{begun, beat_of, IsBlankAfter, IsBurst};
+ghost use Rattle.tl_burst.specs.statement.Messages.{breaks_burst, same_control, grown, Splits};
+ghost use Rattle.tl_burst.specs.statement.Part.{IsTakeable, completes, part_of};
 
 use crate::burst::{beat_at, beats_of, burst_length};
 use crate::gather::{blank_for, continues, write_beat};

@@ -2,7 +2,7 @@
 //! "Serialization" on bursts).
 
 ghost use Rattle.std.specs.Prelude.{◌≡◌};
-ghost use Rattle.tl_burst.specs.Messages;
+ghost use Rattle.tl_burst.specs.statement.Messages;
 
 use tl_beat::beat::Beat;
 

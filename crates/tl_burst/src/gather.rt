@@ -1,12 +1,12 @@
 //! Beats written into the message that they carry.
 
 ghost use Rattle.std.specs.Prelude.{ℕ, Bool, IsTrue, ◌≡◌, ◌<◌, ◌≤◌, ◌+◌, ◌*◌, ◌^◌, is_some, if◌then◌else◌};
-ghost use Rattle.tl_beat.specs.Width.{IsWidth};
+ghost use Rattle.tl_beat.specs.statement.Width.{IsWidth};
 ghost use Rattle.tl_beat.specs.declared.beat.Beat.TheVariants as beat;
 ghost use Rattle.tl_burst.specs.declared.message.Message.TheVariants as message;
-ghost use Rattle.tl_burst.specs.Burst.{lanes_at, mask_at, bit, IsZeroFrom, IsBlankAfter, a_beat_of, b_beat_of, c_beat_of, d_beat_of, beat_of, beats_of};
-ghost use Rattle.tl_burst.specs.Messages.{same_control};
-ghost use Rattle.tl_burst.specs.Part.{IsTakeable};
+ghost use Rattle.tl_burst.specs.statement.Burst.{lanes_at, mask_at, bit, IsZeroFrom, IsBlankAfter, a_beat_of, b_beat_of, c_beat_of, d_beat_of, beat_of, beats_of};
+ghost use Rattle.tl_burst.specs.statement.Messages.{same_control};
+ghost use Rattle.tl_burst.specs.statement.Part.{IsTakeable};
 
 use crate::message::{Message, MessageA, MessageB, MessageC, MessageD, MessageE};
 use tl_beat::beat::{Beat, BeatA, BeatB, BeatC, BeatD};

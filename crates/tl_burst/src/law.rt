@@ -3,10 +3,10 @@
 ghost use Rattle.std.specs.Prelude.{List, ◌≡◌};
 ghost use Rattle.tl_beat.specs.declared.beat.Beat.{Beat};
 ghost use Rattle.tl_beat.specs.declared.channel.Channel.{Channel};
-ghost use Rattle.tl_beat.specs.Width.{IsWidth};
+ghost use Rattle.tl_beat.specs.statement.Width.{IsWidth};
 ghost use Rattle.tl_burst.specs.declared.message.Message.{Message};
-ghost use Rattle.tl_burst.specs.Messages;
-ghost use Rattle.tl_burst.specs.Messages.{History, Splits, carried_on};
+ghost use Rattle.tl_burst.specs.statement.Messages;
+ghost use Rattle.tl_burst.specs.statement.Messages.{History, Splits, carried_on};
 
 /// Two splits of one list of beats into messages and a rest are the same, and the rest of a
 /// channel's beats is what is unfinished there.

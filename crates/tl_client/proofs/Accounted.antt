@@ -1,7 +1,7 @@
 -- What is pending as a client is called.
 use Rattle.std.proofs.Common.{◌≡◌, ℕ, Bool, true, false, cond, List, [], ◌∷◌, Option, Some, None, refl, sym, ◌∙◌, subst}
 use Rattle.std.proofs.lemmas.Bool.{or_parts, not-false, both_ways}
-use Rattle.tl_beat.specs.Width.{IsWidth}
+use Rattle.tl_beat.specs.statement.Width.{IsWidth}
 use Rattle.tl_beat.specs.declared.beat.Beat.{Beat}
 use Rattle.tl_beat.specs.declared.beat.Beat.TheVariants as beat
 use Rattle.tl_beat.specs.declared.beat.BeatB.{BeatB}
@@ -17,7 +17,7 @@ use Rattle.tl_beat.specs.declared.opcode.OpD.TheVariants as d
 use Rattle.tl_burst.specs.declared.message.Message.TheVariants.{A, B, C, D, E}
 use Rattle.tl_burst.specs.declared.message.MessageA.{MessageA}
 use Rattle.tl_burst.specs.declared.message.MessageC.{MessageC}
-use Rattle.tl_burst.specs.Messages.{History, unfinished}
+use Rattle.tl_burst.specs.statement.Messages.{History, unfinished}
 use Rattle.tl_params.specs.declared.key.Key.TheVariants.{ReleaseSource, AcquireOf, ReleaseOf}
 use Rattle.tl_params.specs.declared.param.Prune.{Prune}
 use Rattle.tl_params.specs.declared.param.Prune.TheVariants as prune
@@ -26,23 +26,23 @@ use Rattle.tl_params.specs.declared.perm.Perm.{Perm}
 use Rattle.tl_params.specs.declared.perm.Perm.TheVariants as perm
 use Rattle.tl_params.specs.declared.rule.Rule.{Rule}
 use Rattle.tl_params.specs.declared.rule.Rule.TheVariants.{L1, A3}
-use Rattle.tl_params.specs.Param.{prune_right, report_code, report_right}
-use Rattle.tl_rules.specs.Agent.{sent, payload_of}
-use Rattle.tl_rules.specs.Conformance.{broken_in_order}
-use Rattle.tl_rules.specs.History.{block_at, ends, is_acquire, is_grant, is_probe_ack, is_release, pending, request_of}
-use Rattle.tl_rules.specs.Legality.{illegal}
+use Rattle.tl_params.specs.statement.Param.{prune_right, report_code, report_right}
+use Rattle.tl_rules.specs.statement.Agent.{sent, payload_of}
+use Rattle.tl_rules.specs.statement.Conformance.{broken_in_order}
+use Rattle.tl_rules.specs.statement.History.{block_at, ends, is_acquire, is_grant, is_probe_ack, is_release, pending, request_of}
+use Rattle.tl_rules.specs.statement.Legality.{illegal}
 use Rattle.tl_rules.proofs.Bursts.{next_rule, both_none}
 use Rattle.tl_client.specs.declared.busy.Busy.{Busy}
 use Rattle.tl_client.specs.declared.operation.Op.{Op}
 use Rattle.tl_client.specs.declared.operation.Op.TheVariants.{Load, Store, Acquire, AcquireWhole, Release, Access}
 use Rattle.tl_client.specs.declared.verdict.Finish.{Finish}
 use Rattle.tl_client.specs.declared.verdict.Verdict.TheVariants.{Stalled, Taken}
-use Rattle.tl_client.specs.Accounted.{IsAccounted}
-use Rattle.tl_client.specs.Ask.{asked, asked_given, busy, breaks_b1, breaks_b2, breaks_b4, is_access_of, done, load, store, free_request, free_release, source_or_0, whole_grow}
-use Rattle.tl_client.specs.End.{Terms, End, zeros, copy_at, held_at, with_past}
-use Rattle.tl_client.specs.Kept.{IsKept}
-use Rattle.tl_client.specs.Offer.{offered, taken, ended, granted, responded, silent, is_sent_on, waits, broken_before, broken_later, judged, judged_later, report_for}
-use Rattle.tl_client.specs.Send.{about, sourced, acquisition, release, probe_ack}
+use Rattle.tl_client.specs.laws.Accounted.{IsAccounted}
+use Rattle.tl_client.specs.statement.Ask.{asked, asked_given, busy, breaks_b1, breaks_b2, breaks_b4, is_access_of, done, load, store, free_request, free_release, source_or_0, whole_grow}
+use Rattle.tl_client.specs.statement.End.{Terms, End, zeros, copy_at, held_at, with_past}
+use Rattle.tl_client.specs.statement.Kept.{IsKept}
+use Rattle.tl_client.specs.statement.Offer.{offered, taken, ended, granted, responded, silent, is_sent_on, waits, broken_before, broken_later, judged, judged_later, report_for}
+use Rattle.tl_client.specs.statement.Send.{about, sourced, acquisition, release, probe_ack}
 use Rattle.tl_client.proofs.AccountedSent.{MayAsk, MayRelease, claimed-a, acked-a, claimed-c, acked-c}
 use Rattle.tl_client.proofs.AccountedTaken.{IsFit, fit, claimed-probe, acked-probe}
 use Rattle.tl_client.proofs.AccountedResponse.{claimed-d, claimed-e, acked-part, acked-last, acked-grant}

@@ -2,7 +2,7 @@
 use Rattle.std.proofs.Common.{◌≡◌, ℕ, Bool, true, false, not, cond, ◌&&◌, List, [], ◌∷◌, Option, Some, None, refl, sym, ◌∙◌, ap, ap₂, inl, inr}
 use Rattle.std.specs.Prelude.{◌==◌}
 use Rattle.std.proofs.lemmas.Bool.{and_parts, and_from, eqb-true, eq-eqb, both_ways, cases_Bool}
-use Rattle.tl_beat.specs.Width.{IsWidth}
+use Rattle.tl_beat.specs.statement.Width.{IsWidth}
 use Rattle.tl_beat.specs.declared.beat.Beat.{Beat}
 use Rattle.tl_beat.specs.declared.beat.Beat.TheVariants as beat
 use Rattle.tl_beat.specs.declared.beat.BeatA.{BeatA}
@@ -15,20 +15,20 @@ use Rattle.tl_beat.specs.declared.opcode.OpD.{OpD}
 use Rattle.tl_beat.specs.declared.opcode.OpD.TheVariants as d
 use Rattle.tl_burst.specs.declared.message.Message.TheVariants.{E}
 use Rattle.tl_burst.specs.declared.message.MessageE.{MessageE}
-use Rattle.tl_burst.specs.Messages.{History, unfinished}
-use Rattle.tl_burst.specs.Part.{completes}
+use Rattle.tl_burst.specs.statement.Messages.{History, unfinished}
+use Rattle.tl_burst.specs.statement.Part.{completes}
 use Rattle.tl_burst.proofs.Splitting.{beats-positive}
 use Rattle.tl_params.specs.declared.key.Key.{Key}
 use Rattle.tl_params.specs.declared.key.Key.TheVariants.{RequestSource, ReleaseSource, AcquireOf, ReleaseOf, GrantSink, GrantAckOf, ProbeOf}
-use Rattle.tl_rules.specs.Agent.{sent}
-use Rattle.tl_rules.specs.Conformance.{admits, answers, comes_in_grant}
-use Rattle.tl_rules.specs.Handed.{pending_with}
-use Rattle.tl_rules.specs.History.{block_at, is_acquire, is_grant, is_release_ack, asks_for, ends, grants, grant_sink, is_sink, pending, releases, request_of, release_of}
+use Rattle.tl_rules.specs.statement.Agent.{sent}
+use Rattle.tl_rules.specs.statement.Conformance.{admits, answers, comes_in_grant}
+use Rattle.tl_rules.specs.laws.Handed.{pending_with}
+use Rattle.tl_rules.specs.statement.History.{block_at, is_acquire, is_grant, is_release_ack, asks_for, ends, grants, grant_sink, is_sink, pending, releases, request_of, release_of}
 use Rattle.tl_rules.proofs.Handed.{pending-whole, unfinished-whole, release_of-whole}
 use Rattle.tl_rules.proofs.Sent.{pending-quiet, pending-closed}
-use Rattle.tl_client.specs.Accounted.{IsClaimed, IsAcked, comes_granting, sink_coming}
-use Rattle.tl_client.specs.Kept.{acquires}
-use Rattle.tl_client.specs.Requests.{open_beat, open_release}
+use Rattle.tl_client.specs.laws.Accounted.{IsClaimed, IsAcked, comes_granting, sink_coming}
+use Rattle.tl_client.specs.statement.Kept.{acquires}
+use Rattle.tl_client.specs.statement.Requests.{open_beat, open_release}
 use Rattle.tl_client.proofs.AccountedSent.{releases_live}
 use Rattle.tl_client.proofs.AccountedTaken.{GoesOn, IsFit, claimed_same}
 use Rattle.tl_client.proofs.Opens.{open_beat-d, open_beat-e, request_of-d, unfinished-d, closes_source, acquire_of-d, acquire_of-e}

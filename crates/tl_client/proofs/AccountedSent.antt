@@ -2,7 +2,7 @@
 use Rattle.std.proofs.Common.{◌≡◌, ℕ, Bool, true, false, cond, ◌&&◌, ◌⊎◌, List, [], ◌∷◌, Option, Some, None, refl, sym, ◌∙◌, inl, inr}
 use Rattle.std.specs.Prelude.{◌==◌, ⊤}
 use Rattle.std.proofs.lemmas.Bool.{and_parts, eqb-true, eq-eqb, both_ways, cases_Bool}
-use Rattle.tl_beat.specs.Width.{IsWidth}
+use Rattle.tl_beat.specs.statement.Width.{IsWidth}
 use Rattle.tl_beat.specs.declared.beat.Beat.{Beat}
 use Rattle.tl_beat.specs.declared.beat.Beat.TheVariants as beat
 use Rattle.tl_beat.specs.declared.beat.BeatA.{BeatA}
@@ -12,19 +12,19 @@ use Rattle.tl_beat.specs.declared.opcode.OpD.{OpD}
 use Rattle.tl_burst.specs.declared.message.Message.TheVariants.{A, C}
 use Rattle.tl_burst.specs.declared.message.MessageA.{MessageA}
 use Rattle.tl_burst.specs.declared.message.MessageC.{MessageC}
-use Rattle.tl_burst.specs.Burst.{c_beat_of}
-use Rattle.tl_burst.specs.Messages.{History, unfinished}
+use Rattle.tl_burst.specs.statement.Burst.{c_beat_of}
+use Rattle.tl_burst.specs.statement.Messages.{History, unfinished}
 use Rattle.tl_burst.proofs.Splitting.{beats-positive}
 use Rattle.tl_params.specs.declared.key.Key.{Key}
 use Rattle.tl_params.specs.declared.key.Key.TheVariants.{RequestSource, ReleaseSource, AcquireOf, ReleaseOf, GrantSink, GrantAckOf, ProbeOf}
-use Rattle.tl_rules.specs.Agent.{sent}
-use Rattle.tl_rules.specs.Conformance.{admits}
-use Rattle.tl_rules.specs.Handed.{pending_with}
-use Rattle.tl_rules.specs.History.{block_at, is_acquire, is_probe_ack, is_release, grant_sink, pending, releases, request_of, release_of}
+use Rattle.tl_rules.specs.statement.Agent.{sent}
+use Rattle.tl_rules.specs.statement.Conformance.{admits}
+use Rattle.tl_rules.specs.laws.Handed.{pending_with}
+use Rattle.tl_rules.specs.statement.History.{block_at, is_acquire, is_probe_ack, is_release, grant_sink, pending, releases, request_of, release_of}
 use Rattle.tl_rules.proofs.Handed.{pending-whole, unfinished-whole, request_of-whole, release_of-whole, grant_sink-whole}
-use Rattle.tl_client.specs.Accounted.{IsClaimed, IsAcked, IsAnswering, comes_granting}
-use Rattle.tl_client.specs.Kept.{acquires}
-use Rattle.tl_client.specs.Requests.{open_beat, open_release}
+use Rattle.tl_client.specs.laws.Accounted.{IsClaimed, IsAcked, IsAnswering, comes_granting}
+use Rattle.tl_client.specs.statement.Kept.{acquires}
+use Rattle.tl_client.specs.statement.Requests.{open_beat, open_release}
 use Rattle.tl_client.proofs.Opens.{open_beat-a, open_beat-c}
 
 -- ---- what is open is pending

@@ -2,7 +2,7 @@
 use Rattle.std.proofs.Common.{◌≡◌, ℕ, true, false, not, ◌⊎◌, List, [], ◌∷◌, Option, Some, None, refl, sym, ◌∙◌, ap, inl, inr}
 use Rattle.std.specs.Prelude.{◌==◌, ⊤}
 use Rattle.std.proofs.lemmas.Bool.{and_parts, not-false, both_ways, cases_Bool}
-use Rattle.tl_beat.specs.Width.{IsWidth}
+use Rattle.tl_beat.specs.statement.Width.{IsWidth}
 use Rattle.tl_beat.specs.declared.beat.Beat.{Beat}
 use Rattle.tl_beat.specs.declared.beat.Beat.TheVariants as beat
 use Rattle.tl_beat.specs.declared.beat.BeatA.{BeatA}
@@ -13,26 +13,26 @@ use Rattle.tl_beat.specs.declared.opcode.OpA.{OpA}
 use Rattle.tl_beat.specs.declared.opcode.OpA.TheVariants as a
 use Rattle.tl_beat.specs.declared.opcode.OpD.{OpD}
 use Rattle.tl_beat.specs.declared.opcode.OpD.TheVariants as d
-use Rattle.tl_beat.specs.Opcode.{d_carries_data}
+use Rattle.tl_beat.specs.statement.Opcode.{d_carries_data}
 use Rattle.tl_burst.specs.declared.message.Message.TheVariants.{C}
 use Rattle.tl_burst.specs.declared.message.MessageC.{MessageC}
-use Rattle.tl_burst.specs.Messages.{History, unfinished, same_control, breaks_burst}
+use Rattle.tl_burst.specs.statement.Messages.{History, unfinished, same_control, breaks_burst}
 use Rattle.tl_burst.proofs.ControlFields.{control_d}
 use Rattle.tl_burst.proofs.Splitting.{beats-positive}
 use Rattle.tl_params.specs.declared.key.Key.{Key}
 use Rattle.tl_params.specs.declared.key.Key.TheVariants.{RequestSource, ReleaseSource, AcquireOf, ReleaseOf, GrantSink, GrantAckOf, ProbeOf}
 use Rattle.tl_params.specs.declared.profile.Profile.{Profile}
 use Rattle.tl_params.specs.declared.rule.Rule.TheVariants.{S1, H2}
-use Rattle.tl_rules.specs.Agent.{sent}
-use Rattle.tl_rules.specs.Conformance.{admits, answers, has_request, broken_order, broken_in_order}
-use Rattle.tl_rules.specs.Handed.{pending_with, release_with}
-use Rattle.tl_rules.specs.History.{block_at, is_probe, is_probe_ack, is_release, is_release_ack, ends, grant_sink, pending, request_of, release_of}
+use Rattle.tl_rules.specs.statement.Agent.{sent}
+use Rattle.tl_rules.specs.statement.Conformance.{admits, answers, has_request, broken_order, broken_in_order}
+use Rattle.tl_rules.specs.laws.Handed.{pending_with, release_with}
+use Rattle.tl_rules.specs.statement.History.{block_at, is_probe, is_probe_ack, is_release, is_release_ack, ends, grant_sink, pending, request_of, release_of}
 use Rattle.tl_rules.proofs.Bursts.{next_rule}
 use Rattle.tl_rules.proofs.Handed.{pending-whole, unfinished-whole, request_of-whole, release_of-whole, grant_sink-whole}
 use Rattle.tl_rules.proofs.Sent.{pending-quiet}
 use Rattle.tl_rules.proofs.Open.{never}
-use Rattle.tl_client.specs.Accounted.{IsClaimed, IsAcked, IsAnswering}
-use Rattle.tl_client.specs.Requests.{open_beat, open_release}
+use Rattle.tl_client.specs.laws.Accounted.{IsClaimed, IsAcked, IsAnswering}
+use Rattle.tl_client.specs.statement.Requests.{open_beat, open_release}
 use Rattle.tl_client.proofs.AccountedSent.{acked_same, all_same}
 use Rattle.tl_client.proofs.Opens.{open_beat-b, open_beat-c, request_of-b}
 

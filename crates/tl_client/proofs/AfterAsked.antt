@@ -6,17 +6,17 @@ use Rattle.tl_burst.specs.declared.message.Message.{Message}
 use Rattle.tl_burst.specs.declared.message.Message.TheVariants.{A, B, C, D, E}
 use Rattle.tl_params.specs.declared.perm.Perm.{Perm}
 use Rattle.tl_params.specs.declared.perm.Perm.TheVariants as perm
-use Rattle.tl_params.specs.Param.{prune_right}
-use Rattle.tl_rules.specs.Agent.{sent_if_any}
-use Rattle.tl_rules.specs.Conformance.{same_perm}
-use Rattle.tl_rules.specs.History.{block_at, held}
+use Rattle.tl_params.specs.statement.Param.{prune_right}
+use Rattle.tl_rules.specs.statement.Agent.{sent_if_any}
+use Rattle.tl_rules.specs.statement.Conformance.{same_perm}
+use Rattle.tl_rules.specs.statement.History.{block_at, held}
 use Rattle.tl_client.specs.declared.busy.Busy.{Busy}
 use Rattle.tl_client.specs.declared.operation.Op.{Op}
 use Rattle.tl_client.specs.declared.operation.Op.TheVariants.{Load, Store, Acquire, AcquireWhole, Release, Access}
-use Rattle.tl_client.specs.After.{copy_left, waiting_left}
-use Rattle.tl_client.specs.Ask.{asked, asked_given, busy, done, load, store, copy_stored}
-use Rattle.tl_client.specs.End.{Terms, End, zeros, copy_at, held_at, kept_for}
-use Rattle.tl_client.specs.Kept.{holds}
+use Rattle.tl_client.specs.laws.After.{copy_left, waiting_left}
+use Rattle.tl_client.specs.statement.Ask.{asked, asked_given, busy, done, load, store, copy_stored}
+use Rattle.tl_client.specs.statement.End.{Terms, End, zeros, copy_at, held_at, kept_for}
+use Rattle.tl_client.specs.statement.Kept.{holds}
 use Rattle.tl_client.proofs.HeldAfter.{kept_past}
 use Rattle.tl_client.proofs.KeptAsked.{kept_waiting}
 

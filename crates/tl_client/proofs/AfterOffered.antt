@@ -12,17 +12,17 @@ use Rattle.tl_beat.specs.declared.opcode.OpA.{OpA}
 use Rattle.tl_beat.specs.declared.opcode.OpA.TheVariants as a
 use Rattle.tl_beat.specs.declared.opcode.OpD.{OpD}
 use Rattle.tl_beat.specs.declared.opcode.OpD.TheVariants as d
-use Rattle.tl_burst.specs.Messages.{unfinished}
+use Rattle.tl_burst.specs.statement.Messages.{unfinished}
 use Rattle.tl_params.specs.declared.rule.Rule.{Rule}
-use Rattle.tl_params.specs.Param.{report_right}
-use Rattle.tl_rules.specs.Agent.{payload_of, sent_if_any}
-use Rattle.tl_rules.specs.History.{block_at, ends, request_of}
+use Rattle.tl_params.specs.statement.Param.{report_right}
+use Rattle.tl_rules.specs.statement.Agent.{payload_of, sent_if_any}
+use Rattle.tl_rules.specs.statement.History.{block_at, ends, request_of}
 use Rattle.tl_client.specs.declared.verdict.Finish.{Finish}
 use Rattle.tl_client.specs.declared.verdict.Verdict.TheVariants.{Stalled, Taken}
-use Rattle.tl_client.specs.After.{heard, handed, is_refused, copy_granted, copy_with, copy_by, waiting_granted, waiting_with, waiting_by}
-use Rattle.tl_client.specs.End.{Terms, End, held_at, with_past, set_at}
-use Rattle.tl_client.specs.Kept.{is_acquire_perm}
-use Rattle.tl_client.specs.Offer.{Offered, offered, taken, ended, granted, granted_perm, responded, silent, judged, judged_later, broken_before, broken_later, waits, report_for}
+use Rattle.tl_client.specs.laws.After.{heard, handed, is_refused, copy_granted, copy_with, copy_by, waiting_granted, waiting_with, waiting_by}
+use Rattle.tl_client.specs.statement.End.{Terms, End, held_at, with_past, set_at}
+use Rattle.tl_client.specs.statement.Kept.{is_acquire_perm}
+use Rattle.tl_client.specs.statement.Offer.{Offered, offered, taken, ended, granted, granted_perm, responded, silent, judged, judged_later, broken_before, broken_later, waits, report_for}
 use Rattle.tl_client.proofs.AfterAsked.{kept_closed, kept_copies}
 use Rattle.tl_client.proofs.KeptAsked.{kept_waiting}
 use Rattle.tl_client.proofs.HeldAfter.{kept_past}

@@ -2,7 +2,7 @@
 use Rattle.std.proofs.Common.{◌≡◌, ℕ, Bool, true, false, not, cond, leb, ◌&&◌, List, [], ◌∷◌, length, Option, Some, None, unwrap_or, refl, sym, subst}
 use Rattle.std.specs.Prelude.{◌==◌}
 use Rattle.std.proofs.lemmas.Bool.{or_parts, not-false}
-use Rattle.tl_beat.specs.Width.{IsWidth}
+use Rattle.tl_beat.specs.statement.Width.{IsWidth}
 use Rattle.tl_beat.specs.declared.beat.Beat.{Beat}
 use Rattle.tl_beat.specs.declared.beat.Beat.TheVariants as beat
 use Rattle.tl_beat.specs.declared.beat.BeatA.{BeatA}
@@ -13,23 +13,23 @@ use Rattle.tl_beat.specs.declared.channel.Channel.TheVariants as channel
 use Rattle.tl_beat.specs.declared.opcode.OpD.{OpD}
 use Rattle.tl_beat.specs.declared.opcode.OpD.TheVariants as d
 use Rattle.tl_burst.specs.declared.message.Message.TheVariants.{A, B, C, D, E}
-use Rattle.tl_burst.specs.Messages.{History, unfinished}
+use Rattle.tl_burst.specs.statement.Messages.{History, unfinished}
 use Rattle.tl_params.specs.declared.perm.Perm.{Perm}
 use Rattle.tl_params.specs.declared.perm.Perm.TheVariants as perm
-use Rattle.tl_params.specs.Param.{prune_right, report_right}
-use Rattle.tl_rules.specs.Agent.{payload_of}
-use Rattle.tl_rules.specs.History.{block_at, ends, request_of}
-use Rattle.tl_rules.specs.Typed.{IsTyped, AreTyped}
+use Rattle.tl_params.specs.statement.Param.{prune_right, report_right}
+use Rattle.tl_rules.specs.statement.Agent.{payload_of}
+use Rattle.tl_rules.specs.statement.History.{block_at, ends, request_of}
+use Rattle.tl_rules.specs.laws.Typed.{IsTyped, AreTyped}
 use Rattle.tl_rules.proofs.Sizes.{response-small}
 use Rattle.tl_client.specs.declared.operation.Op.{Op}
 use Rattle.tl_client.specs.declared.operation.Op.TheVariants.{Load, Store, Acquire, AcquireWhole, Release, Access}
 use Rattle.tl_client.specs.declared.verdict.Verdict.TheVariants.{Taken}
-use Rattle.tl_client.specs.After.{heard, copy_granted, waiting_granted}
-use Rattle.tl_client.specs.Ask.{asked, done, load, store, copy_stored, is_word}
-use Rattle.tl_client.specs.Bytes.{IsLong, IsTypedOp, IsShort, HasBytes}
-use Rattle.tl_client.specs.End.{Terms, End, fresh, zeros, copy_at, held_at, kept_for, with_past}
-use Rattle.tl_client.specs.Kept.{IsKept, holds, is_acquire_perm}
-use Rattle.tl_client.specs.Offer.{Offered, offered, taken, granted, responded, silent, report_for}
+use Rattle.tl_client.specs.laws.After.{heard, copy_granted, waiting_granted}
+use Rattle.tl_client.specs.statement.Ask.{asked, done, load, store, copy_stored, is_word}
+use Rattle.tl_client.specs.laws.Bytes.{IsLong, IsTypedOp, IsShort, HasBytes}
+use Rattle.tl_client.specs.statement.End.{Terms, End, fresh, zeros, copy_at, held_at, kept_for, with_past}
+use Rattle.tl_client.specs.statement.Kept.{IsKept, holds, is_acquire_perm}
+use Rattle.tl_client.specs.statement.Offer.{Offered, offered, taken, granted, responded, silent, report_for}
 use Rattle.tl_client.proofs.AfterAsked.{kept_copies}
 use Rattle.tl_client.proofs.KeptAsked.{kept_waiting}
 use Rattle.tl_client.proofs.AfterOffered.{granted_is}

@@ -1,27 +1,27 @@
 -- The payload of a response is a block's bytes.
 use Rattle.std.proofs.Common.{◌≡◌, ℕ, suc, ◌+◌, ◌*◌, ◌<◌, ◌≤◌, true, false, cond, List, [], ◌∷◌, length, None, refl, sym, ap₂, arith}
 use Rattle.std.proofs.lemmas.Bool.{not-false, eqb-true, eq-eqb, both_ways}
-use Rattle.tl_beat.specs.Width.{IsWidth}
+use Rattle.tl_beat.specs.statement.Width.{IsWidth}
 use Rattle.tl_beat.specs.declared.beat.Beat.{Beat}
 use Rattle.tl_beat.specs.declared.beat.Beat.TheVariants as beat
 use Rattle.tl_beat.specs.declared.beat.BeatD.{BeatD}
 use Rattle.tl_beat.specs.declared.channel.Channel.TheVariants as channel
 use Rattle.tl_beat.specs.declared.opcode.OpD.{OpD}
-use Rattle.tl_beat.specs.Opcode.{d_carries_data}
-use Rattle.tl_burst.specs.Burst.{data_beats}
-use Rattle.tl_burst.specs.Messages.{History, burst_length, breaks_burst, same_control, unfinished}
+use Rattle.tl_beat.specs.statement.Opcode.{d_carries_data}
+use Rattle.tl_burst.specs.statement.Burst.{data_beats}
+use Rattle.tl_burst.specs.statement.Messages.{History, burst_length, breaks_burst, same_control, unfinished}
 use Rattle.tl_burst.proofs.ControlFields.{control_d}
 use Rattle.tl_burst.proofs.Splitting.{some_data_beats}
 use Rattle.tl_params.specs.declared.profile.Profile.{Profile}
 use Rattle.tl_params.specs.declared.rule.Rule.TheVariants.{S1}
-use Rattle.tl_rules.specs.Agent.{payload_of}
-use Rattle.tl_rules.specs.Conformance.{broken_in_order}
-use Rattle.tl_rules.specs.History.{ends}
-use Rattle.tl_rules.specs.Typed.{IsTyped, AreTyped}
+use Rattle.tl_rules.specs.statement.Agent.{payload_of}
+use Rattle.tl_rules.specs.statement.Conformance.{broken_in_order}
+use Rattle.tl_rules.specs.statement.History.{ends}
+use Rattle.tl_rules.specs.laws.Typed.{IsTyped, AreTyped}
 use Rattle.tl_rules.proofs.Bursts.{next_rule}
 use Rattle.tl_rules.proofs.Checks.{data_room}
 use Rattle.tl_rules.proofs.Typed.{payload-long}
-use Rattle.tl_client.specs.Bytes.{IsShort}
+use Rattle.tl_client.specs.laws.Bytes.{IsShort}
 
 goes_on : {w : ℕ} (p : Profile) (x : BeatD w) (t : History w) (burst : List (Beat w)) → unfinished channel.D t ≡ burst → broken_in_order p (beat.D x) t ≡ None → breaks_burst (beat.D x) burst ≡ false
 goes_on p x t [] is e = refl

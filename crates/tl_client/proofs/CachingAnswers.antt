@@ -4,17 +4,17 @@ use Rattle.std.specs.Prelude.{is_some, is_none, unwrap_or}
 use Rattle.tl_beat.specs.declared.beat.BeatA.{BeatA}
 use Rattle.tl_beat.specs.declared.beat.BeatC.{BeatC}
 use Rattle.tl_beat.specs.declared.opcode.OpA.TheVariants as a
-use Rattle.tl_beat.specs.First.{first_if}
+use Rattle.tl_beat.specs.statement.First.{first_if}
 use Rattle.tl_burst.specs.declared.message.Message.{Message}
 use Rattle.tl_burst.specs.declared.message.Message.TheVariants as message
 use Rattle.tl_burst.specs.declared.message.MessageA.{MessageA}
-use Rattle.tl_burst.specs.Messages.{History}
+use Rattle.tl_burst.specs.statement.Messages.{History}
 use Rattle.tl_params.specs.declared.key.Key.TheVariants.{RequestSource, ReleaseSource}
 use Rattle.tl_params.specs.declared.perm.Perm.{Perm}
 use Rattle.tl_params.specs.declared.perm.Perm.TheVariants as perm
 use Rattle.tl_params.specs.declared.param.Prune.{Prune}
-use Rattle.tl_rules.specs.History.{block_at, pending, request_of, release_of}
-use Rattle.tl_rules.specs.Conformance.{same_perm}
+use Rattle.tl_rules.specs.statement.History.{block_at, pending, request_of, release_of}
+use Rattle.tl_rules.specs.statement.Conformance.{same_perm}
 use Rattle.tl_rules.proofs.Named.{request-there, release-there}
 use Rattle.tl_client.specs.declared.busy.Busy.{Busy}
 use Rattle.tl_client.specs.declared.busy.Busy.TheVariants.{B1, B2, B3, B4, B5}
@@ -23,14 +23,14 @@ use Rattle.tl_client.specs.declared.operation.Op.{Op}
 use Rattle.tl_client.specs.declared.operation.Op.TheVariants.{Load, Store, Acquire, AcquireWhole, Release, Access}
 use Rattle.tl_client.specs.declared.reply.Reply.{Reply}
 use Rattle.tl_client.specs.declared.reply.Reply.TheVariants as reply
-use Rattle.tl_client.specs.Ask.{asked, busy, breaks_b1, op_block, done, only, least_free, free_request, free_release, source_or_0, loaded, whole_grow, load, store}
-use Rattle.tl_client.specs.Caching.{busy_by, busy_in, answer_by, free_in, release_with, bytes_in}
-use Rattle.tl_client.specs.End.{Terms, End, copy_at, held_at, zeros}
-use Rattle.tl_client.specs.Kept.{holds}
-use Rattle.tl_client.specs.KnowsCaching.{KnowsCaching, terms_of}
-use Rattle.tl_client.specs.Requests.{open_beat, open_release, fields_of, release_fields, start_with}
-use Rattle.tl_client.specs.Send.{access, acquisition, release}
-use Rattle.tl_client.specs.Table.{held_in}
+use Rattle.tl_client.specs.statement.Ask.{asked, busy, breaks_b1, op_block, done, only, least_free, free_request, free_release, source_or_0, loaded, whole_grow, load, store}
+use Rattle.tl_client.specs.code.Caching.{busy_by, busy_in, answer_by, free_in, release_with, bytes_in}
+use Rattle.tl_client.specs.statement.End.{Terms, End, copy_at, held_at, zeros}
+use Rattle.tl_client.specs.statement.Kept.{holds}
+use Rattle.tl_client.specs.code.KnowsCaching.{KnowsCaching, terms_of}
+use Rattle.tl_client.specs.statement.Requests.{open_beat, open_release, fields_of, release_fields, start_with}
+use Rattle.tl_client.specs.statement.Send.{access, acquisition, release}
+use Rattle.tl_client.specs.code.Table.{held_in}
 use Rattle.tl_client.proofs.Claims.{acquiring, releasing}
 
 -- ---- why an operation isn't started

@@ -6,23 +6,23 @@ use Rattle.tl_beat.specs.declared.beat.BeatC.{BeatC}
 use Rattle.tl_beat.specs.declared.channel.Channel.TheVariants as channel
 use Rattle.tl_burst.specs.declared.message.Message.{Message}
 use Rattle.tl_burst.specs.declared.message.Message.TheVariants as message
-use Rattle.tl_burst.specs.Burst.{a_beat_of, c_beat_of}
-use Rattle.tl_burst.specs.Messages.{History}
+use Rattle.tl_burst.specs.statement.Burst.{a_beat_of, c_beat_of}
+use Rattle.tl_burst.specs.statement.Messages.{History}
 use Rattle.tl_params.specs.declared.key.Key.TheVariants.{GrantAckOf}
-use Rattle.tl_rules.specs.Conformance.{comes_in_grant}
-use Rattle.tl_rules.specs.Handed.{pending_if_any, request_if_any, release_if_any}
-use Rattle.tl_rules.specs.History.{is_release, pending}
+use Rattle.tl_rules.specs.statement.Conformance.{comes_in_grant}
+use Rattle.tl_rules.specs.laws.Handed.{pending_if_any, request_if_any, release_if_any}
+use Rattle.tl_rules.specs.statement.History.{is_release, pending}
 use Rattle.tl_client.specs.declared.caching.Caching.{Caching}
 use Rattle.tl_client.specs.declared.operation.Op.{Op}
 use Rattle.tl_client.specs.declared.reply.Reply.{Reply}
 use Rattle.tl_client.specs.declared.reply.Reply.TheVariants as reply
-use Rattle.tl_client.specs.After.{IsStarted}
-use Rattle.tl_client.specs.Ask.{asked}
-use Rattle.tl_client.specs.Caching.{Does, busy_by}
-use Rattle.tl_client.specs.End.{End}
-use Rattle.tl_client.specs.Inside.{IsInside}
-use Rattle.tl_client.specs.KnowsCaching.{KnowsCaching, terms_of, is_granting, has_sink}
-use Rattle.tl_client.specs.Requests.{open_beat, open_release, fields_of, release_fields, fields_in, release_in, opened_by, released_by}
+use Rattle.tl_client.specs.laws.After.{IsStarted}
+use Rattle.tl_client.specs.statement.Ask.{asked}
+use Rattle.tl_client.specs.code.Caching.{Does, busy_by}
+use Rattle.tl_client.specs.statement.End.{End}
+use Rattle.tl_client.specs.laws.Inside.{IsInside}
+use Rattle.tl_client.specs.code.KnowsCaching.{KnowsCaching, terms_of, is_granting, has_sink}
+use Rattle.tl_client.specs.statement.Requests.{open_beat, open_release, fields_of, release_fields, fields_in, release_in, opened_by, released_by}
 use Rattle.tl_client.proofs.Accounted.{accounted-asked}
 use Rattle.tl_client.proofs.AfterAsked.{closed-asked, copies-asked, waiting-asked}
 use Rattle.tl_client.proofs.CachingAnswers.{IsAnswered, answered}

@@ -4,24 +4,24 @@ use Rattle.std.specs.Prelude.{Result, Ok, Err, ◌&&◌, is_none, is_ok}
 use Rattle.tl_beat.specs.declared.beat.Beat.{Beat}
 use Rattle.tl_beat.specs.declared.beat.Beat.TheVariants as beat
 use Rattle.tl_beat.specs.declared.channel.Channel.{Channel}
-use Rattle.tl_beat.specs.First.{first_if}
+use Rattle.tl_beat.specs.statement.First.{first_if}
 use Rattle.tl_burst.specs.declared.message.Message.{Message}
-use Rattle.tl_burst.specs.Part.{completes}
+use Rattle.tl_burst.specs.statement.Part.{completes}
 use Rattle.tl_params.specs.declared.rule.Rule.{Rule}
 use Rattle.tl_params.specs.declared.rule.Rule.TheVariants.{A3, L1}
-use Rattle.tl_params.specs.Refusal.{ok_unless}
+use Rattle.tl_params.specs.statement.Refusal.{ok_unless}
 use Rattle.tl_params.proofs.Refusals.{some_broken, none_broken}
-use Rattle.tl_rules.specs.Conformance.{broken_in_order}
-use Rattle.tl_rules.specs.History.{ends}
-use Rattle.tl_rules.specs.Legality.{illegal}
+use Rattle.tl_rules.specs.statement.Conformance.{broken_in_order}
+use Rattle.tl_rules.specs.statement.History.{ends}
+use Rattle.tl_rules.specs.statement.Legality.{illegal}
 use Rattle.tl_rules.proofs.Bursts.{both_none}
 use Rattle.tl_client.specs.declared.caching.Caching.{Caching}
 use Rattle.tl_client.specs.declared.verdict.Verdict.{Verdict}
 use Rattle.tl_client.specs.declared.verdict.Verdict.TheVariants.{Stalled}
-use Rattle.tl_client.specs.End.{Terms, End}
-use Rattle.tl_client.specs.KnowsCaching.{KnowsCaching, terms_of}
-use Rattle.tl_client.specs.Offer.{offered, refused, silent, is_sent_on, stalls, waits, broken_before, broken_later}
-use Rattle.tl_client.specs.Takes.{Takes, IsJudged}
+use Rattle.tl_client.specs.statement.End.{Terms, End}
+use Rattle.tl_client.specs.code.KnowsCaching.{KnowsCaching, terms_of}
+use Rattle.tl_client.specs.statement.Offer.{offered, refused, silent, is_sent_on, stalls, waits, broken_before, broken_later}
+use Rattle.tl_client.specs.code.Takes.{Takes, IsJudged}
 use Rattle.tl_client.proofs.AccountedTaken.{fit}
 use Rattle.tl_client.proofs.CachingProbed.{answer-probed, knows-probed}
 use Rattle.tl_client.proofs.CachingResponded.{grants_inside, knows-goes, knows-ends}

@@ -1,14 +1,14 @@
 -- What a new caching client knows.
 use Rattle.std.proofs.Common.{◌≡◌, ℕ, false, [], None, refl, ◌∙◌, sym}
 use Rattle.tl_params.specs.declared.perm.Perm.TheVariants as perm
-use Rattle.tl_rules.specs.History.{held, pending}
-use Rattle.tl_burst.specs.Messages.{unfinished}
+use Rattle.tl_rules.specs.statement.History.{held, pending}
+use Rattle.tl_burst.specs.statement.Messages.{unfinished}
 use Rattle.tl_client.specs.declared.caching.Caching.{Caching}
-use Rattle.tl_client.specs.End.{fresh}
-use Rattle.tl_client.specs.KnowsCaching.{KnowsCaching, terms_of}
-use Rattle.tl_client.specs.Requests.{open_beat, open_release, fields_of, release_fields}
-use Rattle.tl_client.specs.Sources.{open_at}
-use Rattle.tl_client.specs.Table.{held_in, copy_in, waiting_in}
+use Rattle.tl_client.specs.statement.End.{fresh}
+use Rattle.tl_client.specs.code.KnowsCaching.{KnowsCaching, terms_of}
+use Rattle.tl_client.specs.statement.Requests.{open_beat, open_release, fields_of, release_fields}
+use Rattle.tl_client.specs.code.Sources.{open_at}
+use Rattle.tl_client.specs.code.Table.{held_in, copy_in, waiting_in}
 use Rattle.tl_client.proofs.Accounted.{accounted-fresh}
 use Rattle.tl_client.proofs.Inside.{inside-fresh}
 use Rattle.tl_client.proofs.KeptOffered.{kept-fresh}

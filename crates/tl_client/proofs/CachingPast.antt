@@ -5,16 +5,16 @@ use Rattle.std.specs.List.{list_any}
 use Rattle.tl_beat.specs.declared.beat.Beat.{Beat}
 use Rattle.tl_beat.specs.declared.beat.Beat.TheVariants as beat
 use Rattle.tl_beat.specs.declared.beat.BeatB.{BeatB}
-use Rattle.tl_burst.specs.Messages.{History}
+use Rattle.tl_burst.specs.statement.Messages.{History}
 use Rattle.tl_params.specs.declared.key.Key.{Key}
 use Rattle.tl_params.specs.declared.key.Key.TheVariants.{RequestSource, ReleaseSource, AcquireOf, ReleaseOf}
-use Rattle.tl_rules.specs.History.{block_at, is_probe, pending}
+use Rattle.tl_rules.specs.statement.History.{block_at, is_probe, pending}
 use Rattle.tl_client.specs.declared.caching.Caching.{Caching}
-use Rattle.tl_client.specs.KnowsCaching.{KnowsCaching, KnowsPast}
-use Rattle.tl_client.specs.Offer.{waits}
-use Rattle.tl_client.specs.End.{End}
-use Rattle.tl_client.specs.Requests.{acquires_block, releases_block}
-use Rattle.tl_client.specs.Sources.{open_at}
+use Rattle.tl_client.specs.code.KnowsCaching.{KnowsCaching, KnowsPast}
+use Rattle.tl_client.specs.statement.Offer.{waits}
+use Rattle.tl_client.specs.statement.End.{End}
+use Rattle.tl_client.specs.statement.Requests.{acquires_block, releases_block}
+use Rattle.tl_client.specs.code.Sources.{open_at}
 use Rattle.tl_client.proofs.CachingAnswers.{is_some-request, is_some-release}
 use Rattle.tl_client.proofs.Claims.{acquiring, releasing}
 

@@ -5,17 +5,17 @@ use Rattle.tl_beat.specs.declared.beat.Beat.TheVariants as beat
 use Rattle.tl_beat.specs.declared.beat.BeatB.{BeatB}
 use Rattle.tl_beat.specs.declared.channel.Channel.{Channel}
 use Rattle.tl_burst.specs.declared.message.Message.{Message}
-use Rattle.tl_rules.specs.Conformance.{comes_in_grant}
-use Rattle.tl_rules.specs.History.{block_at}
+use Rattle.tl_rules.specs.statement.Conformance.{comes_in_grant}
+use Rattle.tl_rules.specs.statement.History.{block_at}
 use Rattle.tl_client.specs.declared.caching.Caching.{Caching}
 use Rattle.tl_client.specs.declared.verdict.Verdict.{Verdict}
-use Rattle.tl_client.specs.Accounted.{comes_granting}
-use Rattle.tl_client.specs.End.{End, copy_at, held_at}
-use Rattle.tl_client.specs.KnowsCaching.{KnowsCaching, terms_of, is_granting, has_sink}
-use Rattle.tl_client.specs.Offer.{offered, taken, report_for}
-use Rattle.tl_client.specs.Send.{probe_ack}
-use Rattle.tl_client.specs.Sources.{open_at}
-use Rattle.tl_client.specs.Takes.{Probes}
+use Rattle.tl_client.specs.laws.Accounted.{comes_granting}
+use Rattle.tl_client.specs.statement.End.{End, copy_at, held_at}
+use Rattle.tl_client.specs.code.KnowsCaching.{KnowsCaching, terms_of, is_granting, has_sink}
+use Rattle.tl_client.specs.statement.Offer.{offered, taken, report_for}
+use Rattle.tl_client.specs.statement.Send.{probe_ack}
+use Rattle.tl_client.specs.code.Sources.{open_at}
+use Rattle.tl_client.specs.code.Takes.{Probes}
 use Rattle.tl_client.proofs.CachingAnswers.{copy-known}
 use Rattle.tl_client.proofs.CachingTaken.{Follows, taking, knows-after}
 use Rattle.tl_client.proofs.Bytes.{burst_b}

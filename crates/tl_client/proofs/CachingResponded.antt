@@ -12,27 +12,27 @@ use Rattle.tl_beat.specs.declared.channel.Channel.TheVariants as channel
 use Rattle.tl_beat.specs.declared.opcode.OpD.{OpD}
 use Rattle.tl_beat.specs.declared.opcode.OpD.TheVariants as d
 use Rattle.tl_burst.specs.declared.message.Message.{Message}
-use Rattle.tl_burst.specs.Messages.{History, unfinished}
+use Rattle.tl_burst.specs.statement.Messages.{History, unfinished}
 use Rattle.tl_params.specs.declared.key.Key.TheVariants.{RequestSource}
-use Rattle.tl_rules.specs.Agent.{payload_of}
-use Rattle.tl_rules.specs.Conformance.{admits, broken_in_order, comes_in_grant}
-use Rattle.tl_rules.specs.History.{block_at, asks_for, ends, grants, is_grant, is_release_ack, pending, request_of}
+use Rattle.tl_rules.specs.statement.Agent.{payload_of}
+use Rattle.tl_rules.specs.statement.Conformance.{admits, broken_in_order, comes_in_grant}
+use Rattle.tl_rules.specs.statement.History.{block_at, asks_for, ends, grants, is_grant, is_release_ack, pending, request_of}
 use Rattle.tl_client.specs.declared.caching.Caching.{Caching}
 use Rattle.tl_client.specs.declared.verdict.Finish.{Finish}
 use Rattle.tl_client.specs.declared.verdict.Verdict.{Verdict}
 use Rattle.tl_client.specs.declared.verdict.Verdict.TheVariants.{Taken, Done}
-use Rattle.tl_client.specs.Accounted.{comes_granting}
-use Rattle.tl_client.specs.After.{copy_granted, waiting_granted}
-use Rattle.tl_client.specs.End.{End}
-use Rattle.tl_client.specs.Kept.{acquires, is_acquire_beat}
-use Rattle.tl_client.specs.KnowsCaching.{KnowsCaching, terms_of, is_granting, has_sink}
-use Rattle.tl_client.specs.Offer.{offered, taken, ended, address_asked, finish_of}
-use Rattle.tl_client.specs.Plain.{address_in}
-use Rattle.tl_client.specs.Requests.{open_beat, open_release, fields_of, release_fields}
-use Rattle.tl_client.specs.Response.{in_beats}
-use Rattle.tl_client.specs.Sources.{open_at}
-use Rattle.tl_client.specs.Table.{held_in, copy_in, waiting_in}
-use Rattle.tl_client.specs.Takes.{Goes, Ends, GrantsInside, granting_by, granting_to, is_for, copy_after, waiting_after, ack_after}
+use Rattle.tl_client.specs.laws.Accounted.{comes_granting}
+use Rattle.tl_client.specs.laws.After.{copy_granted, waiting_granted}
+use Rattle.tl_client.specs.statement.End.{End}
+use Rattle.tl_client.specs.statement.Kept.{acquires, is_acquire_beat}
+use Rattle.tl_client.specs.code.KnowsCaching.{KnowsCaching, terms_of, is_granting, has_sink}
+use Rattle.tl_client.specs.statement.Offer.{offered, taken, ended, address_asked, finish_of}
+use Rattle.tl_client.specs.code.Plain.{address_in}
+use Rattle.tl_client.specs.statement.Requests.{open_beat, open_release, fields_of, release_fields}
+use Rattle.tl_client.specs.code.Response.{in_beats}
+use Rattle.tl_client.specs.code.Sources.{open_at}
+use Rattle.tl_client.specs.code.Table.{held_in, copy_in, waiting_in}
+use Rattle.tl_client.specs.code.Takes.{Goes, Ends, GrantsInside, granting_by, granting_to, is_for, copy_after, waiting_after, ack_after}
 use Rattle.tl_client.proofs.AccountedTaken.{IsFit}
 use Rattle.tl_client.proofs.CachingTaken.{Follows, taking, finishing, knows-after}
 use Rattle.tl_client.proofs.HeldAfter.{swapped}

@@ -4,18 +4,18 @@ use Rattle.std.proofs.lemmas.Bool.{eqb-true}
 use Rattle.std.specs.Prelude.{◌==◌, unwrap_or}
 use Rattle.std.specs.Int.{to_le_bytes, w64}
 use Rattle.tl_params.specs.declared.perm.Perm.TheVariants as perm
-use Rattle.tl_rules.specs.Effect.{byte_of}
-use Rattle.tl_rules.specs.Conformance.{same_perm}
-use Rattle.tl_rules.specs.History.{block_at}
+use Rattle.tl_rules.specs.statement.Effect.{byte_of}
+use Rattle.tl_rules.specs.statement.Conformance.{same_perm}
+use Rattle.tl_rules.specs.statement.History.{block_at}
 use Rattle.tl_client.specs.declared.caching.Caching.{Caching}
 use Rattle.tl_client.specs.declared.operation.Op.TheVariants.{Store}
 use Rattle.tl_client.specs.declared.reply.Reply.TheVariants as reply
-use Rattle.tl_client.specs.Ask.{low_bytes, copy_stored}
-use Rattle.tl_client.specs.Caching.{Does, bytes_in}
-use Rattle.tl_client.specs.KnowsCaching.{terms_of}
-use Rattle.tl_client.specs.End.{zeros}
-use Rattle.tl_client.specs.Sources.{open_at}
-use Rattle.tl_client.specs.Table.{held_in, copy_in, waiting_in}
+use Rattle.tl_client.specs.statement.Ask.{low_bytes, copy_stored}
+use Rattle.tl_client.specs.code.Caching.{Does, bytes_in}
+use Rattle.tl_client.specs.code.KnowsCaching.{terms_of}
+use Rattle.tl_client.specs.statement.End.{zeros}
+use Rattle.tl_client.specs.code.Sources.{open_at}
+use Rattle.tl_client.specs.code.Table.{held_in, copy_in, waiting_in}
 
 first_byte : (value : ℕ) → byte_of value 0 ≡ value % 256
 first_byte value = omega arith

@@ -6,24 +6,24 @@ use Rattle.tl_beat.specs.declared.beat.Beat.TheVariants as beat
 use Rattle.tl_beat.specs.declared.channel.Channel.{Channel}
 use Rattle.tl_beat.specs.declared.channel.Channel.TheVariants as channel
 use Rattle.tl_burst.specs.declared.message.Message.{Message}
-use Rattle.tl_burst.specs.Messages.{History, unfinished}
+use Rattle.tl_burst.specs.statement.Messages.{History, unfinished}
 use Rattle.tl_params.specs.declared.rule.Rule.{Rule}
-use Rattle.tl_rules.specs.Conformance.{comes_in_grant}
-use Rattle.tl_rules.specs.History.{asks_for, is_grant, request_of}
+use Rattle.tl_rules.specs.statement.Conformance.{comes_in_grant}
+use Rattle.tl_rules.specs.statement.History.{asks_for, is_grant, request_of}
 use Rattle.tl_client.specs.declared.caching.Caching.{Caching}
 use Rattle.tl_client.specs.declared.verdict.Finish.{Finish}
 use Rattle.tl_client.specs.declared.verdict.Verdict.{Verdict}
 use Rattle.tl_client.specs.declared.verdict.Verdict.TheVariants.{Taken, Done}
-use Rattle.tl_client.specs.Accounted.{comes_granting}
-use Rattle.tl_client.specs.After.{heard, is_refused, copy_by, copy_with, waiting_by, waiting_with, open_by, open_heard, release_by, release_heard}
-use Rattle.tl_client.specs.End.{End}
-use Rattle.tl_client.specs.Held.{held_by, held_with}
-use Rattle.tl_client.specs.Inside.{IsInside}
-use Rattle.tl_client.specs.KnowsCaching.{KnowsCaching, terms_of, is_granting, has_sink}
-use Rattle.tl_client.specs.Offer.{offered}
-use Rattle.tl_client.specs.Requests.{fields_of, release_fields}
-use Rattle.tl_client.specs.Sources.{open_at}
-use Rattle.tl_client.specs.Table.{held_in, copy_in, waiting_in}
+use Rattle.tl_client.specs.laws.Accounted.{comes_granting}
+use Rattle.tl_client.specs.laws.After.{heard, is_refused, copy_by, copy_with, waiting_by, waiting_with, open_by, open_heard, release_by, release_heard}
+use Rattle.tl_client.specs.statement.End.{End}
+use Rattle.tl_client.specs.laws.Held.{held_by, held_with}
+use Rattle.tl_client.specs.laws.Inside.{IsInside}
+use Rattle.tl_client.specs.code.KnowsCaching.{KnowsCaching, terms_of, is_granting, has_sink}
+use Rattle.tl_client.specs.statement.Offer.{offered}
+use Rattle.tl_client.specs.statement.Requests.{fields_of, release_fields}
+use Rattle.tl_client.specs.code.Sources.{open_at}
+use Rattle.tl_client.specs.code.Table.{held_in, copy_in, waiting_in}
 use Rattle.tl_client.proofs.Accounted.{accounted-offered}
 use Rattle.tl_client.proofs.AfterOffered.{closed-offered, copies-offered, waiting-offered}
 use Rattle.tl_client.proofs.HeldAfter.{held-offered}

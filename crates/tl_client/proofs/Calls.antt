@@ -7,24 +7,24 @@ use Rattle.tl_beat.specs.declared.beat.BeatD.{BeatD}
 use Rattle.tl_beat.specs.declared.channel.Channel.{Channel}
 use Rattle.tl_burst.specs.declared.message.Message.{Message}
 use Rattle.tl_burst.specs.declared.message.Message.TheVariants.{A, B, C, D, E}
-use Rattle.tl_burst.specs.Messages.{History}
+use Rattle.tl_burst.specs.statement.Messages.{History}
 use Rattle.tl_params.specs.declared.key.Key.TheVariants.{RequestSource, ReleaseSource}
 use Rattle.tl_params.specs.declared.perm.Perm.{Perm}
 use Rattle.tl_params.specs.declared.perm.Perm.TheVariants as perm
 use Rattle.tl_params.specs.declared.rule.Rule.{Rule}
-use Rattle.tl_rules.specs.Conformance.{same_perm}
-use Rattle.tl_rules.specs.History.{block_at, ends, pending, held}
+use Rattle.tl_rules.specs.statement.Conformance.{same_perm}
+use Rattle.tl_rules.specs.statement.History.{block_at, ends, pending, held}
 use Rattle.tl_rules.proofs.Open.{never}
 use Rattle.tl_client.specs.declared.busy.Busy.{Busy}
 use Rattle.tl_client.specs.declared.operation.Op.{Op}
 use Rattle.tl_client.specs.declared.operation.Op.TheVariants.{Load, Store, Acquire, AcquireWhole, Release, Access}
 use Rattle.tl_client.specs.declared.reply.Reply.TheVariants as reply
 use Rattle.tl_client.specs.declared.verdict.Verdict.TheVariants.{Stalled, Taken}
-use Rattle.tl_client.specs.After.{IsStarted, is_refused}
-use Rattle.tl_client.specs.Ask.{asked, asked_given, busy, done, loaded, load, store, free_request, free_release, source_or_0}
-use Rattle.tl_client.specs.End.{Terms, End, copy_at, held_at, shut, with_past}
-use Rattle.tl_client.specs.Kept.{holds}
-use Rattle.tl_client.specs.Offer.{Offered, offered, taken, stalls, silent, broken_before}
+use Rattle.tl_client.specs.laws.After.{IsStarted, is_refused}
+use Rattle.tl_client.specs.statement.Ask.{asked, asked_given, busy, done, loaded, load, store, free_request, free_release, source_or_0}
+use Rattle.tl_client.specs.statement.End.{Terms, End, copy_at, held_at, shut, with_past}
+use Rattle.tl_client.specs.statement.Kept.{holds}
+use Rattle.tl_client.specs.statement.Offer.{Offered, offered, taken, stalls, silent, broken_before}
 use Rattle.tl_client.proofs.Cases.{NotBusy, asked-cases, offered-cases, ended-cases, release-cases}
 use Rattle.tl_client.proofs.Free.{least_free-some}
 use Rattle.tl_client.proofs.Stalls.{taken_now}

@@ -14,13 +14,13 @@ use Rattle.tl_params.specs.declared.param.Prune.TheVariants as prune
 use Rattle.tl_params.specs.declared.param.Report.{Report}
 use Rattle.tl_params.specs.declared.perm.Perm.{Perm}
 use Rattle.tl_params.specs.declared.perm.Perm.TheVariants as perm
-use Rattle.tl_params.specs.Param.{prune_code, report_code}
+use Rattle.tl_params.specs.statement.Param.{prune_code, report_code}
 use Rattle.tl_params.specs.declared.rule.Rule.{Rule}
 use Rattle.tl_params.specs.declared.rule.Rule.TheVariants.{L1, A1, A2, A3}
-use Rattle.tl_rules.specs.Agent.{is_outside, is_spoiled}
-use Rattle.tl_rules.specs.Conformance.{broken_in_order}
-use Rattle.tl_rules.specs.History.{is_grant}
-use Rattle.tl_rules.specs.Legality.{illegal}
+use Rattle.tl_rules.specs.statement.Agent.{is_outside, is_spoiled}
+use Rattle.tl_rules.specs.statement.Conformance.{broken_in_order}
+use Rattle.tl_rules.specs.statement.History.{is_grant}
+use Rattle.tl_rules.specs.statement.Legality.{illegal}
 use Rattle.tl_rules.proofs.Bursts.{next_rule, both_none}
 use Rattle.tl_client.specs.declared.busy.Busy.{Busy}
 use Rattle.tl_client.specs.declared.busy.Busy.TheVariants.{B1, B2, B3, B4, B5}
@@ -28,10 +28,10 @@ use Rattle.tl_client.specs.declared.operation.Op.{Op}
 use Rattle.tl_client.specs.declared.reply.Reply.TheVariants as reply
 use Rattle.tl_client.specs.declared.verdict.Finish.{Finish}
 use Rattle.tl_client.specs.declared.verdict.Verdict.TheVariants.{Stalled, Done}
-use Rattle.tl_client.specs.Ask.{Asked, asked, asked_given, busy, breaks_b1, breaks_b2, breaks_b3, breaks_b4, breaks_b5, op_block, done, only}
-use Rattle.tl_client.specs.End.{Terms, End, held_at, zeros}
-use Rattle.tl_client.specs.Offer.{Offered, offered, taken, ended, refused, silent, answered, is_sent_on, waits, broken_before, broken_later, judged, judged_later}
-use Rattle.tl_client.specs.Send.{on_c, release, probe_ack, grant_ack}
+use Rattle.tl_client.specs.statement.Ask.{Asked, asked, asked_given, busy, breaks_b1, breaks_b2, breaks_b3, breaks_b4, breaks_b5, op_block, done, only}
+use Rattle.tl_client.specs.statement.End.{Terms, End, held_at, zeros}
+use Rattle.tl_client.specs.statement.Offer.{Offered, offered, taken, ended, refused, silent, answered, is_sent_on, waits, broken_before, broken_later, judged, judged_later}
+use Rattle.tl_client.specs.statement.Send.{on_c, release, probe_ack, grant_ack}
 
 -- ---- operations
 

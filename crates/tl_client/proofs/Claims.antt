@@ -6,12 +6,12 @@ use Rattle.std.specs.Option.{option_flatten}
 use Rattle.tl_beat.specs.declared.beat.BeatA.{BeatA}
 use Rattle.tl_beat.specs.declared.beat.BeatC.{BeatC}
 use Rattle.tl_params.specs.declared.key.Key.TheVariants.{AcquireOf, ReleaseOf}
-use Rattle.tl_rules.specs.History.{pending, releases}
+use Rattle.tl_rules.specs.statement.History.{pending, releases}
 use Rattle.tl_client.specs.declared.caching.Caching.{Caching}
-use Rattle.tl_client.specs.End.{End}
-use Rattle.tl_client.specs.Kept.{acquires}
-use Rattle.tl_client.specs.KnowsCaching.{KnowsCaching}
-use Rattle.tl_client.specs.Requests.{open_beat, open_release, fields_of, release_fields, acquires_block, releases_block}
+use Rattle.tl_client.specs.statement.End.{End}
+use Rattle.tl_client.specs.statement.Kept.{acquires}
+use Rattle.tl_client.specs.code.KnowsCaching.{KnowsCaching}
+use Rattle.tl_client.specs.statement.Requests.{open_beat, open_release, fields_of, release_fields, acquires_block, releases_block}
 use Rattle.std.specs.Cmp.{both_ways}
 
 any-at : {T : Type 0} (f : Option T → Bool) (xs : List (Option T)) (s : ℕ) → f None ≡ false → f (option_flatten (slice_get xs s)) ≡ true → list_any f xs ≡ true

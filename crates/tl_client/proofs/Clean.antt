@@ -5,8 +5,8 @@ use Rattle.std.proofs.lemmas.Bool.{and_parts, and_from, eqb-true, eq-eqb, ltb-tr
 use Rattle.std.proofs.lemmas.Nat.{pow_pos}
 use Rattle.tl_burst.specs.declared.message.MessageA.{MessageA}
 use Rattle.tl_burst.specs.declared.message.Message.TheVariants.{A}
-use Rattle.tl_burst.specs.Burst.{beats_of, carried, IsBlankAfter}
-use Rattle.tl_client.specs.Ask.{same_bytes, is_clean}
+use Rattle.tl_burst.specs.statement.Burst.{beats_of, carried, IsBlankAfter}
+use Rattle.tl_client.specs.statement.Ask.{same_bytes, is_clean}
 
 same_true : (xs ys : List ℕ) → same_bytes xs ys ≡ true → xs ≡ ys
 same_true [] [] e = refl

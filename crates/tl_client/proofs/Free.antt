@@ -1,7 +1,7 @@
 -- The least source that is free, step by step.
 use Rattle.std.proofs.Common.{◌≡◌, ℕ, zero, suc, ◌+◌, ◌<◌, Bool, true, false, cond, Some, None, refl, arith}
 use Rattle.std.specs.Prelude.{is_none}
-use Rattle.tl_client.specs.Ask.{least_free, source_or_0}
+use Rattle.tl_client.specs.statement.Ask.{least_free, source_or_0}
 
 pub free_later : (taken : ℕ → Bool) (s n k : ℕ) → n ≡ suc k → taken s ≡ true → least_free taken s n ≡ least_free taken (s + 1) k
 unfolding least_free

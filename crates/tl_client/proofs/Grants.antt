@@ -11,20 +11,20 @@ use Rattle.tl_beat.specs.declared.opcode.OpA.{OpA}
 use Rattle.tl_beat.specs.declared.opcode.OpA.TheVariants as a
 use Rattle.tl_beat.specs.declared.opcode.OpD.{OpD}
 use Rattle.tl_beat.specs.declared.opcode.OpD.TheVariants as d
-use Rattle.tl_beat.specs.Opcode.{d_code, d_carries_data}
-use Rattle.tl_burst.specs.Messages.{History, unfinished, same_control, breaks_burst}
-use Rattle.tl_burst.specs.Part.{completes}
+use Rattle.tl_beat.specs.statement.Opcode.{d_code, d_carries_data}
+use Rattle.tl_burst.specs.statement.Messages.{History, unfinished, same_control, breaks_burst}
+use Rattle.tl_burst.specs.statement.Part.{completes}
 use Rattle.tl_params.specs.declared.key.Key.TheVariants.{RequestSource}
 use Rattle.tl_params.specs.declared.perm.Perm.{Perm}
 use Rattle.tl_params.specs.declared.perm.Perm.TheVariants as perm
 use Rattle.tl_params.specs.declared.profile.Profile.{Profile}
 use Rattle.tl_params.specs.declared.profile.Profile.TheVariants as profile
 use Rattle.tl_params.specs.declared.rule.Rule.TheVariants.{S1, H2, H3, H6}
-use Rattle.tl_rules.specs.Conformance.{answers, admits, fits_grow, has_request, misgrants, same_perm, is_acquire_block, is_grant_without_data, size_asked, broken_order, broken_in_order}
-use Rattle.tl_rules.specs.History.{block_at, is_acquire, is_grant, capped, pending, request_of, held}
+use Rattle.tl_rules.specs.statement.Conformance.{answers, admits, fits_grow, has_request, misgrants, same_perm, is_acquire_block, is_grant_without_data, size_asked, broken_order, broken_in_order}
+use Rattle.tl_rules.specs.statement.History.{block_at, is_acquire, is_grant, capped, pending, request_of, held}
 use Rattle.tl_rules.proofs.Bursts.{next_rule}
-use Rattle.tl_client.specs.Kept.{IsGranting, holds, is_acquire_beat}
-use Rattle.tl_client.specs.Requests.{open_beat}
+use Rattle.tl_client.specs.statement.Kept.{IsGranting, holds, is_acquire_beat}
+use Rattle.tl_client.specs.statement.Requests.{open_beat}
 use Rattle.tl_rules.proofs.Open.{not_release_ack}
 
 -- a client that gets no data has a copy already

@@ -2,7 +2,7 @@
 use Rattle.std.proofs.Common.{◌≡◌, ℕ, ◌*◌, Bool, true, false, cond, ◌&&◌, ◌||◌, List, [], ◌∷◌, Option, Some, None, refl, sym, ◌∙◌, ap, arith}
 use Rattle.std.specs.Prelude.{◌==◌, unwrap_or, ⊤}
 use Rattle.std.proofs.lemmas.Bool.Decides.{nat_tests}
-use Rattle.tl_beat.specs.Width.{IsWidth}
+use Rattle.tl_beat.specs.statement.Width.{IsWidth}
 use Rattle.tl_beat.specs.declared.beat.Beat.{Beat}
 use Rattle.tl_beat.specs.declared.beat.Beat.TheVariants as beat
 use Rattle.tl_beat.specs.declared.beat.BeatA.{BeatA}
@@ -18,7 +18,7 @@ use Rattle.tl_beat.specs.declared.opcode.OpC.{OpC}
 use Rattle.tl_beat.specs.declared.opcode.OpC.TheVariants as c
 use Rattle.tl_beat.specs.declared.opcode.OpD.{OpD}
 use Rattle.tl_beat.specs.declared.opcode.OpD.TheVariants as d
-use Rattle.tl_burst.specs.Messages.{History, unfinished}
+use Rattle.tl_burst.specs.statement.Messages.{History, unfinished}
 use Rattle.tl_burst.specs.declared.message.Message.TheVariants as message
 use Rattle.tl_burst.proofs.Splitting.{beats-positive}
 use Rattle.tl_params.specs.declared.param.Prune.{Prune}
@@ -30,21 +30,21 @@ use Rattle.tl_params.specs.declared.perm.Perm.TheVariants as perm
 use Rattle.tl_params.specs.declared.level.Level.{Level}
 use Rattle.tl_params.specs.declared.rule.Rule.{Rule}
 use Rattle.tl_params.specs.declared.rule.Rule.TheVariants.{L1, A3}
-use Rattle.tl_rules.specs.Agent.{sent, payload_of}
-use Rattle.tl_rules.specs.History.{block_at, is_probe_ack, is_release, ends, grants, capped, reported, request_of, held}
-use Rattle.tl_params.specs.Param.{prune_right, report_code, report_right}
-use Rattle.tl_rules.specs.Legality.{illegal, breaks_l1}
+use Rattle.tl_rules.specs.statement.Agent.{sent, payload_of}
+use Rattle.tl_rules.specs.statement.History.{block_at, is_probe_ack, is_release, ends, grants, capped, reported, request_of, held}
+use Rattle.tl_params.specs.statement.Param.{prune_right, report_code, report_right}
+use Rattle.tl_rules.specs.statement.Legality.{illegal, breaks_l1}
 use Rattle.tl_rules.proofs.Bursts.{next_rule}
 use Rattle.tl_client.specs.declared.busy.Busy.{Busy}
 use Rattle.tl_client.specs.declared.operation.Op.{Op}
 use Rattle.tl_client.specs.declared.operation.Op.TheVariants.{Load, Store, Acquire, AcquireWhole, Release, Access}
 use Rattle.tl_client.specs.declared.verdict.Finish.{Finish}
 use Rattle.tl_client.specs.declared.verdict.Verdict.TheVariants.{Stalled, Taken}
-use Rattle.tl_client.specs.Ask.{asked, asked_given, busy, done, load, store, source_or_0, free_request, free_release, whole_grow}
-use Rattle.tl_client.specs.End.{Terms, End, zeros, copy_at, held_at, kept_for, with_past}
-use Rattle.tl_client.specs.Held.{left_by, held_with, held_by}
-use Rattle.tl_client.specs.Send.{about, access, acquire, on_c, release, probe_ack, grant_ack}
-use Rattle.tl_client.specs.Offer.{Offered, offered, taken, ended, granted, granted_perm, responded, silent, is_sent_on, waits, broken_before, broken_later, judged, judged_later, report_for}
+use Rattle.tl_client.specs.statement.Ask.{asked, asked_given, busy, done, load, store, source_or_0, free_request, free_release, whole_grow}
+use Rattle.tl_client.specs.statement.End.{Terms, End, zeros, copy_at, held_at, kept_for, with_past}
+use Rattle.tl_client.specs.laws.Held.{left_by, held_with, held_by}
+use Rattle.tl_client.specs.statement.Send.{about, access, acquire, on_c, release, probe_ack, grant_ack}
+use Rattle.tl_client.specs.statement.Offer.{Offered, offered, taken, ended, granted, granted_perm, responded, silent, is_sent_on, waits, broken_before, broken_later, judged, judged_later, report_for}
 use Rattle.tl_rules.proofs.Sent.{held-sent_c, held-sent_unsaid, held_unsaid}
 
 pub same_block : (block : ℕ) → block_at (64 * block) ≡ block

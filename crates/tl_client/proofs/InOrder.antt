@@ -2,7 +2,7 @@
 use Rattle.std.proofs.Common.{◌≡◌, ℕ, ◌*◌, Bool, true, false, not, cond, ◌&&◌, ◌||◌, List, [], ◌∷◌, Option, Some, None, refl, ◌∙◌}
 use Rattle.std.specs.Prelude.{◌==◌, is_some, Result, Ok, Err, unwrap_or}
 use Rattle.std.proofs.lemmas.Bool.{and_parts, or_parts, not-false, eq-eqb, both_ways}
-use Rattle.tl_beat.specs.Width.{IsWidth}
+use Rattle.tl_beat.specs.statement.Width.{IsWidth}
 use Rattle.tl_beat.specs.declared.beat.Beat.{Beat}
 use Rattle.tl_beat.specs.declared.beat.Beat.TheVariants as beat
 use Rattle.tl_beat.specs.declared.beat.BeatB.{BeatB}
@@ -13,12 +13,12 @@ use Rattle.tl_beat.specs.declared.opcode.OpA.TheVariants as a
 use Rattle.tl_beat.specs.declared.opcode.OpB.{OpB}
 use Rattle.tl_beat.specs.declared.opcode.OpB.TheVariants as b
 use Rattle.tl_beat.specs.declared.opcode.OpC.TheVariants as c
-use Rattle.tl_beat.specs.First.{first_if}
+use Rattle.tl_beat.specs.statement.First.{first_if}
 use Rattle.tl_burst.specs.declared.message.Message.{Message}
 use Rattle.tl_burst.specs.declared.message.Message.TheVariants.{A, B, C, D, E}
 use Rattle.tl_burst.specs.declared.message.MessageA.{MessageA}
-use Rattle.tl_burst.specs.Burst.{beat_of}
-use Rattle.tl_burst.specs.Messages.{History, unfinished}
+use Rattle.tl_burst.specs.statement.Burst.{beat_of}
+use Rattle.tl_burst.specs.statement.Messages.{History, unfinished}
 use Rattle.tl_params.specs.declared.key.Key.TheVariants.{RequestSource, ReleaseSource, AcquireOf, ReleaseOf, GrantSink, ProbeOf}
 use Rattle.tl_params.specs.declared.level.Level.{Level}
 use Rattle.tl_params.specs.declared.param.Cap.{Cap}
@@ -32,10 +32,10 @@ use Rattle.tl_params.specs.declared.perm.Perm.TheVariants as perm
 use Rattle.tl_params.specs.declared.profile.Profile.{Profile}
 use Rattle.tl_params.specs.declared.rule.Rule.{Rule}
 use Rattle.tl_params.specs.declared.rule.Rule.TheVariants.{L1, L2, L7, H4, H5, H10, H11, H12}
-use Rattle.tl_params.specs.Param.{cap_of, grow_code, grow_left, prune_code, prune_left, prune_of, report_at, report_code}
-use Rattle.tl_rules.specs.Conformance.{same_perm, grows_from, is_probe_block, is_report_at, broken_order, broken_in_order, comes_in_grant}
-use Rattle.tl_rules.specs.History.{block_at, is_acquire, is_grant, is_probe, ends, pending, probe_of, held}
-use Rattle.tl_rules.specs.Legality.{illegal, breaks_l1, is_forwarded}
+use Rattle.tl_params.specs.statement.Param.{cap_of, grow_code, grow_left, prune_code, prune_left, prune_of, report_at, report_code}
+use Rattle.tl_rules.specs.statement.Conformance.{same_perm, grows_from, is_probe_block, is_report_at, broken_order, broken_in_order, comes_in_grant}
+use Rattle.tl_rules.specs.statement.History.{block_at, is_acquire, is_grant, is_probe, ends, pending, probe_of, held}
+use Rattle.tl_rules.specs.statement.Legality.{illegal, breaks_l1, is_forwarded}
 use Rattle.tl_rules.proofs.Bursts.{next_rule}
 use Rattle.tl_rules.proofs.Later.{message-legal}
 use Rattle.tl_rules.proofs.Sent.{pending-quiet, held_unsaid}
@@ -43,14 +43,14 @@ use Rattle.tl_client.specs.declared.operation.Op.{Op}
 use Rattle.tl_client.specs.declared.operation.Op.TheVariants.{Load, Store, Acquire, AcquireWhole, Release, Access}
 use Rattle.tl_client.specs.declared.verdict.Verdict.{Verdict}
 use Rattle.tl_client.specs.declared.verdict.Verdict.TheVariants.{Stalled, Taken, Done}
-use Rattle.tl_client.specs.Accounted.{IsAccounted}
-use Rattle.tl_client.specs.After.{heard, handed}
-use Rattle.tl_client.specs.Ask.{asked, done, load, store, free_request, free_release, is_access_of, source_or_0, whole_grow}
-use Rattle.tl_client.specs.End.{Terms, End, zeros, copy_at, held_at, with_past}
-use Rattle.tl_client.specs.Kept.{IsKept}
-use Rattle.tl_client.specs.Offer.{Offered, offered, taken, silent, report_for}
-use Rattle.tl_client.specs.Send.{sourced, acquisition, on_c, release, probe_ack, grant_ack}
-use Rattle.tl_client.specs.Sound.{IsSoundIfAny, IsSoundAnswer, IsInOrder, IsLegalAfter}
+use Rattle.tl_client.specs.laws.Accounted.{IsAccounted}
+use Rattle.tl_client.specs.laws.After.{heard, handed}
+use Rattle.tl_client.specs.statement.Ask.{asked, done, load, store, free_request, free_release, is_access_of, source_or_0, whole_grow}
+use Rattle.tl_client.specs.statement.End.{Terms, End, zeros, copy_at, held_at, with_past}
+use Rattle.tl_client.specs.statement.Kept.{IsKept}
+use Rattle.tl_client.specs.statement.Offer.{Offered, offered, taken, silent, report_for}
+use Rattle.tl_client.specs.statement.Send.{sourced, acquisition, on_c, release, probe_ack, grant_ack}
+use Rattle.tl_client.specs.laws.Sound.{IsSoundIfAny, IsSoundAnswer, IsInOrder, IsLegalAfter}
 use Rattle.tl_client.proofs.AccountedResponse.{sink_now}
 use Rattle.tl_client.proofs.AccountedTaken.{IsFit, fit}
 use Rattle.tl_client.proofs.Cases.{NotBusy, asked-cases, IsPassed, offered-cases, ended-cases, release-cases}

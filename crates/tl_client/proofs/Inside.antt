@@ -2,7 +2,7 @@
 use Rattle.std.proofs.Common.{◌≡◌, ℕ, ◌*◌, ◌<◌, Bool, true, false, not, cond, leb, ◌&&◌, ◌||◌, ◌⊎◌, List, [], ◌∷◌, Option, Some, None, refl, sym, ◌∙◌, subst, arith, inl, inr}
 use Rattle.std.specs.Prelude.{◌==◌, is_none, unwrap_or}
 use Rattle.std.proofs.lemmas.Bool.{and_parts, or_parts, not-false, eqb-true, both_ways}
-use Rattle.tl_beat.specs.Width.{IsWidth}
+use Rattle.tl_beat.specs.statement.Width.{IsWidth}
 use Rattle.tl_beat.specs.declared.beat.Beat.{Beat}
 use Rattle.tl_beat.specs.declared.beat.Beat.TheVariants as beat
 use Rattle.tl_beat.specs.declared.beat.BeatA.{BeatA}
@@ -16,31 +16,31 @@ use Rattle.tl_burst.specs.declared.message.Message.TheVariants.{A, B, C, D, E}
 use Rattle.tl_burst.specs.declared.message.MessageA.{MessageA}
 use Rattle.tl_burst.specs.declared.message.MessageC.{MessageC}
 use Rattle.tl_burst.specs.declared.message.MessageE.{MessageE}
-use Rattle.tl_burst.specs.Burst.{a_beat_of}
-use Rattle.tl_burst.specs.Messages.{History, unfinished}
+use Rattle.tl_burst.specs.statement.Burst.{a_beat_of}
+use Rattle.tl_burst.specs.statement.Messages.{History, unfinished}
 use Rattle.tl_burst.proofs.Splitting.{beats-positive}
 use Rattle.tl_params.specs.declared.param.Cap.TheVariants as cap
 use Rattle.tl_params.specs.declared.key.Key.TheVariants.{RequestSource, ReleaseSource}
 use Rattle.tl_params.specs.declared.param.Prune.{Prune}
 use Rattle.tl_params.specs.declared.perm.Perm.{Perm}
 use Rattle.tl_params.specs.declared.perm.Perm.TheVariants as perm
-use Rattle.tl_params.specs.Param.{cap_of, prune_code, prune_left, prune_right, report_code, report_right}
-use Rattle.tl_rules.specs.Agent.{sent, payload_of}
-use Rattle.tl_rules.specs.Conformance.{same_perm, broken_in_order}
-use Rattle.tl_rules.specs.History.{block_at, is_acquire, is_release, is_grant, asks_for, ends, grants, capped, closes, pending, request_of, held}
-use Rattle.tl_rules.specs.Legality.{has_transfers}
+use Rattle.tl_params.specs.statement.Param.{cap_of, prune_code, prune_left, prune_right, report_code, report_right}
+use Rattle.tl_rules.specs.statement.Agent.{sent, payload_of}
+use Rattle.tl_rules.specs.statement.Conformance.{same_perm, broken_in_order}
+use Rattle.tl_rules.specs.statement.History.{block_at, is_acquire, is_release, is_grant, asks_for, ends, grants, capped, closes, pending, request_of, held}
+use Rattle.tl_rules.specs.statement.Legality.{has_transfers}
 use Rattle.tl_rules.proofs.Handed.{pending-whole}
 use Rattle.tl_rules.proofs.Sent.{pending-quiet, pending-closed, held_unsaid, held-sent_unsaid}
 use Rattle.tl_client.specs.declared.operation.Op.{Op}
 use Rattle.tl_client.specs.declared.operation.Op.TheVariants.{Load, Store, Acquire, AcquireWhole, Release, Access}
 use Rattle.tl_client.specs.declared.verdict.Verdict.TheVariants.{Taken}
-use Rattle.tl_client.specs.Ask.{asked, done, load, store, free_request, free_release, is_access_of, source_or_0, whole_grow}
-use Rattle.tl_client.specs.End.{Terms, End, zeros, copy_at, held_at, with_past}
-use Rattle.tl_client.specs.Inside.{IsInside, is_holdable}
-use Rattle.tl_client.specs.Kept.{IsKept, acquires, holds, is_acquire_beat}
-use Rattle.tl_client.specs.Offer.{offered, taken, granted, responded, silent, report_for}
-use Rattle.tl_client.specs.Requests.{open_beat}
-use Rattle.tl_client.specs.Send.{about, sourced, acquisition, release}
+use Rattle.tl_client.specs.statement.Ask.{asked, done, load, store, free_request, free_release, is_access_of, source_or_0, whole_grow}
+use Rattle.tl_client.specs.statement.End.{Terms, End, zeros, copy_at, held_at, with_past}
+use Rattle.tl_client.specs.laws.Inside.{IsInside, is_holdable}
+use Rattle.tl_client.specs.statement.Kept.{IsKept, acquires, holds, is_acquire_beat}
+use Rattle.tl_client.specs.statement.Offer.{offered, taken, granted, responded, silent, report_for}
+use Rattle.tl_client.specs.statement.Requests.{open_beat}
+use Rattle.tl_client.specs.statement.Send.{about, sourced, acquisition, release}
 use Rattle.tl_client.proofs.Cases.{NotBusy, asked-cases, IsPassed, offered-cases, ended-cases, probe_ack-cases, release-cases}
 use Rattle.tl_client.proofs.Free.{least_free-some}
 use Rattle.tl_client.proofs.HeldAfter.{same_block, held-release, held-probe_ack, held-beat_d, kept_past, granted_past, still_whole}

@@ -2,7 +2,7 @@
 use Rattle.std.proofs.Common.{◌≡◌, ℕ, Bool, true, false, cond, ◌&&◌, ◌⊎◌, List, [], ◌∷◌, Some, None, refl, sym, ◌∙◌, inl, inr}
 use Rattle.std.specs.Prelude.{◌==◌, is_some}
 use Rattle.std.proofs.lemmas.Bool.{and_parts, eqb-true, both_ways, cases_Bool}
-use Rattle.tl_beat.specs.Width.{IsWidth}
+use Rattle.tl_beat.specs.statement.Width.{IsWidth}
 use Rattle.tl_beat.specs.declared.beat.Beat.{Beat}
 use Rattle.tl_beat.specs.declared.beat.Beat.TheVariants as beat
 use Rattle.tl_beat.specs.declared.channel.Channel.TheVariants as channel
@@ -10,15 +10,15 @@ use Rattle.tl_burst.specs.declared.message.Message.TheVariants.{A, C, E}
 use Rattle.tl_burst.specs.declared.message.MessageA.{MessageA}
 use Rattle.tl_burst.specs.declared.message.MessageC.{MessageC}
 use Rattle.tl_burst.specs.declared.message.MessageE.{MessageE}
-use Rattle.tl_burst.specs.Burst.{a_beat_of}
-use Rattle.tl_burst.specs.Messages.{History, unfinished}
+use Rattle.tl_burst.specs.statement.Burst.{a_beat_of}
+use Rattle.tl_burst.specs.statement.Messages.{History, unfinished}
 use Rattle.tl_burst.proofs.Splitting.{beats-positive}
 use Rattle.tl_params.specs.declared.key.Key.TheVariants.{RequestSource, AcquireOf}
-use Rattle.tl_rules.specs.Agent.{sent}
-use Rattle.tl_rules.specs.History.{block_at, is_acquire, pending, held}
-use Rattle.tl_client.specs.End.{End}
-use Rattle.tl_client.specs.Kept.{IsKept, IsGranting, holds, acquires, stores_whole, is_acquire_perm, is_acquire_beat}
-use Rattle.tl_client.specs.Requests.{open_beat}
+use Rattle.tl_rules.specs.statement.Agent.{sent}
+use Rattle.tl_rules.specs.statement.History.{block_at, is_acquire, pending, held}
+use Rattle.tl_client.specs.statement.End.{End}
+use Rattle.tl_client.specs.statement.Kept.{IsKept, IsGranting, holds, acquires, stores_whole, is_acquire_perm, is_acquire_beat}
+use Rattle.tl_client.specs.statement.Requests.{open_beat}
 use Rattle.tl_client.proofs.Opens.{open_beat-a, open_beat-c, open_beat-e, acquire_of-a, acquire_of-c, acquire_of-e}
 use Rattle.tl_rules.proofs.Sent.{unfinished-sent, unfinished-sent_other, held-sent_unsaid}
 

@@ -2,31 +2,31 @@
 use Rattle.std.proofs.Common.{◌≡◌, ℕ, ◌<◌, ◌*◌, Bool, true, false, cond, ◌⊎◌, List, Option, Some, None, refl, sym, ◌∙◌, ap, arith, inl, inr}
 use Rattle.std.specs.Prelude.{◌==◌, is_some, is_none}
 use Rattle.std.proofs.lemmas.Bool.{and_parts, or_parts, not-false, eqb-true, eq-eqb, cases_Bool, both_ways}
-use Rattle.tl_beat.specs.Width.{IsWidth}
+use Rattle.tl_beat.specs.statement.Width.{IsWidth}
 use Rattle.tl_beat.specs.declared.opcode.OpA.{OpA}
 use Rattle.tl_beat.specs.declared.opcode.OpA.TheVariants as a
 use Rattle.tl_beat.specs.declared.opcode.OpC.TheVariants as c
 use Rattle.tl_burst.specs.declared.message.Message.TheVariants.{A, B, C, D, E}
 use Rattle.tl_burst.specs.declared.message.MessageA.{MessageA}
 use Rattle.tl_burst.specs.declared.message.MessageC.{MessageC}
-use Rattle.tl_rules.specs.Agent.{sent}
+use Rattle.tl_rules.specs.statement.Agent.{sent}
 use Rattle.tl_params.specs.declared.level.Level.{Level}
 use Rattle.tl_params.specs.declared.key.Key.TheVariants.{RequestSource, ReleaseSource, AcquireOf, ReleaseOf}
 use Rattle.tl_params.specs.declared.param.Prune.{Prune}
 use Rattle.tl_params.specs.declared.param.Prune.TheVariants as prune
 use Rattle.tl_params.specs.declared.perm.Perm.{Perm}
 use Rattle.tl_params.specs.declared.perm.Perm.TheVariants as perm
-use Rattle.tl_rules.specs.Conformance.{same_perm}
-use Rattle.tl_rules.specs.History.{block_at, is_acquire, pending, held}
-use Rattle.tl_params.specs.Param.{prune_left, prune_right}
+use Rattle.tl_rules.specs.statement.Conformance.{same_perm}
+use Rattle.tl_rules.specs.statement.History.{block_at, is_acquire, pending, held}
+use Rattle.tl_params.specs.statement.Param.{prune_left, prune_right}
 use Rattle.tl_client.specs.declared.busy.Busy.{Busy}
 use Rattle.tl_client.specs.declared.operation.Op.{Op}
 use Rattle.tl_client.specs.declared.operation.Op.TheVariants.{Load, Store, Acquire, AcquireWhole, Release, Access}
 use Rattle.tl_client.specs.declared.reply.Reply.TheVariants as reply
-use Rattle.tl_client.specs.Ask.{asked, asked_given, busy, breaks_b1, breaks_b2, breaks_b3, breaks_b4, op_block, is_access_of, done, load, store, free_request, free_release, source_or_0, whole_grow}
-use Rattle.tl_client.specs.End.{Terms, End, copy_at, held_at, kept_for, sending, set_at, with_copy, with_waiting, zeros}
-use Rattle.tl_client.specs.Kept.{IsKept, holds, is_acquire_perm}
-use Rattle.tl_client.specs.Send.{about, sourced, acquisition, release}
+use Rattle.tl_client.specs.statement.Ask.{asked, asked_given, busy, breaks_b1, breaks_b2, breaks_b3, breaks_b4, op_block, is_access_of, done, load, store, free_request, free_release, source_or_0, whole_grow}
+use Rattle.tl_client.specs.statement.End.{Terms, End, copy_at, held_at, kept_for, sending, set_at, with_copy, with_waiting, zeros}
+use Rattle.tl_client.specs.statement.Kept.{IsKept, holds, is_acquire_perm}
+use Rattle.tl_client.specs.statement.Send.{about, sourced, acquisition, release}
 use Rattle.tl_client.proofs.Cases.{NotBusy, not_busy}
 use Rattle.tl_client.proofs.Free.{least_free-some}
 use Rattle.tl_client.proofs.HeldAfter.{same_block, held-release, kept_past}

@@ -2,7 +2,7 @@
 use Rattle.std.proofs.Common.{◌≡◌, ℕ, Bool, true, false, cond, ◌&&◌, ◌⊎◌, List, [], ◌∷◌, Option, Some, None, refl, sym, ◌∙◌, ap, inl, inr}
 use Rattle.std.specs.Prelude.{◌==◌, is_some}
 use Rattle.std.proofs.lemmas.Bool.{and_parts, and_from, eqb-true, eq-eqb, both_ways, cases_Bool}
-use Rattle.tl_beat.specs.Width.{IsWidth}
+use Rattle.tl_beat.specs.statement.Width.{IsWidth}
 use Rattle.tl_beat.specs.declared.beat.Beat.{Beat}
 use Rattle.tl_beat.specs.declared.beat.Beat.TheVariants as beat
 use Rattle.tl_beat.specs.declared.beat.BeatA.{BeatA}
@@ -12,20 +12,20 @@ use Rattle.tl_beat.specs.declared.opcode.OpA.{OpA}
 use Rattle.tl_beat.specs.declared.opcode.OpA.TheVariants as a
 use Rattle.tl_beat.specs.declared.opcode.OpD.{OpD}
 use Rattle.tl_beat.specs.declared.opcode.OpD.TheVariants as d
-use Rattle.tl_burst.specs.Messages.{History, unfinished, grown}
-use Rattle.tl_burst.specs.Part.{completes}
+use Rattle.tl_burst.specs.statement.Messages.{History, unfinished, grown}
+use Rattle.tl_burst.specs.statement.Part.{completes}
 use Rattle.tl_params.specs.declared.key.Key.TheVariants.{RequestSource}
-use Rattle.tl_rules.specs.Conformance.{is_acquire_block, is_grant_without_data}
-use Rattle.tl_rules.specs.History.{block_at, is_acquire, is_grant, ends, grants, asks_for, capped, pending, request_of, held}
-use Rattle.tl_rules.specs.Agent.{payload_of}
+use Rattle.tl_rules.specs.statement.Conformance.{is_acquire_block, is_grant_without_data}
+use Rattle.tl_rules.specs.statement.History.{block_at, is_acquire, is_grant, ends, grants, asks_for, capped, pending, request_of, held}
+use Rattle.tl_rules.specs.statement.Agent.{payload_of}
 use Rattle.tl_client.specs.declared.verdict.Finish.{Finish}
 use Rattle.tl_client.specs.declared.verdict.Verdict.{Verdict}
 use Rattle.tl_client.specs.declared.verdict.Verdict.TheVariants.{Taken, Done}
-use Rattle.tl_client.specs.Send.{grant_ack}
-use Rattle.tl_client.specs.End.{End, sending, set_at, with_past, with_copy, with_waiting}
-use Rattle.tl_client.specs.Kept.{IsKept, IsGranting, holds, acquires, stores_whole, is_acquire_perm, is_acquire_beat}
-use Rattle.tl_client.specs.Requests.{open_beat}
-use Rattle.tl_client.specs.Offer.{answered, silent, taken, ended, granted, granted_perm, responded}
+use Rattle.tl_client.specs.statement.Send.{grant_ack}
+use Rattle.tl_client.specs.statement.End.{End, sending, set_at, with_past, with_copy, with_waiting}
+use Rattle.tl_client.specs.statement.Kept.{IsKept, IsGranting, holds, acquires, stores_whole, is_acquire_perm, is_acquire_beat}
+use Rattle.tl_client.specs.statement.Requests.{open_beat}
+use Rattle.tl_client.specs.statement.Offer.{answered, silent, taken, ended, granted, granted_perm, responded}
 use Rattle.tl_client.proofs.Grants.{IsGoodGrant}
 use Rattle.tl_client.proofs.HeldAfter.{held-beat_d, swapped}
 use Rattle.tl_client.proofs.Kept.{kept-e}

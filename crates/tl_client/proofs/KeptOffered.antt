@@ -1,7 +1,7 @@
 -- What is kept as a client takes a beat.
 use Rattle.std.proofs.Common.{◌≡◌, ℕ, Bool, true, false, cond, List, [], ◌∷◌, Option, Some, None, refl, sym, ◌∙◌, ap}
 use Rattle.std.specs.Prelude.{unwrap_or}
-use Rattle.tl_beat.specs.Width.{IsWidth}
+use Rattle.tl_beat.specs.statement.Width.{IsWidth}
 use Rattle.tl_beat.specs.declared.beat.Beat.{Beat}
 use Rattle.tl_beat.specs.declared.beat.Beat.TheVariants as beat
 use Rattle.tl_beat.specs.declared.beat.BeatB.{BeatB}
@@ -11,13 +11,13 @@ use Rattle.tl_beat.specs.declared.channel.Channel.TheVariants as channel
 use Rattle.tl_beat.specs.declared.opcode.OpB.{OpB}
 use Rattle.tl_beat.specs.declared.opcode.OpB.TheVariants as b
 use Rattle.tl_beat.specs.declared.opcode.OpC.TheVariants as c
-use Rattle.tl_beat.specs.Opcode.{b_carries_data}
+use Rattle.tl_beat.specs.statement.Opcode.{b_carries_data}
 use Rattle.tl_burst.specs.declared.message.Message.TheVariants as message
 use Rattle.tl_burst.specs.declared.message.MessageC.{MessageC}
-use Rattle.tl_burst.specs.Messages.{History, unfinished}
+use Rattle.tl_burst.specs.statement.Messages.{History, unfinished}
 use Rattle.tl_params.specs.declared.profile.Profile.{Profile}
-use Rattle.tl_rules.specs.Conformance.{broken_in_order}
-use Rattle.tl_rules.specs.History.{block_at, is_grant, pending, held}
+use Rattle.tl_rules.specs.statement.Conformance.{broken_in_order}
+use Rattle.tl_rules.specs.statement.History.{block_at, is_grant, pending, held}
 use Rattle.tl_params.specs.declared.level.Level.{Level}
 use Rattle.tl_params.specs.declared.param.Cap.{Cap}
 use Rattle.tl_params.specs.declared.param.Cap.TheVariants as cap
@@ -26,16 +26,16 @@ use Rattle.tl_params.specs.declared.perm.Perm.{Perm}
 use Rattle.tl_params.specs.declared.perm.Perm.TheVariants as perm
 use Rattle.tl_params.specs.declared.rule.Rule.{Rule}
 use Rattle.tl_params.specs.declared.rule.Rule.TheVariants.{L1, L7, A3}
-use Rattle.tl_rules.specs.Agent.{sent}
-use Rattle.tl_rules.specs.Legality.{illegal, breaks_l1, is_forwarded}
-use Rattle.tl_params.specs.Param.{cap_of, report_at, report_code, report_right}
+use Rattle.tl_rules.specs.statement.Agent.{sent}
+use Rattle.tl_rules.specs.statement.Legality.{illegal, breaks_l1, is_forwarded}
+use Rattle.tl_params.specs.statement.Param.{cap_of, report_at, report_code, report_right}
 use Rattle.tl_rules.proofs.Bursts.{next_rule, both_none}
 use Rattle.tl_client.specs.declared.verdict.Verdict.TheVariants.{Stalled}
-use Rattle.tl_client.specs.Send.{about, probe_ack}
+use Rattle.tl_client.specs.statement.Send.{about, probe_ack}
 use Rattle.tl_client.proofs.KeptAsked.{copies_kept_for, kept_waiting}
-use Rattle.tl_client.specs.End.{Terms, End, fresh, zeros, copy_at, held_at, kept_for, sending, shut, with_past}
-use Rattle.tl_client.specs.Kept.{IsKept, holds}
-use Rattle.tl_client.specs.Offer.{offered, silent, taken, is_sent_on, waits, broken_before, broken_later, judged, judged_later, report_for}
+use Rattle.tl_client.specs.statement.End.{Terms, End, fresh, zeros, copy_at, held_at, kept_for, sending, shut, with_past}
+use Rattle.tl_client.specs.statement.Kept.{IsKept, holds}
+use Rattle.tl_client.specs.statement.Offer.{offered, silent, taken, is_sent_on, waits, broken_before, broken_later, judged, judged_later, report_for}
 use Rattle.tl_client.proofs.Grants.{good_grant}
 use Rattle.tl_client.proofs.HeldAfter.{IsIncoming, comes, held-probe_ack, kept_past}
 use Rattle.tl_client.proofs.Kept.{kept-c, kept-same}

@@ -1,6 +1,6 @@
 -- Which requests and Releases are open after a call.
 use Rattle.std.proofs.Common.{◌≡◌, ℕ, Bool, true, false, cond, List, [], ◌∷◌, Option, Some, refl, sym, ◌∙◌, ap, subst}
-use Rattle.tl_beat.specs.Width.{IsWidth}
+use Rattle.tl_beat.specs.statement.Width.{IsWidth}
 use Rattle.tl_beat.specs.declared.beat.Beat.{Beat}
 use Rattle.tl_beat.specs.declared.beat.Beat.TheVariants as beat
 use Rattle.tl_beat.specs.declared.beat.BeatB.{BeatB}
@@ -14,27 +14,27 @@ use Rattle.tl_burst.specs.declared.message.Message.TheVariants.{A, B, C, D, E}
 use Rattle.tl_burst.specs.declared.message.MessageA.{MessageA}
 use Rattle.tl_burst.specs.declared.message.MessageC.{MessageC}
 use Rattle.tl_burst.specs.declared.message.MessageE.{MessageE}
-use Rattle.tl_burst.specs.Messages.{History, unfinished}
+use Rattle.tl_burst.specs.statement.Messages.{History, unfinished}
 use Rattle.tl_burst.proofs.Splitting.{beats-positive}
 use Rattle.tl_params.specs.declared.key.Key.TheVariants.{ReleaseSource}
 use Rattle.tl_params.specs.declared.perm.Perm.{Perm}
 use Rattle.tl_params.specs.declared.perm.Perm.TheVariants as perm
-use Rattle.tl_params.specs.Param.{prune_code, prune_right, report_code, report_right}
-use Rattle.tl_rules.specs.Agent.{sent, payload_of}
-use Rattle.tl_rules.specs.Handed.{pending_with, release_with, request_if_any, release_if_any}
-use Rattle.tl_rules.specs.History.{block_at, ends, is_release, pending, request_of, release_of}
+use Rattle.tl_params.specs.statement.Param.{prune_code, prune_right, report_code, report_right}
+use Rattle.tl_rules.specs.statement.Agent.{sent, payload_of}
+use Rattle.tl_rules.specs.laws.Handed.{pending_with, release_with, request_if_any, release_if_any}
+use Rattle.tl_rules.specs.statement.History.{block_at, ends, is_release, pending, request_of, release_of}
 use Rattle.tl_rules.proofs.Handed.{pending-whole, release_of-whole}
 use Rattle.tl_rules.proofs.Sent.{pending-quiet}
 use Rattle.tl_client.specs.declared.operation.Op.{Op}
 use Rattle.tl_client.specs.declared.operation.Op.TheVariants.{Load, Store, Acquire, AcquireWhole, Release, Access}
 use Rattle.tl_client.specs.declared.verdict.Verdict.TheVariants.{Taken}
-use Rattle.tl_client.specs.After.{open_heard, open_by, release_heard, release_by}
-use Rattle.tl_client.specs.Ask.{asked, done, load, store, free_request, free_release, source_or_0, whole_grow}
-use Rattle.tl_client.specs.End.{Terms, End, zeros, copy_at, held_at, with_past}
-use Rattle.tl_client.specs.Kept.{IsKept}
-use Rattle.tl_client.specs.Offer.{Offered, offered, taken, granted, responded, silent, report_for}
-use Rattle.tl_client.specs.Requests.{open_beat, open_release}
-use Rattle.tl_client.specs.Send.{about, sourced, acquisition, release}
+use Rattle.tl_client.specs.laws.After.{open_heard, open_by, release_heard, release_by}
+use Rattle.tl_client.specs.statement.Ask.{asked, done, load, store, free_request, free_release, source_or_0, whole_grow}
+use Rattle.tl_client.specs.statement.End.{Terms, End, zeros, copy_at, held_at, with_past}
+use Rattle.tl_client.specs.statement.Kept.{IsKept}
+use Rattle.tl_client.specs.statement.Offer.{Offered, offered, taken, granted, responded, silent, report_for}
+use Rattle.tl_client.specs.statement.Requests.{open_beat, open_release}
+use Rattle.tl_client.specs.statement.Send.{about, sourced, acquisition, release}
 use Rattle.tl_client.proofs.AccountedResponse.{open_release-d}
 use Rattle.tl_client.proofs.AccountedSent.{open_release-a, open_release-c}
 use Rattle.tl_client.proofs.AccountedTaken.{names_b}

@@ -1,7 +1,7 @@
 -- Which requests are open after a beat or a message.
 use Rattle.std.proofs.Common.{◌≡◌, ℕ, zero, suc, Bool, true, false, not, cond, ◌&&◌, [], ◌∷◌, ◌++◌, Option, Some, None, refl, ◌∙◌}
 use Rattle.std.specs.Prelude.{◌==◌}
-use Rattle.tl_beat.specs.Width.{IsWidth}
+use Rattle.tl_beat.specs.statement.Width.{IsWidth}
 use Rattle.tl_beat.specs.declared.beat.Beat.TheVariants as beat
 use Rattle.tl_beat.specs.declared.beat.BeatA.{BeatA}
 use Rattle.tl_beat.specs.declared.beat.BeatB.{BeatB}
@@ -12,14 +12,14 @@ use Rattle.tl_burst.specs.declared.message.Message.TheVariants.{A, C, E}
 use Rattle.tl_burst.specs.declared.message.MessageA.{MessageA}
 use Rattle.tl_burst.specs.declared.message.MessageC.{MessageC}
 use Rattle.tl_burst.specs.declared.message.MessageE.{MessageE}
-use Rattle.tl_burst.specs.Burst.{a_beat_of, beat_of, beats_of, begun}
-use Rattle.tl_burst.specs.Messages.{History, channel_in, unfinished, grown}
+use Rattle.tl_burst.specs.statement.Burst.{a_beat_of, beat_of, beats_of, begun}
+use Rattle.tl_burst.specs.statement.Messages.{History, channel_in, unfinished, grown}
 use Rattle.tl_burst.proofs.Splitting.{beats-positive}
 use Rattle.tl_params.specs.declared.key.Key.{Key}
 use Rattle.tl_params.specs.declared.key.Key.TheVariants.{RequestSource, AcquireOf}
-use Rattle.tl_rules.specs.Agent.{sent}
-use Rattle.tl_rules.specs.History.{ends, opens, grants, is_acquire, is_release_ack, block_at, pending, request_of}
-use Rattle.tl_client.specs.Requests.{open_beat}
+use Rattle.tl_rules.specs.statement.Agent.{sent}
+use Rattle.tl_rules.specs.statement.History.{ends, opens, grants, is_acquire, is_release_ack, block_at, pending, request_of}
+use Rattle.tl_client.specs.statement.Requests.{open_beat}
 use Rattle.tl_rules.proofs.Sent.{pending-sent, request_of-sent, request_closes_nothing, ClosesNothing, pending-quiet, pending-closed}
 
 -- a message that neither opens nor closes it

@@ -1,7 +1,7 @@
 -- What a client's history says after a call.
 use Rattle.std.proofs.Common.{◌≡◌, ℕ, Bool, true, false, cond, List, [], ◌∷◌, Option, Some, None, refl, sym, ◌∙◌, ap, subst}
 use Rattle.std.specs.Prelude.{⊤}
-use Rattle.tl_beat.specs.Width.{IsWidth}
+use Rattle.tl_beat.specs.statement.Width.{IsWidth}
 use Rattle.tl_beat.specs.declared.beat.Beat.{Beat}
 use Rattle.tl_beat.specs.declared.beat.Beat.TheVariants as beat
 use Rattle.tl_beat.specs.declared.beat.BeatB.{BeatB}
@@ -17,7 +17,7 @@ use Rattle.tl_burst.specs.declared.message.Message.{Message}
 use Rattle.tl_burst.specs.declared.message.Message.TheVariants.{A, B, C, D, E}
 use Rattle.tl_burst.specs.declared.message.MessageC.{MessageC}
 use Rattle.tl_burst.specs.declared.message.MessageE.{MessageE}
-use Rattle.tl_burst.specs.Messages.{History, channel_in, unfinished}
+use Rattle.tl_burst.specs.statement.Messages.{History, channel_in, unfinished}
 use Rattle.tl_burst.proofs.Splitting.{beats-positive}
 use Rattle.tl_params.specs.declared.key.Key.{Key}
 use Rattle.tl_params.specs.declared.param.Prune.{Prune}
@@ -25,21 +25,21 @@ use Rattle.tl_params.specs.declared.param.Prune.TheVariants as prune
 use Rattle.tl_params.specs.declared.param.Report.{Report}
 use Rattle.tl_params.specs.declared.perm.Perm.{Perm}
 use Rattle.tl_params.specs.declared.perm.Perm.TheVariants as perm
-use Rattle.tl_params.specs.Param.{report_code, report_right}
-use Rattle.tl_rules.specs.Agent.{sent, sent_if_any, payload_of}
-use Rattle.tl_rules.specs.Handed.{pending_if_any, release_with, request_if_any, release_if_any}
-use Rattle.tl_rules.specs.History.{block_at, ends, is_release, pending, request_of, release_of}
+use Rattle.tl_params.specs.statement.Param.{report_code, report_right}
+use Rattle.tl_rules.specs.statement.Agent.{sent, sent_if_any, payload_of}
+use Rattle.tl_rules.specs.laws.Handed.{pending_if_any, release_with, request_if_any, release_if_any}
+use Rattle.tl_rules.specs.statement.History.{block_at, ends, is_release, pending, request_of, release_of}
 use Rattle.tl_rules.proofs.Handed.{pending-whole, unfinished-whole, request_of-whole, release_of-whole}
 use Rattle.tl_client.specs.declared.operation.Op.{Op}
 use Rattle.tl_client.specs.declared.operation.Op.TheVariants.{Load, Store, Acquire, AcquireWhole, Release, Access}
 use Rattle.tl_client.specs.declared.verdict.Finish.{Finish}
 use Rattle.tl_client.specs.declared.verdict.Verdict.TheVariants.{Taken}
-use Rattle.tl_client.specs.After.{heard, handed}
-use Rattle.tl_client.specs.Ask.{asked, done, load, store, source_or_0, free_release}
-use Rattle.tl_client.specs.End.{Terms, End, zeros, copy_at, held_at, with_past}
-use Rattle.tl_client.specs.Kept.{IsKept}
-use Rattle.tl_client.specs.Offer.{Offered, offered, taken, ended, granted, responded, silent, report_for}
-use Rattle.tl_client.specs.Send.{about, release, probe_ack}
+use Rattle.tl_client.specs.laws.After.{heard, handed}
+use Rattle.tl_client.specs.statement.Ask.{asked, done, load, store, source_or_0, free_release}
+use Rattle.tl_client.specs.statement.End.{Terms, End, zeros, copy_at, held_at, with_past}
+use Rattle.tl_client.specs.statement.Kept.{IsKept}
+use Rattle.tl_client.specs.statement.Offer.{Offered, offered, taken, ended, granted, responded, silent, report_for}
+use Rattle.tl_client.specs.statement.Send.{about, release, probe_ack}
 use Rattle.tl_client.proofs.AccountedResponse.{release_of-d}
 use Rattle.tl_client.proofs.AccountedTaken.{names_b}
 use Rattle.tl_client.proofs.AfterAsked.{past-asked}

@@ -1,21 +1,21 @@
 -- What a plain client answers to an operation, and what it knows afterwards.
 use Rattle.std.proofs.Common.{◌≡◌, ℕ, zero, suc, ◌+◌, Bool, true, false, not, cond, ◌&&◌, ◌||◌, List, [], ◌∷◌, Option, Some, None, refl, sym, ◌∙◌}
 use Rattle.std.specs.Prelude.{◌==◌, is_some, is_none, nat_le}
-use Rattle.tl_beat.specs.Width.{IsWidth}
+use Rattle.tl_beat.specs.statement.Width.{IsWidth}
 use Rattle.tl_beat.specs.declared.beat.Beat.{Beat}
 use Rattle.tl_beat.specs.declared.beat.Beat.TheVariants as beat
 use Rattle.tl_beat.specs.declared.beat.BeatA.{BeatA}
 use Rattle.tl_beat.specs.declared.channel.Channel.TheVariants as channel
-use Rattle.tl_beat.specs.First.{first_if}
+use Rattle.tl_beat.specs.statement.First.{first_if}
 use Rattle.tl_burst.specs.declared.message.Message.TheVariants as message
 use Rattle.tl_burst.specs.declared.message.MessageA.{MessageA}
-use Rattle.tl_burst.specs.Burst.{a_beat_of}
-use Rattle.tl_burst.specs.Messages.{History, unfinished}
+use Rattle.tl_burst.specs.statement.Burst.{a_beat_of}
+use Rattle.tl_burst.specs.statement.Messages.{History, unfinished}
 use Rattle.tl_burst.proofs.Splitting.{beats-positive}
 use Rattle.tl_params.specs.declared.key.Key.{Key}
 use Rattle.tl_params.specs.declared.key.Key.TheVariants.{RequestSource, ReleaseSource, AcquireOf, ReleaseOf, GrantSink, GrantAckOf, ProbeOf}
-use Rattle.tl_rules.specs.Agent.{sent}
-use Rattle.tl_rules.specs.History.{opens, is_acquire, pending, request_of, held}
+use Rattle.tl_rules.specs.statement.Agent.{sent}
+use Rattle.tl_rules.specs.statement.History.{opens, is_acquire, pending, request_of, held}
 use Rattle.tl_client.specs.declared.busy.Busy.{Busy}
 use Rattle.tl_client.specs.declared.busy.Busy.TheVariants.{B1, B2, B3, B4, B5}
 use Rattle.tl_client.specs.declared.operation.Op.{Op}
@@ -23,13 +23,13 @@ use Rattle.tl_client.specs.declared.operation.Op.TheVariants.{Load, Store, Acqui
 use Rattle.tl_client.specs.declared.plain.Plain.{Plain}
 use Rattle.tl_client.specs.declared.request.Request.{Request}
 use Rattle.tl_client.specs.declared.reply.Reply.TheVariants as reply
-use Rattle.tl_client.specs.Ask.{Asked, asked, op_block, breaks_b1, breaks_b2, breaks_b3, breaks_b4, busy, is_formed, is_access_of, only, started, free_request, least_free}
-use Rattle.tl_client.specs.End.{Terms, End, fresh, held_at, sending}
-use Rattle.tl_client.specs.KnowsPlain.{KnowsPlain, terms_of, answers_pending, is_request}
-use Rattle.tl_client.specs.Plain.{access_in}
-use Rattle.tl_client.specs.Sources.{open_at}
-use Rattle.tl_client.specs.Send.{access, sourced}
-use Rattle.tl_client.specs.Requests.{opened_by, start_with, fields_in, fields_of, open_beat, open_request}
+use Rattle.tl_client.specs.statement.Ask.{Asked, asked, op_block, breaks_b1, breaks_b2, breaks_b3, breaks_b4, busy, is_formed, is_access_of, only, started, free_request, least_free}
+use Rattle.tl_client.specs.statement.End.{Terms, End, fresh, held_at, sending}
+use Rattle.tl_client.specs.code.KnowsPlain.{KnowsPlain, terms_of, answers_pending, is_request}
+use Rattle.tl_client.specs.code.Plain.{access_in}
+use Rattle.tl_client.specs.code.Sources.{open_at}
+use Rattle.tl_client.specs.statement.Send.{access, sourced}
+use Rattle.tl_client.specs.statement.Requests.{opened_by, start_with, fields_in, fields_of, open_beat, open_request}
 use Rattle.tl_client.proofs.KeptAsked.{no_acquire}
 use Rattle.tl_client.proofs.Opens.{open_beat-a}
 use Rattle.tl_rules.proofs.Sent.{unfinished-sent, unfinished-sent_other, pending-sent, request_closes_nothing, held-sent_unsaid}

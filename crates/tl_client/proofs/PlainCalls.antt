@@ -1,17 +1,17 @@
 -- What the parts of a plain client's calls answer.
 use Rattle.std.proofs.Common.{◌≡◌, ℕ, zero, suc, ◌+◌, true, List, ◌∷◌, length, Ok, Err, sym, arith}
 use Rattle.std.specs.Prelude.{Result, OnOk, ⊤}
-use Rattle.tl_beat.specs.Width.{IsWidth}
+use Rattle.tl_beat.specs.statement.Width.{IsWidth}
 use Rattle.tl_beat.specs.declared.beat.Beat.{Beat}
 use Rattle.tl_beat.specs.declared.beat.Beat.TheVariants as beat
 use Rattle.tl_burst.specs.declared.message.Message.{Message}
 use Rattle.tl_burst.specs.declared.message.Message.TheVariants as message
 use Rattle.tl_burst.specs.declared.message.MessageD.{MessageD}
-use Rattle.tl_burst.specs.Burst.{beats_of, beat_of, begun, d_beat_of, IsBurst}
-use Rattle.tl_burst.specs.Part.{IsTakeable, completes}
+use Rattle.tl_burst.specs.statement.Burst.{beats_of, beat_of, begun, d_beat_of, IsBurst}
+use Rattle.tl_burst.specs.statement.Part.{IsTakeable, completes}
 use Rattle.tl_burst.proofs.Begun.{length-begun}
 use Rattle.tl_params.specs.declared.rule.Rule.{Rule}
-use Rattle.tl_rules.specs.Agent.{payload_of}
+use Rattle.tl_rules.specs.statement.Agent.{payload_of}
 use Rattle.tl_rules.proofs.Sent.{is_last}
 use Rattle.tl_rules.proofs.Payload.{payload-d}
 

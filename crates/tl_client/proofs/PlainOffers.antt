@@ -11,31 +11,31 @@ use Rattle.tl_beat.specs.declared.channel.Channel.{Channel}
 use Rattle.tl_beat.specs.declared.channel.Channel.TheVariants as channel
 use Rattle.tl_beat.specs.declared.opcode.OpD.{OpD}
 use Rattle.tl_beat.specs.declared.opcode.OpD.TheVariants as d
-use Rattle.tl_beat.specs.Opcode.{d_code}
-use Rattle.tl_beat.specs.First.{first_if}
-use Rattle.tl_burst.specs.Messages.{History, unfinished, grown, same_control, breaks_burst}
-use Rattle.tl_burst.specs.Part.{completes}
+use Rattle.tl_beat.specs.statement.Opcode.{d_code}
+use Rattle.tl_beat.specs.statement.First.{first_if}
+use Rattle.tl_burst.specs.statement.Messages.{History, unfinished, grown, same_control, breaks_burst}
+use Rattle.tl_burst.specs.statement.Part.{completes}
 use Rattle.tl_params.specs.declared.level.Level.{Level}
 use Rattle.tl_params.specs.declared.key.Key.{Key}
 use Rattle.tl_params.specs.declared.key.Key.TheVariants.{RequestSource, ReleaseSource, AcquireOf, ReleaseOf, GrantSink, GrantAckOf, ProbeOf}
 use Rattle.tl_params.specs.declared.rule.Rule.{Rule}
 use Rattle.tl_params.specs.declared.rule.Rule.TheVariants.{L1, S1, A3}
-use Rattle.tl_params.specs.Refusal.{ok_unless}
+use Rattle.tl_params.specs.statement.Refusal.{ok_unless}
 use Rattle.tl_params.proofs.Refusals.{some_broken, none_broken}
-use Rattle.tl_rules.specs.Agent.{payload_of}
-use Rattle.tl_rules.specs.History.{ends, closes, opens, says_held, pending, request_of}
-use Rattle.tl_rules.specs.Legality.{illegal, has_transfers}
+use Rattle.tl_rules.specs.statement.Agent.{payload_of}
+use Rattle.tl_rules.specs.statement.History.{ends, closes, opens, says_held, pending, request_of}
+use Rattle.tl_rules.specs.statement.Legality.{illegal, has_transfers}
 use Rattle.tl_rules.proofs.Bursts.{next_rule, both_none}
 use Rattle.tl_client.specs.declared.plain.Plain.{Plain}
 use Rattle.tl_client.specs.declared.request.Request.{Request}
 use Rattle.tl_client.specs.declared.verdict.Finish.{Finish}
 use Rattle.tl_client.specs.declared.verdict.Verdict.TheVariants.{Done, Taken}
-use Rattle.tl_client.specs.End.{Terms, End, with_past}
-use Rattle.tl_client.specs.KnowsPlain.{KnowsPlain, terms_of, answers_pending}
-use Rattle.tl_client.specs.Offer.{offered, judged_later, refused, silent, taken, ended, granted, responded, finish_of, address_asked, stalls, is_sent_on}
-use Rattle.tl_client.specs.Plain.{response_rule, order_rule, plain_rule, address_in, plain_verdict, ends_request}
-use Rattle.tl_client.specs.Sources.{open_at}
-use Rattle.tl_client.specs.Requests.{fields_of, open_beat, open_request}
+use Rattle.tl_client.specs.statement.End.{Terms, End, with_past}
+use Rattle.tl_client.specs.code.KnowsPlain.{KnowsPlain, terms_of, answers_pending}
+use Rattle.tl_client.specs.statement.Offer.{offered, judged_later, refused, silent, taken, ended, granted, responded, finish_of, address_asked, stalls, is_sent_on}
+use Rattle.tl_client.specs.code.Plain.{response_rule, order_rule, plain_rule, address_in, plain_verdict, ends_request}
+use Rattle.tl_client.specs.code.Sources.{open_at}
+use Rattle.tl_client.specs.statement.Requests.{fields_of, open_beat, open_request}
 use Rattle.tl_client.proofs.PlainRules.{IsAccessAnswer, legal_answer, judged}
 use Rattle.tl_client.proofs.Opens.{open_beat-d, unfinished-d}
 use Rattle.tl_rules.proofs.Sent.{held_unsaid, pending-closed}

@@ -5,25 +5,25 @@ use Rattle.tl_beat.specs.declared.beat.Beat.{Beat}
 use Rattle.tl_beat.specs.declared.beat.Beat.TheVariants.{D}
 use Rattle.tl_beat.specs.declared.beat.BeatD.{BeatD}
 use Rattle.tl_beat.specs.declared.channel.Channel.TheVariants as channel
-use Rattle.tl_beat.specs.First.{first_if}
+use Rattle.tl_beat.specs.statement.First.{first_if}
 use Rattle.tl_burst.specs.declared.part.Broken.{Broken}
 use Rattle.tl_burst.specs.declared.part.Part.{Part}
-use Rattle.tl_burst.specs.Messages.{History, channel_of, unfinished, breaks_burst}
-use Rattle.tl_burst.specs.Part.{is_empty, part_of}
+use Rattle.tl_burst.specs.statement.Messages.{History, channel_of, unfinished, breaks_burst}
+use Rattle.tl_burst.specs.statement.Part.{is_empty, part_of}
 use Rattle.tl_params.specs.declared.key.Key.{Key}
 use Rattle.tl_params.specs.declared.key.Key.TheVariants.{RequestSource}
 use Rattle.tl_params.specs.declared.rule.Rule.{Rule}
 use Rattle.tl_params.specs.declared.rule.Rule.TheVariants.{S1, A2}
-use Rattle.tl_params.specs.Refusal.{ok_unless}
-use Rattle.tl_rules.specs.Agent.{is_spoiled}
-use Rattle.tl_rules.specs.Conformance.{broken_in_order}
-use Rattle.tl_rules.specs.History.{pending}
-use Rattle.tl_rules.specs.Legality.{illegal}
+use Rattle.tl_params.specs.statement.Refusal.{ok_unless}
+use Rattle.tl_rules.specs.statement.Agent.{is_spoiled}
+use Rattle.tl_rules.specs.statement.Conformance.{broken_in_order}
+use Rattle.tl_rules.specs.statement.History.{pending}
+use Rattle.tl_rules.specs.statement.Legality.{illegal}
 use Rattle.tl_client.specs.declared.plain.Plain.{Plain}
-use Rattle.tl_client.specs.End.{End}
-use Rattle.tl_client.specs.KnowsPlain.{KnowsPlain, KnowsPast}
-use Rattle.tl_client.specs.Plain.{response_rule, order_rule}
-use Rattle.tl_client.specs.Sources.{open_at}
+use Rattle.tl_client.specs.statement.End.{End}
+use Rattle.tl_client.specs.code.KnowsPlain.{KnowsPlain, KnowsPast}
+use Rattle.tl_client.specs.code.Plain.{response_rule, order_rule}
+use Rattle.tl_client.specs.code.Sources.{open_at}
 use Rattle.tl_client.proofs.PlainAsks.{is_some-open}
 use Rattle.tl_client.proofs.PlainRules.{legal_answer, order_agrees}
 

@@ -10,24 +10,24 @@ use Rattle.tl_beat.specs.declared.channel.Channel.{Channel}
 use Rattle.tl_beat.specs.declared.channel.Channel.TheVariants as channel
 use Rattle.tl_beat.specs.declared.opcode.OpD.{OpD}
 use Rattle.tl_beat.specs.declared.opcode.OpD.TheVariants as d
-use Rattle.tl_beat.specs.First.{first_if}
-use Rattle.tl_burst.specs.Messages.{History, unfinished, breaks_burst}
-use Rattle.tl_burst.specs.Part.{is_empty}
+use Rattle.tl_beat.specs.statement.First.{first_if}
+use Rattle.tl_burst.specs.statement.Messages.{History, unfinished, breaks_burst}
+use Rattle.tl_burst.specs.statement.Part.{is_empty}
 use Rattle.tl_params.specs.declared.level.Level.{Level}
 use Rattle.tl_params.specs.declared.level.Level.TheVariants as level
 use Rattle.tl_params.specs.declared.key.Key.TheVariants.{RequestSource}
 use Rattle.tl_params.specs.declared.profile.Profile.{Profile}
 use Rattle.tl_params.specs.declared.rule.Rule.{Rule}
 use Rattle.tl_params.specs.declared.rule.Rule.TheVariants.{L1, S1, H2, H3}
-use Rattle.tl_rules.specs.Conformance.{broken_order, broken_in_order, broken_d, admits, size_of_request}
-use Rattle.tl_rules.specs.History.{is_grant, is_release_ack, pending, request_of}
-use Rattle.tl_rules.specs.Legality.{illegal, has_transfers, d_of_level, breaks_l1}
+use Rattle.tl_rules.specs.statement.Conformance.{broken_order, broken_in_order, broken_d, admits, size_of_request}
+use Rattle.tl_rules.specs.statement.History.{is_grant, is_release_ack, pending, request_of}
+use Rattle.tl_rules.specs.statement.Legality.{illegal, has_transfers, d_of_level, breaks_l1}
 use Rattle.tl_rules.proofs.Bursts.{next_rule}
 use Rattle.tl_client.specs.declared.request.Request.{Request}
-use Rattle.tl_client.specs.Requests.{fields_of, open_request}
-use Rattle.tl_client.specs.Plain.{response_rule, plain_rule}
-use Rattle.tl_client.specs.End.{Terms, End}
-use Rattle.tl_client.specs.Offer.{offered, judged_later, is_sent_on}
+use Rattle.tl_client.specs.statement.Requests.{fields_of, open_request}
+use Rattle.tl_client.specs.code.Plain.{response_rule, plain_rule}
+use Rattle.tl_client.specs.statement.End.{Terms, End}
+use Rattle.tl_client.specs.statement.Offer.{offered, judged_later, is_sent_on}
 
 -- ---- what a legal response is
 

@@ -4,7 +4,7 @@ use Rattle.std.specs.Prelude.{is_none}
 use Rattle.std.proofs.lemmas.Bool.{and_parts, or_parts, eqb-true}
 use Rattle.std.proofs.lemmas.List.{drop_all}
 use Rattle.std.proofs.lemmas.Nat.{pow_pos}
-use Rattle.tl_beat.specs.Width.{IsWidth}
+use Rattle.tl_beat.specs.statement.Width.{IsWidth}
 use Rattle.tl_beat.specs.declared.beat.Beat.{Beat}
 use Rattle.tl_beat.specs.declared.beat.Beat.TheVariants as beat
 use Rattle.tl_beat.specs.declared.channel.Channel.{Channel}
@@ -13,24 +13,24 @@ use Rattle.tl_beat.specs.declared.opcode.OpA.{OpA}
 use Rattle.tl_beat.specs.declared.opcode.OpA.TheVariants as a
 use Rattle.tl_beat.specs.declared.opcode.OpC.{OpC}
 use Rattle.tl_beat.specs.declared.opcode.OpC.TheVariants as c
-use Rattle.tl_beat.specs.Opcode.{a_carries_data, c_carries_data}
+use Rattle.tl_beat.specs.statement.Opcode.{a_carries_data, c_carries_data}
 use Rattle.tl_burst.specs.declared.message.Message.TheVariants.{A, B, C, D, E}
-use Rattle.tl_burst.specs.Burst.{data_beats, IsZeroFrom}
+use Rattle.tl_burst.specs.statement.Burst.{data_beats, IsZeroFrom}
 use Rattle.tl_params.specs.declared.param.Grow.{Grow}
 use Rattle.tl_params.specs.declared.perm.Perm.{Perm}
 use Rattle.tl_params.specs.declared.perm.Perm.TheVariants as perm
-use Rattle.tl_params.specs.Param.{prune_code, report_code}
-use Rattle.tl_rules.specs.History.{block_at, ends}
-use Rattle.tl_rules.specs.Legality.{illegal_message}
+use Rattle.tl_params.specs.statement.Param.{prune_code, report_code}
+use Rattle.tl_rules.specs.statement.History.{block_at, ends}
+use Rattle.tl_rules.specs.statement.Legality.{illegal_message}
 use Rattle.tl_client.specs.declared.operation.Op.{Op}
 use Rattle.tl_client.specs.declared.operation.Op.TheVariants.{Load, Store, Acquire, AcquireWhole, Release, Access}
 use Rattle.tl_client.specs.declared.verdict.Verdict.TheVariants.{Taken}
-use Rattle.tl_client.specs.Ask.{asked, done, load, store, is_clean, free_request, free_release, source_or_0, whole_grow}
-use Rattle.tl_client.specs.Bytes.{IsTypedOp, HasBytes}
-use Rattle.tl_client.specs.End.{Terms, End, zeros, copy_at, held_at, with_past}
-use Rattle.tl_client.specs.Offer.{Offered, offered, taken, silent, report_for}
-use Rattle.tl_client.specs.Send.{acquire, on_c, grant_ack}
-use Rattle.tl_client.specs.Sound.{IsProper, IsProperIfAny, IsProperAnswer}
+use Rattle.tl_client.specs.statement.Ask.{asked, done, load, store, is_clean, free_request, free_release, source_or_0, whole_grow}
+use Rattle.tl_client.specs.laws.Bytes.{IsTypedOp, HasBytes}
+use Rattle.tl_client.specs.statement.End.{Terms, End, zeros, copy_at, held_at, with_past}
+use Rattle.tl_client.specs.statement.Offer.{Offered, offered, taken, silent, report_for}
+use Rattle.tl_client.specs.statement.Send.{acquire, on_c, grant_ack}
+use Rattle.tl_client.specs.laws.Sound.{IsProper, IsProperIfAny, IsProperAnswer}
 use Rattle.tl_client.proofs.Bytes.{long_or_zeros}
 use Rattle.tl_client.proofs.Cases.{NotBusy, asked-cases, IsPassed, offered-cases, ended-cases, probe_ack-cases, release-cases}
 use Rattle.tl_client.proofs.Clean.{to_blank}

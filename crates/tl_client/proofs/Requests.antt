@@ -6,7 +6,7 @@ use Rattle.tl_burst.specs.declared.message.Message.TheVariants as message
 use Rattle.tl_burst.specs.declared.message.MessageA.{MessageA}
 use Rattle.tl_client.specs.declared.reply.Reply.{Reply}
 use Rattle.tl_client.specs.declared.reply.Reply.TheVariants as reply
-use Rattle.tl_client.specs.Requests.{start_with}
+use Rattle.tl_client.specs.statement.Requests.{start_with}
 
 abbrev pub with_small : {w : ℕ} (m : MessageA w) (s : ℕ) → m.size ≤ 6 → MessageA w
 with_small m s small = record { opcode = m.opcode; param = m.param; size = m.size; source = s; address = m.address; payload = m.payload; mask = m.mask; corrupt = m.corrupt; small = small }

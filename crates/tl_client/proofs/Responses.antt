@@ -1,23 +1,23 @@
 -- The response that is complete with a beat.
 use Rattle.std.proofs.Common.{◌≡◌, ℕ, true, List, [], ◌∷◌, length, Option, Some, None, refl, sym, ◌∙◌, ap, subst}
 use Rattle.std.specs.Prelude.{IfSome}
-use Rattle.tl_beat.specs.Width.{IsWidth}
+use Rattle.tl_beat.specs.statement.Width.{IsWidth}
 use Rattle.tl_beat.specs.declared.beat.Beat.{Beat}
 use Rattle.tl_beat.specs.declared.beat.Beat.TheVariants as beat
 use Rattle.tl_beat.specs.declared.beat.BeatD.{BeatD}
 use Rattle.tl_burst.specs.declared.message.Message.{Message}
 use Rattle.tl_burst.specs.declared.message.Message.TheVariants as message
 use Rattle.tl_burst.specs.declared.message.MessageD.{MessageD}
-use Rattle.tl_burst.specs.Burst.{beats_of, d_beat_of, IsBurst}
-use Rattle.tl_burst.specs.Messages.{grown}
-use Rattle.tl_burst.specs.Part.{completes}
-use Rattle.tl_rules.specs.Agent.{payload_of}
+use Rattle.tl_burst.specs.statement.Burst.{beats_of, d_beat_of, IsBurst}
+use Rattle.tl_burst.specs.statement.Messages.{grown}
+use Rattle.tl_burst.specs.statement.Part.{completes}
+use Rattle.tl_rules.specs.statement.Agent.{payload_of}
 use Rattle.tl_client.specs.declared.caching.Caching.{Caching}
 use Rattle.tl_client.specs.declared.verdict.Verdict.{Verdict}
-use Rattle.tl_client.specs.End.{Terms}
-use Rattle.tl_client.specs.KnowsCaching.{terms_of}
-use Rattle.tl_client.specs.Response.{Response, in_message, in_beats, Completes, d_of}
-use Rattle.tl_client.specs.Takes.{Finishes, GrantsInside, Ends}
+use Rattle.tl_client.specs.statement.End.{Terms}
+use Rattle.tl_client.specs.code.KnowsCaching.{terms_of}
+use Rattle.tl_client.specs.code.Response.{Response, in_message, in_beats, Completes, d_of}
+use Rattle.tl_client.specs.code.Takes.{Finishes, GrantsInside, Ends}
 use Rattle.tl_client.proofs.PlainCalls.{last_of, newest_of, completed, payload_here}
 
 same_response : {w : ℕ} (m : MessageD w) (x : BeatD w) (burst : List (Beat w)) (i : ℕ) → beat.D x ≡ beat.D (d_beat_of m i) → m.payload ≡ payload_of (beat.D x ∷ burst) → in_message m ≡ in_beats x burst

@@ -13,7 +13,7 @@ use Rattle.tl_beat.specs.declared.opcode.OpC.TheVariants as c
 use Rattle.tl_beat.specs.declared.opcode.OpD.TheVariants as d
 use Rattle.tl_burst.specs.declared.message.Message.{Message}
 use Rattle.tl_burst.specs.declared.message.Message.TheVariants as message
-use Rattle.tl_burst.specs.Messages.{unfinished}
+use Rattle.tl_burst.specs.statement.Messages.{unfinished}
 use Rattle.tl_params.specs.declared.level.Level.TheVariants as level
 use Rattle.tl_params.specs.declared.param.Grow.TheVariants.{NtoB, NtoT, BtoT}
 use Rattle.tl_params.specs.declared.param.Prune.TheVariants.{TtoN, BtoN}
@@ -22,11 +22,11 @@ use Rattle.tl_params.specs.declared.perm.Perm.TheVariants.{Branch, Trunk}
 use Rattle.tl_params.specs.declared.profile.Profile.TheVariants as profile
 use Rattle.tl_params.specs.declared.rule.Rule.{Rule}
 use Rattle.tl_params.specs.declared.rule.Rule.TheVariants.{L7, H2, H3, H6, A1, A3}
-use Rattle.tl_rules.specs.Agent.{bytes_carried}
-use Rattle.tl_rules.specs.Conformance.{broken_order}
-use Rattle.tl_rules.specs.Effect.{number_from}
-use Rattle.tl_rules.specs.History.{request_of, release_of, probe_of, grant_sink, pending, held}
-use Rattle.tl_rules.specs.Legality.{illegal, first_illegal, beats_from, each_below}
+use Rattle.tl_rules.specs.statement.Agent.{bytes_carried}
+use Rattle.tl_rules.specs.statement.Conformance.{broken_order}
+use Rattle.tl_rules.specs.statement.Effect.{number_from}
+use Rattle.tl_rules.specs.statement.History.{request_of, release_of, probe_of, grant_sink, pending, held}
+use Rattle.tl_rules.specs.statement.Legality.{illegal, first_illegal, beats_from, each_below}
 use Rattle.tl_client.specs.declared.busy.Busy.TheVariants.{B1, B2, B4, B5}
 use Rattle.tl_client.specs.declared.operation.Op.{Op}
 use Rattle.tl_client.specs.declared.operation.Op.TheVariants.{Load, Store, Acquire, AcquireWhole, Release, Access}
@@ -35,9 +35,9 @@ use Rattle.tl_client.specs.declared.reply.Reply.TheVariants.{Value, Stored, Miss
 use Rattle.tl_client.specs.declared.verdict.Finish.TheVariants.{Granted, Released}
 use Rattle.tl_client.specs.declared.verdict.Verdict.{Verdict}
 use Rattle.tl_client.specs.declared.verdict.Verdict.TheVariants.{Stalled, Taken, Done}
-use Rattle.tl_client.specs.Ask.{asked, busy, least_free, low_bytes}
-use Rattle.tl_client.specs.End.{Terms, End, fresh}
-use Rattle.tl_client.specs.Offer.{offered}
+use Rattle.tl_client.specs.statement.Ask.{asked, busy, least_free, low_bytes}
+use Rattle.tl_client.specs.statement.End.{Terms, End, fresh}
+use Rattle.tl_client.specs.statement.Offer.{offered}
 
 -- ---- what happens to a client, and what it answers
 

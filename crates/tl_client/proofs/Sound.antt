@@ -3,7 +3,7 @@ use Rattle.std.proofs.Common.{◌≡◌, ℕ, ◌-◌, ◌*◌, ◌%◌, ◌^◌
 use Rattle.std.specs.Prelude.{is_none, unwrap_or}
 use Rattle.std.proofs.lemmas.Bool.{not-false, and_parts, eqb-true, or_parts}
 use Rattle.std.proofs.Math.Nat.{zero-div}
-use Rattle.tl_beat.specs.Width.{IsWidth}
+use Rattle.tl_beat.specs.statement.Width.{IsWidth}
 use Rattle.tl_beat.specs.declared.beat.Beat.{Beat}
 use Rattle.tl_beat.specs.declared.beat.Beat.TheVariants as beat
 use Rattle.tl_beat.specs.declared.beat.BeatB.{BeatB}
@@ -20,7 +20,7 @@ use Rattle.tl_beat.specs.declared.opcode.OpC.TheVariants as c
 use Rattle.tl_burst.specs.declared.message.Message.{Message}
 use Rattle.tl_burst.specs.declared.message.Message.TheVariants.{A, B, C, D, E}
 use Rattle.tl_burst.specs.declared.message.MessageA.{MessageA}
-use Rattle.tl_burst.specs.Burst.{beat_of, mask_at, bit}
+use Rattle.tl_burst.specs.statement.Burst.{beat_of, mask_at, bit}
 use Rattle.tl_params.specs.declared.level.Level.{Level}
 use Rattle.tl_params.specs.declared.level.Level.TheVariants as level
 use Rattle.tl_params.specs.declared.param.Grow.{Grow}
@@ -33,24 +33,24 @@ use Rattle.tl_params.specs.declared.param.Report.{Report}
 use Rattle.tl_params.specs.declared.param.Report.TheVariants as report
 use Rattle.tl_params.specs.declared.perm.Perm.{Perm}
 use Rattle.tl_params.specs.declared.perm.Perm.TheVariants as perm
-use Rattle.tl_rules.specs.Legality.{illegal, illegal_message, is_aligned, is_full_mask, each_below, c_has_param, c_has_source, d_of_level, has_transfers, answers_forwarded}
-use Rattle.tl_params.specs.Param.{report_code, report_at, cap_of}
+use Rattle.tl_rules.specs.statement.Legality.{illegal, illegal_message, is_aligned, is_full_mask, each_below, c_has_param, c_has_source, d_of_level, has_transfers, answers_forwarded}
+use Rattle.tl_params.specs.statement.Param.{report_code, report_at, cap_of}
 use Rattle.tl_rules.proofs.Legal.{legal_from_beats, legal_beat}
-use Rattle.tl_rules.specs.History.{block_at, is_grant, ends}
+use Rattle.tl_rules.specs.statement.History.{block_at, is_grant, ends}
 use Rattle.tl_params.specs.declared.rule.Rule.{Rule}
 use Rattle.tl_params.specs.declared.rule.Rule.TheVariants.{L1, A3}
 use Rattle.tl_rules.proofs.Bursts.{next_rule}
 use Rattle.tl_client.specs.declared.verdict.Finish.{Finish}
 use Rattle.tl_client.specs.declared.verdict.Verdict.TheVariants.{Stalled, Taken}
-use Rattle.tl_client.specs.Offer.{Offered, offered, taken, ended, silent, is_sent_on, waits, broken_before, broken_later, judged, judged_later, report_for}
+use Rattle.tl_client.specs.statement.Offer.{Offered, offered, taken, ended, silent, is_sent_on, waits, broken_before, broken_later, judged, judged_later, report_for}
 use Rattle.tl_client.specs.declared.busy.Busy.{Busy}
 use Rattle.tl_client.specs.declared.busy.Busy.TheVariants.{B4, B5}
 use Rattle.tl_client.specs.declared.operation.Op.{Op}
 use Rattle.tl_client.specs.declared.operation.Op.TheVariants.{Load, Store, Acquire, AcquireWhole, Release, Access}
-use Rattle.tl_client.specs.Ask.{asked, asked_given, busy, breaks_b4, breaks_b5, op_block, is_sound, is_clean, done, load, store, source_or_0, free_request, free_release, whole_grow}
-use Rattle.tl_client.specs.Send.{access, acquire, on_c, release, probe_ack, grant_ack}
-use Rattle.tl_client.specs.End.{Terms, End, zeros, copy_at, held_at, with_past}
-use Rattle.tl_client.specs.Sound.{IsSound, IsSoundIfAny, IsSoundAnswer}
+use Rattle.tl_client.specs.statement.Ask.{asked, asked_given, busy, breaks_b4, breaks_b5, op_block, is_sound, is_clean, done, load, store, source_or_0, free_request, free_release, whole_grow}
+use Rattle.tl_client.specs.statement.Send.{access, acquire, on_c, release, probe_ack, grant_ack}
+use Rattle.tl_client.specs.statement.End.{Terms, End, zeros, copy_at, held_at, with_past}
+use Rattle.tl_client.specs.laws.Sound.{IsSound, IsSoundIfAny, IsSoundAnswer}
 
 -- ---- fields
 

@@ -8,11 +8,11 @@ use Rattle.tl_beat.specs.declared.channel.Channel.{Channel}
 use Rattle.tl_beat.specs.declared.opcode.OpD.{OpD}
 use Rattle.tl_beat.specs.declared.opcode.OpD.TheVariants as d
 use Rattle.tl_params.specs.declared.rule.Rule.{Rule}
-use Rattle.tl_rules.specs.History.{ends}
+use Rattle.tl_rules.specs.statement.History.{ends}
 use Rattle.tl_client.specs.declared.verdict.Finish.{Finish}
 use Rattle.tl_client.specs.declared.verdict.Verdict.TheVariants.{Stalled, Taken}
-use Rattle.tl_client.specs.End.{Terms, End, with_past}
-use Rattle.tl_client.specs.Offer.{Offered, offered, stalls, is_stalled, broken_before, broken_later, waits, taken, ended, silent, judged, judged_later}
+use Rattle.tl_client.specs.statement.End.{Terms, End, with_past}
+use Rattle.tl_client.specs.statement.Offer.{Offered, offered, stalls, is_stalled, broken_before, broken_later, waits, taken, ended, silent, judged, judged_later}
 
 ended_now : {w : ℕ} (opcode : OpD) (x : BeatD w) (f : Finish) (e : End w) → is_stalled (ended opcode x f e).answer ≡ false
 ended_now d.AccessAck x f e = refl

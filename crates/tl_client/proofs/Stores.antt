@@ -3,10 +3,10 @@ use Rattle.std.proofs.Common.{◌≡◌, ℕ, zero, suc, ◌+◌, ◌%◌, ◌^�
 use Rattle.std.specs.Prelude.{◌==◌}
 use Rattle.std.proofs.lemmas.Bool.{and_parts, eqb-true, leb-true}
 use Rattle.std.proofs.lemmas.List.{length-append, length-take-le, length-drop}
-use Rattle.tl_rules.specs.Effect.{byte_of}
+use Rattle.tl_rules.specs.statement.Effect.{byte_of}
 use Rattle.tl_rules.proofs.Blocks.{splice_inside, splice_outside}
 use Rattle.tl_rules.proofs.Rooms.{room_in_block}
-use Rattle.tl_client.specs.Ask.{is_word, low_bytes, copy_stored}
+use Rattle.tl_client.specs.statement.Ask.{is_word, low_bytes, copy_stored}
 
 length-low_bytes : (value i n : ℕ) → length (low_bytes value i n) ≡ n
 unfolding low_bytes

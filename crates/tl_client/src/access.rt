@@ -1,9 +1,9 @@
 //! The accesses that a client is asked for.
 
 ghost use Rattle.std.specs.Prelude.{◌≡◌, not};
-ghost use Rattle.tl_beat.specs.Width.{IsWidth};
-ghost use Rattle.tl_client.specs.Ask;
-ghost use Rattle.tl_client.specs.Plain;
+ghost use Rattle.tl_beat.specs.statement.Width.{IsWidth};
+ghost use Rattle.tl_client.specs.statement.Ask;
+ghost use Rattle.tl_client.specs.code.Plain;
 
 use crate::operation::Op;
 use tl_beat::channel::Channel;

@@ -2,11 +2,11 @@
 //! a link).
 
 ghost use Rattle.std.specs.Prelude.{◌≡◌};
-ghost use Rattle.tl_rules.specs.History;
-ghost use Rattle.tl_client.specs.Ask.{asked};
-ghost use Rattle.tl_client.specs.End.{Terms, End};
-ghost use Rattle.tl_client.specs.Offer;
-ghost use Rattle.tl_client.specs.Offer.{offered};
+ghost use Rattle.tl_rules.specs.statement.History;
+ghost use Rattle.tl_client.specs.statement.Ask.{asked};
+ghost use Rattle.tl_client.specs.statement.End.{Terms, End};
+ghost use Rattle.tl_client.specs.statement.Offer;
+ghost use Rattle.tl_client.specs.statement.Offer.{offered};
 
 use crate::operation::Op;
 use crate::reply::Reply;

@@ -1,7 +1,7 @@
 //! A client of any level.
 
 ghost use Rattle.std.specs.Prelude.{◌≡◌};
-ghost use Rattle.tl_beat.specs.Width.{IsWidth};
+ghost use Rattle.tl_beat.specs.statement.Width.{IsWidth};
 
 use crate::agent::Agent;
 use crate::caching::Caching;
@@ -27,7 +27,7 @@ pub enum AnyClient<const W: usize> {
 }
 
 impl<const W: usize> AnyClient<W> {
-    ghost use Rattle.tl_client.specs.KnowsAny.{IsNewAny};
+    ghost use Rattle.tl_client.specs.code.KnowsAny.{IsNewAny};
 
     /// A client of the level of its configuration, on so many blocks, which has sent and taken
     /// nothing: N2 where these are out of their limits, otherwise N4 where its sources are, or
@@ -55,9 +55,9 @@ impl<const W: usize> AnyClient<W> {
 }
 
 impl<const W: usize> Agent<W> for AnyClient<W> {
-    ghost use Rattle.tl_client.specs.KnowsAny.{KnowsAny, any_terms};
-    ghost use Rattle.tl_client.specs.Ask.{asked};
-    ghost use Rattle.tl_client.specs.End.{End};
+    ghost use Rattle.tl_client.specs.code.KnowsAny.{KnowsAny, any_terms};
+    ghost use Rattle.tl_client.specs.statement.Ask.{asked};
+    ghost use Rattle.tl_client.specs.statement.End.{End};
 
     ghost knows = { λ c e. KnowsAny c e };
 

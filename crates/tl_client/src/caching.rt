@@ -1,8 +1,8 @@
 //! The client that keeps copies of blocks.
 
 ghost use Rattle.std.specs.Prelude.{ℕ, ◌≡◌, ◌≤◌, true, length, OnOk};
-ghost use Rattle.tl_beat.specs.Width.{IsWidth, IsWidth-prop};
-ghost use Rattle.tl_rules.specs.Legality.{has_transfers};
+ghost use Rattle.tl_beat.specs.statement.Width.{IsWidth, IsWidth-prop};
+ghost use Rattle.tl_rules.specs.statement.Legality.{has_transfers};
 
 mod ask;
 mod offer;
@@ -59,7 +59,7 @@ pub struct Caching<const W: usize> {
 }
 
 impl<const W: usize> Caching<W> {
-    ghost use Rattle.tl_client.specs.KnowsCaching.{IsNewCaching};
+    ghost use Rattle.tl_client.specs.code.KnowsCaching.{IsNewCaching};
 
     /// A client on so many blocks, which has sent and taken nothing: N2 where these are out of their
     /// limits, otherwise N4 where its sources are, or `Memory`. No other call takes memory.
@@ -89,9 +89,9 @@ impl<const W: usize> Caching<W> {
 }
 
 impl<const W: usize> Agent<W> for Caching<W> {
-    ghost use Rattle.tl_client.specs.KnowsCaching.{KnowsCaching, terms_of};
-    ghost use Rattle.tl_client.specs.Ask.{asked};
-    ghost use Rattle.tl_client.specs.End.{End};
+    ghost use Rattle.tl_client.specs.code.KnowsCaching.{KnowsCaching, terms_of};
+    ghost use Rattle.tl_client.specs.statement.Ask.{asked};
+    ghost use Rattle.tl_client.specs.statement.End.{End};
 
     ghost knows = { λ c e. KnowsCaching c e };
 

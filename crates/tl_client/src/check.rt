@@ -1,10 +1,10 @@
 //! Why an operation isn't started, whatever the client holds.
 
 ghost use Rattle.std.specs.Prelude.{◌≡◌, ◌||◌, None, not, nat_le};
-ghost use Rattle.tl_beat.specs.Width.{IsWidth};
-ghost use Rattle.tl_beat.specs.First.{first_if};
-ghost use Rattle.tl_client.specs.Ask;
-ghost use Rattle.tl_client.specs.Ask.{breaks_b4, op_block};
+ghost use Rattle.tl_beat.specs.statement.Width.{IsWidth};
+ghost use Rattle.tl_beat.specs.statement.First.{first_if};
+ghost use Rattle.tl_client.specs.statement.Ask;
+ghost use Rattle.tl_client.specs.statement.Ask.{breaks_b4, op_block};
 ghost use Rattle.tl_client.specs.declared.busy.Busy.TheVariants.{B4, B5};
 
 use crate::access::{is_access, is_sound};

@@ -1,15 +1,15 @@
 //! What a client judges of a beat.
 
 ghost use Rattle.std.specs.Prelude.{◌≡◌, false, is_err, None, OnOk, if◌then◌else◌};
-ghost use Rattle.tl_beat.specs.Width.{IsWidth};
-ghost use Rattle.tl_beat.specs.First.{first_if};
-ghost use Rattle.tl_burst.specs.Messages.{History, channel_of, unfinished};
-ghost use Rattle.tl_burst.specs.Part.{IsTakeable, part_of};
-ghost use Rattle.tl_client.specs.Offer.{is_sent_on};
+ghost use Rattle.tl_beat.specs.statement.Width.{IsWidth};
+ghost use Rattle.tl_beat.specs.statement.First.{first_if};
+ghost use Rattle.tl_burst.specs.statement.Messages.{History, channel_of, unfinished};
+ghost use Rattle.tl_burst.specs.statement.Part.{IsTakeable, part_of};
+ghost use Rattle.tl_client.specs.statement.Offer.{is_sent_on};
 ghost use Rattle.tl_params.specs.declared.rule.Rule.TheVariants.{A3, L1};
-ghost use Rattle.tl_params.specs.Refusal.{ok_unless};
-ghost use Rattle.tl_rules.specs.Conformance;
-ghost use Rattle.tl_rules.specs.Legality.{illegal};
+ghost use Rattle.tl_params.specs.statement.Refusal.{ok_unless};
+ghost use Rattle.tl_rules.specs.statement.Conformance;
+ghost use Rattle.tl_rules.specs.statement.Legality.{illegal};
 
 use tl_beat::beat::Beat;
 use tl_beat::channel::Channel;

@@ -1,13 +1,13 @@
 //! The client that keeps no copies.
 
 ghost use Rattle.std.specs.Prelude.{ℕ, ◌≡◌, ◌==◌, ◌≤◌, ◌<◌, false, is_some, None, IfOk, OnOk, if◌then◌else◌};
-ghost use Rattle.tl_params.specs.Refusal.{ok_unless};
-ghost use Rattle.tl_beat.specs.Width.{IsWidth, IsWidth-prop};
-ghost use Rattle.tl_burst.specs.Messages.{breaks_burst, grown};
-ghost use Rattle.tl_burst.specs.Part.{IsTakeable};
-ghost use Rattle.tl_rules.specs.Legality.{illegal, has_transfers};
-ghost use Rattle.tl_client.specs.Plain.{order_rule, plain_rule, plain_verdict, ends_request};
-ghost use Rattle.tl_client.specs.Sources.{open_at};
+ghost use Rattle.tl_params.specs.statement.Refusal.{ok_unless};
+ghost use Rattle.tl_beat.specs.statement.Width.{IsWidth, IsWidth-prop};
+ghost use Rattle.tl_burst.specs.statement.Messages.{breaks_burst, grown};
+ghost use Rattle.tl_burst.specs.statement.Part.{IsTakeable};
+ghost use Rattle.tl_rules.specs.statement.Legality.{illegal, has_transfers};
+ghost use Rattle.tl_client.specs.code.Plain.{order_rule, plain_rule, plain_verdict, ends_request};
+ghost use Rattle.tl_client.specs.code.Sources.{open_at};
 
 mod past;
 
@@ -52,8 +52,8 @@ pub struct Plain<const W: usize> {
 }
 
 impl<const W: usize> Plain<W> {
-    ghost use Rattle.tl_client.specs.End.{End};
-    ghost use Rattle.tl_client.specs.KnowsPlain.{IsNewPlain, KnowsPlain, terms_of};
+    ghost use Rattle.tl_client.specs.statement.End.{End};
+    ghost use Rattle.tl_client.specs.code.KnowsPlain.{IsNewPlain, KnowsPlain, terms_of};
 
     /// A client on so many blocks, which has sent and taken nothing: N2 where these are out of their
     /// limits, otherwise N4 where its sources are. It takes no memory.
@@ -135,9 +135,9 @@ impl<const W: usize> Plain<W> {
 }
 
 impl<const W: usize> Agent<W> for Plain<W> {
-    ghost use Rattle.tl_client.specs.KnowsPlain.{KnowsPlain, terms_of};
-    ghost use Rattle.tl_client.specs.Ask.{asked};
-    ghost use Rattle.tl_client.specs.End.{End};
+    ghost use Rattle.tl_client.specs.code.KnowsPlain.{KnowsPlain, terms_of};
+    ghost use Rattle.tl_client.specs.statement.Ask.{asked};
+    ghost use Rattle.tl_client.specs.statement.End.{End};
 
     ghost knows = { λ p e. KnowsPlain p e };
 

@@ -2,7 +2,7 @@
 
 ghost use Rattle.std.specs.List.{list_any};
 ghost use Rattle.std.specs.Prelude.{◌≡◌, ◌==◌};
-ghost use Rattle.tl_client.specs.Requests.{releases_block};
+ghost use Rattle.tl_client.specs.statement.Requests.{releases_block};
 
 use crate::sources::Sources;
 use tl_burst::message::MessageC;
@@ -15,7 +15,7 @@ pub struct Release {
 }
 
 impl Release {
-    ghost use Rattle.tl_client.specs.Requests.{release_in};
+    ghost use Rattle.tl_client.specs.statement.Requests.{release_in};
 
     /// What the answer to a Release is judged by.
     pub fn of<const W: usize>(release: &MessageC<W>) -> Self

@@ -2,9 +2,9 @@
 
 ghost use Rattle.std.specs.Prelude.{ℕ, ◌≡◌, ◌≤◌, ◌==◌, ◌&&◌, if◌then◌else◌, is_some};
 ghost use Rattle.std.specs.List.{list_any};
-ghost use Rattle.tl_client.specs.Ask.{least_free};
-ghost use Rattle.tl_client.specs.Requests.{start_with, opened_by, acquires_block};
-ghost use Rattle.tl_client.specs.Sources.{open_at};
+ghost use Rattle.tl_client.specs.statement.Ask.{least_free};
+ghost use Rattle.tl_client.specs.statement.Requests.{start_with, opened_by, acquires_block};
+ghost use Rattle.tl_client.specs.code.Sources.{open_at};
 
 use crate::busy::Busy;
 use crate::reply::Reply;
@@ -24,7 +24,7 @@ pub struct Request {
 }
 
 impl Request {
-    ghost use Rattle.tl_client.specs.Requests.{fields_in, judged_in};
+    ghost use Rattle.tl_client.specs.statement.Requests.{fields_in, judged_in};
 
     /// What a response to a request is judged by.
     pub fn of<const W: usize>(request: &MessageA<W>) -> Self

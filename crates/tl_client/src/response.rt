@@ -1,12 +1,12 @@
 //! How an operation ends, by the response to it.
 
 ghost use Rattle.std.specs.Prelude.{ℕ, ◌≡◌, ◌≤◌, ◌==◌, false, length, take, IfSome, if◌then◌else◌};
-ghost use Rattle.tl_beat.specs.Width.{IsWidth};
-ghost use Rattle.tl_burst.specs.Messages.{breaks_burst, grown};
-ghost use Rattle.tl_burst.specs.Part.{IsTakeable};
-ghost use Rattle.tl_client.specs.Response.{Completes, d_of, done_with, in_message};
-ghost use Rattle.tl_client.specs.Sources.{open_at};
-ghost use Rattle.tl_client.specs.Offer;
+ghost use Rattle.tl_beat.specs.statement.Width.{IsWidth};
+ghost use Rattle.tl_burst.specs.statement.Messages.{breaks_burst, grown};
+ghost use Rattle.tl_burst.specs.statement.Part.{IsTakeable};
+ghost use Rattle.tl_client.specs.code.Response.{Completes, d_of, done_with, in_message};
+ghost use Rattle.tl_client.specs.code.Sources.{open_at};
+ghost use Rattle.tl_client.specs.statement.Offer;
 
 use crate::request::Request;
 use crate::sources::Sources;

@@ -1,9 +1,9 @@
 //! The messages that a client hands out of its own: all that no beat of one carries is zero.
 
 ghost use Rattle.std.specs.Prelude.{◌≡◌, ◌<◌, ◌^◌};
-ghost use Rattle.tl_beat.specs.Width.{IsWidth};
+ghost use Rattle.tl_beat.specs.statement.Width.{IsWidth};
 ghost use Rattle.tl_burst.specs.declared.message.Message.TheVariants as message;
-ghost use Rattle.tl_client.specs.Send;
+ghost use Rattle.tl_client.specs.statement.Send;
 
 use tl_beat::opcode::{OpA, OpB, OpC};
 use tl_burst::message::{MessageA, MessageC};

@@ -1,7 +1,7 @@
 //! What is open with each source number: the messages that wait for their responses.
 
 ghost use Rattle.std.specs.Prelude.{ℕ, ◌≡◌, ◌<◌, ◌≤◌, ◌==◌, if◌then◌else◌, is_some, IfSome};
-ghost use Rattle.tl_client.specs.Ask;
+ghost use Rattle.tl_client.specs.statement.Ask;
 
 /// What is open with each source number of a pool.
 #[derive(Drop)]
@@ -10,7 +10,7 @@ pub struct Sources<T: Copy> {
 }
 
 impl<T: Copy> Sources<T> {
-    ghost use Rattle.tl_client.specs.Sources.{open_at, with_each};
+    ghost use Rattle.tl_client.specs.code.Sources.{open_at, with_each};
 
     /// Nothing is open.
     pub fn new() -> Self

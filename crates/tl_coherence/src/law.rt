@@ -1,7 +1,7 @@
 //! What keeps a world coherent, as laws.
 
 ghost use Rattle.std.specs.Prelude.{◌≡◌, true};
-ghost use Rattle.tl_beat.specs.Width.{IsWidth};
+ghost use Rattle.tl_beat.specs.statement.Width.{IsWidth};
 ghost use Rattle.tl_coherence.specs.protocol.Phase.{Pair, View, ok};
 ghost use Rattle.tl_coherence.specs.statement.Delivery.{Carries, Channels, Flows, Stalls};
 ghost use Rattle.tl_coherence.specs.statement.Draining.{Alone, Bound, Drain, Grants};

@@ -3,8 +3,8 @@ use Rattle.std.specs.Prelude.{ℕ, List, ◌++◌, Option}
 use Rattle.std.specs.Io.KnownBytes.{Appends, Consumes}
 use Rattle.tl_words.specs.declared.command.Command.{Command}
 use Rattle.tl_tool.specs.declared.status.Status.{Status}
-use Rattle.tl_tool.specs.Lines.{lines_of}
-use Rattle.tl_tool.specs.Told.{text_told}
+use Rattle.tl_tool.specs.code.Lines.{lines_of}
+use Rattle.tl_tool.specs.statement.Told.{text_told}
 
 -- the name, a separator and the text of what was read are written behind what the writer held
 abbrev pub Tells : Command → List ℕ → List ℕ → Option (List ℕ) → Option (List ℕ) → Option (List ℕ) → Option (List ℕ) → Status → Type 0

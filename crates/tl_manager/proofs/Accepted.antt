@@ -7,13 +7,13 @@ use Rattle.tl_beat.specs.declared.beat.Beat.TheVariants as beat
 use Rattle.tl_beat.specs.declared.beat.BeatA.{BeatA}
 use Rattle.tl_beat.specs.declared.beat.Link.{Link}
 use Rattle.tl_beat.specs.declared.channel.Channel.TheVariants as channel
-use Rattle.tl_burst.specs.Messages.{History, unfinished}
+use Rattle.tl_burst.specs.statement.Messages.{History, unfinished}
 use Rattle.tl_params.specs.declared.key.Key.TheVariants.{RequestSource, AcquireOf, GrantSink, GrantAckOf, ProbeOf}
-use Rattle.tl_rules.specs.Conformance.{Trace, on_link, comes_in_request}
-use Rattle.tl_rules.specs.History.{is_acquire, pending, request_of, probe_of, grant_sink}
+use Rattle.tl_rules.specs.statement.Conformance.{Trace, on_link, comes_in_request}
+use Rattle.tl_rules.specs.statement.History.{is_acquire, pending, request_of, probe_of, grant_sink}
 use Rattle.tl_rules.proofs.Sent.{pending-quiet}
-use Rattle.tl_manager.specs.Pending.{one_if, is_granted, is_asking, IsAccounted}
-use Rattle.tl_manager.specs.Service.{Service, services, service_of_block}
+use Rattle.tl_manager.specs.laws.Pending.{one_if, is_granted, is_asking, IsAccounted}
+use Rattle.tl_manager.specs.statement.Service.{Service, services, service_of_block}
 use Rattle.tl_manager.proofs.Asked.{Place, First, Later}
 use Rattle.tl_manager.proofs.Counts.{count-served}
 use Rattle.tl_manager.proofs.Links.{own_beat, other_beat, beat-keeps}

@@ -2,21 +2,21 @@
 use Rattle.std.proofs.Common.{◌≡◌, ℕ, ◌==◌, Bool, true, false, not, ◌&&◌, [], None, refl, sym, ap, subst, ◌∙◌}
 use Rattle.std.specs.Prelude.{filter, if◌then◌else◌}
 use Rattle.std.proofs.lemmas.Bool.{eqb-true, eq-eqb, and_parts}
-use Rattle.tl_beat.specs.Width.{IsWidth}
+use Rattle.tl_beat.specs.statement.Width.{IsWidth}
 use Rattle.tl_beat.specs.declared.beat.Link.{Link}
 use Rattle.tl_beat.specs.declared.channel.Channel.TheVariants as channel
 use Rattle.tl_beat.specs.declared.opcode.OpD.{OpD}
 use Rattle.tl_beat.specs.declared.opcode.OpD.TheVariants as d
 use Rattle.tl_burst.specs.declared.message.Message.TheVariants.{D}
 use Rattle.tl_burst.specs.declared.message.MessageD.{MessageD}
-use Rattle.tl_burst.specs.Burst.{beat_of}
-use Rattle.tl_burst.specs.Messages.{unfinished}
+use Rattle.tl_burst.specs.statement.Burst.{beat_of}
+use Rattle.tl_burst.specs.statement.Messages.{unfinished}
 use Rattle.tl_params.specs.declared.key.Key.TheVariants.{RequestSource, AcquireOf, GrantSink, GrantAckOf, ProbeOf}
-use Rattle.tl_rules.specs.Conformance.{Trace, on_link}
-use Rattle.tl_rules.specs.History.{block_at, is_grant, is_acquire, is_release_ack, pending}
+use Rattle.tl_rules.specs.statement.Conformance.{Trace, on_link}
+use Rattle.tl_rules.specs.statement.History.{block_at, is_grant, is_acquire, is_release_ack, pending}
 use Rattle.tl_rules.proofs.Open.{never}
-use Rattle.tl_manager.specs.Pending.{count_where, is_granted, is_asking, is_acquiring, is_granted_to, IsNamed, IsHandled, IsAccounted}
-use Rattle.tl_manager.specs.Service.{Service, services, service_of_block, is_access_answer, is_ended_by}
+use Rattle.tl_manager.specs.laws.Pending.{count_where, is_granted, is_asking, is_acquiring, is_granted_to, IsNamed, IsHandled, IsAccounted}
+use Rattle.tl_manager.specs.statement.Service.{Service, services, service_of_block, is_access_answer, is_ended_by}
 use Rattle.tl_manager.proofs.Counts.{count-filter, counted-kept, filter-same, each_both, same_block, serving-without}
 use Rattle.tl_manager.proofs.Ended.{services-sent}
 use Rattle.tl_manager.proofs.Handed.{after_sent}

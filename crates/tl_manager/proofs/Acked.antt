@@ -6,18 +6,18 @@ use Rattle.tl_beat.specs.declared.beat.Beat.TheVariants as beat
 use Rattle.tl_beat.specs.declared.beat.BeatE.{BeatE}
 use Rattle.tl_beat.specs.declared.beat.Link.{Link}
 use Rattle.tl_beat.specs.declared.channel.Channel.TheVariants as channel
-use Rattle.tl_burst.specs.Messages.{History, unfinished}
+use Rattle.tl_burst.specs.statement.Messages.{History, unfinished}
 use Rattle.tl_params.specs.declared.key.Key.TheVariants.{RequestSource, AcquireOf, GrantSink, GrantAckOf, ProbeOf}
 use Rattle.tl_params.specs.declared.profile.Profile.{Profile}
 use Rattle.tl_params.specs.declared.rule.Rule.TheVariants.{H8}
-use Rattle.tl_rules.specs.Conformance.{Trace, on_link, broken_in_order, broken_order, comes_in_grant}
-use Rattle.tl_rules.specs.History.{ends, is_acquire, is_sink, pending, request_of, probe_of, grant_sink}
+use Rattle.tl_rules.specs.statement.Conformance.{Trace, on_link, broken_in_order, broken_order, comes_in_grant}
+use Rattle.tl_rules.specs.statement.History.{ends, is_acquire, is_sink, pending, request_of, probe_of, grant_sink}
 use Rattle.tl_rules.proofs.Bursts.{next_rule}
 use Rattle.tl_rules.proofs.Sent.{pending-quiet}
 use Rattle.tl_rules.proofs.Open.{never}
-use Rattle.tl_manager.specs.Kept.{AreApart, blocks_of}
-use Rattle.tl_manager.specs.Pending.{count_where, is_granted, is_asking, is_acquiring, is_granted_to, IsNamed, IsHandled, IsAccounted}
-use Rattle.tl_manager.specs.Service.{Service, services, service_of_block, is_ended_by}
+use Rattle.tl_manager.specs.code.Kept.{AreApart, blocks_of}
+use Rattle.tl_manager.specs.laws.Pending.{count_where, is_granted, is_asking, is_acquiring, is_granted_to, IsNamed, IsHandled, IsAccounted}
+use Rattle.tl_manager.specs.statement.Service.{Service, services, service_of_block, is_ended_by}
 use Rattle.tl_manager.proofs.Counts.{count-same, count-filter, all-each}
 use Rattle.tl_manager.proofs.Links.{own_beat, other_beat, beat-keeps, pending-closed, whole-e}
 use Rattle.tl_manager.proofs.Serving.{if_passes, serving-filter, some_is}

@@ -2,7 +2,7 @@
 use Rattle.std.proofs.Common.{◌≡◌, ℕ, ◌+◌, ◌==◌, Bool, true, false, List, [], ◌∷◌, length, map, Option, Some, None, refl, sym, ap, subst, ◌∙◌, lit≤}
 use Rattle.std.specs.Prelude.{if◌then◌else◌}
 use Rattle.std.proofs.lemmas.Bool.{eqb-true, true≢false}
-use Rattle.tl_beat.specs.Width.{IsWidth}
+use Rattle.tl_beat.specs.statement.Width.{IsWidth}
 use Rattle.tl_beat.specs.declared.beat.Beat.{Beat}
 use Rattle.tl_beat.specs.declared.beat.Beat.TheVariants as beat
 use Rattle.tl_beat.specs.declared.beat.BeatC.{BeatC}
@@ -13,29 +13,29 @@ use Rattle.tl_burst.specs.declared.message.Message.TheVariants.{A, B, C, D, E}
 use Rattle.tl_burst.specs.declared.message.MessageA.{MessageA}
 use Rattle.tl_burst.specs.declared.message.MessageD.{MessageD}
 use Rattle.tl_beat.specs.declared.opcode.OpD.TheVariants as d
-use Rattle.tl_burst.specs.Burst.{beat_of}
-use Rattle.tl_burst.specs.Messages.{History, channel_of, unfinished, burst_length}
+use Rattle.tl_burst.specs.statement.Burst.{beat_of}
+use Rattle.tl_burst.specs.statement.Messages.{History, channel_of, unfinished, burst_length}
 use Rattle.tl_rules.specs.declared.answer.Answer.{Answer}
 use Rattle.tl_rules.specs.declared.answer.Answer.TheVariants as answer
 use Rattle.tl_params.specs.declared.config.Config.{Config}
 use Rattle.tl_params.specs.declared.param.Cap.{Cap}
-use Rattle.tl_rules.specs.Agent.{sent}
-use Rattle.tl_rules.specs.Conformance.{Trace, on_link, broken_in_order}
-use Rattle.tl_rules.specs.Effect.{Memory, effect, answer_of}
-use Rattle.tl_rules.specs.History.{ends, block_at, is_acquire, is_probe_ack, is_release, is_release_ack}
-use Rattle.tl_manager.specs.Handing.{Handed, no_payload, with_handed, probe_of_block, release_ack, access_answer, grant, grant_opcode, Deed, nothing, performed}
-use Rattle.tl_manager.specs.Holders.{probed, is_settled}
-use Rattle.tl_manager.specs.Kept.{Each}
-use Rattle.tl_manager.specs.Releases.{IsAnswered}
-use Rattle.tl_manager.specs.Service.{Service, services, service_of_block}
-use Rattle.tl_manager.specs.Deed.{probing_or, begun_with, begun_if_any, performed_if_any, finish, completed_c, completed, deed}
-use Rattle.tl_manager.specs.End.{End}
-use Rattle.tl_manager.specs.Offer.{is_from_client}
+use Rattle.tl_rules.specs.statement.Agent.{sent}
+use Rattle.tl_rules.specs.statement.Conformance.{Trace, on_link, broken_in_order}
+use Rattle.tl_rules.specs.statement.Effect.{Memory, effect, answer_of}
+use Rattle.tl_rules.specs.statement.History.{ends, block_at, is_acquire, is_probe_ack, is_release, is_release_ack}
+use Rattle.tl_manager.specs.statement.Handing.{Handed, no_payload, with_handed, probe_of_block, release_ack, access_answer, grant, grant_opcode, Deed, nothing, performed}
+use Rattle.tl_manager.specs.statement.Holders.{probed, is_settled}
+use Rattle.tl_manager.specs.code.Kept.{Each}
+use Rattle.tl_manager.specs.code.Releases.{IsAnswered}
+use Rattle.tl_manager.specs.statement.Service.{Service, services, service_of_block}
+use Rattle.tl_manager.specs.statement.Deed.{probing_or, begun_with, begun_if_any, performed_if_any, finish, completed_c, completed, deed}
+use Rattle.tl_manager.specs.statement.End.{End}
+use Rattle.tl_manager.specs.statement.Offer.{is_from_client}
 use Rattle.tl_manager.proofs.Handed.{after_sent, own_link, other_link, whole-after_sent}
 use Rattle.tl_manager.proofs.Lawful.{IsHandable}
 use Rattle.tl_manager.proofs.Releases.{IsCarried, IsNoAck, answered-a, answered-b, answered-d, answered-e, carried, not_last, no_release, released}
 use Rattle.tl_manager.proofs.Links.{own_beat}
-use Rattle.tl_manager.specs.Ready.{IsWhole}
+use Rattle.tl_manager.specs.code.Ready.{IsWhole}
 
 -- ---- messages that answer no Release
 

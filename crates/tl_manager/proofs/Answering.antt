@@ -2,7 +2,7 @@
 use Rattle.std.proofs.Common.{◌≡◌, ◌≢◌, ℕ, ◌==◌, ◌⊎◌, Bool, true, false, not, ◌&&◌, List, [], ◌∷◌, Some, None, refl, sym, ap, subst, ◌∙◌, inl, inr}
 use Rattle.std.specs.Prelude.{filter, if◌then◌else◌, unwrap_or}
 use Rattle.std.proofs.lemmas.Bool.{cases_eq, eq-eqb, ne_eqb}
-use Rattle.tl_beat.specs.Width.{IsWidth}
+use Rattle.tl_beat.specs.statement.Width.{IsWidth}
 use Rattle.tl_beat.specs.declared.beat.Link.{Link}
 use Rattle.tl_burst.specs.declared.message.Message.{Message}
 use Rattle.tl_burst.specs.declared.message.Message.TheVariants.{A, D}
@@ -12,20 +12,20 @@ use Rattle.tl_params.specs.declared.config.Config.{Config}
 use Rattle.tl_params.specs.declared.key.Key.TheVariants.{ProbeOf}
 use Rattle.tl_params.specs.declared.perm.Perm.{Perm}
 use Rattle.tl_rules.specs.declared.answer.Answer.{Answer}
-use Rattle.tl_rules.specs.Conformance.{Trace, on_link}
-use Rattle.tl_rules.specs.Effect.{Memory, effect, answer_of}
-use Rattle.tl_rules.specs.History.{block_at, is_acquire, is_grant, capped}
-use Rattle.tl_rules.specs.Legality.{is_one_of}
-use Rattle.tl_manager.specs.Blocks.{AreBlocks}
-use Rattle.tl_manager.specs.Handing.{Deed, with_handed, performed, grant, access_answer}
-use Rattle.tl_manager.specs.Holders.{recorded, is_missing}
-use Rattle.tl_manager.specs.Home.{IsHomeWithout, IsDone, IsReadyAt}
-use Rattle.tl_manager.specs.Pending.{is_granted}
-use Rattle.tl_manager.specs.Ready.{IsReady, IsWhole}
-use Rattle.tl_manager.specs.Record.{granted_by}
-use Rattle.tl_manager.specs.Service.{Service, services, service_of_block, trackers_of}
-use Rattle.tl_manager.specs.Tracked.{service_with, IsTracked}
-use Rattle.tl_manager.specs.Trackers.{tracker_at}
+use Rattle.tl_rules.specs.statement.Conformance.{Trace, on_link}
+use Rattle.tl_rules.specs.statement.Effect.{Memory, effect, answer_of}
+use Rattle.tl_rules.specs.statement.History.{block_at, is_acquire, is_grant, capped}
+use Rattle.tl_rules.specs.statement.Legality.{is_one_of}
+use Rattle.tl_manager.specs.code.Blocks.{AreBlocks}
+use Rattle.tl_manager.specs.statement.Handing.{Deed, with_handed, performed, grant, access_answer}
+use Rattle.tl_manager.specs.statement.Holders.{recorded, is_missing}
+use Rattle.tl_manager.specs.code.Home.{IsHomeWithout, IsDone, IsReadyAt}
+use Rattle.tl_manager.specs.laws.Pending.{is_granted}
+use Rattle.tl_manager.specs.code.Ready.{IsReady, IsWhole}
+use Rattle.tl_manager.specs.laws.Record.{granted_by}
+use Rattle.tl_manager.specs.statement.Service.{Service, services, service_of_block, trackers_of}
+use Rattle.tl_manager.specs.code.Tracked.{service_with, IsTracked}
+use Rattle.tl_manager.specs.code.Trackers.{tracker_at}
 use Rattle.tl_manager.specs.declared.manager.home.Home.{Home}
 use Rattle.tl_manager.specs.declared.manager.tracker.Tracker.{Tracker}
 use Rattle.tl_manager.specs.declared.manager.tracker.Tracker.TheVariants.{Free}

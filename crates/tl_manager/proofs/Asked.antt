@@ -2,24 +2,24 @@
 use Rattle.std.proofs.Common.{◌≡◌, ℕ, ◌+◌, ◌==◌, Bool, true, false, not, ◌&&◌, List, [], ◌∷◌, Option, Some, None, refl, sym, ap, subst, ◌∙◌, arith}
 use Rattle.std.specs.Prelude.{if◌then◌else◌}
 use Rattle.std.proofs.lemmas.Bool.{eqb-true, eq-eqb, not-false}
-use Rattle.tl_beat.specs.Opcode.{a_carries_data}
+use Rattle.tl_beat.specs.statement.Opcode.{a_carries_data}
 use Rattle.tl_beat.specs.declared.beat.Beat.{Beat}
 use Rattle.tl_beat.specs.declared.beat.Beat.TheVariants as beat
 use Rattle.tl_beat.specs.declared.beat.BeatA.{BeatA}
 use Rattle.tl_beat.specs.declared.opcode.OpA.{OpA}
 use Rattle.tl_beat.specs.declared.opcode.OpA.TheVariants as a
 use Rattle.tl_beat.specs.declared.channel.Channel.TheVariants as channel
-use Rattle.tl_beat.specs.First.{first_if}
-use Rattle.tl_burst.specs.Messages.{History, unfinished, breaks_burst, same_control}
-use Rattle.tl_burst.specs.Part.{is_empty}
+use Rattle.tl_beat.specs.statement.First.{first_if}
+use Rattle.tl_burst.specs.statement.Messages.{History, unfinished, breaks_burst, same_control}
+use Rattle.tl_burst.specs.statement.Part.{is_empty}
 use Rattle.tl_burst.proofs.ControlFields.{control_a}
 use Rattle.tl_params.specs.declared.key.Key.TheVariants.{RequestSource}
 use Rattle.tl_params.specs.declared.profile.Profile.{Profile}
 use Rattle.tl_params.specs.declared.rule.Rule.TheVariants.{S1, H1}
-use Rattle.tl_rules.specs.Conformance.{broken_in_order, broken_order, comes_in_request}
-use Rattle.tl_rules.specs.History.{begins, ends, is_acquire, pending, request_of}
+use Rattle.tl_rules.specs.statement.Conformance.{broken_in_order, broken_order, comes_in_request}
+use Rattle.tl_rules.specs.statement.History.{begins, ends, is_acquire, pending, request_of}
 use Rattle.tl_rules.proofs.Bursts.{next_rule}
-use Rattle.tl_manager.specs.Pending.{one_if, HasFields, IsBegun}
+use Rattle.tl_manager.specs.laws.Pending.{one_if, HasFields, IsBegun}
 use Rattle.tl_manager.proofs.Links.{pending-opened}
 
 -- ---- the first beat and the later ones

@@ -5,18 +5,18 @@ use Rattle.std.proofs.Math.Bridge.{le_prop}
 use Rattle.std.proofs.Math.Nat.{mod-eq_of_lt}
 use Rattle.std.proofs.lemmas.Bool.{le-leb, leb-true}
 use Rattle.std.proofs.lemmas.Nat.{mod-pow-add}
-use Rattle.tl_beat.specs.Width.{IsWidth}
+use Rattle.tl_beat.specs.statement.Width.{IsWidth}
 use Rattle.tl_beat.specs.declared.beat.Beat.{Beat}
 use Rattle.tl_beat.specs.declared.beat.BeatA.{BeatA}
 use Rattle.tl_beat.specs.declared.opcode.OpA.{OpA}
 use Rattle.tl_burst.specs.declared.message.Message.TheVariants.{A}
 use Rattle.tl_burst.specs.declared.message.MessageA.{MessageA}
-use Rattle.tl_burst.specs.Burst.{a_beat_of, beats_of, begun, IsBurst}
+use Rattle.tl_burst.specs.statement.Burst.{a_beat_of, beats_of, begun, IsBurst}
 use Rattle.tl_burst.proofs.Begun.{length-begun}
 use Rattle.tl_burst.proofs.Splitting.{beats-positive}
-use Rattle.tl_rules.specs.Agent.{payload_of}
+use Rattle.tl_rules.specs.statement.Agent.{payload_of}
 use Rattle.tl_rules.proofs.Payload.{payload-a}
-use Rattle.tl_manager.specs.Request.{masks_carried, corrupt_carried, request_if, request_carried}
+use Rattle.tl_manager.specs.statement.Request.{masks_carried, corrupt_carried, request_if, request_carried}
 
 -- ---- masks and corrupt bits
 

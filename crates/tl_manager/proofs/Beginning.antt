@@ -6,27 +6,27 @@ use Rattle.std.proofs.lemmas.Bool.{cases_lt, lt-ltb}
 use Rattle.tl_beat.specs.declared.beat.Beat.TheVariants as beat
 use Rattle.tl_beat.specs.declared.beat.Link.{Link}
 use Rattle.tl_burst.specs.declared.message.MessageA.{MessageA}
-use Rattle.tl_burst.specs.Messages.{History}
+use Rattle.tl_burst.specs.statement.Messages.{History}
 use Rattle.tl_params.specs.declared.config.Config.{Config}
 use Rattle.tl_params.specs.declared.key.Key.TheVariants.{ProbeOf}
 use Rattle.tl_params.specs.declared.param.Cap.{Cap}
 use Rattle.tl_params.specs.declared.param.Cap.TheVariants as cap
 use Rattle.tl_params.specs.declared.perm.Perm.{Perm}
 use Rattle.tl_params.specs.declared.perm.Perm.TheVariants as perm
-use Rattle.tl_rules.specs.Conformance.{Trace}
-use Rattle.tl_rules.specs.Effect.{Memory}
-use Rattle.tl_rules.specs.History.{block_at, is_acquire, pending, held, ends}
-use Rattle.tl_rules.specs.Legality.{is_one_of}
-use Rattle.tl_manager.specs.Bit.{bit_if}
-use Rattle.tl_manager.specs.Handing.{Deed, Handed, with_handed, probes, probe_beat, performed}
-use Rattle.tl_manager.specs.Holders.{clients_from, is_nobody, recorded, is_missing, is_above, is_spared, probed}
-use Rattle.tl_manager.specs.Home.{IsHomeWithout, IsDone, IsReadyAt}
-use Rattle.tl_manager.specs.Kept.{Each, IsSound}
-use Rattle.tl_manager.specs.Ready.{IsReady}
-use Rattle.tl_manager.specs.Service.{Service, services, service_of_block, trackers_of}
-use Rattle.tl_manager.specs.Deed.{probing_or, begun_with}
-use Rattle.tl_manager.specs.Tracked.{service_with, IsTracked}
-use Rattle.tl_manager.specs.Trackers.{tracker_at}
+use Rattle.tl_rules.specs.statement.Conformance.{Trace}
+use Rattle.tl_rules.specs.statement.Effect.{Memory}
+use Rattle.tl_rules.specs.statement.History.{block_at, is_acquire, pending, held, ends}
+use Rattle.tl_rules.specs.statement.Legality.{is_one_of}
+use Rattle.tl_manager.specs.code.Bit.{bit_if}
+use Rattle.tl_manager.specs.statement.Handing.{Deed, Handed, with_handed, probes, probe_beat, performed}
+use Rattle.tl_manager.specs.statement.Holders.{clients_from, is_nobody, recorded, is_missing, is_above, is_spared, probed}
+use Rattle.tl_manager.specs.code.Home.{IsHomeWithout, IsDone, IsReadyAt}
+use Rattle.tl_manager.specs.code.Kept.{Each, IsSound}
+use Rattle.tl_manager.specs.code.Ready.{IsReady}
+use Rattle.tl_manager.specs.statement.Service.{Service, services, service_of_block, trackers_of}
+use Rattle.tl_manager.specs.statement.Deed.{probing_or, begun_with}
+use Rattle.tl_manager.specs.code.Tracked.{service_with, IsTracked}
+use Rattle.tl_manager.specs.code.Trackers.{tracker_at}
 use Rattle.tl_manager.specs.declared.manager.home.Home.{Home}
 use Rattle.tl_manager.specs.declared.manager.tracker.Tracker.TheVariants.{Probing}
 use Rattle.tl_manager.proofs.Answering.{tracker-changed}

@@ -3,9 +3,9 @@ use Rattle.std.proofs.Common.{◌≡◌, ℕ, ◌+◌, ◌*◌, ◌/◌, ◌%◌
 use Rattle.std.specs.Prelude.{slice_index, slice_index_or, slice_set, replicate, ◌≢◌}
 use Rattle.std.proofs.lemmas.Bool.{eq-eqb, ne_eqb, cases_eq}
 use Rattle.std.proofs.lemmas.List.{get_or-set_same, get_or-set_other, get_or-replicate, length-replicate, length-set}
-use Rattle.tl_rules.specs.Effect.{Memory, IsBlock, bytes_from}
-use Rattle.tl_manager.specs.Blocks.{AreBlocks}
-use Rattle.tl_manager.specs.Deed.{with_block}
+use Rattle.tl_rules.specs.statement.Effect.{Memory, IsBlock, bytes_from}
+use Rattle.tl_manager.specs.code.Blocks.{AreBlocks}
+use Rattle.tl_manager.specs.statement.Deed.{with_block}
 use Rattle.tl_manager.proofs.Written.{bytes_are}
 
 -- the bytes of a block are read off it

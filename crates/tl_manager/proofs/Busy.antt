@@ -3,13 +3,13 @@ use Rattle.std.proofs.Common.{◌≡◌, ℕ, zero, suc, ◌+◌, ◌<◌, ◌�
 use Rattle.std.specs.Prelude.{if◌then◌else◌, nat_le, is_some}
 use Rattle.std.proofs.lemmas.Bool.{cases_eq, eqb-true, eq-eqb, ne_eqb, or_parts, le-leb, lt-leb}
 use Rattle.std.proofs.lemmas.List.{length-map}
-use Rattle.tl_rules.specs.Conformance.{Trace}
-use Rattle.tl_rules.specs.History.{block_at}
-use Rattle.tl_rules.specs.Legality.{is_one_of}
-use Rattle.tl_manager.specs.Kept.{Each, AreApart}
-use Rattle.tl_manager.specs.Service.{Service, services, is_in_service, trackers_of, free_from, least_untaken}
-use Rattle.tl_manager.specs.Tracked.{service_with, IsTracked}
-use Rattle.tl_manager.specs.Tracking.{is_of, is_free}
+use Rattle.tl_rules.specs.statement.Conformance.{Trace}
+use Rattle.tl_rules.specs.statement.History.{block_at}
+use Rattle.tl_rules.specs.statement.Legality.{is_one_of}
+use Rattle.tl_manager.specs.code.Kept.{Each, AreApart}
+use Rattle.tl_manager.specs.statement.Service.{Service, services, is_in_service, trackers_of, free_from, least_untaken}
+use Rattle.tl_manager.specs.code.Tracked.{service_with, IsTracked}
+use Rattle.tl_manager.specs.code.Tracking.{is_of, is_free}
 use Rattle.tl_manager.specs.declared.manager.tracker.Tracker.{Tracker}
 use Rattle.tl_manager.specs.declared.manager.tracker.Tracker.TheVariants.{Free, Probing, Granted}
 use Rattle.tl_manager.proofs.Free.{as_many, without}

@@ -3,35 +3,35 @@ use Rattle.std.proofs.Common.{◌≡◌, ℕ, ◌==◌, Bool, true, false, List,
 use Rattle.std.specs.Prelude.{slice_get, slice_set, if◌then◌else◌}
 use Rattle.std.proofs.lemmas.Bool.{cases_eq, eq-eqb, ne_eqb}
 use Rattle.std.proofs.lemmas.List.{length-set}
-use Rattle.tl_beat.specs.Width.{IsWidth}
+use Rattle.tl_beat.specs.statement.Width.{IsWidth}
 use Rattle.tl_beat.specs.declared.beat.Beat.{Beat}
 use Rattle.tl_beat.specs.declared.beat.Link.{Link}
 use Rattle.tl_beat.specs.declared.channel.Channel.{Channel}
 use Rattle.tl_beat.specs.declared.channel.Channel.TheVariants as channel
-use Rattle.tl_beat.specs.First.{first_if}
+use Rattle.tl_beat.specs.statement.First.{first_if}
 use Rattle.tl_burst.specs.declared.message.Message.{Message}
-use Rattle.tl_burst.specs.Burst.{IsBurst}
-use Rattle.tl_burst.specs.Messages.{History, channel_of, breaks_burst, unfinished}
-use Rattle.tl_burst.specs.Part.{is_empty, completes}
+use Rattle.tl_burst.specs.statement.Burst.{IsBurst}
+use Rattle.tl_burst.specs.statement.Messages.{History, channel_of, breaks_burst, unfinished}
+use Rattle.tl_burst.specs.statement.Part.{is_empty, completes}
 use Rattle.tl_params.specs.declared.config.Config.{Config}
 use Rattle.tl_params.specs.declared.perm.Perm.{Perm}
 use Rattle.tl_params.specs.declared.profile.Profile.{Profile}
 use Rattle.tl_params.specs.declared.rule.Rule.TheVariants.{S1}
-use Rattle.tl_rules.specs.Conformance.{on_link, broken_in_order, broken_order}
-use Rattle.tl_rules.specs.History.{ends}
+use Rattle.tl_rules.specs.statement.Conformance.{on_link, broken_in_order, broken_order}
+use Rattle.tl_rules.specs.statement.History.{ends}
 use Rattle.tl_rules.proofs.Bursts.{next_rule}
-use Rattle.tl_manager.specs.After.{is_of_clients}
-use Rattle.tl_manager.specs.BurstFor.{burst_for, burst_with}
-use Rattle.tl_manager.specs.Complete.{IsComplete}
-use Rattle.tl_manager.specs.Handing.{with_handed}
-use Rattle.tl_manager.specs.Home.{IsHome}
-use Rattle.tl_manager.specs.Kept.{Each, IsSound, IsFilled, IsKept}
-use Rattle.tl_manager.specs.Knows.{Knows}
-use Rattle.tl_manager.specs.Ready.{IsPassed}
-use Rattle.tl_manager.specs.Deed.{deed}
-use Rattle.tl_manager.specs.End.{End}
-use Rattle.tl_manager.specs.Offer.{taken}
-use Rattle.tl_manager.specs.Wire.{IsWire}
+use Rattle.tl_manager.specs.laws.After.{is_of_clients}
+use Rattle.tl_manager.specs.code.BurstFor.{burst_for, burst_with}
+use Rattle.tl_manager.specs.code.Complete.{IsComplete}
+use Rattle.tl_manager.specs.statement.Handing.{with_handed}
+use Rattle.tl_manager.specs.code.Home.{IsHome}
+use Rattle.tl_manager.specs.code.Kept.{Each, IsSound, IsFilled, IsKept}
+use Rattle.tl_manager.specs.code.Knows.{Knows}
+use Rattle.tl_manager.specs.code.Ready.{IsPassed}
+use Rattle.tl_manager.specs.statement.Deed.{deed}
+use Rattle.tl_manager.specs.statement.End.{End}
+use Rattle.tl_manager.specs.statement.Offer.{taken}
+use Rattle.tl_manager.specs.code.Wire.{IsWire}
 use Rattle.tl_manager.specs.declared.manager.links.Links.{Links}
 use Rattle.tl_manager.specs.declared.manager.wire.Wire.{Wire}
 use Rattle.tl_manager.proofs.Continued.{bursts-handed}

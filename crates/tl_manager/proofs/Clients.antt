@@ -5,10 +5,10 @@ use Rattle.std.proofs.lemmas.Bool.{cases_eq, cases_lt, eq-eqb, ne_eqb, lt-ltb, l
 use Rattle.tl_params.specs.declared.config.Config.{Config}
 use Rattle.tl_params.specs.declared.perm.Perm.{Perm}
 use Rattle.tl_params.specs.declared.perm.Perm.TheVariants as perm
-use Rattle.tl_rules.specs.Conformance.{Trace}
-use Rattle.tl_rules.specs.Legality.{is_one_of}
-use Rattle.tl_manager.specs.Holders.{clients_from, clients_where, is_nobody, has_copy, recorded, is_unheld}
-use Rattle.tl_manager.specs.Kept.{Each, IsRising}
+use Rattle.tl_rules.specs.statement.Conformance.{Trace}
+use Rattle.tl_rules.specs.statement.Legality.{is_one_of}
+use Rattle.tl_manager.specs.statement.Holders.{clients_from, clients_where, is_nobody, has_copy, recorded, is_unheld}
+use Rattle.tl_manager.specs.code.Kept.{Each, IsRising}
 use Rattle.tl_manager.proofs.Lists.{each_weaker}
 
 -- ---- who is among them

@@ -2,7 +2,7 @@
 use Rattle.std.proofs.Common.{◌≡◌, ℕ, zero, suc, ◌<◌, ◌==◌, Bool, true, false, List, [], ◌∷◌, length, Some, None, refl, sym, ap, subst, ◌∙◌}
 use Rattle.std.specs.Prelude.{nat_le, unwrap_or}
 use Rattle.std.proofs.lemmas.Bool.{eqb-true, ne_eqb, le-leb, or_parts}
-use Rattle.tl_beat.specs.Width.{IsWidth}
+use Rattle.tl_beat.specs.statement.Width.{IsWidth}
 use Rattle.tl_beat.specs.declared.beat.Beat.{Beat}
 use Rattle.tl_beat.specs.declared.beat.Beat.TheVariants as beat
 use Rattle.tl_beat.specs.declared.beat.BeatA.{BeatA}
@@ -14,30 +14,30 @@ use Rattle.tl_burst.specs.declared.message.Message.TheVariants.{A, C, E}
 use Rattle.tl_burst.specs.declared.message.MessageA.{MessageA}
 use Rattle.tl_burst.specs.declared.message.MessageC.{MessageC}
 use Rattle.tl_burst.specs.declared.message.MessageE.{MessageE}
-use Rattle.tl_burst.specs.Burst.{a_beat_of, c_beat_of, begun, beats_of, burst_of, IsBurst}
-use Rattle.tl_burst.specs.Messages.{on, unfinished}
+use Rattle.tl_burst.specs.statement.Burst.{a_beat_of, c_beat_of, begun, beats_of, burst_of, IsBurst}
+use Rattle.tl_burst.specs.statement.Messages.{on, unfinished}
 use Rattle.tl_params.specs.declared.config.Config.{Config}
 use Rattle.tl_params.specs.declared.key.Key.TheVariants.{ProbeOf}
 use Rattle.tl_params.specs.declared.perm.Perm.{Perm}
-use Rattle.tl_rules.specs.Conformance.{Trace, on_link}
-use Rattle.tl_rules.specs.Effect.{Memory}
-use Rattle.tl_rules.specs.History.{ends, block_at, pending}
-use Rattle.tl_rules.specs.Legality.{is_one_of}
+use Rattle.tl_rules.specs.statement.Conformance.{Trace, on_link}
+use Rattle.tl_rules.specs.statement.Effect.{Memory}
+use Rattle.tl_rules.specs.statement.History.{ends, block_at, pending}
+use Rattle.tl_rules.specs.statement.Legality.{is_one_of}
 use Rattle.tl_rules.proofs.Payload.{payload-c}
-use Rattle.tl_manager.specs.Complete.{IsComplete}
-use Rattle.tl_manager.specs.Handing.{Handed, with_handed}
-use Rattle.tl_manager.specs.Holders.{recorded, cap_probed}
-use Rattle.tl_manager.specs.Home.{IsHome, IsHomeWithout, IsDone, IsReadyAt, IsMessage}
-use Rattle.tl_manager.specs.Pending.{is_granted}
-use Rattle.tl_manager.specs.Ready.{IsReady, IsServed, IsTaken}
-use Rattle.tl_manager.specs.Record.{reported_by}
-use Rattle.tl_manager.specs.Service.{Service, services, service_of_block, is_in_service, trackers_of, least_untaken}
-use Rattle.tl_manager.specs.Deed.{deed, begun_with}
-use Rattle.tl_manager.specs.End.{End}
-use Rattle.tl_manager.specs.Offer.{is_from_client}
-use Rattle.tl_manager.specs.Tracked.{service_with, IsTracked}
-use Rattle.tl_manager.specs.Trackers.{tracker_at}
-use Rattle.tl_manager.specs.Tracking.{is_free}
+use Rattle.tl_manager.specs.code.Complete.{IsComplete}
+use Rattle.tl_manager.specs.statement.Handing.{Handed, with_handed}
+use Rattle.tl_manager.specs.statement.Holders.{recorded, cap_probed}
+use Rattle.tl_manager.specs.code.Home.{IsHome, IsHomeWithout, IsDone, IsReadyAt, IsMessage}
+use Rattle.tl_manager.specs.laws.Pending.{is_granted}
+use Rattle.tl_manager.specs.code.Ready.{IsReady, IsServed, IsTaken}
+use Rattle.tl_manager.specs.laws.Record.{reported_by}
+use Rattle.tl_manager.specs.statement.Service.{Service, services, service_of_block, is_in_service, trackers_of, least_untaken}
+use Rattle.tl_manager.specs.statement.Deed.{deed, begun_with}
+use Rattle.tl_manager.specs.statement.End.{End}
+use Rattle.tl_manager.specs.statement.Offer.{is_from_client}
+use Rattle.tl_manager.specs.code.Tracked.{service_with, IsTracked}
+use Rattle.tl_manager.specs.code.Trackers.{tracker_at}
+use Rattle.tl_manager.specs.code.Tracking.{is_free}
 use Rattle.tl_manager.specs.declared.manager.home.Home.{Home}
 use Rattle.tl_manager.specs.declared.manager.tracker.Tracker.{Tracker}
 use Rattle.tl_manager.proofs.Accepted.{granted_a}

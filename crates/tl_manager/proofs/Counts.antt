@@ -2,12 +2,12 @@
 use Rattle.std.proofs.Common.{◌≡◌, ℕ, ◌+◌, ◌<◌, ◌≤◌, ◌==◌, Bool, true, false, not, cond, ◌&&◌, List, [], ◌∷◌, Option, Some, None, refl, sym, ap, ◌∙◌, arith}
 use Rattle.std.specs.Prelude.{filter, if◌then◌else◌}
 use Rattle.std.proofs.lemmas.Bool.{eqb-true, eq-eqb, or_parts}
-use Rattle.tl_rules.specs.Conformance.{Trace}
-use Rattle.tl_rules.specs.History.{block_at}
-use Rattle.tl_rules.specs.Legality.{is_one_of}
-use Rattle.tl_manager.specs.Kept.{Each, AreApart, blocks_of}
-use Rattle.tl_manager.specs.Pending.{one_if, count_where, is_granted, is_asking}
-use Rattle.tl_manager.specs.Service.{Service, service_of_block, trackers_of}
+use Rattle.tl_rules.specs.statement.Conformance.{Trace}
+use Rattle.tl_rules.specs.statement.History.{block_at}
+use Rattle.tl_rules.specs.statement.Legality.{is_one_of}
+use Rattle.tl_manager.specs.code.Kept.{Each, AreApart, blocks_of}
+use Rattle.tl_manager.specs.laws.Pending.{one_if, count_where, is_granted, is_asking}
+use Rattle.tl_manager.specs.statement.Service.{Service, service_of_block, trackers_of}
 use Rattle.tl_manager.proofs.Serving.{some_is, tracker_among}
 
 -- ---- tests that agree

@@ -2,7 +2,7 @@
 use Rattle.std.proofs.Common.{◌≡◌, ℕ, zero, suc, ◌%◌, ◌^◌, ◌<◌, ◌≤◌, ◌==◌, Bool, true, false, not, cond, ◌&&◌, List, [], ◌∷◌, ◌++◌, length, map, Option, Some, None, refl, ap, ◌∙◌, arith}
 use Rattle.std.specs.Prelude.{nat_le, option_map, if◌then◌else◌}
 use Rattle.std.proofs.lemmas.Bool.{and_parts, eqb-true, not-false}
-use Rattle.tl_beat.specs.Width.{IsWidth}
+use Rattle.tl_beat.specs.statement.Width.{IsWidth}
 use Rattle.tl_beat.specs.declared.beat.Beat.{Beat}
 use Rattle.tl_beat.specs.declared.beat.Beat.TheVariants as beat
 use Rattle.tl_beat.specs.declared.beat.BeatA.{BeatA}
@@ -10,8 +10,8 @@ use Rattle.tl_beat.specs.declared.beat.BeatC.{BeatC}
 use Rattle.tl_beat.specs.declared.beat.Link.{Link}
 use Rattle.tl_burst.specs.declared.message.Message.{Message}
 use Rattle.tl_burst.specs.declared.message.Message.TheVariants.{A}
-use Rattle.tl_burst.specs.Burst.{beats_of, beat_of, begun, burst_of}
-use Rattle.tl_burst.specs.Messages.{channel_of, unfinished}
+use Rattle.tl_burst.specs.statement.Burst.{beats_of, beat_of, begun, burst_of}
+use Rattle.tl_burst.specs.statement.Messages.{channel_of, unfinished}
 use Rattle.tl_params.specs.declared.config.Config.{Config}
 use Rattle.tl_params.specs.declared.level.Level.TheVariants as level
 use Rattle.tl_params.specs.declared.param.Cap.{Cap}
@@ -19,19 +19,19 @@ use Rattle.tl_params.specs.declared.param.Cap.TheVariants as cap
 use Rattle.tl_params.specs.declared.perm.Perm.{Perm}
 use Rattle.tl_params.specs.declared.perm.Perm.TheVariants as perm
 use Rattle.tl_params.specs.declared.rule.Rule.TheVariants.{L1, L2, L3, L4}
-use Rattle.tl_rules.specs.Conformance.{Trace, on_link}
-use Rattle.tl_rules.specs.Effect.{Memory, effect, answer_of}
-use Rattle.tl_rules.specs.History.{ends, block_at, is_acquire, is_probe_ack, is_release}
-use Rattle.tl_rules.specs.Legality.{a_of_level, a_has_param, a_has_size, is_aligned}
+use Rattle.tl_rules.specs.statement.Conformance.{Trace, on_link}
+use Rattle.tl_rules.specs.statement.Effect.{Memory, effect, answer_of}
+use Rattle.tl_rules.specs.statement.History.{ends, block_at, is_acquire, is_probe_ack, is_release}
+use Rattle.tl_rules.specs.statement.Legality.{a_of_level, a_has_param, a_has_size, is_aligned}
 use Rattle.tl_rules.proofs.Bursts.{next_rule}
-use Rattle.tl_manager.specs.Handing.{Handed, with_handed, nothing, release_ack, probe_of_block, access_answer, grant, Deed, performed}
-use Rattle.tl_manager.specs.Holders.{recorded, has_copy, is_above, is_spared, probed, is_settled}
-use Rattle.tl_manager.specs.Kept.{Each, IsSound}
-use Rattle.tl_manager.specs.Request.{request_if, request_carried}
-use Rattle.tl_manager.specs.Service.{Service, services, service_of_block, least_untaken, trackers_of}
-use Rattle.tl_manager.specs.Deed.{probing_or, begun_with, begun_if_any, performed_if_any, finish, written, completed_c, completed, deed}
-use Rattle.tl_manager.specs.End.{End}
-use Rattle.tl_manager.specs.Offer.{level_of}
+use Rattle.tl_manager.specs.statement.Handing.{Handed, with_handed, nothing, release_ack, probe_of_block, access_answer, grant, Deed, performed}
+use Rattle.tl_manager.specs.statement.Holders.{recorded, has_copy, is_above, is_spared, probed, is_settled}
+use Rattle.tl_manager.specs.code.Kept.{Each, IsSound}
+use Rattle.tl_manager.specs.statement.Request.{request_if, request_carried}
+use Rattle.tl_manager.specs.statement.Service.{Service, services, service_of_block, least_untaken, trackers_of}
+use Rattle.tl_manager.specs.statement.Deed.{probing_or, begun_with, begun_if_any, performed_if_any, finish, written, completed_c, completed, deed}
+use Rattle.tl_manager.specs.statement.End.{End}
+use Rattle.tl_manager.specs.statement.Offer.{level_of}
 use Rattle.tl_manager.proofs.Lawful.{IsHandable, access_handable, acquire_level, grant_handable, release_handable, probe_handable}
 use Rattle.tl_manager.proofs.Lists.{each_append, each_map, each_client, each_weaker}
 use Rattle.tl_manager.proofs.Sound.{IsServable, servable_new, servable, holder_level, leveled, past_l1, transfers_level}

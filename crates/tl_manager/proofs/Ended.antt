@@ -2,7 +2,7 @@
 use Rattle.std.proofs.Common.{◌≡◌, ℕ, zero, suc, ◌<◌, true, false, not, [], ◌∷◌, ◌++◌, refl, sym, ◌∙◌, ap, arith}
 use Rattle.std.specs.Prelude.{map}
 use Rattle.std.proofs.lemmas.Bool.{eq-eqb}
-use Rattle.tl_beat.specs.Width.{IsWidth}
+use Rattle.tl_beat.specs.statement.Width.{IsWidth}
 use Rattle.tl_beat.specs.declared.beat.Beat.{Beat}
 use Rattle.tl_beat.specs.declared.beat.Link.{Link}
 use Rattle.tl_beat.specs.declared.channel.Channel.{Channel}
@@ -10,26 +10,26 @@ use Rattle.tl_beat.specs.declared.channel.Channel.TheVariants as channel
 use Rattle.tl_burst.specs.declared.message.Message.{Message}
 use Rattle.tl_burst.specs.declared.message.Message.TheVariants.{A, B, C, D, E}
 use Rattle.tl_burst.specs.declared.message.MessageD.{MessageD}
-use Rattle.tl_burst.specs.Burst.{begun, beat_of, beats_of}
-use Rattle.tl_burst.specs.Messages.{unfinished}
+use Rattle.tl_burst.specs.statement.Burst.{begun, beat_of, beats_of}
+use Rattle.tl_burst.specs.statement.Messages.{unfinished}
 use Rattle.tl_burst.proofs.Splitting.{beats-positive}
 use Rattle.tl_params.specs.declared.config.Config.{Config}
-use Rattle.tl_rules.specs.Conformance.{Trace, on_link}
-use Rattle.tl_rules.specs.History.{ends}
+use Rattle.tl_rules.specs.statement.Conformance.{Trace, on_link}
+use Rattle.tl_rules.specs.statement.History.{ends}
 use Rattle.tl_rules.proofs.Sent.{ends-at, not_last, is_last}
-use Rattle.tl_manager.specs.After.{without_answered, without_all, services_after}
-use Rattle.tl_manager.specs.Handing.{Handed, with_handed}
-use Rattle.tl_manager.specs.Kept.{Each, IsTyped, IsKept}
-use Rattle.tl_manager.specs.Service.{Service, services, is_ended_by}
-use Rattle.tl_manager.specs.Deed.{deed}
-use Rattle.tl_manager.specs.End.{End}
-use Rattle.tl_manager.specs.Offer.{Judgement, Breaks, Waits, Passes, is_from_client, judged, offered_as, offered}
+use Rattle.tl_manager.specs.laws.After.{without_answered, without_all, services_after}
+use Rattle.tl_manager.specs.statement.Handing.{Handed, with_handed}
+use Rattle.tl_manager.specs.code.Kept.{Each, IsTyped, IsKept}
+use Rattle.tl_manager.specs.statement.Service.{Service, services, is_ended_by}
+use Rattle.tl_manager.specs.statement.Deed.{deed}
+use Rattle.tl_manager.specs.statement.End.{End}
+use Rattle.tl_manager.specs.statement.Offer.{Judgement, Breaks, Waits, Passes, is_from_client, judged, offered_as, offered}
 use Rattle.tl_manager.proofs.Deeds.{deed_handable}
 use Rattle.tl_manager.proofs.Handed.{after_sent, beats_on_link, whole-after_sent, whole-taken}
 use Rattle.tl_manager.proofs.Judged.{passed}
 use Rattle.tl_manager.proofs.Lawful.{IsHandable}
 use Rattle.tl_manager.proofs.Probes.{filter-all, services-sent_b}
-use Rattle.tl_manager.specs.Ready.{IsWhole}
+use Rattle.tl_manager.specs.code.Ready.{IsWhole}
 
 -- ---- beats of channel D
 

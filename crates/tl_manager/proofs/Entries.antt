@@ -1,7 +1,7 @@
 -- Rows of entries.
 use Rattle.std.proofs.Common.{◌≡◌, ◌≢◌, ℕ, zero, suc, ◌<◌, List, [], ◌∷◌, length, take, refl, ap, arith}
 use Rattle.tl_params.specs.declared.perm.Perm.{Perm}
-use Rattle.tl_manager.specs.Table.{entry}
+use Rattle.tl_manager.specs.code.Table.{entry}
 
 -- one more entry
 pub entry-take_same : (row : List Perm) (i : ℕ) → i < length row → entry (take (suc i) row) i ≡ entry row i

@@ -9,18 +9,18 @@ use Rattle.tl_beat.specs.declared.beat.BeatE.{BeatE}
 use Rattle.tl_beat.specs.declared.beat.Link.{Link}
 use Rattle.tl_beat.specs.declared.channel.Channel.TheVariants as channel
 use Rattle.tl_burst.specs.declared.message.Message.TheVariants.{A}
-use Rattle.tl_burst.specs.Messages.{unfinished}
+use Rattle.tl_burst.specs.statement.Messages.{unfinished}
 use Rattle.tl_params.specs.declared.config.Config.{Config}
 use Rattle.tl_params.specs.declared.param.Cap.{Cap}
-use Rattle.tl_rules.specs.Conformance.{Trace, on_link}
-use Rattle.tl_rules.specs.Effect.{Memory, effect, answer_of}
-use Rattle.tl_rules.specs.History.{ends, block_at, is_acquire, is_probe_ack, is_release}
-use Rattle.tl_manager.specs.Handing.{nothing, probes, performed, grant, access_answer, release_ack}
-use Rattle.tl_manager.specs.Holders.{cap_probed, probed, is_settled}
-use Rattle.tl_manager.specs.Service.{Service, services, service_of_block}
-use Rattle.tl_manager.specs.Deed.{deed, written}
-use Rattle.tl_manager.specs.End.{End}
-use Rattle.tl_manager.specs.Ready.{IsServed}
+use Rattle.tl_rules.specs.statement.Conformance.{Trace, on_link}
+use Rattle.tl_rules.specs.statement.Effect.{Memory, effect, answer_of}
+use Rattle.tl_rules.specs.statement.History.{ends, block_at, is_acquire, is_probe_ack, is_release}
+use Rattle.tl_manager.specs.statement.Handing.{nothing, probes, performed, grant, access_answer, release_ack}
+use Rattle.tl_manager.specs.statement.Holders.{cap_probed, probed, is_settled}
+use Rattle.tl_manager.specs.statement.Service.{Service, services, service_of_block}
+use Rattle.tl_manager.specs.statement.Deed.{deed, written}
+use Rattle.tl_manager.specs.statement.End.{End}
+use Rattle.tl_manager.specs.code.Ready.{IsServed}
 
 -- nothing at a beat that isn't the last of its message
 pub deed-part : {w : ℕ} (config : Config) (link : Link) (x : Beat w) (e : End w) → ends x (on_link link.0 e.trace) ≡ false → deed config link x e ≡ nothing e.memory

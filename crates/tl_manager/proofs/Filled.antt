@@ -2,9 +2,9 @@
 use Rattle.std.proofs.Common.{◌≡◌, ℕ, zero, suc, ◌+◌, ◌-◌, ◌*◌, ◌%◌, ◌^◌, ◌≤◌, List, ◌++◌, length, refl, sym, ap, ◌∙◌, arith, inl, inr}
 use Rattle.std.specs.Prelude.{replicate, drop}
 use Rattle.std.proofs.lemmas.List.{drop_at, drop_all, length-append, length-replicate, replicate-append-replicate, append_assoc}
-use Rattle.tl_beat.specs.Width.{IsWidth}
-use Rattle.tl_burst.specs.Burst.{data_beats, IsZeroFrom}
-use Rattle.tl_rules.specs.Effect.{Memory, bytes_from, as_payload}
+use Rattle.tl_beat.specs.statement.Width.{IsWidth}
+use Rattle.tl_burst.specs.statement.Burst.{data_beats, IsZeroFrom}
+use Rattle.tl_rules.specs.statement.Effect.{Memory, bytes_from, as_payload}
 use Rattle.tl_rules.proofs.Widths.{whole_block}
 
 pub length-bytes : (memory : Memory) (from n : ℕ) → length (bytes_from memory from n) ≡ n

@@ -8,20 +8,20 @@ use Rattle.tl_burst.specs.declared.message.MessageA.{MessageA}
 use Rattle.tl_params.specs.declared.config.Config.{Config}
 use Rattle.tl_params.specs.declared.param.Cap.{Cap}
 use Rattle.tl_params.specs.declared.perm.Perm.{Perm}
-use Rattle.tl_params.specs.Param.{cap_right}
-use Rattle.tl_rules.specs.Conformance.{Trace, on_link}
-use Rattle.tl_rules.specs.Effect.{Memory, bytes_from}
-use Rattle.tl_rules.specs.History.{block_at, is_acquire, asks_for, request_of}
-use Rattle.tl_manager.specs.Blocks.{AreBlocks}
-use Rattle.tl_manager.specs.Granting.{grant_of}
-use Rattle.tl_manager.specs.Handing.{Deed, with_handed, performed, grant, grant_with, cap_granted, is_granted_data}
-use Rattle.tl_manager.specs.Holders.{recorded, is_unheld}
-use Rattle.tl_manager.specs.Home.{IsHomeWithout, IsDone, IsReadyAt}
-use Rattle.tl_manager.specs.Pending.{is_granted, IsNamed, HasFields}
-use Rattle.tl_manager.specs.Record.{granted_by}
-use Rattle.tl_manager.specs.Service.{Service, service_of_block}
-use Rattle.tl_manager.specs.Tracked.{service_with, IsTracked}
-use Rattle.tl_manager.specs.Trackers.{tracker_at}
+use Rattle.tl_params.specs.statement.Param.{cap_right}
+use Rattle.tl_rules.specs.statement.Conformance.{Trace, on_link}
+use Rattle.tl_rules.specs.statement.Effect.{Memory, bytes_from}
+use Rattle.tl_rules.specs.statement.History.{block_at, is_acquire, asks_for, request_of}
+use Rattle.tl_manager.specs.code.Blocks.{AreBlocks}
+use Rattle.tl_manager.specs.code.Granting.{grant_of}
+use Rattle.tl_manager.specs.statement.Handing.{Deed, with_handed, performed, grant, grant_with, cap_granted, is_granted_data}
+use Rattle.tl_manager.specs.statement.Holders.{recorded, is_unheld}
+use Rattle.tl_manager.specs.code.Home.{IsHomeWithout, IsDone, IsReadyAt}
+use Rattle.tl_manager.specs.laws.Pending.{is_granted, IsNamed, HasFields}
+use Rattle.tl_manager.specs.laws.Record.{granted_by}
+use Rattle.tl_manager.specs.statement.Service.{Service, service_of_block}
+use Rattle.tl_manager.specs.code.Tracked.{service_with, IsTracked}
+use Rattle.tl_manager.specs.code.Trackers.{tracker_at}
 use Rattle.tl_manager.specs.declared.manager.home.Home.{Home}
 use Rattle.tl_manager.specs.declared.manager.tracker.Tracker.TheVariants.{Granted}
 use Rattle.tl_manager.proofs.Answering.{tracked-performed, tracker-changed}

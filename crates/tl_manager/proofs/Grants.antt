@@ -9,21 +9,21 @@ use Rattle.tl_beat.specs.declared.beat.BeatC.{BeatC}
 use Rattle.tl_beat.specs.declared.beat.Link.{Link}
 use Rattle.tl_burst.specs.declared.message.Message.TheVariants.{A}
 use Rattle.tl_burst.specs.declared.message.MessageA.{MessageA}
-use Rattle.tl_burst.specs.Messages.{channel_of, unfinished}
+use Rattle.tl_burst.specs.statement.Messages.{channel_of, unfinished}
 use Rattle.tl_rules.specs.declared.answer.Answer.{Answer}
 use Rattle.tl_rules.specs.declared.answer.Answer.TheVariants as answer
 use Rattle.tl_params.specs.declared.config.Config.{Config}
 use Rattle.tl_params.specs.declared.param.Cap.{Cap}
-use Rattle.tl_rules.specs.Conformance.{Trace, on_link}
-use Rattle.tl_rules.specs.Effect.{Memory, effect, answer_of}
-use Rattle.tl_rules.specs.History.{ends, block_at, is_acquire, is_probe_ack, is_release}
-use Rattle.tl_manager.specs.Handing.{probe_of_block, release_ack, access_answer, grant, Deed, nothing, performed}
-use Rattle.tl_manager.specs.Holders.{cap_probed, probed, is_settled}
-use Rattle.tl_manager.specs.Kept.{Each, is_granting}
-use Rattle.tl_manager.specs.Request.{request_if, request_carried}
-use Rattle.tl_manager.specs.Service.{Service, with_service, least_untaken, trackers_of, services, service_of_block}
-use Rattle.tl_manager.specs.Deed.{probing_or, begun_with, begun_if_any, performed_if_any, finish, written, completed_c, completed, deed}
-use Rattle.tl_manager.specs.End.{End}
+use Rattle.tl_rules.specs.statement.Conformance.{Trace, on_link}
+use Rattle.tl_rules.specs.statement.Effect.{Memory, effect, answer_of}
+use Rattle.tl_rules.specs.statement.History.{ends, block_at, is_acquire, is_probe_ack, is_release}
+use Rattle.tl_manager.specs.statement.Handing.{probe_of_block, release_ack, access_answer, grant, Deed, nothing, performed}
+use Rattle.tl_manager.specs.statement.Holders.{cap_probed, probed, is_settled}
+use Rattle.tl_manager.specs.code.Kept.{Each, is_granting}
+use Rattle.tl_manager.specs.statement.Request.{request_if, request_carried}
+use Rattle.tl_manager.specs.statement.Service.{Service, with_service, least_untaken, trackers_of, services, service_of_block}
+use Rattle.tl_manager.specs.statement.Deed.{probing_or, begun_with, begun_if_any, performed_if_any, finish, written, completed_c, completed, deed}
+use Rattle.tl_manager.specs.statement.End.{End}
 use Rattle.tl_manager.proofs.Lists.{each_weaker}
 use Rattle.tl_manager.proofs.Requests.{made_of}
 use Rattle.tl_manager.proofs.Sinks.{grants_by, IsGranted}

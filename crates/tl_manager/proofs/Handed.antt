@@ -1,29 +1,29 @@
 -- What the links of a trace say after messages were handed out.
 use Rattle.std.proofs.Common.{◌≡◌, ℕ, ◌==◌, Bool, true, false, ◌&&◌, ◌||◌, List, [], ◌∷◌, ◌++◌, map, Some, None, refl, ap, ◌∙◌}
 use Rattle.std.specs.Prelude.{if◌then◌else◌, unwrap_or}
-use Rattle.tl_beat.specs.Width.{IsWidth}
+use Rattle.tl_beat.specs.statement.Width.{IsWidth}
 use Rattle.tl_beat.specs.declared.beat.Beat.{Beat}
 use Rattle.tl_beat.specs.declared.beat.Beat.TheVariants as beat
 use Rattle.tl_beat.specs.declared.beat.Link.{Link}
 use Rattle.tl_beat.specs.declared.channel.Channel.TheVariants as channel
 use Rattle.tl_burst.specs.declared.message.Message.{Message}
 use Rattle.tl_burst.specs.declared.message.Message.TheVariants.{A, B, C, D, E}
-use Rattle.tl_burst.specs.Burst.{beats_of, beat_of, burst_of}
-use Rattle.tl_burst.specs.Messages.{History, unfinished}
+use Rattle.tl_burst.specs.statement.Burst.{beats_of, beat_of, burst_of}
+use Rattle.tl_burst.specs.statement.Messages.{History, unfinished}
 use Rattle.tl_burst.proofs.Splitting.{beats-positive}
 use Rattle.tl_params.specs.declared.config.Config.{Config}
 use Rattle.tl_params.specs.declared.perm.Perm.{Perm}
-use Rattle.tl_rules.specs.Agent.{sent}
-use Rattle.tl_rules.specs.Conformance.{Trace, on_link}
-use Rattle.tl_rules.specs.History.{ends, block_at, is_probe_ack, is_release, says_held, held, request_of, reported}
-use Rattle.tl_manager.specs.Handing.{Handed, with_handed}
-use Rattle.tl_manager.specs.Holders.{recorded}
-use Rattle.tl_manager.specs.Kept.{Each}
-use Rattle.tl_manager.specs.Record.{reported_by, granted_by, granted_by_all}
-use Rattle.tl_manager.specs.Offer.{is_from_client}
+use Rattle.tl_rules.specs.statement.Agent.{sent}
+use Rattle.tl_rules.specs.statement.Conformance.{Trace, on_link}
+use Rattle.tl_rules.specs.statement.History.{ends, block_at, is_probe_ack, is_release, says_held, held, request_of, reported}
+use Rattle.tl_manager.specs.statement.Handing.{Handed, with_handed}
+use Rattle.tl_manager.specs.statement.Holders.{recorded}
+use Rattle.tl_manager.specs.code.Kept.{Each}
+use Rattle.tl_manager.specs.laws.Record.{reported_by, granted_by, granted_by_all}
+use Rattle.tl_manager.specs.statement.Offer.{is_from_client}
 use Rattle.tl_manager.proofs.Lawful.{IsHandable}
 use Rattle.tl_rules.proofs.Sent.{unfinished-sent, unfinished-sent_other, held_unsaid, held-sent_unsaid, held-sent_d, request_of-other}
-use Rattle.tl_manager.specs.Ready.{IsWhole}
+use Rattle.tl_manager.specs.code.Ready.{IsWhole}
 
 -- ---- one link of a trace
 

@@ -6,22 +6,22 @@ use Rattle.tl_beat.specs.declared.beat.Beat.TheVariants.{A, B, C, D, E}
 use Rattle.tl_beat.specs.declared.beat.Link.{Link}
 use Rattle.tl_beat.specs.declared.channel.Channel.{Channel}
 use Rattle.tl_beat.specs.declared.channel.Channel.TheVariants as channel
-use Rattle.tl_beat.specs.First.{first_if}
-use Rattle.tl_burst.specs.Messages.{channel_of}
+use Rattle.tl_beat.specs.statement.First.{first_if}
+use Rattle.tl_burst.specs.statement.Messages.{channel_of}
 use Rattle.tl_params.specs.declared.config.Config.{Config}
 use Rattle.tl_params.specs.declared.level.Level.{Level}
 use Rattle.tl_params.specs.declared.rule.Rule.{Rule}
 use Rattle.tl_params.specs.declared.rule.Rule.TheVariants.{L1, A1, A2}
-use Rattle.tl_rules.specs.Agent.{is_outside, is_spoiled}
-use Rattle.tl_rules.specs.Conformance.{Trace, on_link, broken_in_order}
-use Rattle.tl_rules.specs.Legality.{illegal, breaks_l1, is_one_of}
+use Rattle.tl_rules.specs.statement.Agent.{is_outside, is_spoiled}
+use Rattle.tl_rules.specs.statement.Conformance.{Trace, on_link, broken_in_order}
+use Rattle.tl_rules.specs.statement.Legality.{illegal, breaks_l1, is_one_of}
 use Rattle.tl_rules.proofs.Bursts.{next_rule}
-use Rattle.tl_manager.specs.Kept.{IsTyped}
-use Rattle.tl_manager.specs.Deed.{deed}
-use Rattle.tl_manager.specs.End.{End}
-use Rattle.tl_manager.specs.Offer.{Sent, Judgement, Passes, breaks_or, waits_or, unlawful, is_from_client, before_stall, must_wait, judged_at, judged_on}
-use Rattle.tl_manager.specs.Offer.{judged, level_of, open_level, taken, offered_as, offered}
-use Rattle.tl_manager.specs.Ready.{IsPassed}
+use Rattle.tl_manager.specs.code.Kept.{IsTyped}
+use Rattle.tl_manager.specs.statement.Deed.{deed}
+use Rattle.tl_manager.specs.statement.End.{End}
+use Rattle.tl_manager.specs.statement.Offer.{Sent, Judgement, Passes, breaks_or, waits_or, unlawful, is_from_client, before_stall, must_wait, judged_at, judged_on}
+use Rattle.tl_manager.specs.statement.Offer.{judged, level_of, open_level, taken, offered_as, offered}
+use Rattle.tl_manager.specs.code.Ready.{IsPassed}
 
 past_rule : (o : Option Rule) (rest : Judgement) → breaks_or o rest ≡ Passes → (o ≡ None) × (rest ≡ Passes)
 past_rule None rest e = (refl, e)

@@ -9,28 +9,28 @@ use Rattle.tl_burst.specs.declared.part.Broken.{Broken}
 use Rattle.tl_burst.specs.declared.part.Broken.TheVariants as broken
 use Rattle.tl_burst.specs.declared.part.Part.{Part}
 use Rattle.tl_burst.specs.declared.part.Part.TheVariants.{First, Middle, Last, Only}
-use Rattle.tl_burst.specs.Messages.{History, channel_of, unfinished, breaks_burst}
-use Rattle.tl_burst.specs.Part.{is_empty, completes, place, part_of}
+use Rattle.tl_burst.specs.statement.Messages.{History, channel_of, unfinished, breaks_burst}
+use Rattle.tl_burst.specs.statement.Part.{is_empty, completes, place, part_of}
 use Rattle.tl_params.specs.declared.config.Config.{Config}
 use Rattle.tl_params.specs.declared.rule.Rule.{Rule}
 use Rattle.tl_params.specs.declared.rule.Rule.TheVariants.{L1, S1}
-use Rattle.tl_rules.specs.Agent.{is_outside, is_spoiled}
-use Rattle.tl_rules.specs.Conformance.{Trace, on_link, broken_in_order, broken_order}
-use Rattle.tl_rules.specs.Legality.{illegal}
-use Rattle.tl_manager.specs.Admission.{admission_of, judged_by, judged_in_order}
-use Rattle.tl_manager.specs.BurstFor.{burst_for}
+use Rattle.tl_rules.specs.statement.Agent.{is_outside, is_spoiled}
+use Rattle.tl_rules.specs.statement.Conformance.{Trace, on_link, broken_in_order, broken_order}
+use Rattle.tl_rules.specs.statement.Legality.{illegal}
+use Rattle.tl_manager.specs.code.Admission.{admission_of, judged_by, judged_in_order}
+use Rattle.tl_manager.specs.code.BurstFor.{burst_for}
 use Rattle.tl_params.specs.declared.perm.Perm.{Perm}
-use Rattle.tl_params.specs.Refusal.{ok_unless}
-use Rattle.tl_manager.specs.Knows.{Knows}
-use Rattle.tl_manager.specs.Service.{services, is_in_service}
-use Rattle.tl_manager.specs.Trackers.{tracker_at}
-use Rattle.tl_manager.specs.Tracking.{is_of, is_free}
+use Rattle.tl_params.specs.statement.Refusal.{ok_unless}
+use Rattle.tl_manager.specs.code.Knows.{Knows}
+use Rattle.tl_manager.specs.statement.Service.{services, is_in_service}
+use Rattle.tl_manager.specs.code.Trackers.{tracker_at}
+use Rattle.tl_manager.specs.code.Tracking.{is_of, is_free}
 use Rattle.tl_manager.specs.declared.manager.links.Links.{Links}
 use Rattle.tl_manager.proofs.Busy.{unserved-among, all-taken, one-free}
-use Rattle.tl_manager.specs.PartIs.{IsPartOf, is_first_part, is_last_part}
-use Rattle.tl_manager.specs.End.{End}
-use Rattle.tl_manager.specs.Offer.{is_from_client, open_level, judged, judged_at, must_wait, breaks_or}
-use Rattle.tl_manager.specs.Wire.{IsCarried, IsWire}
+use Rattle.tl_manager.specs.code.PartIs.{IsPartOf, is_first_part, is_last_part}
+use Rattle.tl_manager.specs.statement.End.{End}
+use Rattle.tl_manager.specs.statement.Offer.{is_from_client, open_level, judged, judged_at, must_wait, breaks_or}
+use Rattle.tl_manager.specs.code.Wire.{IsCarried, IsWire}
 use Rattle.tl_manager.specs.declared.manager.wire.Wire.{Wire}
 use Rattle.tl_manager.proofs.Links.{none-on_e}
 

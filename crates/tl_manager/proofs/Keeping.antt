@@ -3,7 +3,7 @@ use Rattle.std.proofs.Common.{ap, ◌∙◌, ◌≡◌, ℕ, zero, suc, ◌+◌,
 use Rattle.std.specs.Prelude.{nat_le, filter, option_map, is_some, if◌then◌else◌}
 use Rattle.std.proofs.lemmas.Bool.{or_parts, leb-false, eqb-true, cases_eq, ne_eqb}
 use Rattle.std.proofs.lemmas.List.{length-map}
-use Rattle.tl_beat.specs.Width.{IsWidth}
+use Rattle.tl_beat.specs.statement.Width.{IsWidth}
 use Rattle.tl_beat.specs.declared.beat.Beat.{Beat}
 use Rattle.tl_beat.specs.declared.beat.Beat.TheVariants as beat
 use Rattle.tl_beat.specs.declared.beat.BeatA.{BeatA}
@@ -12,40 +12,40 @@ use Rattle.tl_beat.specs.declared.channel.Channel.{Channel}
 use Rattle.tl_beat.specs.declared.channel.Channel.TheVariants as channel
 use Rattle.tl_burst.specs.declared.message.Message.{Message}
 use Rattle.tl_burst.specs.declared.message.Message.TheVariants.{A, B, C, D, E}
-use Rattle.tl_burst.specs.Burst.{beats_of, beat_of, begun, burst_of, IsBlankAfter}
-use Rattle.tl_burst.specs.Messages.{channel_of, unfinished, burst_length}
+use Rattle.tl_burst.specs.statement.Burst.{beats_of, beat_of, begun, burst_of, IsBlankAfter}
+use Rattle.tl_burst.specs.statement.Messages.{channel_of, unfinished, burst_length}
 use Rattle.tl_params.specs.declared.config.Config.{Config}
-use Rattle.tl_rules.specs.Conformance.{Trace, on_link}
-use Rattle.tl_rules.specs.History.{ends, block_at}
+use Rattle.tl_rules.specs.statement.Conformance.{Trace, on_link}
+use Rattle.tl_rules.specs.statement.History.{ends, block_at}
 use Rattle.tl_params.specs.declared.level.Level.{Level}
-use Rattle.tl_rules.specs.Legality.{illegal, is_one_of}
+use Rattle.tl_rules.specs.statement.Legality.{illegal, is_one_of}
 use Rattle.tl_rules.proofs.Legal.{legal_from_beats}
 use Rattle.tl_burst.proofs.Splitting.{beats-positive}
 use Rattle.tl_manager.proofs.Lists.{each_filter, each_weaker}
 use Rattle.tl_manager.proofs.Sound.{leveled}
-use Rattle.tl_manager.specs.Handing.{Handed, with_handed}
-use Rattle.tl_manager.specs.Kept.{Each, AreApart, IsSound, IsTyped, IsClean, IsFilled, IsPerformable, illegal_at, illegal_message_at, blocks_of, IsKept, IsAnswerLawful}
-use Rattle.tl_manager.specs.Request.{request_if, request_carried}
-use Rattle.tl_manager.specs.Service.{Service, is_ended_by, least_untaken, trackers_of, with_service, services_after, services, service_of_block, is_in_service}
-use Rattle.tl_manager.specs.Deed.{deed}
-use Rattle.tl_manager.specs.End.{End, fresh}
-use Rattle.tl_manager.specs.Offer.{level_of, Judgement, Breaks, Waits, Passes, is_from_client, must_wait, judged, taken, offered_as, offered}
+use Rattle.tl_manager.specs.statement.Handing.{Handed, with_handed}
+use Rattle.tl_manager.specs.code.Kept.{Each, AreApart, IsSound, IsTyped, IsClean, IsFilled, IsPerformable, illegal_at, illegal_message_at, blocks_of, IsKept, IsAnswerLawful}
+use Rattle.tl_manager.specs.statement.Request.{request_if, request_carried}
+use Rattle.tl_manager.specs.statement.Service.{Service, is_ended_by, least_untaken, trackers_of, with_service, services_after, services, service_of_block, is_in_service}
+use Rattle.tl_manager.specs.statement.Deed.{deed}
+use Rattle.tl_manager.specs.statement.End.{End, fresh}
+use Rattle.tl_manager.specs.statement.Offer.{level_of, Judgement, Breaks, Waits, Passes, is_from_client, must_wait, judged, taken, offered_as, offered}
 use Rattle.tl_manager.proofs.Deeds.{deed_handable, handed_sound}
 use Rattle.tl_manager.proofs.Free.{apart_filter, each_map_filter, least_free-is_free, least_free-le}
 use Rattle.tl_manager.proofs.Handed.{whole-handed, whole-taken, recorded-taken, recorded-handed}
 use Rattle.tl_manager.proofs.Continued.{whole_request, of_one-taken, bursts-handed}
 use Rattle.tl_manager.proofs.Judged.{passed}
 use Rattle.tl_manager.proofs.Requests.{IsWhole, performable}
-use Rattle.tl_manager.specs.Holders.{recorded}
-use Rattle.tl_manager.specs.Record.{granted_by_all, recorded_after}
+use Rattle.tl_manager.specs.statement.Holders.{recorded}
+use Rattle.tl_manager.specs.laws.Record.{granted_by_all, recorded_after}
 use Rattle.tl_manager.proofs.Answered.{answered-deed}
 use Rattle.tl_manager.proofs.Grants.{deed_granted}
 use Rattle.tl_rules.proofs.Sent.{same_channel}
 use Rattle.tl_manager.proofs.Steady.{steady-deed}
 use Rattle.tl_manager.proofs.Sinks.{is_request, tracked-taken, tracked-handed}
-use Rattle.tl_rules.specs.History.{pending}
+use Rattle.tl_rules.specs.statement.History.{pending}
 use Rattle.tl_manager.proofs.Lawful.{IsHandable}
-use Rattle.tl_manager.specs.Ready.{IsPassed, IsTaken}
+use Rattle.tl_manager.specs.code.Ready.{IsPassed, IsTaken}
 
 -- what holds of the requests in service
 pub record AreServed {w : ℕ} (config : Config) (ss : List (Service w)) : Type 0 where

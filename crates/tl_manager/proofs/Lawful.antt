@@ -5,8 +5,8 @@ use Rattle.std.proofs.Math.Nat.{zero-div}
 use Rattle.std.proofs.lemmas.Bool.{le-leb}
 use Rattle.std.proofs.lemmas.Nat.{pow_pos}
 use Rattle.std.specs.Option.{option_or}
-use Rattle.tl_beat.specs.Opcode.{d_carries_data}
-use Rattle.tl_beat.specs.Width.{IsWidth}
+use Rattle.tl_beat.specs.statement.Opcode.{d_carries_data}
+use Rattle.tl_beat.specs.statement.Width.{IsWidth}
 use Rattle.tl_beat.specs.declared.beat.Link.{Link}
 use Rattle.tl_beat.specs.declared.opcode.OpA.{OpA}
 use Rattle.tl_beat.specs.declared.opcode.OpA.TheVariants as a
@@ -17,23 +17,23 @@ use Rattle.tl_burst.specs.declared.message.Message.{Message}
 use Rattle.tl_burst.specs.declared.message.Message.TheVariants.{A, D}
 use Rattle.tl_burst.specs.declared.message.MessageA.{MessageA}
 use Rattle.tl_burst.specs.declared.message.MessageD.{MessageD}
-use Rattle.tl_burst.specs.Burst.{beats_of, beat_of, bit, mask_at, data_beats, IsZeroFrom, IsBlankAfter}
+use Rattle.tl_burst.specs.statement.Burst.{beats_of, beat_of, bit, mask_at, data_beats, IsZeroFrom, IsBlankAfter}
 use Rattle.tl_params.specs.declared.config.Config.{Config}
 use Rattle.tl_params.specs.declared.level.Level.{Level}
 use Rattle.tl_params.specs.declared.level.Level.TheVariants as level
 use Rattle.tl_params.specs.declared.param.Cap.{Cap}
 use Rattle.tl_params.specs.declared.param.Cap.TheVariants as cap
-use Rattle.tl_rules.specs.Control.{d_control, d_own, b_control}
-use Rattle.tl_rules.specs.Effect.{Memory, access_result, answer_of, as_payload, bytes_from, byte_count}
-use Rattle.tl_rules.specs.History.{block_at, is_acquire}
-use Rattle.tl_rules.specs.Legality.{a_of_level, a_has_size, access_has_size, d_of_level, d_has_param, d_has_sink, d_has_size, is_full_mask, each_below}
-use Rattle.tl_params.specs.Param.{cap_code}
+use Rattle.tl_rules.specs.code.Control.{d_control, d_own, b_control}
+use Rattle.tl_rules.specs.statement.Effect.{Memory, access_result, answer_of, as_payload, bytes_from, byte_count}
+use Rattle.tl_rules.specs.statement.History.{block_at, is_acquire}
+use Rattle.tl_rules.specs.statement.Legality.{a_of_level, a_has_size, access_has_size, d_of_level, d_has_param, d_has_sink, d_has_size, is_full_mask, each_below}
+use Rattle.tl_params.specs.statement.Param.{cap_code}
 use Rattle.tl_rules.proofs.Verdicts.{illegal_b, illegal_d}
-use Rattle.tl_manager.specs.Handing.{answer_with, access_answer, release_ack, grant_opcode, grant_payload, grant_with, probe_of_block}
-use Rattle.tl_manager.specs.Kept.{IsSound, IsClean, IsFilled}
-use Rattle.tl_manager.specs.Service.{Service, is_access_answer}
+use Rattle.tl_manager.specs.statement.Handing.{answer_with, access_answer, release_ack, grant_opcode, grant_payload, grant_with, probe_of_block}
+use Rattle.tl_manager.specs.code.Kept.{IsSound, IsClean, IsFilled}
+use Rattle.tl_manager.specs.statement.Service.{Service, is_access_answer}
 use Rattle.tl_manager.proofs.Filled.{length-bytes, room_in_beats, data_room, payload-long, payload-zero, block-zero}
-use Rattle.tl_manager.specs.Offer.{is_from_client, level_of}
+use Rattle.tl_manager.specs.statement.Offer.{is_from_client, level_of}
 
 -- a message of a channel on which the manager sends, whose beats are sound, and that is clean
 pub record IsHandable {w : ℕ} (config : Config) (x : Link × Message w) : Type 0 where

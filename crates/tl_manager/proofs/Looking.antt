@@ -5,22 +5,22 @@ use Rattle.std.proofs.lemmas.Bool.{eqb-true, eq-eqb, and_parts}
 use Rattle.tl_beat.specs.declared.beat.Link.{Link}
 use Rattle.tl_beat.specs.declared.channel.Channel.TheVariants as channel
 use Rattle.tl_burst.specs.declared.message.MessageA.{MessageA}
-use Rattle.tl_burst.specs.Messages.{unfinished}
+use Rattle.tl_burst.specs.statement.Messages.{unfinished}
 use Rattle.tl_params.specs.declared.key.Key.TheVariants.{RequestSource, AcquireOf, GrantSink, GrantAckOf, ProbeOf}
-use Rattle.tl_rules.specs.Conformance.{Trace, on_link, comes_in_request}
-use Rattle.tl_rules.specs.History.{block_at, is_acquire, pending, request_of}
-use Rattle.tl_rules.specs.Legality.{is_one_of}
-use Rattle.tl_rules.specs.Open.{open_request, open_probe, request_fields}
-use Rattle.tl_manager.specs.Holders
-use Rattle.tl_manager.specs.Kept.{Each, AreApart, blocks_of}
-use Rattle.tl_manager.specs.Pending
-use Rattle.tl_manager.specs.Pending.{one_if, count_where, is_any, is_granted, IsAccounted, HasFields, IsProbed}
-use Rattle.tl_manager.specs.Probed.{probe_in}
-use Rattle.tl_manager.specs.Service.{Service, services, service_of_block, trackers_of}
-use Rattle.tl_manager.specs.Tracked.{service_with, AreMissing, IsTracked}
-use Rattle.tl_manager.specs.Trackers.{tracker_at, IsOfBlock, IsAsked}
-use Rattle.tl_manager.specs.Tracking
-use Rattle.tl_manager.specs.Tracking.{is_of, request_in}
+use Rattle.tl_rules.specs.statement.Conformance.{Trace, on_link, comes_in_request}
+use Rattle.tl_rules.specs.statement.History.{block_at, is_acquire, pending, request_of}
+use Rattle.tl_rules.specs.statement.Legality.{is_one_of}
+use Rattle.tl_rules.specs.code.Open.{open_request, open_probe, request_fields}
+use Rattle.tl_manager.specs.statement.Holders
+use Rattle.tl_manager.specs.code.Kept.{Each, AreApart, blocks_of}
+use Rattle.tl_manager.specs.laws.Pending
+use Rattle.tl_manager.specs.laws.Pending.{one_if, count_where, is_any, is_granted, IsAccounted, HasFields, IsProbed}
+use Rattle.tl_manager.specs.code.Probed.{probe_in}
+use Rattle.tl_manager.specs.statement.Service.{Service, services, service_of_block, trackers_of}
+use Rattle.tl_manager.specs.code.Tracked.{service_with, AreMissing, IsTracked}
+use Rattle.tl_manager.specs.code.Trackers.{tracker_at, IsOfBlock, IsAsked}
+use Rattle.tl_manager.specs.code.Tracking
+use Rattle.tl_manager.specs.code.Tracking.{is_of, request_in}
 use Rattle.tl_manager.specs.declared.manager.tracker.Tracker.{Tracker}
 use Rattle.tl_manager.specs.declared.manager.tracker.Tracker.TheVariants.{Free, Probing, Granted}
 use Rattle.tl_manager.specs.declared.manager.tracker.Trackers.{Trackers}

@@ -3,9 +3,9 @@ use Rattle.std.proofs.Common.{◌≡◌, ℕ, suc, ◌+◌, ◌*◌, ◌^◌, �
 use Rattle.std.specs.Prelude.{if◌then◌else◌}
 use Rattle.std.proofs.lemmas.Bool.{cases_eq, or_cases, eqb-true, not-false}
 use Rattle.std.proofs.lemmas.Nat.{mul-add-lt, pow-add, shl_whole}
-use Rattle.tl_burst.specs.Burst.{mask_at}
+use Rattle.tl_burst.specs.statement.Burst.{mask_at}
 use Rattle.tl_burst.proofs.Bits.{mask_here, mask_earlier}
-use Rattle.tl_beat.specs.Width.{IsWidth}
+use Rattle.tl_beat.specs.statement.Width.{IsWidth}
 use Rattle.tl_beat.specs.declared.beat.Beat.{Beat}
 use Rattle.tl_beat.specs.declared.beat.Beat.TheVariants.{A}
 use Rattle.tl_beat.specs.declared.beat.BeatA.{BeatA}
@@ -13,17 +13,17 @@ use Rattle.tl_beat.specs.declared.channel.Channel.{Channel}
 use Rattle.tl_beat.specs.declared.channel.Channel.TheVariants as channel
 use Rattle.tl_beat.specs.declared.opcode.OpA.{OpA}
 use Rattle.tl_beat.specs.declared.opcode.OpA.TheVariants as a
-use Rattle.tl_burst.specs.Messages.{History, on, unfinished, burst_length}
+use Rattle.tl_burst.specs.statement.Messages.{History, on, unfinished, burst_length}
 use Rattle.tl_params.specs.declared.level.Level.{Level}
 use Rattle.tl_params.specs.declared.rule.Rule.TheVariants.{L1, L2, L3, L4, L5}
-use Rattle.tl_rules.specs.Control.{a_control, a_own}
-use Rattle.tl_rules.specs.Legality.{illegal, is_one_of, is_aligned, a_of_level, a_has_param, a_has_size, a_has_mask}
+use Rattle.tl_rules.specs.code.Control.{a_control, a_own}
+use Rattle.tl_rules.specs.statement.Legality.{illegal, is_one_of, is_aligned, a_of_level, a_has_param, a_has_size, a_has_mask}
 use Rattle.tl_rules.proofs.Bursts.{next_rule, both_none}
 use Rattle.tl_rules.proofs.Takeable.{full_mask-narrow, part_mask-narrow}
 use Rattle.tl_rules.proofs.Verdicts.{illegal_a}
 use Rattle.tl_rules.proofs.Sizes.{access-small}
-use Rattle.tl_manager.specs.Kept.{Each}
-use Rattle.tl_manager.specs.Request.{mask_of, masks_carried}
+use Rattle.tl_manager.specs.code.Kept.{Each}
+use Rattle.tl_manager.specs.statement.Request.{mask_of, masks_carried}
 
 -- ---- the sizes that the rules let through
 

@@ -3,8 +3,8 @@ use Rattle.std.proofs.Common.{◌≡◌, ◌≢◌, ℕ, ◌<◌, ◌+◌, ◌==
 use Rattle.std.specs.Prelude.{nat_le, option_map, if◌then◌else◌}
 use Rattle.std.proofs.lemmas.Bool.{eqb-true, eq-eqb, ne_eqb, true≢false}
 use Rattle.tl_params.specs.declared.rule.Rule.{Rule}
-use Rattle.tl_beat.specs.Width.{IsWidth}
-use Rattle.tl_beat.specs.Opcode.{a_code, c_carries_data}
+use Rattle.tl_beat.specs.statement.Width.{IsWidth}
+use Rattle.tl_beat.specs.statement.Opcode.{a_code, c_carries_data}
 use Rattle.tl_beat.specs.declared.beat.Beat.{Beat}
 use Rattle.tl_beat.specs.declared.beat.Beat.TheVariants as beat
 use Rattle.tl_beat.specs.declared.beat.BeatA.{BeatA}
@@ -15,30 +15,30 @@ use Rattle.tl_beat.specs.declared.channel.Channel.TheVariants as channel
 use Rattle.tl_beat.specs.declared.opcode.OpA.{OpA}
 use Rattle.tl_beat.specs.declared.opcode.OpA.TheVariants as a
 use Rattle.tl_burst.specs.declared.message.Message.TheVariants.{A}
-use Rattle.tl_burst.specs.Messages.{channel_of, unfinished, burst_length}
+use Rattle.tl_burst.specs.statement.Messages.{channel_of, unfinished, burst_length}
 use Rattle.tl_params.specs.declared.config.Config.{Config}
 use Rattle.tl_params.specs.declared.level.Level.{Level}
 use Rattle.tl_params.specs.declared.param.Cap.{Cap}
-use Rattle.tl_rules.specs.Agent.{payload_of}
-use Rattle.tl_rules.specs.Conformance.{Trace, on_link}
-use Rattle.tl_rules.specs.Effect.{Memory, effect, answer_of}
-use Rattle.tl_rules.specs.History.{ends, block_at, is_acquire, is_probe_ack, is_release}
+use Rattle.tl_rules.specs.statement.Agent.{payload_of}
+use Rattle.tl_rules.specs.statement.Conformance.{Trace, on_link}
+use Rattle.tl_rules.specs.statement.Effect.{Memory, effect, answer_of}
+use Rattle.tl_rules.specs.statement.History.{ends, block_at, is_acquire, is_probe_ack, is_release}
 use Rattle.tl_rules.proofs.Blocks.{effect_elsewhere}
 use Rattle.tl_rules.proofs.Legal.{access_at_uh}
-use Rattle.tl_manager.specs.Handing.{Deed, nothing, access_answer, release_ack, grant, performed}
-use Rattle.tl_manager.specs.Holders.{probed, is_settled}
-use Rattle.tl_manager.specs.Kept.{Each, IsSound, IsTyped, IsPerformable, IsKept, illegal_message_at}
-use Rattle.tl_manager.specs.Record.{is_of_block}
-use Rattle.tl_manager.specs.Request.{request_if, request_carried}
-use Rattle.tl_manager.specs.Service.{Service, services, service_of_block, least_untaken, trackers_of}
-use Rattle.tl_manager.specs.Deed.{with_block, written, probing_or, begun_with, begun_if_any, performed_if_any, finish, completed_c, completed, deed}
-use Rattle.tl_manager.specs.End.{End}
-use Rattle.tl_manager.specs.Offer.{Judgement, Breaks, Waits, Passes, level_of, judged, Refused, Stalled, refused, offered_as, offered}
+use Rattle.tl_manager.specs.statement.Handing.{Deed, nothing, access_answer, release_ack, grant, performed}
+use Rattle.tl_manager.specs.statement.Holders.{probed, is_settled}
+use Rattle.tl_manager.specs.code.Kept.{Each, IsSound, IsTyped, IsPerformable, IsKept, illegal_message_at}
+use Rattle.tl_manager.specs.laws.Record.{is_of_block}
+use Rattle.tl_manager.specs.statement.Request.{request_if, request_carried}
+use Rattle.tl_manager.specs.statement.Service.{Service, services, service_of_block, least_untaken, trackers_of}
+use Rattle.tl_manager.specs.statement.Deed.{with_block, written, probing_or, begun_with, begun_if_any, performed_if_any, finish, completed_c, completed, deed}
+use Rattle.tl_manager.specs.statement.End.{End}
+use Rattle.tl_manager.specs.statement.Offer.{Judgement, Breaks, Waits, Passes, level_of, judged, Refused, Stalled, refused, offered_as, offered}
 use Rattle.tl_manager.proofs.Continued.{whole_request}
 use Rattle.tl_manager.proofs.Judged.{passed}
 use Rattle.tl_manager.proofs.Keeping.{taken_beat, are_served}
 use Rattle.tl_manager.proofs.Requests.{IsWhole, performable}
-use Rattle.tl_manager.specs.Ready.{IsPassed}
+use Rattle.tl_manager.specs.code.Ready.{IsPassed}
 
 -- the memory has the same byte at the address
 abbrev pub Same : {w : ℕ} → Deed w → Memory → ℕ → Type 0

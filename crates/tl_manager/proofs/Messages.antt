@@ -2,16 +2,16 @@
 use Rattle.std.proofs.Common.{◌≡◌, ℕ, zero, suc, ◌+◌, ◌-◌, ◌*◌, ◌%◌, ◌^◌, ◌≤◌, lit≤, inl, inr, Bool, true, false, List, [], ◌∷◌, ◌++◌, add-one, append-nil, refl, sym, ap, ◌∙◌, arith}
 use Rattle.std.specs.Prelude.{if◌then◌else◌}
 use Rattle.std.proofs.Math.Bridge.{le_prop}
-use Rattle.tl_beat.specs.Width.{IsWidth}
+use Rattle.tl_beat.specs.statement.Width.{IsWidth}
 use Rattle.tl_beat.specs.declared.opcode.OpB.{OpB}
 use Rattle.tl_beat.specs.declared.opcode.OpB.TheVariants as b
-use Rattle.tl_params.specs.Param.{cap_code}
+use Rattle.tl_params.specs.statement.Param.{cap_code}
 use Rattle.tl_beat.specs.declared.opcode.OpD.{OpD}
 use Rattle.tl_burst.specs.declared.message.Message.{Message}
 use Rattle.tl_burst.specs.declared.message.Message.TheVariants.{B, D}
 use Rattle.tl_params.specs.declared.param.Cap.{Cap}
-use Rattle.tl_manager.specs.Handing.{no_payload, probe_of_block, probes, Handed}
-use Rattle.tl_manager.specs.Holders.{clients_from}
+use Rattle.tl_manager.specs.statement.Handing.{no_payload, probe_of_block, probes, Handed}
+use Rattle.tl_manager.specs.statement.Holders.{clients_from}
 
 -- a message is its fields, whatever shows that its size is small
 abbrev made_b : {w : ℕ} (opcode : OpB) (param size source address : ℕ) (payload : List ℕ) (mask corrupt : ℕ) → size ≤ 6 → Message w

@@ -6,11 +6,11 @@ use Rattle.tl_beat.specs.declared.channel.Channel.{Channel}
 use Rattle.tl_params.specs.declared.config.Config.{Config}
 use Rattle.tl_params.specs.declared.perm.Perm.{Perm}
 use Rattle.tl_params.specs.declared.rule.Rule.{Rule}
-use Rattle.tl_manager.specs.Admission.{admission_of}
-use Rattle.tl_manager.specs.Knows.{Knows, IsManager}
-use Rattle.tl_manager.specs.Deed.{deed}
-use Rattle.tl_manager.specs.End.{End}
-use Rattle.tl_manager.specs.Offer.{Judgement, Breaks, Waits, Passes, Refused, Stalled, Sent, judged, refused, taken, offered_as, offered}
+use Rattle.tl_manager.specs.code.Admission.{admission_of}
+use Rattle.tl_manager.specs.code.Knows.{Knows, IsManager}
+use Rattle.tl_manager.specs.statement.Deed.{deed}
+use Rattle.tl_manager.specs.statement.End.{End}
+use Rattle.tl_manager.specs.statement.Offer.{Judgement, Breaks, Waits, Passes, Refused, Stalled, Sent, judged, refused, taken, offered_as, offered}
 use Rattle.tl_manager.specs.declared.manager.admission.Admission.{Admission}
 use Rattle.tl_manager.specs.declared.manager.admission.Admission.TheVariants as admission
 use Rattle.tl_manager.specs.declared.manager.links.Links.{Links}

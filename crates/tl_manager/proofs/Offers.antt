@@ -12,15 +12,15 @@ use Rattle.tl_beat.specs.declared.opcode.OpB.TheVariants as b
 use Rattle.tl_beat.specs.declared.opcode.OpC.{OpC}
 use Rattle.tl_beat.specs.declared.opcode.OpD.{OpD}
 use Rattle.tl_beat.specs.declared.opcode.OpD.TheVariants as d
-use Rattle.tl_beat.specs.Opcode.{a_carries_data, c_carries_data}
+use Rattle.tl_beat.specs.statement.Opcode.{a_carries_data, c_carries_data}
 use Rattle.tl_burst.specs.declared.message.Message.{Message}
 use Rattle.tl_burst.specs.declared.message.Message.TheVariants as message
-use Rattle.tl_burst.specs.Messages.{channel_of}
+use Rattle.tl_burst.specs.statement.Messages.{channel_of}
 use Rattle.tl_params.specs.declared.config.Config.{Config}
 use Rattle.tl_params.specs.declared.level.Level.{Level}
 use Rattle.tl_params.specs.declared.profile.Profile.{Profile}
-use Rattle.tl_manager.specs.End.{End, fresh}
-use Rattle.tl_manager.specs.Offer.{Reception, Sent, offered}
+use Rattle.tl_manager.specs.statement.End.{End, fresh}
+use Rattle.tl_manager.specs.statement.Offer.{Reception, Sent, offered}
 
 -- a manager of so many blocks and trackers, whose links have these levels
 abbrev pub with_links : Profile → ℕ → ℕ → List Level → Config

@@ -3,18 +3,18 @@ use Rattle.std.proofs.Common.{◌≡◌, ℕ, ◌≤◌, Bool, true, false, ◌&
 use Rattle.std.specs.Prelude.{is_some}
 use Rattle.tl_beat.specs.declared.beat.Link.{Link}
 use Rattle.tl_burst.specs.declared.message.MessageA.{MessageA}
-use Rattle.tl_burst.specs.Messages.{History}
+use Rattle.tl_burst.specs.statement.Messages.{History}
 use Rattle.tl_params.specs.declared.key.Key.TheVariants.{RequestSource, AcquireOf, GrantSink, GrantAckOf, ProbeOf}
 use Rattle.tl_params.specs.declared.perm.Perm.{Perm}
 use Rattle.tl_params.specs.declared.perm.Perm.TheVariants as perm
-use Rattle.tl_rules.specs.Conformance.{on_link, comes_in_request}
-use Rattle.tl_rules.specs.History.{pending, held}
-use Rattle.tl_rules.specs.Open.{open_probe, has_open_grant}
-use Rattle.tl_manager.specs.Probed.{probe_in}
-use Rattle.tl_manager.specs.Trackers.{tracker_at, IsOfBlock, IsAsked}
-use Rattle.tl_manager.specs.Tracking.{is_acquiring, is_granted_to, is_missing, request_in}
+use Rattle.tl_rules.specs.statement.Conformance.{on_link, comes_in_request}
+use Rattle.tl_rules.specs.statement.History.{pending, held}
+use Rattle.tl_rules.specs.code.Open.{open_probe, has_open_grant}
+use Rattle.tl_manager.specs.code.Probed.{probe_in}
+use Rattle.tl_manager.specs.code.Trackers.{tracker_at, IsOfBlock, IsAsked}
+use Rattle.tl_manager.specs.code.Tracking.{is_acquiring, is_granted_to, is_missing, request_in}
 use Rattle.tl_manager.specs.declared.manager.tracker.Tracker.{Tracker}
-use Rattle.tl_manager.specs.Wire.{IsLinkPast}
+use Rattle.tl_manager.specs.code.Wire.{IsLinkPast}
 use Rattle.tl_manager.specs.declared.manager.home.Home.{Home}
 use Rattle.tl_manager.specs.declared.manager.wire.Wire.{Wire}
 use Rattle.tl_manager.proofs.Looking.{AreLooked, source-looked, acquiring-looked, granted-looked, missing-looked, sink-looked, probe-looked}

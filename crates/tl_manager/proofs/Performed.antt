@@ -10,13 +10,13 @@ use Rattle.tl_params.specs.declared.config.Config.{Config}
 use Rattle.tl_params.specs.declared.key.Key.TheVariants.{ProbeOf}
 use Rattle.tl_rules.specs.declared.answer.Answer.{Answer}
 use Rattle.tl_rules.specs.declared.answer.Answer.TheVariants as answer
-use Rattle.tl_rules.specs.Conformance.{Trace}
-use Rattle.tl_rules.specs.Effect.{Memory, effect, answer_of}
-use Rattle.tl_rules.specs.History.{block_at, is_grant, is_acquire, is_release_ack}
-use Rattle.tl_manager.specs.Handing.{Deed, with_handed, performed, grant, grant_opcode, is_granted_data, access_answer}
-use Rattle.tl_manager.specs.Holders.{recorded, is_settled}
-use Rattle.tl_manager.specs.Pending.{is_awaited, IsSteady}
-use Rattle.tl_manager.specs.Service.{Service, services, service_of_block, is_access_answer}
+use Rattle.tl_rules.specs.statement.Conformance.{Trace}
+use Rattle.tl_rules.specs.statement.Effect.{Memory, effect, answer_of}
+use Rattle.tl_rules.specs.statement.History.{block_at, is_grant, is_acquire, is_release_ack}
+use Rattle.tl_manager.specs.statement.Handing.{Deed, with_handed, performed, grant, grant_opcode, is_granted_data, access_answer}
+use Rattle.tl_manager.specs.statement.Holders.{recorded, is_settled}
+use Rattle.tl_manager.specs.laws.Pending.{is_awaited, IsSteady}
+use Rattle.tl_manager.specs.statement.Service.{Service, services, service_of_block, is_access_answer}
 use Rattle.tl_manager.proofs.Accesses.{answer_kind, granted-still, services-answer, accounted-answer}
 use Rattle.tl_manager.proofs.Counts.{serving-without}
 use Rattle.tl_manager.proofs.Granted.{IsGrant, granted-now, granted-elsewhere, services-grant, accounted-grant}
@@ -24,7 +24,7 @@ use Rattle.tl_manager.proofs.Handed.{after_sent}
 use Rattle.tl_manager.proofs.Replied.{IsReply}
 use Rattle.tl_manager.proofs.Replies.{reply-quiet}
 use Rattle.tl_manager.proofs.Unmoved.{awaited-same}
-use Rattle.tl_manager.specs.Ready.{IsReady}
+use Rattle.tl_manager.specs.code.Ready.{IsReady}
 
 -- ---- the answers
 

@@ -3,7 +3,7 @@ use Rattle.std.proofs.Common.{◌≡◌, ℕ, zero, suc, ◌+◌, ◌<◌, ◌�
 use Rattle.std.specs.Prelude.{slice_get, option_map, nat_le, if◌then◌else◌}
 use Rattle.std.proofs.lemmas.Bool.{le-leb, leb-false, leb-true, not-false, and_parts, eqb-true}
 use Rattle.std.proofs.lemmas.Option.{slice_get_within}
-use Rattle.tl_beat.specs.Width.{IsWidth}
+use Rattle.tl_beat.specs.statement.Width.{IsWidth}
 use Rattle.tl_beat.specs.declared.beat.BeatA.{BeatA}
 use Rattle.tl_beat.specs.declared.beat.Beat.{Beat}
 use Rattle.tl_beat.specs.declared.beat.Beat.TheVariants as beat
@@ -14,32 +14,32 @@ use Rattle.tl_beat.specs.declared.opcode.OpA.TheVariants as a
 use Rattle.tl_burst.specs.declared.message.Message.{Message}
 use Rattle.tl_burst.specs.declared.message.Message.TheVariants.{A, B, C, D, E}
 use Rattle.tl_burst.specs.declared.message.MessageA.{MessageA}
-use Rattle.tl_burst.specs.Burst.{a_beat_of, beat_of, begun, beats_of}
-use Rattle.tl_burst.specs.Messages.{channel_of, unfinished}
+use Rattle.tl_burst.specs.statement.Burst.{a_beat_of, beat_of, begun, beats_of}
+use Rattle.tl_burst.specs.statement.Messages.{channel_of, unfinished}
 use Rattle.tl_params.specs.declared.config.ClientConfig.{ClientConfig}
 use Rattle.tl_params.specs.declared.config.Config.{Config}
-use Rattle.tl_params.specs.Config.{config_fault}
-use Rattle.tl_params.specs.Range.{is_from_to}
+use Rattle.tl_params.specs.statement.Config.{config_fault}
+use Rattle.tl_params.specs.statement.Range.{is_from_to}
 use Rattle.tl_params.specs.declared.config.NewFault.{NewFault}
 use Rattle.tl_params.specs.declared.perm.Perm.{Perm}
 use Rattle.tl_params.specs.declared.level.Level.{Level}
 use Rattle.tl_params.specs.declared.level.Level.TheVariants as level
 use Rattle.tl_params.specs.declared.rule.Rule.TheVariants.{L1, L2, L3, L4}
-use Rattle.tl_rules.specs.Conformance.{on_link}
-use Rattle.tl_rules.specs.Control.{a_control, a_own}
-use Rattle.tl_rules.specs.History.{block_at, is_acquire}
-use Rattle.tl_rules.specs.Legality.{illegal, first_illegal, beats_from, is_aligned, a_of_level, a_has_param, a_has_size, is_one_of}
+use Rattle.tl_rules.specs.statement.Conformance.{on_link}
+use Rattle.tl_rules.specs.code.Control.{a_control, a_own}
+use Rattle.tl_rules.specs.statement.History.{block_at, is_acquire}
+use Rattle.tl_rules.specs.statement.Legality.{illegal, first_illegal, beats_from, is_aligned, a_of_level, a_has_param, a_has_size, is_one_of}
 use Rattle.tl_rules.proofs.Bursts.{next_rule, both_none}
 use Rattle.tl_rules.proofs.Verdicts.{illegal_a}
-use Rattle.tl_manager.specs.Complete.{IsComplete, IsDue}
-use Rattle.tl_manager.specs.Home.{IsPlaced, IsPlacedIn}
-use Rattle.tl_manager.specs.Kept.{Each, IsPerformable, illegal_message_at}
-use Rattle.tl_manager.specs.Knows.{Knows, IsManager}
-use Rattle.tl_manager.specs.Service.{Service, services, service_of_block, trackers_of, least_untaken}
-use Rattle.tl_manager.specs.End.{End}
-use Rattle.tl_manager.specs.Offer.{level_of}
-use Rattle.tl_manager.specs.Tracked.{service_with, IsTracked}
-use Rattle.tl_manager.specs.Trackers.{tracker_at}
+use Rattle.tl_manager.specs.code.Complete.{IsComplete, IsDue}
+use Rattle.tl_manager.specs.code.Home.{IsPlaced, IsPlacedIn}
+use Rattle.tl_manager.specs.code.Kept.{Each, IsPerformable, illegal_message_at}
+use Rattle.tl_manager.specs.code.Knows.{Knows, IsManager}
+use Rattle.tl_manager.specs.statement.Service.{Service, services, service_of_block, trackers_of, least_untaken}
+use Rattle.tl_manager.specs.statement.End.{End}
+use Rattle.tl_manager.specs.statement.Offer.{level_of}
+use Rattle.tl_manager.specs.code.Tracked.{service_with, IsTracked}
+use Rattle.tl_manager.specs.code.Trackers.{tracker_at}
 use Rattle.tl_manager.specs.declared.manager.links.Links.{Links}
 use Rattle.tl_manager.specs.declared.manager.tracker.Tracker.{Tracker}
 use Rattle.tl_manager.specs.declared.manager.tracker.Tracker.TheVariants.{Free, Probing, Granted}

@@ -4,25 +4,25 @@ use Rattle.std.specs.Prelude.{if◌then◌else◌}
 use Rattle.std.proofs.lemmas.Bool.{eqb-true, eq-eqb, and_parts, ltb-true}
 use Rattle.tl_beat.specs.declared.beat.Beat.TheVariants as beat
 use Rattle.tl_beat.specs.declared.channel.Channel.TheVariants as channel
-use Rattle.tl_burst.specs.Messages.{History, unfinished}
+use Rattle.tl_burst.specs.statement.Messages.{History, unfinished}
 use Rattle.tl_params.specs.declared.config.Config.{Config}
 use Rattle.tl_params.specs.declared.key.Key.TheVariants.{GrantSink, ProbeOf}
 use Rattle.tl_params.specs.declared.param.Cap.{Cap}
-use Rattle.tl_rules.specs.Conformance.{Trace, on_link}
-use Rattle.tl_rules.specs.History.{block_at, is_acquire, pending}
-use Rattle.tl_rules.specs.Legality.{is_one_of}
+use Rattle.tl_rules.specs.statement.Conformance.{Trace, on_link}
+use Rattle.tl_rules.specs.statement.History.{block_at, is_acquire, pending}
+use Rattle.tl_rules.specs.statement.Legality.{is_one_of}
 use Rattle.tl_rules.proofs.Sent.{pending-quiet}
-use Rattle.tl_manager.specs.Handing.{with_handed, probes, probe_beat}
-use Rattle.tl_manager.specs.Holders.{recorded, is_missing, is_settled, is_above, is_spared, cap_probed, probed}
-use Rattle.tl_manager.specs.Pending.{is_granted, is_awaited, IsSteady}
-use Rattle.tl_manager.specs.Service.{Service, services, service_of_block}
+use Rattle.tl_manager.specs.statement.Handing.{with_handed, probes, probe_beat}
+use Rattle.tl_manager.specs.statement.Holders.{recorded, is_missing, is_settled, is_above, is_spared, cap_probed, probed}
+use Rattle.tl_manager.specs.laws.Pending.{is_granted, is_awaited, IsSteady}
+use Rattle.tl_manager.specs.statement.Service.{Service, services, service_of_block}
 use Rattle.tl_manager.proofs.Clients.{among-where, nobody-where}
 use Rattle.tl_manager.proofs.Links.{beat-keeps}
 use Rattle.tl_manager.proofs.Lists.{each_client, each_weaker}
 use Rattle.tl_manager.proofs.Probes.{probes-within, services-probes}
 use Rattle.tl_manager.proofs.Probing.{missing-own_b, missing-else_b, accounted-probes}
 use Rattle.tl_manager.proofs.Unmoved.{awaited-same}
-use Rattle.tl_manager.specs.Ready.{IsReady}
+use Rattle.tl_manager.specs.code.Ready.{IsReady}
 
 -- what a Probe leaves on each link, several leave
 pub probes-keep : {w : ℕ} {A : Type 0} (value : History w → A) (c n : ℕ) (k : Cap) (clients : List ℕ) (t : Trace w) → ((h : History w) → value (beat.B (probe_beat n k) ∷ h) ≡ value h)

@@ -8,15 +8,15 @@ use Rattle.tl_beat.specs.declared.beat.Link.{Link}
 use Rattle.tl_burst.specs.declared.message.Message.{Message}
 use Rattle.tl_burst.specs.declared.message.Message.TheVariants.{B}
 use Rattle.tl_burst.specs.declared.message.MessageB.{MessageB}
-use Rattle.tl_burst.specs.Burst.{begun, beats_of}
-use Rattle.tl_burst.specs.Messages.{History}
+use Rattle.tl_burst.specs.statement.Burst.{begun, beats_of}
+use Rattle.tl_burst.specs.statement.Messages.{History}
 use Rattle.tl_params.specs.declared.param.Cap.{Cap}
-use Rattle.tl_rules.specs.Agent.{sent}
-use Rattle.tl_rules.specs.Conformance.{Trace, on_link}
-use Rattle.tl_rules.specs.History.{ends}
-use Rattle.tl_manager.specs.Handing.{with_handed, probes, probe_of_block}
-use Rattle.tl_manager.specs.Holders.{clients_from}
-use Rattle.tl_manager.specs.Service.{Service, services, is_ended_by}
+use Rattle.tl_rules.specs.statement.Agent.{sent}
+use Rattle.tl_rules.specs.statement.Conformance.{Trace, on_link}
+use Rattle.tl_rules.specs.statement.History.{ends}
+use Rattle.tl_manager.specs.statement.Handing.{with_handed, probes, probe_of_block}
+use Rattle.tl_manager.specs.statement.Holders.{clients_from}
+use Rattle.tl_manager.specs.statement.Service.{Service, services, is_ended_by}
 use Rattle.tl_manager.proofs.Handed.{after_sent, own_link, other_link}
 
 -- ---- one link after Probes

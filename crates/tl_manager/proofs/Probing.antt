@@ -2,7 +2,7 @@
 use Rattle.std.proofs.Common.{◌≡◌, ℕ, ◌*◌, ◌==◌, Bool, true, false, not, ◌&&◌, ◌||◌, List, [], ◌∷◌, Some, None, refl, sym, ap, subst, ◌∙◌, arith}
 use Rattle.std.specs.Prelude.{filter, if◌then◌else◌}
 use Rattle.std.proofs.lemmas.Bool.{eqb-true, eq-eqb, or_parts, not-false}
-use Rattle.tl_beat.specs.Width.{IsWidth}
+use Rattle.tl_beat.specs.statement.Width.{IsWidth}
 use Rattle.tl_beat.specs.declared.beat.Beat.{Beat}
 use Rattle.tl_beat.specs.declared.beat.Beat.TheVariants as beat
 use Rattle.tl_beat.specs.declared.beat.BeatC.{BeatC}
@@ -10,29 +10,29 @@ use Rattle.tl_beat.specs.declared.beat.Link.{Link}
 use Rattle.tl_beat.specs.declared.channel.Channel.TheVariants as channel
 use Rattle.tl_beat.specs.declared.opcode.OpC.{OpC}
 use Rattle.tl_beat.specs.declared.opcode.OpC.TheVariants as c
-use Rattle.tl_beat.specs.First.{first_if}
-use Rattle.tl_burst.specs.Messages.{History, unfinished, same_control, breaks_burst}
-use Rattle.tl_burst.specs.Part.{is_empty}
+use Rattle.tl_beat.specs.statement.First.{first_if}
+use Rattle.tl_burst.specs.statement.Messages.{History, unfinished, same_control, breaks_burst}
+use Rattle.tl_burst.specs.statement.Part.{is_empty}
 use Rattle.tl_burst.proofs.ControlFields.{control_c}
 use Rattle.tl_params.specs.declared.key.Key.TheVariants.{RequestSource, AcquireOf, GrantSink, GrantAckOf, ProbeOf}
 use Rattle.tl_params.specs.declared.param.Cap.{Cap}
 use Rattle.tl_params.specs.declared.profile.Profile.{Profile}
 use Rattle.tl_params.specs.declared.rule.Rule.TheVariants.{S1, H10}
-use Rattle.tl_rules.specs.Conformance.{Trace, on_link, broken_in_order, broken_order, answers_wrong_probe}
+use Rattle.tl_rules.specs.statement.Conformance.{Trace, on_link, broken_in_order, broken_order, answers_wrong_probe}
 use Rattle.tl_rules.proofs.Bursts.{next_rule}
-use Rattle.tl_rules.specs.History.{begins, ends, opens, closes, block_at, is_probe_ack, is_release, pending, request_of, probe_of, grant_sink}
+use Rattle.tl_rules.specs.statement.History.{begins, ends, opens, closes, block_at, is_probe_ack, is_release, pending, request_of, probe_of, grant_sink}
 use Rattle.tl_rules.proofs.Sent.{pending-quiet}
-use Rattle.tl_manager.specs.Handing.{with_handed, probes, probe_of_block, probe_beat}
-use Rattle.tl_manager.specs.Holders.{cap_probed, is_spared}
-use Rattle.tl_manager.specs.Kept.{Each}
-use Rattle.tl_manager.specs.Pending.{is_granted, IsReporting, IsProbed, IsAccounted}
-use Rattle.tl_manager.specs.Service.{Service, services, service_of_block, is_ended_by}
+use Rattle.tl_manager.specs.statement.Handing.{with_handed, probes, probe_of_block, probe_beat}
+use Rattle.tl_manager.specs.statement.Holders.{cap_probed, is_spared}
+use Rattle.tl_manager.specs.code.Kept.{Each}
+use Rattle.tl_manager.specs.laws.Pending.{is_granted, IsReporting, IsProbed, IsAccounted}
+use Rattle.tl_manager.specs.statement.Service.{Service, services, service_of_block, is_ended_by}
 use Rattle.tl_manager.proofs.Accepted.{granted-kept}
 use Rattle.tl_manager.proofs.Handed.{whole-after_sent}
 use Rattle.tl_manager.proofs.Links.{own_beat, other_beat, beat-keeps, pending-opened, pending-closed}
 use Rattle.tl_manager.proofs.Probes.{filter-all, services-b}
 use Rattle.tl_manager.proofs.Unmoved.{IsSame, IsQuiet, handled-same, handled-quiet, reports-kept, accounted-kept}
-use Rattle.tl_manager.specs.Ready.{IsWhole}
+use Rattle.tl_manager.specs.code.Ready.{IsWhole}
 
 -- ---- a beat of channel C
 

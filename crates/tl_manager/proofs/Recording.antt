@@ -6,13 +6,13 @@ use Rattle.tl_params.specs.declared.param.Cap.{Cap}
 use Rattle.tl_params.specs.declared.param.Cap.TheVariants as cap
 use Rattle.tl_params.specs.declared.perm.Perm.{Perm}
 use Rattle.tl_params.specs.declared.perm.Perm.TheVariants as perm
-use Rattle.tl_params.specs.Param.{cap_code, cap_right}
-use Rattle.tl_rules.specs.Conformance.{Trace}
-use Rattle.tl_rules.specs.History.{held, capped}
-use Rattle.tl_manager.specs.Bit.{bit_if}
-use Rattle.tl_manager.specs.Holders.{recorded, has_copy, is_unheld}
-use Rattle.tl_manager.specs.Kept.{Each, IsSound}
-use Rattle.tl_manager.specs.Word.{copy_bit}
+use Rattle.tl_params.specs.statement.Param.{cap_code, cap_right}
+use Rattle.tl_rules.specs.statement.Conformance.{Trace}
+use Rattle.tl_rules.specs.statement.History.{held, capped}
+use Rattle.tl_manager.specs.code.Bit.{bit_if}
+use Rattle.tl_manager.specs.statement.Holders.{recorded, has_copy, is_unheld}
+use Rattle.tl_manager.specs.code.Kept.{Each, IsSound}
+use Rattle.tl_manager.specs.code.Word.{copy_bit}
 use Rattle.tl_manager.proofs.Settled.{silent-past}
 use Rattle.tl_manager.proofs.Words.{word-nobody}
 

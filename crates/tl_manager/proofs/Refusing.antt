@@ -9,12 +9,12 @@ use Rattle.tl_beat.specs.declared.beat.Link.{Link}
 use Rattle.tl_beat.specs.declared.channel.Channel.{Channel}
 use Rattle.tl_params.specs.declared.config.Config.{Config}
 use Rattle.tl_params.specs.declared.perm.Perm.{Perm}
-use Rattle.tl_manager.specs.Admission.{admission_of, is_stall}
-use Rattle.tl_manager.specs.Kept.{IsKept}
-use Rattle.tl_manager.specs.Knows.{Knows}
-use Rattle.tl_manager.specs.End.{End}
-use Rattle.tl_manager.specs.Offer.{Judgement, Breaks, Waits, Passes, judged, is_waiting, stalls, refused}
-use Rattle.tl_manager.specs.Wire.{IsWire}
+use Rattle.tl_manager.specs.code.Admission.{admission_of, is_stall}
+use Rattle.tl_manager.specs.code.Kept.{IsKept}
+use Rattle.tl_manager.specs.code.Knows.{Knows}
+use Rattle.tl_manager.specs.statement.End.{End}
+use Rattle.tl_manager.specs.statement.Offer.{Judgement, Breaks, Waits, Passes, judged, is_waiting, stalls, refused}
+use Rattle.tl_manager.specs.code.Wire.{IsWire}
 use Rattle.tl_manager.specs.declared.manager.links.Links.{Links}
 use Rattle.tl_manager.specs.declared.manager.wire.Wire.{Wire}
 

@@ -2,31 +2,31 @@
 use Rattle.std.proofs.Common.{◌≡◌, ℕ, ◌+◌, ◌==◌, Bool, true, false, not, ◌&&◌, List, [], ◌∷◌, length, None, refl, sym, ap, subst, ◌∙◌}
 use Rattle.std.specs.Prelude.{if◌then◌else◌, ⊤}
 use Rattle.std.proofs.lemmas.Bool.{eq-eqb, not-false}
-use Rattle.tl_beat.specs.Width.{IsWidth}
+use Rattle.tl_beat.specs.statement.Width.{IsWidth}
 use Rattle.tl_beat.specs.declared.beat.Beat.{Beat}
 use Rattle.tl_beat.specs.declared.beat.Beat.TheVariants as beat
 use Rattle.tl_beat.specs.declared.beat.BeatA.{BeatA}
 use Rattle.tl_beat.specs.declared.beat.BeatC.{BeatC}
 use Rattle.tl_beat.specs.declared.beat.BeatE.{BeatE}
 use Rattle.tl_beat.specs.declared.channel.Channel.TheVariants as channel
-use Rattle.tl_beat.specs.First.{first_if}
+use Rattle.tl_beat.specs.statement.First.{first_if}
 use Rattle.tl_burst.specs.declared.message.Message.{Message}
 use Rattle.tl_burst.specs.declared.message.Message.TheVariants.{B, D}
 use Rattle.tl_burst.specs.declared.message.MessageB.{MessageB}
 use Rattle.tl_burst.specs.declared.message.MessageD.{MessageD}
-use Rattle.tl_burst.specs.Burst.{beats_of}
-use Rattle.tl_burst.specs.Messages.{History, unfinished, breaks_burst, same_control, burst_length}
-use Rattle.tl_burst.specs.Part.{is_empty}
+use Rattle.tl_burst.specs.statement.Burst.{beats_of}
+use Rattle.tl_burst.specs.statement.Messages.{History, unfinished, breaks_burst, same_control, burst_length}
+use Rattle.tl_burst.specs.statement.Part.{is_empty}
 use Rattle.tl_burst.proofs.ControlFields.{control_c}
 use Rattle.tl_burst.proofs.Splitting.{beats-positive}
 use Rattle.tl_params.specs.declared.key.Key.TheVariants.{ReleaseSource, ReleaseOf}
 use Rattle.tl_params.specs.declared.profile.Profile.{Profile}
 use Rattle.tl_params.specs.declared.rule.Rule.TheVariants.{S1}
-use Rattle.tl_rules.specs.Agent.{sent}
-use Rattle.tl_rules.specs.Conformance.{broken_in_order, broken_order}
-use Rattle.tl_rules.specs.History.{begins, ends, pending, release_of, releases, block_at, is_release, is_release_ack}
+use Rattle.tl_rules.specs.statement.Agent.{sent}
+use Rattle.tl_rules.specs.statement.Conformance.{broken_in_order, broken_order}
+use Rattle.tl_rules.specs.statement.History.{begins, ends, pending, release_of, releases, block_at, is_release, is_release_ack}
 use Rattle.tl_rules.proofs.Bursts.{next_rule}
-use Rattle.tl_manager.specs.Releases.{comes_with, comes_of, IsNamed, IsAnswered}
+use Rattle.tl_manager.specs.code.Releases.{comes_with, comes_of, IsNamed, IsAnswered}
 use Rattle.tl_rules.proofs.Sent.{unfinished-sent_other, release_of-other}
 use Rattle.tl_rules.proofs.Handed.{pending-sent_b, pending-sent_d}
 use Rattle.tl_rules.proofs.Tables.{neither}

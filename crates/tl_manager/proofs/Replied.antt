@@ -2,18 +2,18 @@
 use Rattle.std.proofs.Common.{◌≡◌, ℕ, ◌+◌, ◌==◌, Bool, true, false, not, ◌&&◌, List, [], ◌∷◌, Some, refl, sym, ap, ap₂, ◌∙◌, arith}
 use Rattle.std.specs.Prelude.{if◌then◌else◌}
 use Rattle.std.proofs.lemmas.Bool.{eqb-true, and_parts}
-use Rattle.tl_beat.specs.Width.{IsWidth}
+use Rattle.tl_beat.specs.statement.Width.{IsWidth}
 use Rattle.tl_beat.specs.declared.channel.Channel.TheVariants as channel
 use Rattle.tl_burst.specs.declared.message.Message.TheVariants.{D}
 use Rattle.tl_burst.specs.declared.message.MessageD.{MessageD}
-use Rattle.tl_burst.specs.Messages.{unfinished}
+use Rattle.tl_burst.specs.statement.Messages.{unfinished}
 use Rattle.tl_params.specs.declared.key.Key.TheVariants.{RequestSource, ProbeOf}
-use Rattle.tl_rules.specs.Conformance.{Trace, on_link, comes_in_request}
-use Rattle.tl_rules.specs.History.{block_at, is_release_ack, pending}
+use Rattle.tl_rules.specs.statement.Conformance.{Trace, on_link, comes_in_request}
+use Rattle.tl_rules.specs.statement.History.{block_at, is_release_ack, pending}
 use Rattle.tl_rules.proofs.Handed.{after_whole}
-use Rattle.tl_manager.specs.Kept.{Each, AreApart, blocks_of}
-use Rattle.tl_manager.specs.Pending.{one_if, count_where, is_granted, is_asking, IsAccounted}
-use Rattle.tl_manager.specs.Service.{Service, services, service_of_block, trackers_of}
+use Rattle.tl_manager.specs.code.Kept.{Each, AreApart, blocks_of}
+use Rattle.tl_manager.specs.laws.Pending.{one_if, count_where, is_granted, is_asking, IsAccounted}
+use Rattle.tl_manager.specs.statement.Service.{Service, services, service_of_block, trackers_of}
 use Rattle.tl_manager.proofs.Accepted.{asks}
 use Rattle.tl_manager.proofs.Counts.{count-same, count-none, count-served, one_at_most, same_block, only_one}
 use Rattle.tl_manager.proofs.Handed.{after_sent}

@@ -2,24 +2,24 @@
 use Rattle.std.proofs.Common.{◌≡◌, ℕ, zero, suc, ◌<◌, ◌≤◌, ◌==◌, Bool, true, false, ◌&&◌, [], ◌++◌, Option, Some, None, refl, ap, subst, ◌∙◌, arith}
 use Rattle.std.specs.Prelude.{if◌then◌else◌}
 use Rattle.std.proofs.lemmas.Bool.{eqb-true}
-use Rattle.tl_beat.specs.Width.{IsWidth}
+use Rattle.tl_beat.specs.statement.Width.{IsWidth}
 use Rattle.tl_beat.specs.declared.beat.BeatA.{BeatA}
 use Rattle.tl_beat.specs.declared.beat.Link.{Link}
 use Rattle.tl_beat.specs.declared.channel.Channel.TheVariants as channel
 use Rattle.tl_beat.specs.declared.opcode.OpA.{OpA}
 use Rattle.tl_burst.specs.declared.message.Message.TheVariants.{D}
 use Rattle.tl_burst.specs.declared.message.MessageD.{MessageD}
-use Rattle.tl_burst.specs.Burst.{begun, beat_of, beats_of}
-use Rattle.tl_burst.specs.Messages.{History, unfinished}
+use Rattle.tl_burst.specs.statement.Burst.{begun, beat_of, beats_of}
+use Rattle.tl_burst.specs.statement.Messages.{History, unfinished}
 use Rattle.tl_burst.proofs.Splitting.{beats-positive}
 use Rattle.tl_params.specs.declared.key.Key.{Key}
 use Rattle.tl_params.specs.declared.key.Key.TheVariants.{ProbeOf}
-use Rattle.tl_rules.specs.Agent.{sent}
-use Rattle.tl_rules.specs.Conformance.{Trace, on_link}
-use Rattle.tl_rules.specs.History.{opens, closes, block_at, is_grant, pending, asks_for, request_of, probe_of, grant_sink}
+use Rattle.tl_rules.specs.statement.Agent.{sent}
+use Rattle.tl_rules.specs.statement.Conformance.{Trace, on_link}
+use Rattle.tl_rules.specs.statement.History.{opens, closes, block_at, is_grant, pending, asks_for, request_of, probe_of, grant_sink}
 use Rattle.tl_rules.proofs.Handed.{after_whole, pending-sent_d}
 use Rattle.tl_rules.proofs.Sent.{begins-first, begins-later, unfinished-sent_other, request_of-other}
-use Rattle.tl_manager.specs.Pending.{HasFields, IsReporting, IsAccounted}
+use Rattle.tl_manager.specs.laws.Pending.{HasFields, IsReporting, IsAccounted}
 use Rattle.tl_manager.proofs.Handed.{after_sent, own_link, other_link}
 use Rattle.tl_manager.proofs.Links.{sent-keeps}
 use Rattle.tl_manager.proofs.Unmoved.{reports-kept}

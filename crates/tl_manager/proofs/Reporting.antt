@@ -10,24 +10,24 @@ use Rattle.tl_burst.specs.declared.message.MessageA.{MessageA}
 use Rattle.tl_params.specs.declared.config.Config.{Config}
 use Rattle.tl_params.specs.declared.key.Key.TheVariants.{ProbeOf}
 use Rattle.tl_params.specs.declared.perm.Perm.{Perm}
-use Rattle.tl_rules.specs.Conformance.{Trace, on_link}
-use Rattle.tl_rules.specs.Effect.{Memory}
-use Rattle.tl_rules.specs.History.{ends, block_at, is_probe_ack, pending}
-use Rattle.tl_rules.specs.Legality.{is_one_of}
+use Rattle.tl_rules.specs.statement.Conformance.{Trace, on_link}
+use Rattle.tl_rules.specs.statement.Effect.{Memory}
+use Rattle.tl_rules.specs.statement.History.{ends, block_at, is_probe_ack, pending}
+use Rattle.tl_rules.specs.statement.Legality.{is_one_of}
 use Rattle.tl_rules.proofs.Open.{never}
-use Rattle.tl_manager.specs.Bit.{bit_if}
-use Rattle.tl_manager.specs.Handing.{Deed, Handed, with_handed, nothing, performed}
-use Rattle.tl_manager.specs.Holders.{is_missing, is_settled}
-use Rattle.tl_manager.specs.Home.{IsHomeWithout, IsReportedHome, IsDone, IsReadyAt, IsReport}
-use Rattle.tl_manager.specs.Kept.{AreApart}
-use Rattle.tl_manager.specs.Pending.{is_granted}
-use Rattle.tl_manager.specs.Ready.{IsReady}
-use Rattle.tl_manager.specs.Service.{Service, services, service_of_block, trackers_of}
-use Rattle.tl_manager.specs.Deed.{finish, performed_if_any}
-use Rattle.tl_manager.specs.End.{End}
-use Rattle.tl_manager.specs.Tracked.{service_with, AreMissing, IsTracked, IsProbing}
-use Rattle.tl_manager.specs.Trackers.{tracker_at}
-use Rattle.tl_manager.specs.Tracking.{is_of}
+use Rattle.tl_manager.specs.code.Bit.{bit_if}
+use Rattle.tl_manager.specs.statement.Handing.{Deed, Handed, with_handed, nothing, performed}
+use Rattle.tl_manager.specs.statement.Holders.{is_missing, is_settled}
+use Rattle.tl_manager.specs.code.Home.{IsHomeWithout, IsReportedHome, IsDone, IsReadyAt, IsReport}
+use Rattle.tl_manager.specs.code.Kept.{AreApart}
+use Rattle.tl_manager.specs.laws.Pending.{is_granted}
+use Rattle.tl_manager.specs.code.Ready.{IsReady}
+use Rattle.tl_manager.specs.statement.Service.{Service, services, service_of_block, trackers_of}
+use Rattle.tl_manager.specs.statement.Deed.{finish, performed_if_any}
+use Rattle.tl_manager.specs.statement.End.{End}
+use Rattle.tl_manager.specs.code.Tracked.{service_with, AreMissing, IsTracked, IsProbing}
+use Rattle.tl_manager.specs.code.Trackers.{tracker_at}
+use Rattle.tl_manager.specs.code.Tracking.{is_of}
 use Rattle.tl_manager.specs.declared.manager.home.Home.{Home}
 use Rattle.tl_manager.specs.declared.manager.tracker.Tracker.{Tracker}
 use Rattle.tl_manager.specs.declared.manager.tracker.Tracker.TheVariants.{Free, Probing, Granted}

@@ -8,17 +8,17 @@ use Rattle.tl_beat.specs.declared.beat.BeatA.{BeatA}
 use Rattle.tl_beat.specs.declared.beat.Link.{Link}
 use Rattle.tl_beat.specs.declared.channel.Channel.TheVariants as channel
 use Rattle.tl_burst.specs.declared.message.MessageA.{MessageA}
-use Rattle.tl_burst.specs.Messages.{History, unfinished}
+use Rattle.tl_burst.specs.statement.Messages.{History, unfinished}
 use Rattle.tl_params.specs.declared.key.Key.TheVariants.{RequestSource, AcquireOf, GrantSink, GrantAckOf, ProbeOf}
-use Rattle.tl_rules.specs.Conformance.{Trace, on_link, comes_in_request}
-use Rattle.tl_rules.specs.History.{ends, block_at, is_acquire, pending, request_of}
-use Rattle.tl_rules.specs.Legality.{is_one_of}
+use Rattle.tl_rules.specs.statement.Conformance.{Trace, on_link, comes_in_request}
+use Rattle.tl_rules.specs.statement.History.{ends, block_at, is_acquire, pending, request_of}
+use Rattle.tl_rules.specs.statement.Legality.{is_one_of}
 use Rattle.tl_rules.proofs.Sent.{pending-quiet}
 use Rattle.tl_rules.proofs.Open.{never}
-use Rattle.tl_manager.specs.Kept.{is_granting}
-use Rattle.tl_manager.specs.Pending.{one_if, count_where, is_granted, is_asking, is_acquiring, is_granted_to, HasFields, IsBegun, IsReporting, IsNamed, IsHandled, IsAccounted}
-use Rattle.tl_manager.specs.Request.{request_if, request_carried}
-use Rattle.tl_manager.specs.Service.{Service, services, service_of_block, is_in_service, least_untaken, trackers_of}
+use Rattle.tl_manager.specs.code.Kept.{is_granting}
+use Rattle.tl_manager.specs.laws.Pending.{one_if, count_where, is_granted, is_asking, is_acquiring, is_granted_to, HasFields, IsBegun, IsReporting, IsNamed, IsHandled, IsAccounted}
+use Rattle.tl_manager.specs.statement.Request.{request_if, request_carried}
+use Rattle.tl_manager.specs.statement.Service.{Service, services, service_of_block, is_in_service, least_untaken, trackers_of}
 use Rattle.tl_manager.proofs.Accepted.{granted_a, same-else}
 use Rattle.tl_manager.proofs.Counts.{counted-kept}
 use Rattle.tl_manager.proofs.Asked.{Place, fields-now, acquire_whole, begun-now, source-now, comes-now}
@@ -29,7 +29,7 @@ use Rattle.tl_manager.proofs.Links.{own_beat, other_beat, beat-keeps, pending-op
 use Rattle.tl_manager.proofs.Requests.{made_of}
 use Rattle.tl_manager.proofs.Sinks.{AreTracked, grants_by}
 use Rattle.tl_manager.proofs.Unmoved.{handled-same, reports-kept}
-use Rattle.tl_manager.specs.Ready.{IsServed}
+use Rattle.tl_manager.specs.code.Ready.{IsServed}
 
 -- ---- sources and bursts
 

@@ -4,8 +4,8 @@ use Rattle.std.specs.Prelude.{nat_le, is_some, IfSome, unwrap_or, replicate, ifâ
 use Rattle.std.proofs.lemmas.List.{drop_at, length-append, length-replicate}
 use Rattle.std.proofs.lemmas.Nat.{pow_pos}
 use Rattle.std.proofs.lemmas.Bool.{leb-true}
-use Rattle.tl_beat.specs.Width.{IsWidth}
-use Rattle.tl_beat.specs.Opcode.{a_carries_data}
+use Rattle.tl_beat.specs.statement.Width.{IsWidth}
+use Rattle.tl_beat.specs.statement.Opcode.{a_carries_data}
 use Rattle.tl_beat.specs.declared.beat.Beat.{Beat}
 use Rattle.tl_beat.specs.declared.beat.Beat.TheVariants as beat
 use Rattle.tl_beat.specs.declared.beat.BeatA.{BeatA}
@@ -13,20 +13,20 @@ use Rattle.tl_beat.specs.declared.beat.Link.{Link}
 use Rattle.tl_beat.specs.declared.channel.Channel.TheVariants as channel
 use Rattle.tl_burst.specs.declared.message.Message.TheVariants.{A}
 use Rattle.tl_burst.specs.declared.message.MessageA.{MessageA}
-use Rattle.tl_burst.specs.Burst.{beats_of, a_beat_of, IsZeroFrom}
-use Rattle.tl_burst.specs.Messages.{burst_length}
+use Rattle.tl_burst.specs.statement.Burst.{beats_of, a_beat_of, IsZeroFrom}
+use Rattle.tl_burst.specs.statement.Messages.{burst_length}
 use Rattle.tl_params.specs.declared.config.Config.{Config}
 use Rattle.tl_params.specs.declared.level.Level.{Level}
-use Rattle.tl_rules.specs.Agent.{bytes_carried, lanes_of, payload_of, is_spoiled}
-use Rattle.tl_rules.specs.Control.{a_control, a_own}
-use Rattle.tl_rules.specs.Legality.{illegal}
+use Rattle.tl_rules.specs.statement.Agent.{bytes_carried, lanes_of, payload_of, is_spoiled}
+use Rattle.tl_rules.specs.code.Control.{a_control, a_own}
+use Rattle.tl_rules.specs.statement.Legality.{illegal}
 use Rattle.tl_rules.proofs.Checks.{beats_room}
 use Rattle.tl_rules.proofs.Legal.{legal_from_beats}
 use Rattle.tl_rules.proofs.Verdicts.{illegal_a}
 use Rattle.tl_rules.proofs.Bursts.{both_none}
-use Rattle.tl_manager.specs.Kept.{Each, IsSound, IsTyped, IsLike, IsPerformable}
-use Rattle.tl_manager.specs.Request.{mask_of, corrupt_of, masks_carried, corrupt_carried}
-use Rattle.tl_manager.specs.Offer.{level_of}
+use Rattle.tl_manager.specs.code.Kept.{Each, IsSound, IsTyped, IsLike, IsPerformable}
+use Rattle.tl_manager.specs.statement.Request.{mask_of, corrupt_of, masks_carried, corrupt_carried}
+use Rattle.tl_manager.specs.statement.Offer.{level_of}
 use Rattle.tl_manager.proofs.Lawful.{no_bit}
 use Rattle.tl_manager.proofs.Lists.{each_weaker}
 use Rattle.tl_manager.proofs.Masks.{legal-narrow, masks-below, each_mask}

@@ -10,18 +10,18 @@ use Rattle.tl_params.specs.declared.level.Level.TheVariants as level
 use Rattle.tl_params.specs.declared.profile.Profile.{Profile}
 use Rattle.tl_params.specs.declared.profile.Profile.TheVariants as profile
 use Rattle.tl_params.specs.declared.rule.Rule.TheVariants.{L1, S1, H1, H8, H10, A1, A2, A3}
-use Rattle.tl_rules.specs.Agent.{bytes_carried}
-use Rattle.tl_rules.specs.Conformance.{on_link, broken_order}
-use Rattle.tl_rules.specs.Effect.{bytes_from, number_from, effect}
-use Rattle.tl_rules.specs.History.{request_of, release_of, probe_of, grant_sink, pending, held}
-use Rattle.tl_rules.specs.Legality.{illegal, each_below}
-use Rattle.tl_burst.specs.Messages.{unfinished}
-use Rattle.tl_manager.specs.Handing.{with_handed}
-use Rattle.tl_manager.specs.Holders.{clients_from}
-use Rattle.tl_manager.specs.Request.{masks_carried, corrupt_carried, request_carried}
-use Rattle.tl_manager.specs.Service.{least_untaken, services}
-use Rattle.tl_manager.specs.Deed.{deed}
-use Rattle.tl_manager.specs.Offer.{Reception, Refused, Stalled, Sent, judged_at, offered}
+use Rattle.tl_rules.specs.statement.Agent.{bytes_carried}
+use Rattle.tl_rules.specs.statement.Conformance.{on_link, broken_order}
+use Rattle.tl_rules.specs.statement.Effect.{bytes_from, number_from, effect}
+use Rattle.tl_rules.specs.statement.History.{request_of, release_of, probe_of, grant_sink, pending, held}
+use Rattle.tl_rules.specs.statement.Legality.{illegal, each_below}
+use Rattle.tl_burst.specs.statement.Messages.{unfinished}
+use Rattle.tl_manager.specs.statement.Handing.{with_handed}
+use Rattle.tl_manager.specs.statement.Holders.{clients_from}
+use Rattle.tl_manager.specs.statement.Request.{masks_carried, corrupt_carried, request_carried}
+use Rattle.tl_manager.specs.statement.Service.{least_untaken, services}
+use Rattle.tl_manager.specs.statement.Deed.{deed}
+use Rattle.tl_manager.specs.statement.Offer.{Reception, Refused, Stalled, Sent, judged_at, offered}
 use Rattle.tl_manager.proofs.Offers.{Offer, on, on_channel, answers_to, with_links, request, request_of_data, corrupted, get, put_block, acquire, acquire_whole}
 use Rattle.tl_manager.proofs.Offers.{report, report_with, access_ack, grant_ack, to, said, answer, grant_data, grant, release_ack, probe, zeros, block_from}
 

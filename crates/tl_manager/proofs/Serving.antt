@@ -2,10 +2,10 @@
 use Rattle.std.proofs.Common.{◌≡◌, ℕ, Bool, true, false, ◌||◌, List, [], ◌∷◌, Option, Some, None, refl, sym, ◌∙◌, ap}
 use Rattle.std.specs.Prelude.{◌==◌, if◌then◌else◌, filter}
 use Rattle.std.proofs.lemmas.Bool.{eqb-true, eq-eqb, ne_eqb}
-use Rattle.tl_rules.specs.History.{block_at}
-use Rattle.tl_rules.specs.Legality.{is_one_of}
-use Rattle.tl_manager.specs.Kept.{AreApart, blocks_of}
-use Rattle.tl_manager.specs.Service.{Service, service_of_block, trackers_of}
+use Rattle.tl_rules.specs.statement.History.{block_at}
+use Rattle.tl_rules.specs.statement.Legality.{is_one_of}
+use Rattle.tl_manager.specs.code.Kept.{AreApart, blocks_of}
+use Rattle.tl_manager.specs.statement.Service.{Service, service_of_block, trackers_of}
 
 same_number : (n : ℕ) → (n == n) ≡ true
 same_number n = eq-eqb n n refl

@@ -4,15 +4,15 @@ use Rattle.std.specs.Prelude.{option_map}
 use Rattle.std.proofs.lemmas.Bool.{cases_lt}
 use Rattle.std.proofs.lemmas.Option.{slice_get_past}
 use Rattle.tl_beat.specs.declared.beat.Beat.{Beat}
-use Rattle.tl_burst.specs.Messages.{History}
+use Rattle.tl_burst.specs.statement.Messages.{History}
 use Rattle.tl_params.specs.declared.config.Config.{Config}
 use Rattle.tl_params.specs.declared.key.Key.TheVariants.{ProbeOf}
 use Rattle.tl_params.specs.declared.level.Level.{Level}
-use Rattle.tl_rules.specs.Conformance.{Trace, on_link}
-use Rattle.tl_rules.specs.History.{pending}
-use Rattle.tl_manager.specs.Holders.{is_missing, is_settled}
-use Rattle.tl_manager.specs.Kept.{Each, IsSound, illegal_at}
-use Rattle.tl_manager.specs.Offer.{level_of}
+use Rattle.tl_rules.specs.statement.Conformance.{Trace, on_link}
+use Rattle.tl_rules.specs.statement.History.{pending}
+use Rattle.tl_manager.specs.statement.Holders.{is_missing, is_settled}
+use Rattle.tl_manager.specs.code.Kept.{Each, IsSound, illegal_at}
+use Rattle.tl_manager.specs.statement.Offer.{level_of}
 use Rattle.tl_manager.proofs.Clients.{nobody-where}
 use Rattle.tl_manager.proofs.Sound.{sound_on_link}
 

@@ -2,7 +2,7 @@
 use Rattle.std.proofs.Common.{◌≡◌, ℕ, zero, suc, ◌==◌, Bool, true, false, not, cond, ◌&&◌, ◌||◌, List, [], ◌∷◌, ◌++◌, map, Option, Some, None, refl, sym, ap, subst, ◌∙◌, inl, inr}
 use Rattle.std.specs.Prelude.{filter, if◌then◌else◌, ⊤}
 use Rattle.std.proofs.lemmas.Bool.{or_cases, and_parts, eqb-true, eq-eqb, ne_eqb, true≢false}
-use Rattle.tl_beat.specs.Width.{IsWidth}
+use Rattle.tl_beat.specs.statement.Width.{IsWidth}
 use Rattle.tl_beat.specs.declared.beat.Beat.{Beat}
 use Rattle.tl_beat.specs.declared.beat.Beat.TheVariants as beat
 use Rattle.tl_beat.specs.declared.beat.BeatA.{BeatA}
@@ -12,24 +12,24 @@ use Rattle.tl_beat.specs.declared.beat.Link.{Link}
 use Rattle.tl_burst.specs.declared.message.Message.{Message}
 use Rattle.tl_burst.specs.declared.message.Message.TheVariants.{A, B, C, D, E}
 use Rattle.tl_burst.specs.declared.message.MessageD.{MessageD}
-use Rattle.tl_burst.specs.Burst.{beats_of, beat_of, begun}
-use Rattle.tl_burst.specs.Messages.{History, channel_of, unfinished}
+use Rattle.tl_burst.specs.statement.Burst.{beats_of, beat_of, begun}
+use Rattle.tl_burst.specs.statement.Messages.{History, channel_of, unfinished}
 use Rattle.tl_burst.proofs.Splitting.{beats-positive}
 use Rattle.tl_params.specs.declared.config.Config.{Config}
 use Rattle.tl_params.specs.declared.key.Key.TheVariants.{GrantSink}
-use Rattle.tl_rules.specs.Agent.{sent}
-use Rattle.tl_rules.specs.Conformance.{Trace, on_link}
-use Rattle.tl_rules.specs.History.{begins, ends, pending, is_grant, is_acquire}
-use Rattle.tl_manager.specs.Handing.{Handed, with_handed}
-use Rattle.tl_manager.specs.Kept.{Each, is_granting}
-use Rattle.tl_manager.specs.Service.{Service, is_access_answer, is_ended_by, with_service, services_after, services}
-use Rattle.tl_manager.specs.Offer.{is_from_client}
+use Rattle.tl_rules.specs.statement.Agent.{sent}
+use Rattle.tl_rules.specs.statement.Conformance.{Trace, on_link}
+use Rattle.tl_rules.specs.statement.History.{begins, ends, pending, is_grant, is_acquire}
+use Rattle.tl_manager.specs.statement.Handing.{Handed, with_handed}
+use Rattle.tl_manager.specs.code.Kept.{Each, is_granting}
+use Rattle.tl_manager.specs.statement.Service.{Service, is_access_answer, is_ended_by, with_service, services_after, services}
+use Rattle.tl_manager.specs.statement.Offer.{is_from_client}
 use Rattle.tl_manager.proofs.Handed.{after_sent, own_link, other_link, whole-after_sent}
 use Rattle.tl_manager.proofs.Lawful.{IsHandable}
 use Rattle.tl_manager.proofs.Lists.{each_weaker}
 use Rattle.tl_rules.proofs.Handed.{pending-sent_b, pending-sent_d}
 use Rattle.tl_rules.proofs.Tables.{neither}
-use Rattle.tl_manager.specs.Ready.{IsWhole}
+use Rattle.tl_manager.specs.code.Ready.{IsWhole}
 
 -- the Acquire of this client that has this tracker
 abbrev pub grants_by : {w : ℕ} → ℕ → ℕ → Service w → Bool

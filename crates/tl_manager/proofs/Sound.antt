@@ -8,23 +8,23 @@ use Rattle.tl_beat.specs.declared.beat.BeatA.{BeatA}
 use Rattle.tl_beat.specs.declared.beat.Link.{Link}
 use Rattle.tl_beat.specs.declared.opcode.OpD.{OpD}
 use Rattle.tl_beat.specs.declared.opcode.OpD.TheVariants as d
-use Rattle.tl_burst.specs.Messages.{History, channel_of, unfinished}
+use Rattle.tl_burst.specs.statement.Messages.{History, channel_of, unfinished}
 use Rattle.tl_params.specs.declared.config.Config.{Config}
 use Rattle.tl_params.specs.declared.level.Level.{Level}
 use Rattle.tl_params.specs.declared.level.Level.TheVariants as level
 use Rattle.tl_params.specs.declared.perm.Perm.{Perm}
 use Rattle.tl_params.specs.declared.rule.Rule.TheVariants.{L1}
-use Rattle.tl_rules.specs.Conformance.{Trace, on_link}
-use Rattle.tl_rules.specs.Control.{a_control, a_own}
-use Rattle.tl_rules.specs.History.{ends, block_at, capped, held, says_held, is_grant}
-use Rattle.tl_rules.specs.Legality.{illegal, breaks_l1, has_transfers, d_of_level}
+use Rattle.tl_rules.specs.statement.Conformance.{Trace, on_link}
+use Rattle.tl_rules.specs.code.Control.{a_control, a_own}
+use Rattle.tl_rules.specs.statement.History.{ends, block_at, capped, held, says_held, is_grant}
+use Rattle.tl_rules.specs.statement.Legality.{illegal, breaks_l1, has_transfers, d_of_level}
 use Rattle.tl_rules.proofs.Bursts.{next_rule, both_none}
 use Rattle.tl_rules.proofs.Verdicts.{illegal_a}
-use Rattle.tl_manager.specs.Holders.{recorded, has_copy}
-use Rattle.tl_manager.specs.Kept.{Each, IsSound, illegal_at}
-use Rattle.tl_manager.specs.Request.{request_if, request_carried}
-use Rattle.tl_manager.specs.Service.{Service, least_untaken, trackers_of, with_service, is_ended_by, services_after, services}
-use Rattle.tl_manager.specs.Offer.{level_of}
+use Rattle.tl_manager.specs.statement.Holders.{recorded, has_copy}
+use Rattle.tl_manager.specs.code.Kept.{Each, IsSound, illegal_at}
+use Rattle.tl_manager.specs.statement.Request.{request_if, request_carried}
+use Rattle.tl_manager.specs.statement.Service.{Service, least_untaken, trackers_of, with_service, is_ended_by, services_after, services}
+use Rattle.tl_manager.specs.statement.Offer.{level_of}
 use Rattle.tl_manager.proofs.Lists.{each_filter, each_weaker}
 
 -- where a beat breaks no L rule there is a level

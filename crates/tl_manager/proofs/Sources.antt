@@ -2,13 +2,13 @@
 use Rattle.std.proofs.Common.{◌≡◌, ℕ, ◌+◌, ◌<◌, ◌==◌, Bool, true, false, ◌&&◌, ◌||◌, List, [], ◌∷◌, Some, None, refl, sym, ap, ◌∙◌, arith, inl, inr}
 use Rattle.std.proofs.lemmas.Bool.{eqb-true, eq-eqb, and_parts, or_parts, or_cases}
 use Rattle.tl_beat.specs.declared.channel.Channel.TheVariants as channel
-use Rattle.tl_burst.specs.Messages.{unfinished}
+use Rattle.tl_burst.specs.statement.Messages.{unfinished}
 use Rattle.tl_params.specs.declared.key.Key.TheVariants.{RequestSource, GrantSink}
-use Rattle.tl_rules.specs.Conformance.{Trace, on_link, comes_in_request}
-use Rattle.tl_rules.specs.History.{block_at, is_acquire, pending}
-use Rattle.tl_manager.specs.Kept.{Each, AreApart, blocks_of, is_granting}
-use Rattle.tl_manager.specs.Pending.{one_if, count_where, is_any, is_granted, is_granted_with, is_asking, IsAccounted}
-use Rattle.tl_manager.specs.Service.{Service, services, service_of_block}
+use Rattle.tl_rules.specs.statement.Conformance.{Trace, on_link, comes_in_request}
+use Rattle.tl_rules.specs.statement.History.{block_at, is_acquire, pending}
+use Rattle.tl_manager.specs.code.Kept.{Each, AreApart, blocks_of, is_granting}
+use Rattle.tl_manager.specs.laws.Pending.{one_if, count_where, is_any, is_granted, is_granted_with, is_asking, IsAccounted}
+use Rattle.tl_manager.specs.statement.Service.{Service, services, service_of_block}
 use Rattle.tl_manager.proofs.Serving.{none_of_block}
 use Rattle.tl_manager.proofs.Sinks.{AreTracked, grants_by}
 

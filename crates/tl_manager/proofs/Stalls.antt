@@ -3,16 +3,16 @@ use Rattle.std.proofs.Common.{◌≡◌, ℕ, false, Option, Some, None, refl}
 use Rattle.tl_beat.specs.declared.beat.Beat.{Beat}
 use Rattle.tl_beat.specs.declared.beat.Link.{Link}
 use Rattle.tl_beat.specs.declared.channel.Channel.{Channel}
-use Rattle.tl_beat.specs.First.{first_if}
+use Rattle.tl_beat.specs.statement.First.{first_if}
 use Rattle.tl_params.specs.declared.config.Config.{Config}
 use Rattle.tl_params.specs.declared.level.Level.{Level}
 use Rattle.tl_params.specs.declared.rule.Rule.{Rule}
 use Rattle.tl_params.specs.declared.rule.Rule.TheVariants.{A1, A2}
-use Rattle.tl_rules.specs.Agent.{is_outside, is_spoiled}
-use Rattle.tl_rules.specs.Conformance.{Trace, on_link, broken_in_order}
-use Rattle.tl_manager.specs.Kept.{is_stalled}
-use Rattle.tl_manager.specs.End.{End}
-use Rattle.tl_manager.specs.Offer.{Judgement, Breaks, Waits, Passes, breaks_or, unlawful, before_stall, must_wait, judged_at, judged_on, judged, open_level, offered_as, offered, is_waiting, stalls}
+use Rattle.tl_rules.specs.statement.Agent.{is_outside, is_spoiled}
+use Rattle.tl_rules.specs.statement.Conformance.{Trace, on_link, broken_in_order}
+use Rattle.tl_manager.specs.code.Kept.{is_stalled}
+use Rattle.tl_manager.specs.statement.End.{End}
+use Rattle.tl_manager.specs.statement.Offer.{Judgement, Breaks, Waits, Passes, breaks_or, unlawful, before_stall, must_wait, judged_at, judged_on, judged, open_level, offered_as, offered, is_waiting, stalls}
 
 stalled_as : {w : ℕ} (j : Judgement) (config : Config) (link : Link) (x : Beat w) (e : End w) → is_waiting j ≡ is_stalled (offered_as j config link x e).0
 stalled_as (Breaks r) config link x e = refl

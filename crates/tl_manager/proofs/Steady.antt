@@ -2,7 +2,7 @@
 use Rattle.std.proofs.Common.{◌≡◌, ℕ, Bool, true, false, not, List, [], ◌∷◌, length, Option, Some, None, refl, sym, ap, ◌∙◌}
 use Rattle.std.specs.Prelude.{nat_le, if◌then◌else◌}
 use Rattle.std.proofs.lemmas.Bool.{eq-eqb, or_parts, le-leb}
-use Rattle.tl_beat.specs.Width.{IsWidth}
+use Rattle.tl_beat.specs.statement.Width.{IsWidth}
 use Rattle.tl_beat.specs.declared.beat.Beat.{Beat}
 use Rattle.tl_beat.specs.declared.beat.Beat.TheVariants as beat
 use Rattle.tl_beat.specs.declared.beat.BeatA.{BeatA}
@@ -11,17 +11,17 @@ use Rattle.tl_beat.specs.declared.beat.Link.{Link}
 use Rattle.tl_params.specs.declared.config.Config.{Config}
 use Rattle.tl_params.specs.declared.key.Key.TheVariants.{ProbeOf}
 use Rattle.tl_params.specs.declared.param.Cap.{Cap}
-use Rattle.tl_rules.specs.Conformance.{Trace, on_link}
-use Rattle.tl_rules.specs.History.{ends, block_at, pending}
+use Rattle.tl_rules.specs.statement.Conformance.{Trace, on_link}
+use Rattle.tl_rules.specs.statement.History.{ends, block_at, pending}
 use Rattle.tl_rules.proofs.Sent.{pending-quiet}
-use Rattle.tl_manager.specs.Handing.{Deed, with_handed, probes}
-use Rattle.tl_manager.specs.Holders.{cap_probed, probed}
-use Rattle.tl_manager.specs.Kept.{IsSound}
-use Rattle.tl_manager.specs.Pending.{is_awaited, IsSteady}
-use Rattle.tl_manager.specs.Service.{Service, services, service_of_block, is_in_service, is_ended_by}
-use Rattle.tl_manager.specs.Deed.{deed}
-use Rattle.tl_manager.specs.End.{End}
-use Rattle.tl_manager.specs.Offer.{level_of, must_wait}
+use Rattle.tl_manager.specs.statement.Handing.{Deed, with_handed, probes}
+use Rattle.tl_manager.specs.statement.Holders.{cap_probed, probed}
+use Rattle.tl_manager.specs.code.Kept.{IsSound}
+use Rattle.tl_manager.specs.laws.Pending.{is_awaited, IsSteady}
+use Rattle.tl_manager.specs.statement.Service.{Service, services, service_of_block, is_in_service, is_ended_by}
+use Rattle.tl_manager.specs.statement.Deed.{deed}
+use Rattle.tl_manager.specs.statement.End.{End}
+use Rattle.tl_manager.specs.statement.Offer.{level_of, must_wait}
 use Rattle.tl_manager.proofs.Accepted.{granted_a}
 use Rattle.tl_manager.proofs.Acked.{acked-sink, services-e, granted-left, accounted-e}
 use Rattle.tl_manager.proofs.Asked.{Place, placed}
@@ -37,7 +37,7 @@ use Rattle.tl_manager.proofs.Serving.{if_passes, serving-filter, some_is}
 use Rattle.tl_manager.proofs.Sound.{leveled}
 use Rattle.tl_manager.proofs.SteadyReports.{quietly, doing, steady-report}
 use Rattle.tl_manager.proofs.Unmoved.{awaited-same}
-use Rattle.tl_manager.specs.Ready.{IsReady, IsServed, IsTaken}
+use Rattle.tl_manager.specs.code.Ready.{IsReady, IsServed, IsTaken}
 
 -- ---- requests
 

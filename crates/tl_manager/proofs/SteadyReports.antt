@@ -1,7 +1,7 @@
 -- What is pending after a beat of channel C that the manager takes.
 use Rattle.std.proofs.Common.{◌≡◌, ℕ, ◌==◌, Bool, true, false, not, ◌&&◌, ◌||◌, [], ◌∷◌, Option, Some, None, refl, sym, ap, subst, ◌∙◌}
 use Rattle.std.proofs.lemmas.Bool.{eqb-true}
-use Rattle.tl_beat.specs.Width.{IsWidth}
+use Rattle.tl_beat.specs.statement.Width.{IsWidth}
 use Rattle.tl_beat.specs.declared.beat.Beat.{Beat}
 use Rattle.tl_beat.specs.declared.beat.Beat.TheVariants as beat
 use Rattle.tl_beat.specs.declared.beat.BeatC.{BeatC}
@@ -12,19 +12,19 @@ use Rattle.tl_beat.specs.declared.opcode.OpC.TheVariants as c
 use Rattle.tl_burst.specs.declared.message.Message.{Message}
 use Rattle.tl_burst.specs.declared.message.Message.TheVariants.{D}
 use Rattle.tl_burst.specs.declared.message.MessageD.{MessageD}
-use Rattle.tl_burst.specs.Messages.{unfinished}
+use Rattle.tl_burst.specs.statement.Messages.{unfinished}
 use Rattle.tl_params.specs.declared.config.Config.{Config}
 use Rattle.tl_params.specs.declared.key.Key.TheVariants.{GrantSink, ProbeOf}
-use Rattle.tl_rules.specs.Conformance.{Trace, on_link}
-use Rattle.tl_rules.specs.History.{ends, block_at, is_probe_ack, is_release, is_release_ack, is_grant, pending}
+use Rattle.tl_rules.specs.statement.Conformance.{Trace, on_link}
+use Rattle.tl_rules.specs.statement.History.{ends, block_at, is_probe_ack, is_release, is_release_ack, is_grant, pending}
 use Rattle.tl_rules.proofs.Sent.{pending-quiet}
 use Rattle.tl_rules.proofs.Open.{never}
-use Rattle.tl_manager.specs.Handing.{Deed, with_handed, release_ack}
-use Rattle.tl_manager.specs.Holders.{is_settled}
-use Rattle.tl_manager.specs.Pending.{is_granted, is_awaited, IsSteady}
-use Rattle.tl_manager.specs.Service.{Service, services, service_of_block}
-use Rattle.tl_manager.specs.Deed.{deed}
-use Rattle.tl_manager.specs.End.{End}
+use Rattle.tl_manager.specs.statement.Handing.{Deed, with_handed, release_ack}
+use Rattle.tl_manager.specs.statement.Holders.{is_settled}
+use Rattle.tl_manager.specs.laws.Pending.{is_granted, is_awaited, IsSteady}
+use Rattle.tl_manager.specs.statement.Service.{Service, services, service_of_block}
+use Rattle.tl_manager.specs.statement.Deed.{deed}
+use Rattle.tl_manager.specs.statement.End.{End}
 use Rattle.tl_manager.proofs.Accepted.{granted-kept}
 use Rattle.tl_manager.proofs.Accesses.{granted-still, services-release_ack, accounted-release_ack}
 use Rattle.tl_manager.proofs.Events.{deed-part, deed-release, deed-report, deed-settled, memory_with}
@@ -36,7 +36,7 @@ use Rattle.tl_manager.proofs.Replies.{reply-quiet}
 use Rattle.tl_manager.proofs.Serving.{some_is}
 use Rattle.tl_manager.proofs.Settled.{settled-all}
 use Rattle.tl_manager.proofs.Unmoved.{awaited-same}
-use Rattle.tl_manager.specs.Ready.{IsReady, IsTaken}
+use Rattle.tl_manager.specs.code.Ready.{IsReady, IsTaken}
 
 -- where nothing is handed out
 pub quietly : {w : ℕ} (config : Config) (link : Link) (x : Beat w) (e : End w) → (deed config link x e).handed ≡ [] → IsSteady config ((link, x) ∷ e.trace)

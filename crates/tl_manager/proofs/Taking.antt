@@ -9,34 +9,34 @@ use Rattle.tl_beat.specs.declared.beat.Link.{Link}
 use Rattle.tl_beat.specs.declared.channel.Channel.TheVariants as channel
 use Rattle.tl_beat.specs.declared.opcode.OpC.{OpC}
 use Rattle.tl_beat.specs.declared.opcode.OpC.TheVariants as c
-use Rattle.tl_beat.specs.Opcode.{c_carries_data}
+use Rattle.tl_beat.specs.statement.Opcode.{c_carries_data}
 use Rattle.tl_burst.specs.declared.message.Message.{Message}
 use Rattle.tl_burst.specs.declared.message.Message.TheVariants.{D}
 use Rattle.tl_burst.specs.declared.message.MessageC.{MessageC}
 use Rattle.tl_burst.specs.declared.message.MessageD.{MessageD}
-use Rattle.tl_burst.specs.Messages.{unfinished}
+use Rattle.tl_burst.specs.statement.Messages.{unfinished}
 use Rattle.tl_params.specs.declared.config.Config.{Config}
 use Rattle.tl_params.specs.declared.key.Key.TheVariants.{ProbeOf}
 use Rattle.tl_params.specs.declared.level.Level.{Level}
 use Rattle.tl_params.specs.declared.perm.Perm.{Perm}
 use Rattle.tl_params.specs.declared.rule.Rule.TheVariants.{L1, L7}
-use Rattle.tl_rules.specs.Conformance.{Trace, on_link}
-use Rattle.tl_rules.specs.History.{ends, block_at, is_acquire, is_probe_ack, is_release, is_release_ack, is_grant, pending, reported, capped}
-use Rattle.tl_rules.specs.Legality.{illegal, breaks_l1, breaks_l7, is_one_of, answers_forwarded}
+use Rattle.tl_rules.specs.statement.Conformance.{Trace, on_link}
+use Rattle.tl_rules.specs.statement.History.{ends, block_at, is_acquire, is_probe_ack, is_release, is_release_ack, is_grant, pending, reported, capped}
+use Rattle.tl_rules.specs.statement.Legality.{illegal, breaks_l1, breaks_l7, is_one_of, answers_forwarded}
 use Rattle.tl_rules.proofs.Bursts.{next_rule}
 use Rattle.tl_rules.proofs.Sent.{pending-quiet}
-use Rattle.tl_manager.specs.Blocks.{AreBlocks}
-use Rattle.tl_manager.specs.Handing.{Deed, Handed, with_handed, release_ack}
-use Rattle.tl_manager.specs.Holders.{recorded}
-use Rattle.tl_manager.specs.Home.{IsHome, IsReportedHome, IsDone, IsReport, IsMessage}
-use Rattle.tl_manager.specs.Kept.{AreApart, is_granting}
-use Rattle.tl_manager.specs.Ready.{IsPassed, IsTaken}
-use Rattle.tl_manager.specs.Service.{Service, services, service_of_block, trackers_of, is_ended_by}
-use Rattle.tl_manager.specs.Deed.{deed, finish, with_block}
-use Rattle.tl_manager.specs.End.{End}
-use Rattle.tl_manager.specs.Offer.{level_of}
-use Rattle.tl_manager.specs.Tracked.{IsTracked}
-use Rattle.tl_manager.specs.Trackers.{tracker_at}
+use Rattle.tl_manager.specs.code.Blocks.{AreBlocks}
+use Rattle.tl_manager.specs.statement.Handing.{Deed, Handed, with_handed, release_ack}
+use Rattle.tl_manager.specs.statement.Holders.{recorded}
+use Rattle.tl_manager.specs.code.Home.{IsHome, IsReportedHome, IsDone, IsReport, IsMessage}
+use Rattle.tl_manager.specs.code.Kept.{AreApart, is_granting}
+use Rattle.tl_manager.specs.code.Ready.{IsPassed, IsTaken}
+use Rattle.tl_manager.specs.statement.Service.{Service, services, service_of_block, trackers_of, is_ended_by}
+use Rattle.tl_manager.specs.statement.Deed.{deed, finish, with_block}
+use Rattle.tl_manager.specs.statement.End.{End}
+use Rattle.tl_manager.specs.statement.Offer.{level_of}
+use Rattle.tl_manager.specs.code.Tracked.{IsTracked}
+use Rattle.tl_manager.specs.code.Trackers.{tracker_at}
 use Rattle.tl_manager.specs.declared.manager.home.Home.{Home}
 use Rattle.tl_manager.specs.declared.manager.tracker.Tracker.TheVariants.{Free}
 use Rattle.tl_manager.proofs.Accesses.{granted-still, services-release_ack}

@@ -2,15 +2,15 @@
 use Rattle.std.proofs.Common.{◌≡◌, ◌≢◌, ℕ, ◌==◌, Bool, true, false, not, List, [], ◌∷◌, Some, refl, sym, ap, ◌∙◌}
 use Rattle.std.specs.Prelude.{filter, if◌then◌else◌}
 use Rattle.std.proofs.lemmas.Bool.{eqb-true, eq-eqb, ne_eqb}
-use Rattle.tl_rules.specs.Conformance.{Trace}
-use Rattle.tl_rules.specs.History.{block_at}
-use Rattle.tl_rules.specs.Legality.{is_one_of}
-use Rattle.tl_manager.specs.Bit.{bit_if}
-use Rattle.tl_manager.specs.Holders.{is_missing}
-use Rattle.tl_manager.specs.Kept.{Each, AreApart}
-use Rattle.tl_manager.specs.Pending.{is_granted}
-use Rattle.tl_manager.specs.Service.{Service, services, service_of_block, trackers_of}
-use Rattle.tl_manager.specs.Tracked.{service_with, IsTracked}
+use Rattle.tl_rules.specs.statement.Conformance.{Trace}
+use Rattle.tl_rules.specs.statement.History.{block_at}
+use Rattle.tl_rules.specs.statement.Legality.{is_one_of}
+use Rattle.tl_manager.specs.code.Bit.{bit_if}
+use Rattle.tl_manager.specs.statement.Holders.{is_missing}
+use Rattle.tl_manager.specs.code.Kept.{Each, AreApart}
+use Rattle.tl_manager.specs.laws.Pending.{is_granted}
+use Rattle.tl_manager.specs.statement.Service.{Service, services, service_of_block, trackers_of}
+use Rattle.tl_manager.specs.code.Tracked.{service_with, IsTracked}
 use Rattle.tl_manager.specs.declared.manager.tracker.Tracker.{Tracker}
 use Rattle.tl_manager.specs.declared.manager.tracker.Tracker.TheVariants.{Free, Probing, Granted}
 use Rattle.tl_manager.proofs.Counts.{same_tracker}

@@ -3,14 +3,14 @@ use Rattle.std.proofs.Common.{◌≡◌, ℕ, ◌==◌, true, false, not, ◌&&�
 use Rattle.tl_beat.specs.declared.beat.Beat.{Beat}
 use Rattle.tl_beat.specs.declared.beat.Beat.TheVariants as beat
 use Rattle.tl_beat.specs.declared.channel.Channel.TheVariants as channel
-use Rattle.tl_burst.specs.Messages.{History, unfinished}
+use Rattle.tl_burst.specs.statement.Messages.{History, unfinished}
 use Rattle.tl_params.specs.declared.config.Config.{Config}
 use Rattle.tl_params.specs.declared.key.Key.TheVariants.{RequestSource, AcquireOf, GrantAckOf, ProbeOf}
-use Rattle.tl_rules.specs.Conformance.{Trace, on_link}
-use Rattle.tl_rules.specs.History.{block_at, is_acquire, pending, request_of, probe_of, grant_sink}
-use Rattle.tl_manager.specs.Holders.{is_settled, is_missing, is_nobody}
-use Rattle.tl_manager.specs.Pending.{is_granted, is_acquiring, is_granted_to, is_awaited, HasFields, IsBegun, IsReporting, IsNamed, IsProbed, IsHandled, IsAccounted}
-use Rattle.tl_manager.specs.Service.{Service, services, service_of_block}
+use Rattle.tl_rules.specs.statement.Conformance.{Trace, on_link}
+use Rattle.tl_rules.specs.statement.History.{block_at, is_acquire, pending, request_of, probe_of, grant_sink}
+use Rattle.tl_manager.specs.statement.Holders.{is_settled, is_missing, is_nobody}
+use Rattle.tl_manager.specs.laws.Pending.{is_granted, is_acquiring, is_granted_to, is_awaited, HasFields, IsBegun, IsReporting, IsNamed, IsProbed, IsHandled, IsAccounted}
+use Rattle.tl_manager.specs.statement.Service.{Service, services, service_of_block}
 use Rattle.tl_manager.proofs.Clients.{where-same}
 use Rattle.tl_manager.proofs.Counts.{counted-kept}
 

@@ -6,9 +6,9 @@ use Rattle.std.proofs.lemmas.Bool.{cases_lt, cases_eq, eq-eqb, ne_eqb}
 use Rattle.std.proofs.lemmas.Nat.Bits.{bit_at_clear_other, bit_at_above, bit_at_and, bit_at_or, bit_at-zero, bit_at-lt, same_from_bits}
 use Rattle.tl_params.specs.declared.perm.Perm.{Perm}
 use Rattle.tl_params.specs.declared.perm.Perm.TheVariants.{None, Branch, Trunk}
-use Rattle.tl_manager.specs.Bit.{bit_if}
-use Rattle.tl_manager.specs.Bits.{perm_in}
-use Rattle.tl_manager.specs.Word.{trunk_bit, branch_bit, copy_bit}
+use Rattle.tl_manager.specs.code.Bit.{bit_if}
+use Rattle.tl_manager.specs.code.Bits.{perm_in}
+use Rattle.tl_manager.specs.code.Word.{trunk_bit, branch_bit, copy_bit}
 
 and_below : (n m i : ℕ) → bit_at n i ≡ 0 → bit_at (bit_and n m) i ≡ bit_at n i
 and_below n m i none =

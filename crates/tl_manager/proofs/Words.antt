@@ -5,8 +5,8 @@ use Rattle.std.specs.Int.{bit_at}
 use Rattle.std.proofs.lemmas.Bool.{cases_lt, eq-eqb, eqb-true}
 use Rattle.std.proofs.lemmas.Nat.Bits.{bit_at-zero, same_from_bits}
 use Rattle.tl_params.specs.declared.config.Config.{Config}
-use Rattle.tl_manager.specs.Bit.{bit_if}
-use Rattle.tl_manager.specs.Holders.{clients_from, clients_where, is_nobody}
+use Rattle.tl_manager.specs.code.Bit.{bit_if}
+use Rattle.tl_manager.specs.statement.Holders.{clients_from, clients_where, is_nobody}
 use Rattle.tl_manager.proofs.Clients.{nobody-where, where-same}
 
 -- the word has the bits of those that pass, of whom none is past the last client

@@ -2,8 +2,8 @@
 
 ghost use Rattle.std.specs.Prelude.{◌≡◌, ◌≤◌, ◌<◌, ◌^◌, ◌≢◌, ℕ, IfOk, bit_and, if◌then◌else◌};
 ghost use Rattle.std.specs.Int.{bit_at};
-ghost use Rattle.tl_manager.specs.Bits.{perm_in};
-ghost use Rattle.tl_manager.specs.Word.{trunk_bit, branch_bit, copy_bit};
+ghost use Rattle.tl_manager.specs.code.Bits.{perm_in};
+ghost use Rattle.tl_manager.specs.code.Word.{trunk_bit, branch_bit, copy_bit};
 
 use crate::directory::Directory;
 use crate::word::with_bit;
@@ -69,7 +69,7 @@ pub struct BitDirectory {
 
 impl BitDirectory {
     ghost use Rattle.std.specs.Prelude.{length};
-    ghost use Rattle.tl_manager.specs.Directories.{perm_of_bits, blocks_of_bits, clients_of_bits};
+    ghost use Rattle.tl_manager.specs.code.Directories.{perm_of_bits, blocks_of_bits, clients_of_bits};
 
     /// A directory of so many blocks and clients, at most 16, of whom none holds anything.
     pub fn new(alloc: Global, blocks: u16, clients: u8) -> Result<BitDirectory, AllocError>
@@ -84,7 +84,7 @@ impl BitDirectory {
 }
 
 impl Directory for BitDirectory {
-    ghost use Rattle.tl_manager.specs.Directories.{perm_of_bits, blocks_of_bits, clients_of_bits};
+    ghost use Rattle.tl_manager.specs.code.Directories.{perm_of_bits, blocks_of_bits, clients_of_bits};
     ghost use Rattle.std.specs.Prelude.{length};
 
     ghost perm_of = { perm_of_bits };

@@ -4,7 +4,7 @@
 ghost use Rattle.std.specs.Prelude.{◌≡◌, ◌<◌, ◌⊎◌, ◌≢◌, ℕ};
 ghost use Rattle.std.specs.Int.{bit_at};
 ghost use Rattle.tl_params.specs.declared.perm.Perm.{Perm};
-ghost use Rattle.tl_manager.specs.Word.{trunk_bit, copy_bit};
+ghost use Rattle.tl_manager.specs.code.Word.{trunk_bit, copy_bit};
 
 use tl_rules::perm::Perm;
 

@@ -10,12 +10,12 @@ pub mod types;
 pub mod wire;
 
 ghost use Rattle.std.specs.Prelude.{ℕ, ◌≡◌, ◌≤◌, length, is_none};
-ghost use Rattle.tl_beat.specs.Width.{IsWidth};
+ghost use Rattle.tl_beat.specs.statement.Width.{IsWidth};
 ghost use Rattle.tl_params.specs.declared.config.Config.{Config};
 ghost use Rattle.tl_params.specs.declared.perm.Perm.TheVariants as perm;
-ghost use Rattle.tl_manager.specs.Offer;
-ghost use Rattle.tl_manager.specs.End.{End};
-ghost use Rattle.tl_manager.specs.Offer.{offered, open_level};
+ghost use Rattle.tl_manager.specs.statement.Offer;
+ghost use Rattle.tl_manager.specs.statement.End.{End};
+ghost use Rattle.tl_manager.specs.statement.Offer.{offered, open_level};
 
 use crate::directory::Directory;
 use crate::manager::admission::Admission;
@@ -45,7 +45,7 @@ pub struct Manager<const W: usize, D: Directory> {
 
 impl<const W: usize, D: Directory> Model for Manager<W, D> {
     ghost use Rattle.tl_manager.specs.declared.manager.links.Links.{Links};
-    ghost use Rattle.tl_manager.specs.Knows.{IsManager};
+    ghost use Rattle.tl_manager.specs.code.Knows.{IsManager};
 
     ghost Value = { Links W D };
 
@@ -55,9 +55,9 @@ impl<const W: usize, D: Directory> Model for Manager<W, D> {
 }
 
 impl<const W: usize, D: Directory> Manager<W, D> {
-    ghost use Rattle.tl_manager.specs.Answers.{IsAnswer, sent_of};
-    ghost use Rattle.tl_manager.specs.Fresh.{IsNew};
-    ghost use Rattle.tl_manager.specs.Knows.{Knows};
+    ghost use Rattle.tl_manager.specs.code.Answers.{IsAnswer, sent_of};
+    ghost use Rattle.tl_manager.specs.code.Fresh.{IsNew};
+    ghost use Rattle.tl_manager.specs.code.Knows.{Knows};
 
     /// A manager of a configuration, with a fresh directory that covers it: the first limit that is
     /// broken, in the order N1 to N4, or want of memory.

@@ -1,8 +1,8 @@
 //! A directory of one entry for each block and client.
 
 ghost use Rattle.std.specs.Prelude.{◌≡◌, ◌≤◌, ◌<◌, ◌≢◌, ℕ, IfOk, length};
-ghost use Rattle.tl_manager.specs.Table.{entry};
-ghost use Rattle.tl_manager.specs.Bits.{perm_in};
+ghost use Rattle.tl_manager.specs.code.Table.{entry};
+ghost use Rattle.tl_manager.specs.code.Bits.{perm_in};
 
 use crate::bits::Words;
 use crate::directory::Directory;
@@ -18,7 +18,7 @@ pub struct TableDirectory {
 }
 
 impl TableDirectory {
-    ghost use Rattle.tl_manager.specs.Directories.{perm_of_table, blocks_of_table, clients_of_table};
+    ghost use Rattle.tl_manager.specs.code.Directories.{perm_of_table, blocks_of_table, clients_of_table};
 
     /// A directory of so many blocks and clients, at most 16, of whom none holds anything.
     pub fn new(alloc: Global, blocks: u16, clients: u8) -> Result<TableDirectory, AllocError>
@@ -54,7 +54,7 @@ fn words_in(row: &[Perm; 16]) -> Words
 }
 
 impl Directory for TableDirectory {
-    ghost use Rattle.tl_manager.specs.Directories.{perm_of_table, blocks_of_table, clients_of_table};
+    ghost use Rattle.tl_manager.specs.code.Directories.{perm_of_table, blocks_of_table, clients_of_table};
 
     ghost perm_of = { perm_of_table };
 

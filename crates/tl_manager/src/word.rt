@@ -2,7 +2,7 @@
 
 ghost use Rattle.std.specs.Prelude.{◌≡◌, ◌≢◌, ◌≤◌, ◌<◌, ℕ, false};
 ghost use Rattle.std.specs.Int.{bit_at};
-ghost use Rattle.tl_manager.specs.Bit.{bit_if};
+ghost use Rattle.tl_manager.specs.code.Bit.{bit_if};
 
 /// A word with a bit set or cleared.
 pub fn with_bit(word: u16, place: u8, is_set: bool) -> u16

@@ -2,18 +2,18 @@
 use Rattle.std.proofs.Common.{◌≡◌, ℕ, zero, suc, ◌≢◌, ◌<◌, ◌+◌, ◌-◌, Bool, true, false, refl, sym, ap, ◌∙◌, arith, inl, inr}
 use Rattle.std.specs.Prelude.{if◌then◌else◌, [], ◌∷◌, ◌==◌, nat_le, length, List, Option, Some, None, is_none, IsTrue}
 use Rattle.std.proofs.lemmas.Bool.{cases_Bool, cases_eq, eq-eqb, ne_eqb, lt-leb, not-false}
-use Rattle.tl_beat.specs.Width.{IsWidth}
+use Rattle.tl_beat.specs.statement.Width.{IsWidth}
 use Rattle.tl_beat.specs.declared.beat.Beat.{Beat}
 use Rattle.tl_beat.specs.declared.beat.Beat.TheVariants.{A, B, C, D, E}
 use Rattle.tl_beat.specs.declared.channel.Channel.{Channel}
 use Rattle.tl_beat.specs.declared.channel.Channel.TheVariants as channel
-use Rattle.tl_burst.specs.Messages.{History, channel_of, on, unfinished, grown, breaks_burst, same_control, burst_length}
-use Rattle.tl_burst.specs.Part.{is_empty, completes}
+use Rattle.tl_burst.specs.statement.Messages.{History, channel_of, on, unfinished, grown, breaks_burst, same_control, burst_length}
+use Rattle.tl_burst.specs.statement.Part.{is_empty, completes}
 use Rattle.tl_burst.proofs.ControlFields.{control_a, control_b, control_c, control_d}
 use Rattle.tl_burst.proofs.Splitting.{some_data_beats}
-use Rattle.tl_beat.specs.Opcode.{a_carries_data, b_carries_data, c_carries_data, d_carries_data}
-use Rattle.tl_monitor.specs.Control.{control_of}
-use Rattle.tl_monitor.specs.Bursts.{IsOf, is_last, left_after, burst_next, burst_with}
+use Rattle.tl_beat.specs.statement.Opcode.{a_carries_data, b_carries_data, c_carries_data, d_carries_data}
+use Rattle.tl_monitor.specs.code.Control.{control_of}
+use Rattle.tl_monitor.specs.code.Bursts.{IsOf, is_last, left_after, burst_next, burst_with}
 use Rattle.tl_monitor.specs.declared.bursts.Unfinished.{Unfinished}
 
 -- ---- how long bursts are

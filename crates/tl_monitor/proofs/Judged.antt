@@ -6,18 +6,18 @@ use Rattle.tl_beat.specs.declared.beat.Beat.{Beat}
 use Rattle.tl_beat.specs.declared.beat.Beat.TheVariants.{D}
 use Rattle.tl_beat.specs.declared.beat.BeatD.{BeatD}
 use Rattle.tl_beat.specs.declared.channel.Channel.TheVariants as channel
-use Rattle.tl_beat.specs.First.{first_if}
-use Rattle.tl_burst.specs.Messages.{History, channel_of, unfinished, breaks_burst}
-use Rattle.tl_burst.specs.Part.{is_empty}
+use Rattle.tl_beat.specs.statement.First.{first_if}
+use Rattle.tl_burst.specs.statement.Messages.{History, channel_of, unfinished, breaks_burst}
+use Rattle.tl_burst.specs.statement.Part.{is_empty}
 use Rattle.tl_params.specs.declared.key.Key.TheVariants.{RequestSource, ReleaseSource, GrantSink}
 use Rattle.tl_params.specs.declared.level.Level.{Level}
 use Rattle.tl_params.specs.declared.profile.Profile.{Profile}
 use Rattle.tl_params.specs.declared.rule.Rule.{Rule}
 use Rattle.tl_params.specs.declared.rule.Rule.TheVariants.{S1, H2, H3, H6, H7}
-use Rattle.tl_rules.specs.Legality.{illegal}
-use Rattle.tl_rules.specs.History.{begins, pending, request_of, is_release_ack, is_grant}
-use Rattle.tl_rules.specs.Conformance.{broken_after, broken_given, broken_in_order, broken_order, broken_d, has_request, size_asked, misgrants, comes_in_request, comes_in_release, admits}
-use Rattle.tl_rules.specs.Tables.{kept_request, kept_release}
+use Rattle.tl_rules.specs.statement.Legality.{illegal}
+use Rattle.tl_rules.specs.statement.History.{begins, pending, request_of, is_release_ack, is_grant}
+use Rattle.tl_rules.specs.statement.Conformance.{broken_after, broken_given, broken_in_order, broken_order, broken_d, has_request, size_asked, misgrants, comes_in_request, comes_in_release, admits}
+use Rattle.tl_rules.specs.code.Tables.{kept_request, kept_release}
 use Rattle.tl_rules.proofs.Bursts.{next_rule}
 use Rattle.tl_rules.proofs.Tables.{pending-request, pending-release}
 

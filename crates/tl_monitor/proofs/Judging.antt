@@ -4,7 +4,7 @@ use Rattle.std.specs.Prelude.{Option, Some, None, IsTrue, IfNone}
 use Rattle.std.proofs.lemmas.Bool.{le-leb}
 use Rattle.tl_beat.specs.declared.beat.Beat.{Beat}
 use Rattle.tl_beat.specs.declared.beat.Beat.TheVariants.{A, B, C, D, E}
-use Rattle.tl_burst.specs.Part.{is_small, IsTakeable}
+use Rattle.tl_burst.specs.statement.Part.{is_small, IsTakeable}
 use Rattle.tl_params.specs.declared.rule.Rule.{Rule}
 
 takeable-small : {w : ℕ} (x : Beat w) → IsTakeable x → is_small x ≡ true

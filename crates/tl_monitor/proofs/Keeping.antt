@@ -2,7 +2,7 @@
 use Rattle.std.proofs.Common.{◌≡◌, ℕ, Bool, true, false, ◌&&◌, ◌||◌, refl, sym, ap, ◌∙◌, inl, inr}
 use Rattle.std.specs.Prelude.{if◌then◌else◌, [], ◌∷◌, not, ◌==◌, List, Option, Some, None, is_some, IsTrue}
 use Rattle.std.proofs.lemmas.Bool.{cases_Bool, cases_eq, eq-eqb, ne_eqb, eqb-true}
-use Rattle.tl_beat.specs.Width.{IsWidth}
+use Rattle.tl_beat.specs.statement.Width.{IsWidth}
 use Rattle.tl_beat.specs.declared.beat.Beat.{Beat}
 use Rattle.tl_beat.specs.declared.beat.Beat.TheVariants.{A, B, C, D, E}
 use Rattle.tl_beat.specs.declared.beat.BeatA.{BeatA}
@@ -11,22 +11,22 @@ use Rattle.tl_beat.specs.declared.beat.BeatC.{BeatC}
 use Rattle.tl_beat.specs.declared.beat.BeatD.{BeatD}
 use Rattle.tl_beat.specs.declared.beat.BeatE.{BeatE}
 use Rattle.tl_beat.specs.declared.channel.Channel.TheVariants as channel
-use Rattle.tl_burst.specs.Messages.{History, channel_of, unfinished, breaks_burst, same_control}
-use Rattle.tl_burst.specs.Part.{is_empty}
+use Rattle.tl_burst.specs.statement.Messages.{History, channel_of, unfinished, breaks_burst, same_control}
+use Rattle.tl_burst.specs.statement.Part.{is_empty}
 use Rattle.tl_burst.proofs.ControlFields.{control_d}
 use Rattle.tl_params.specs.declared.key.Key.TheVariants.{RequestSource, ReleaseSource, GrantAckOf}
 use Rattle.tl_params.specs.declared.level.Level.{Level}
 use Rattle.tl_params.specs.declared.profile.Profile.{Profile}
 use Rattle.tl_rules.specs.declared.table.Block.{Block}
-use Rattle.tl_rules.specs.History.{begins, ends, pending, request_of, release_of, grant_sink, is_release_ack, is_grant, is_acquire, is_probe, asks_for, releases, is_sink, block_at}
-use Rattle.tl_rules.specs.Conformance.{broken_after}
-use Rattle.tl_rules.specs.Open.{request_fields}
-use Rattle.tl_rules.specs.Tables.{kept_request, kept_release, kept_grant, kept_block, release_fields, block_next, bears_on}
-use Rattle.tl_monitor.specs.Count.{at}
-use Rattle.tl_monitor.specs.Bursts.{burst_on}
-use Rattle.tl_monitor.specs.Kept.{is_first, touched, is_block, block_of_request, block_of_release}
-use Rattle.tl_monitor.specs.Kept as kept
-use Rattle.tl_monitor.specs.Keeps.{Keeps}
+use Rattle.tl_rules.specs.statement.History.{begins, ends, pending, request_of, release_of, grant_sink, is_release_ack, is_grant, is_acquire, is_probe, asks_for, releases, is_sink, block_at}
+use Rattle.tl_rules.specs.statement.Conformance.{broken_after}
+use Rattle.tl_rules.specs.code.Open.{request_fields}
+use Rattle.tl_rules.specs.code.Tables.{kept_request, kept_release, kept_grant, kept_block, release_fields, block_next, bears_on}
+use Rattle.tl_monitor.specs.code.Count.{at}
+use Rattle.tl_monitor.specs.code.Bursts.{burst_on}
+use Rattle.tl_monitor.specs.code.Kept.{is_first, touched, is_block, block_of_request, block_of_release}
+use Rattle.tl_monitor.specs.code.Kept as kept
+use Rattle.tl_monitor.specs.code.Keeps.{Keeps}
 use Rattle.tl_monitor.specs.declared.kept.Kept.{Kept}
 use Rattle.tl_monitor.proofs.Continued.{first-is, last-is}
 use Rattle.tl_monitor.proofs.Judged.{continues, answers_request, answers_release}

@@ -2,7 +2,7 @@
 use Rattle.std.proofs.Common.{◌≡◌, ℕ, Bool, true, false, ◌&&◌, refl, sym, ap, ap₂, ◌∙◌, inl, inr}
 use Rattle.std.specs.Prelude.{if◌then◌else◌, [], ◌∷◌, not, ◌==◌, List, Option, Some, None, is_some}
 use Rattle.std.proofs.lemmas.Bool.{cases_Bool, cases_eq, eq-eqb, ne_eqb, eqb-true}
-use Rattle.tl_beat.specs.Width.{IsWidth}
+use Rattle.tl_beat.specs.statement.Width.{IsWidth}
 use Rattle.tl_beat.specs.declared.beat.Beat.{Beat}
 use Rattle.tl_beat.specs.declared.beat.Beat.TheVariants.{A, B, C, D, E}
 use Rattle.tl_beat.specs.declared.beat.BeatD.{BeatD}
@@ -10,25 +10,25 @@ use Rattle.tl_beat.specs.declared.beat.BeatE.{BeatE}
 use Rattle.tl_beat.specs.declared.channel.Channel.TheVariants as channel
 use Rattle.tl_beat.specs.declared.opcode.OpD.{OpD}
 use Rattle.tl_beat.specs.declared.opcode.OpD.TheVariants as d
-use Rattle.tl_beat.specs.Opcode.{d_carries_data}
-use Rattle.tl_burst.specs.Burst.{data_beats}
-use Rattle.tl_burst.specs.Messages.{History, unfinished, burst_length}
-use Rattle.tl_burst.specs.Part.{is_empty, completes}
+use Rattle.tl_beat.specs.statement.Opcode.{d_carries_data}
+use Rattle.tl_burst.specs.statement.Burst.{data_beats}
+use Rattle.tl_burst.specs.statement.Messages.{History, unfinished, burst_length}
+use Rattle.tl_burst.specs.statement.Part.{is_empty, completes}
 use Rattle.tl_params.specs.declared.key.Key.TheVariants.{GrantSink}
 use Rattle.tl_params.specs.declared.level.Level.{Level}
 use Rattle.tl_params.specs.declared.profile.Profile.{Profile}
 use Rattle.tl_rules.specs.declared.past.Request.{Request}
 use Rattle.tl_rules.specs.declared.table.Block.{Block}
-use Rattle.tl_rules.specs.History.{begins, ends, pending, held, is_release_ack, is_grant, is_sink}
-use Rattle.tl_rules.specs.Conformance.{broken_after}
-use Rattle.tl_rules.specs.Tables.{kept_request, kept_release, kept_block, request_next, release_next, sink_next, block_next, bears_on}
+use Rattle.tl_rules.specs.statement.History.{begins, ends, pending, held, is_release_ack, is_grant, is_sink}
+use Rattle.tl_rules.specs.statement.Conformance.{broken_after}
+use Rattle.tl_rules.specs.code.Tables.{kept_request, kept_release, kept_block, request_next, release_next, sink_next, block_next, bears_on}
 use Rattle.tl_rules.proofs.Tables.{request-next, release-next, sink-next, block-next}
-use Rattle.tl_monitor.specs.Count.{at}
-use Rattle.tl_monitor.specs.Blocks.{block_in}
-use Rattle.tl_monitor.specs.Bursts.{burst_on}
-use Rattle.tl_monitor.specs.Kept.{IsEmpty, is_first, touched, is_block, sink_with, block_of_request, IsNext}
-use Rattle.tl_monitor.specs.Kept as kept
-use Rattle.tl_monitor.specs.Keeps.{Keeps}
+use Rattle.tl_monitor.specs.code.Count.{at}
+use Rattle.tl_monitor.specs.code.Blocks.{block_in}
+use Rattle.tl_monitor.specs.code.Bursts.{burst_on}
+use Rattle.tl_monitor.specs.code.Kept.{IsEmpty, is_first, touched, is_block, sink_with, block_of_request, IsNext}
+use Rattle.tl_monitor.specs.code.Kept as kept
+use Rattle.tl_monitor.specs.code.Keeps.{Keeps}
 use Rattle.tl_monitor.specs.declared.kept.Kept.{Kept}
 use Rattle.tl_monitor.proofs.Continued.{bursts-next}
 use Rattle.tl_monitor.proofs.Judged.{continues, sink-free}

@@ -8,12 +8,13 @@ use Rattle.tl_beat.specs.declared.beat.Link.{Link}
 use Rattle.tl_params.specs.declared.level.Level.{Level}
 use Rattle.tl_params.specs.declared.profile.Profile.{Profile}
 use Rattle.tl_params.specs.declared.rule.Rule.{Rule}
-use Rattle.tl_rules.specs.Conformance.{Trace, on_link, broken_after, broken_on_link, fault_from}
+use Rattle.tl_rules.specs.statement.Conformance.{Trace, on_link, broken_after, broken_on_link, fault_from}
 use Rattle.tl_monitor.specs.declared.kept.Kept.{Kept}
-use Rattle.tl_monitor.specs.Keeps.{Keeps}
+use Rattle.tl_monitor.specs.code.Keeps.{Keeps}
 use Rattle.tl_monitor.proofs.Keepings.{keeps-none}
 use Rattle.tl_monitor.specs.declared.monitor.Monitor.{Monitor}
-use Rattle.tl_monitor.specs.Knows.{Knows, AllEmpty, Answers, AnswersTrace, IsCount, fault_of, broken, trace_fault_of}
+use Rattle.tl_params.specs.statement.Config.{IsCount}
+use Rattle.tl_monitor.specs.statement.Knows.{Knows, AllEmpty, Answers, AnswersTrace, fault_of, broken, trace_fault_of}
 use Rattle.tl_monitor.specs.declared.fault.MonitorFault.{MonitorFault}
 use Rattle.tl_monitor.specs.declared.fault.MonitorFault.TheVariants as monitor
 

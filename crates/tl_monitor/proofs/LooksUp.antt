@@ -1,13 +1,13 @@
 -- What is kept of a link answers what the order of messages asks of its history.
 use Rattle.std.proofs.Common.{◌≡◌, ℕ, sym, ap, ◌∙◌}
 use Rattle.std.specs.Prelude.{is_some}
-use Rattle.tl_burst.specs.Messages.{History}
+use Rattle.tl_burst.specs.statement.Messages.{History}
 use Rattle.tl_params.specs.declared.key.Key.TheVariants.{RequestSource, ReleaseSource, GrantAckOf, ProbeOf}
-use Rattle.tl_rules.specs.History.{pending}
+use Rattle.tl_rules.specs.statement.History.{pending}
 use Rattle.tl_rules.proofs.Tables.{pending-request, pending-release, pending-probe, pending-grant}
-use Rattle.tl_monitor.specs.Count.{at}
-use Rattle.tl_monitor.specs.Blocks.{block_in}
-use Rattle.tl_monitor.specs.Keeps.{Keeps}
+use Rattle.tl_monitor.specs.code.Count.{at}
+use Rattle.tl_monitor.specs.code.Blocks.{block_in}
+use Rattle.tl_monitor.specs.code.Keeps.{Keeps}
 use Rattle.tl_monitor.specs.declared.kept.Kept.{Kept}
 
 pub request-pending : {w : ℕ} (k : Kept) (t : History w) (s : ℕ) → Keeps k t → is_some (at k.requests s) ≡ pending (RequestSource s) t

@@ -4,11 +4,11 @@ use Rattle.std.specs.Prelude.{if◌then◌else◌, Option}
 use Rattle.tl_beat.specs.declared.beat.Beat.{Beat}
 use Rattle.tl_beat.specs.declared.channel.Channel.{Channel}
 use Rattle.tl_beat.specs.declared.channel.Channel.TheVariants as channel
-use Rattle.tl_rules.specs.Tables.{request_next, release_next, block_next}
-use Rattle.tl_monitor.specs.Count.{at}
-use Rattle.tl_monitor.specs.Blocks.{block_in}
-use Rattle.tl_monitor.specs.Bursts.{burst_on, burst_with}
-use Rattle.tl_monitor.specs.Kept.{is_first, completes, touched, is_block, sink_with, IsNext}
+use Rattle.tl_rules.specs.code.Tables.{request_next, release_next, block_next}
+use Rattle.tl_monitor.specs.code.Count.{at}
+use Rattle.tl_monitor.specs.code.Blocks.{block_in}
+use Rattle.tl_monitor.specs.code.Bursts.{burst_on, burst_with}
+use Rattle.tl_monitor.specs.code.Kept.{is_first, completes, touched, is_block, sink_with, IsNext}
 use Rattle.tl_monitor.specs.declared.bursts.Bursts.{Bursts}
 use Rattle.tl_monitor.specs.declared.kept.Kept.{Kept}
 

@@ -3,24 +3,24 @@ use Rattle.std.proofs.Common.{◌≡◌, ◌≢◌, ℕ, ◌<◌, ◌≤◌, ◌
 use Rattle.std.specs.Prelude.{if◌then◌else◌, ◌∷◌, length, List, Some, None, is_some}
 use Rattle.std.specs.List.{sum}
 use Rattle.std.proofs.lemmas.Bool.{cases_Bool, eq-eqb, ne_eqb, le-ltb, lt-ltb}
-use Rattle.tl_beat.specs.Width.{IsWidth}
+use Rattle.tl_beat.specs.statement.Width.{IsWidth}
 use Rattle.tl_beat.specs.declared.beat.Beat.{Beat}
-use Rattle.tl_burst.specs.Messages.{History}
+use Rattle.tl_burst.specs.statement.Messages.{History}
 use Rattle.tl_params.specs.declared.key.Key.TheVariants.{RequestSource, ReleaseSource, AcquireOf, ReleaseOf, GrantSink, GrantAckOf, ProbeOf}
 use Rattle.tl_params.specs.declared.level.Level.{Level}
 use Rattle.tl_params.specs.declared.profile.Profile.{Profile}
 use Rattle.tl_rules.specs.declared.table.Block.{Block}
-use Rattle.tl_rules.specs.History.{pending, held}
+use Rattle.tl_rules.specs.statement.History.{pending, held}
 use Rattle.tl_beat.specs.declared.beat.Link.{Link}
-use Rattle.tl_rules.specs.Conformance.{Trace, on_link, broken_after}
-use Rattle.tl_rules.specs.Tables.{kept_block, block_next, bears_on, empty_block}
+use Rattle.tl_rules.specs.statement.Conformance.{Trace, on_link, broken_after}
+use Rattle.tl_rules.specs.code.Tables.{kept_block, block_next, bears_on, empty_block}
 use Rattle.tl_rules.proofs.Tables.{block-next, pending-probe, pending-grant}
-use Rattle.tl_monitor.specs.Count.{sum_below, count_below, one_if, at}
-use Rattle.tl_monitor.specs.Blocks.{block_in, is_held, open_of}
-use Rattle.tl_monitor.specs.Kept.{is_first, touched, is_block, entries_in, IsNew}
-use Rattle.tl_monitor.specs.Kept as kept
-use Rattle.tl_monitor.specs.Keeps.{Keeps}
-use Rattle.tl_monitor.specs.Numbers.{numbers, entries_of, AnyMore}
+use Rattle.tl_monitor.specs.code.Count.{sum_below, count_below, one_if, at}
+use Rattle.tl_monitor.specs.code.Blocks.{block_in, is_held, open_of}
+use Rattle.tl_monitor.specs.code.Kept.{is_first, touched, is_block, entries_in, IsNew}
+use Rattle.tl_monitor.specs.code.Kept as kept
+use Rattle.tl_monitor.specs.code.Keeps.{Keeps}
+use Rattle.tl_monitor.specs.statement.Numbers.{numbers, entries_of, AnyMore}
 use Rattle.tl_monitor.specs.declared.kept.Kept.{Kept}
 use Rattle.tl_monitor.proofs.Counts.{sum-same, sum-changed, sum-both}
 use Rattle.tl_monitor.proofs.Keeping.{begins-is, ends-is, same_touched}

@@ -1,9 +1,2 @@
-pub mod Blocks
-pub mod Bursts
-pub mod Control
-pub mod Count
-pub mod Kept
-pub mod Keeps
-pub mod Knows
-pub mod Lookups
-pub mod Numbers
+pub mod code
+pub mod statement

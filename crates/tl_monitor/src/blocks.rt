@@ -2,9 +2,9 @@
 
 ghost use Rattle.std.specs.Prelude.{ℕ, List, [], None, length, slice_index_or, IfOk, OnOk, OnErr, if◌then◌else◌, ◌==◌, ◌≡◌, ◌<◌, ◌≤◌, ◌^◌, ◌*◌};
 ghost use Rattle.tl_rules.specs.declared.table.Block.{Block};
-ghost use Rattle.tl_rules.specs.Tables.{empty_block};
-ghost use Rattle.tl_monitor.specs.Count.{sum_below};
-ghost use Rattle.tl_monitor.specs.Blocks.{block_or_empty, block_in, entries_of, is_held, open_of, tree_of, value_in, with_seen, with_value, AllOpen, AreOpen, IsSeen, IsValue};
+ghost use Rattle.tl_rules.specs.code.Tables.{empty_block};
+ghost use Rattle.tl_monitor.specs.code.Count.{sum_below};
+ghost use Rattle.tl_monitor.specs.code.Blocks.{block_or_empty, block_in, entries_of, is_held, open_of, tree_of, value_in, with_seen, with_value, AllOpen, AreOpen, IsSeen, IsValue};
 
 use std::alloc::{AllocError, Global};
 use std::array;

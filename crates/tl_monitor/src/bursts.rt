@@ -1,11 +1,11 @@
 //! The bursts of a link that have begun and aren't complete.
 
 ghost use Rattle.std.specs.Prelude.{IsTrue, None, is_none, ◌≡◌};
-ghost use Rattle.tl_beat.specs.Width.{IsWidth};
+ghost use Rattle.tl_beat.specs.statement.Width.{IsWidth};
 ghost use Rattle.tl_beat.specs.declared.channel.Channel.TheVariants as channel;
-ghost use Rattle.tl_burst.specs.Messages;
-ghost use Rattle.tl_burst.specs.Part.{is_small};
-ghost use Rattle.tl_monitor.specs.Bursts.{burst_on, is_last, burst_next, burst_with};
+ghost use Rattle.tl_burst.specs.statement.Messages;
+ghost use Rattle.tl_burst.specs.statement.Part.{is_small};
+ghost use Rattle.tl_monitor.specs.code.Bursts.{burst_on, is_last, burst_next, burst_with};
 
 use crate::control::{Control, control_of};
 use tl_beat::beat::Beat;

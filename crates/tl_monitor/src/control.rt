@@ -1,7 +1,7 @@
 //! The control fields of a beat, which the beats of a burst share.
 
 ghost use Rattle.std.specs.Prelude.{◌≡◌};
-ghost use Rattle.tl_monitor.specs.Control.{control_of, has_control};
+ghost use Rattle.tl_monitor.specs.code.Control.{control_of, has_control};
 
 use tl_beat::beat::Beat;
 use tl_beat::opcode::{OpA, OpB, OpC, OpD};

@@ -1,11 +1,11 @@
 //! The first rule that a beat breaks after what its link has carried.
 
 ghost use Rattle.std.specs.Prelude.{IsTrue, IfNone, ◌≡◌};
-ghost use Rattle.tl_beat.specs.Width.{IsWidth};
-ghost use Rattle.tl_burst.specs.Messages.{History};
-ghost use Rattle.tl_burst.specs.Part.{is_small};
-ghost use Rattle.tl_rules.specs.Conformance;
-ghost use Rattle.tl_monitor.specs.Keeps.{Keeps};
+ghost use Rattle.tl_beat.specs.statement.Width.{IsWidth};
+ghost use Rattle.tl_burst.specs.statement.Messages.{History};
+ghost use Rattle.tl_burst.specs.statement.Part.{is_small};
+ghost use Rattle.tl_rules.specs.statement.Conformance;
+ghost use Rattle.tl_monitor.specs.code.Keeps.{Keeps};
 
 use crate::bursts::channel_of;
 use crate::control::has_control;
@@ -34,7 +34,7 @@ fn broken_in_order<const W: usize>(profile: Profile, beat: &Beat<W>, kept: &Kept
 }
 
 /// The first rule that a beat breaks on a link of this level.
-#[tactic(auto, unfolding(tl_rules::specs::Conformance::broken_after))]
+#[tactic(auto, unfolding(tl_rules::specs::statement::Conformance::broken_after))]
 pub fn broken_after<const W: usize>(
     level: Level,
     profile: Profile,

@@ -1,16 +1,16 @@
 //! What is kept of the beats that one link has carried.
 
 ghost use Rattle.std.specs.Prelude.{ℕ, true, Some, None, is_some, IsTrue, IfSome, OnOk, OnErr, if◌then◌else◌, ◌≡◌, ◌<◌};
-ghost use Rattle.tl_beat.specs.Width.{IsWidth};
-ghost use Rattle.tl_burst.specs.Part.{is_small};
-ghost use Rattle.tl_rules.specs.Tables;
+ghost use Rattle.tl_beat.specs.statement.Width.{IsWidth};
+ghost use Rattle.tl_burst.specs.statement.Part.{is_small};
+ghost use Rattle.tl_rules.specs.code.Tables;
 ghost use Rattle.tl_beat.specs.declared.beat.Beat.TheVariants as beat;
-ghost use Rattle.tl_rules.specs.Open.{request_fields, probe_fields};
-ghost use Rattle.tl_rules.specs.History.{is_grant, is_release_ack};
-ghost use Rattle.tl_rules.specs.Tables.{empty_block, request_next, release_next, release_fields};
-ghost use Rattle.tl_monitor.specs.Count.{at};
-ghost use Rattle.tl_monitor.specs.Blocks.{block_in, open_of};
-ghost use Rattle.tl_monitor.specs.Kept.{is_block, sink_with, touched, block_of_request, block_of_release, entries_in, IsNext, IsNew, IsEmpty};
+ghost use Rattle.tl_rules.specs.code.Open.{request_fields, probe_fields};
+ghost use Rattle.tl_rules.specs.statement.History.{is_grant, is_release_ack};
+ghost use Rattle.tl_rules.specs.code.Tables.{empty_block, request_next, release_next, release_fields};
+ghost use Rattle.tl_monitor.specs.code.Count.{at};
+ghost use Rattle.tl_monitor.specs.code.Blocks.{block_in, open_of};
+ghost use Rattle.tl_monitor.specs.code.Kept.{is_block, sink_with, touched, block_of_request, block_of_release, entries_in, IsNext, IsNew, IsEmpty};
 
 use crate::blocks::Blocks;
 use crate::bursts::Bursts;

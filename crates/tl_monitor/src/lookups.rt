@@ -1,7 +1,7 @@
 //! What the order of messages asks of a link, answered from what is kept of it.
 
 ghost use Rattle.std.specs.Prelude.{Option, ◌≡◌};
-ghost use Rattle.tl_monitor.specs.Lookups.{comes_request, comes_release, comes_grant};
+ghost use Rattle.tl_monitor.specs.code.Lookups.{comes_request, comes_release, comes_grant};
 ghost use Rattle.tl_monitor.specs.declared.bursts.Unfinished.{Unfinished};
 
 use crate::bursts::Unfinished;
@@ -58,7 +58,7 @@ fn comes_grant(sink: u8, burst: Option<Unfinished>) -> bool
 }
 
 impl<const W: usize> Past<W> for Kept {
-    ghost use Rattle.tl_monitor.specs.Keeps.{Keeps};
+    ghost use Rattle.tl_monitor.specs.code.Keeps.{Keeps};
 
     ghost knows = { λ k t. Keeps k t };
 

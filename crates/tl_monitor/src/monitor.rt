@@ -2,10 +2,10 @@
 
 ghost use Rattle.std.specs.Prelude.{Bool, List, IfOk, length, ◌≡◌};
 ghost use Rattle.tl_beat.specs.declared.beat.Beat.{Beat};
-ghost use Rattle.tl_beat.specs.Width.{IsWidth};
+ghost use Rattle.tl_beat.specs.statement.Width.{IsWidth};
 ghost use Rattle.tl_params.specs.declared.level.Level.{Level};
 ghost use Rattle.tl_params.specs.declared.profile.Profile.{Profile};
-ghost use Rattle.tl_rules.specs.Conformance.{Trace, on_link};
+ghost use Rattle.tl_rules.specs.statement.Conformance.{Trace, on_link};
 
 use crate::fault::MonitorFault;
 use crate::judge::broken_after;
@@ -28,8 +28,8 @@ pub struct Monitor<const W: usize> {
 }
 
 impl<const W: usize> Monitor<W> {
-    ghost use Rattle.tl_monitor.specs.Numbers.{IsMoreWhereRefused, entries_of};
-    ghost use Rattle.tl_monitor.specs.Knows.{Knows, IsNew, Answers, fault_of, recorded_after, closed_after, AllEmpty};
+    ghost use Rattle.tl_monitor.specs.statement.Numbers.{IsMoreWhereRefused, entries_of};
+    ghost use Rattle.tl_monitor.specs.statement.Knows.{Knows, IsNew, Answers, fault_of, recorded_after, closed_after, AllEmpty};
 
     /// What is kept of so many links that have carried nothing.
     fn empty_links(alloc: Global, count: usize) -> Result<Vec<Kept>, AllocError>

@@ -1,8 +1,8 @@
 //! What a whole trace is judged.
 
-ghost use Rattle.tl_beat.specs.Width.{IsWidth};
+ghost use Rattle.tl_beat.specs.statement.Width.{IsWidth};
 ghost use Rattle.std.specs.Prelude.{◌≡◌};
-ghost use Rattle.tl_monitor.specs.Knows.{AnswersTrace, trace_fault_of};
+ghost use Rattle.tl_monitor.specs.statement.Knows.{AnswersTrace, trace_fault_of};
 
 use crate::fault::{MonitorFault, TraceFault};
 use crate::monitor::Monitor;

@@ -11,8 +11,8 @@ use Rattle.tl_params.specs.declared.profile.Profile.{Profile}
 use Rattle.tl_params.specs.declared.profile.Profile.TheVariants as profile
 use Rattle.tl_params.specs.declared.width.Width.{Width}
 use Rattle.tl_params.specs.declared.width.Width.TheVariants.{Four, Eight, Sixteen}
-use Rattle.tl_params.specs.Header.{is_end, level_text, profile_text, version_text, width_text}
-use Rattle.tl_params.specs.HeaderReading.{Gives, after_word, level_at, of_second, of_third, profile_at, version_at, width_at, with_profile}
+use Rattle.tl_params.specs.statement.Header.{is_end, level_text, profile_text, version_text, width_text}
+use Rattle.tl_params.specs.code.HeaderReading.{Gives, after_word, level_at, of_second, of_third, profile_at, version_at, width_at, with_profile}
 use Rattle.tl_params.proofs.Options.{some_pair}
 
 -- ---- what was read was spelled so

@@ -3,7 +3,7 @@ use Rattle.std.proofs.Common.{◌≡◌, ◌↔◌, Bool, true, List, refl}
 use Rattle.std.specs.Prelude.{All}
 use Rattle.std.proofs.lemmas.Bool.Decides.{same_from_decides, Decides-by_and}
 use Rattle.tl_params.specs.declared.config.ClientConfig.{ClientConfig}
-use Rattle.tl_params.specs.Config.{sources_fit, all_sources_fit}
+use Rattle.tl_params.specs.statement.Config.{sources_fit, all_sources_fit}
 
 pub fit_where_each : (r : Bool) (clients : List ClientConfig) → ((r ≡ true) ↔ All (λ client. sources_fit client ≡ true) clients) → r ≡ all_sources_fit clients
 fit_where_each r clients is =

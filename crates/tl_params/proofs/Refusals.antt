@@ -1,6 +1,6 @@
 -- What follows from what a call answers that refuses by the first rule or limit that is broken.
 use Rattle.std.proofs.Common.{◌≡◌, Option, Some, None, Ok, Err, refl}
-use Rattle.tl_params.specs.Refusal.{ok_unless}
+use Rattle.tl_params.specs.statement.Refusal.{ok_unless}
 
 pub none_broken : {E : Type 0} (o : Option E) → Ok tt ≡ ok_unless o → o ≡ None
 none_broken None e = refl

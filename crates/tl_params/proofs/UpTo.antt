@@ -2,8 +2,8 @@
 use Rattle.std.proofs.Common.{◌≡◌, ◌<◌, ◌≤◌, ℕ, zero, suc, ◌-◌, List, [], ◌∷◌, ◌++◌, length, true, false, refl, ap, sym, ◌∙◌, arith, append_assoc, length-append, cond}
 use Rattle.std.proofs.lemmas.List.{append-nil}
 use Rattle.std.specs.Prelude.{Bool, Option, Some, None, option_and_then, option_map}
-use Rattle.tl_params.specs.Header.{is_end}
-use Rattle.tl_params.specs.HeaderReading.{onto, up_to}
+use Rattle.tl_params.specs.statement.Header.{is_end}
+use Rattle.tl_params.specs.code.HeaderReading.{onto, up_to}
 
 -- those that were read, behind those that were read before
 abbrev pub behind : {A : Type 0} → List A → Option (List A) → Option (List A)

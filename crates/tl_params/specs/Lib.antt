@@ -1,7 +1,2 @@
-pub mod Config
-pub mod Header
-pub mod HeaderReading
-pub mod Names
-pub mod Param
-pub mod Range
-pub mod Refusal
+pub mod code
+pub mod statement

@@ -1,7 +1,7 @@
 //! What a manager and its clients are made from, and its limits.
 
 ghost use Rattle.std.specs.Prelude.{◌≡◌};
-ghost use Rattle.tl_params.specs.Range.{is_from_to};
+ghost use Rattle.tl_params.specs.statement.Range.{is_from_to};
 
 use crate::level::Level;
 use crate::profile::Profile;
@@ -67,8 +67,8 @@ fn few_fit(count: u8) -> bool
 
 impl ClientConfig {
     ghost use Rattle.std.specs.Prelude.{◌≡◌};
-    ghost use Rattle.tl_params.specs.Config.{client_fault};
-    ghost use Rattle.tl_params.specs.Refusal.{ok_unless};
+    ghost use Rattle.tl_params.specs.statement.Config.{client_fault};
+    ghost use Rattle.tl_params.specs.statement.Refusal.{ok_unless};
 
     /// The first limit that a client on so many blocks breaks, in the order N2, N4.
     pub fn check(&self, blocks: u16) -> Result<(), NewFault>
@@ -86,8 +86,8 @@ impl ClientConfig {
 
 impl Config {
     ghost use Rattle.std.specs.Prelude.{◌≡◌};
-    ghost use Rattle.tl_params.specs.Config.{config_fault};
-    ghost use Rattle.tl_params.specs.Refusal.{ok_unless};
+    ghost use Rattle.tl_params.specs.statement.Config.{config_fault};
+    ghost use Rattle.tl_params.specs.statement.Refusal.{ok_unless};
 
     /// The first limit that the configuration breaks, in the order N1 to N4.
     pub fn check(&self) -> Result<(), NewFault>

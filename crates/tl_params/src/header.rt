@@ -3,8 +3,8 @@
 ghost use Rattle.std.specs.Prelude.{◌≡◌, ◌≢◌, ◌++◌, ◌∷◌, List, ℕ, MatchOption};
 ghost use Rattle.tl_params.specs.declared.header.Version.{Version};
 ghost use Rattle.tl_params.specs.declared.level.Level.{Level};
-ghost use Rattle.tl_params.specs.Header.{is_end, level_text, profile_of, version_text, width_of};
-ghost use Rattle.tl_params.specs.HeaderReading.{Gives, level_at, profile_at, version_at, width_at};
+ghost use Rattle.tl_params.specs.statement.Header.{is_end, level_text, profile_of, version_text, width_of};
+ghost use Rattle.tl_params.specs.code.HeaderReading.{Gives, level_at, profile_at, version_at, width_at};
 
 use crate::level::Level;
 use crate::profile::Profile;

@@ -3,13 +3,13 @@
 //! a transition.
 
 ghost use Rattle.std.specs.Prelude.{◌≡◌, IfSome};
-ghost use Rattle.tl_params.specs.Names.{grow_name, cap_name, prune_name, report_name};
-ghost use Rattle.tl_params.specs.Names.{arithmetic_name, logical_name, intent_name};
-ghost use Rattle.tl_params.specs.Param.{grow_of, grow_code, grow_left, grow_right};
-ghost use Rattle.tl_params.specs.Param.{cap_of, cap_code, cap_right};
-ghost use Rattle.tl_params.specs.Param.{prune_of, prune_code, prune_left, prune_right};
-ghost use Rattle.tl_params.specs.Param.{report_named, report_code, report_left, report_right};
-ghost use Rattle.tl_params.specs.Param.{arithmetic_of, arithmetic_code, logical_of, logical_code, intent_of, intent_code};
+ghost use Rattle.tl_params.specs.statement.Names.{grow_name, cap_name, prune_name, report_name};
+ghost use Rattle.tl_params.specs.statement.Names.{arithmetic_name, logical_name, intent_name};
+ghost use Rattle.tl_params.specs.statement.Param.{grow_of, grow_code, grow_left, grow_right};
+ghost use Rattle.tl_params.specs.statement.Param.{cap_of, cap_code, cap_right};
+ghost use Rattle.tl_params.specs.statement.Param.{prune_of, prune_code, prune_left, prune_right};
+ghost use Rattle.tl_params.specs.statement.Param.{report_named, report_code, report_left, report_right};
+ghost use Rattle.tl_params.specs.statement.Param.{arithmetic_of, arithmetic_code, logical_of, logical_code, intent_of, intent_code};
 
 use crate::perm::Perm;
 

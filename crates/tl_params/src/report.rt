@@ -1,7 +1,7 @@
 //! The answer of a client to a Probe.
 
 ghost use Rattle.std.specs.Prelude.{◌≡◌};
-ghost use Rattle.tl_params.specs.Param.{report_at};
+ghost use Rattle.tl_params.specs.statement.Param.{report_at};
 
 use crate::param::{Cap, Report};
 use crate::perm::Perm;

@@ -2,7 +2,7 @@
 //! 1.8 that it comes from.
 
 ghost use Rattle.std.specs.Prelude.{◌≡◌};
-ghost use Rattle.tl_params.specs.Names.{rule_name};
+ghost use Rattle.tl_params.specs.statement.Names.{rule_name};
 
 /// A rule that a beat breaks. L rules judge a beat by level and channel alone, S1 a beat against its
 /// burst, H rules a message at its first beat against the history of its link; A rules are those

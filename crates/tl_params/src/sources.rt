@@ -1,7 +1,7 @@
 //! The numbers of sources of several clients.
 
 ghost use Rattle.std.specs.Prelude.{◌≡◌};
-ghost use Rattle.tl_params.specs.Config.{all_sources_fit};
+ghost use Rattle.tl_params.specs.statement.Config.{all_sources_fit};
 
 use crate::config::ClientConfig;
 

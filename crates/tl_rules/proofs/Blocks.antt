@@ -9,22 +9,22 @@ use Rattle.std.specs.Prelude.{slice_get}
 use Rattle.tl_beat.specs.declared.channel.Channel.TheVariants as channel
 use Rattle.tl_beat.specs.declared.opcode.OpA.{OpA}
 use Rattle.tl_beat.specs.declared.opcode.OpA.TheVariants as a
-use Rattle.tl_beat.specs.Opcode.{a_carries_data}
-use Rattle.tl_beat.specs.Width.{IsWidth}
+use Rattle.tl_beat.specs.statement.Opcode.{a_carries_data}
+use Rattle.tl_beat.specs.statement.Width.{IsWidth}
 use Rattle.tl_burst.specs.declared.message.MessageA.{MessageA}
 use Rattle.tl_burst.specs.declared.message.Message.{Message}
 use Rattle.tl_burst.specs.declared.message.Message.TheVariants.{A, B, C, D, E}
-use Rattle.tl_burst.specs.Burst.{bit, data_beats, beats_of, IsBlankAfter}
+use Rattle.tl_burst.specs.statement.Burst.{bit, data_beats, beats_of, IsBlankAfter}
 use Rattle.tl_params.specs.declared.param.Arithmetic.{Arithmetic}
 use Rattle.tl_params.specs.declared.param.Logical.{Logical}
-use Rattle.tl_params.specs.Param.{arithmetic_of, logical_of}
+use Rattle.tl_params.specs.statement.Param.{arithmetic_of, logical_of}
 use Rattle.tl_rules.specs.declared.answer.Answer.{Answer}
 use Rattle.tl_params.specs.declared.level.Level.TheVariants as level
-use Rattle.tl_rules.specs.Legality.{illegal_message}
-use Rattle.tl_rules.specs.Merge.{merged}
-use Rattle.tl_rules.specs.Place.{base_of, moved_up}
-use Rattle.tl_rules.specs.Effect.{Memory, number_from, byte_of, arithmetic_result, logical_result, by_param, byte_count, operand_of, number_stored, with_number}
-use Rattle.tl_rules.specs.Effect.{after, as_payload, bytes_from, IsBlock, request_block, effect, access_result, answer_at, answer_of}
+use Rattle.tl_rules.specs.statement.Legality.{illegal_message}
+use Rattle.tl_rules.specs.code.Merge.{merged}
+use Rattle.tl_rules.specs.code.Place.{base_of, moved_up}
+use Rattle.tl_rules.specs.statement.Effect.{Memory, number_from, byte_of, arithmetic_result, logical_result, by_param, byte_count, operand_of, number_stored, with_number}
+use Rattle.tl_rules.specs.statement.Effect.{after, as_payload, bytes_from, IsBlock, request_block, effect, access_result, answer_at, answer_of}
 use Rattle.std.proofs.Math.Nat.{mod-mod}
 use Rattle.std.proofs.lemmas.Nat.{div-add-mod'}
 use Rattle.std.proofs.lemmas.Nat.Bits.{bit_at_above}

@@ -6,19 +6,19 @@ use Rattle.tl_beat.specs.declared.channel.Channel.{Channel}
 use Rattle.tl_beat.specs.declared.channel.Channel.TheVariants as channel
 use Rattle.tl_beat.specs.declared.opcode.OpA.{OpA}
 use Rattle.tl_beat.specs.declared.beat.Beat.{Beat}
-use Rattle.tl_beat.specs.Width.{IsWidth}
-use Rattle.tl_beat.specs.First.{first_if}
+use Rattle.tl_beat.specs.statement.Width.{IsWidth}
+use Rattle.tl_beat.specs.statement.First.{first_if}
 use Rattle.tl_burst.specs.declared.message.Message.{Message}
 use Rattle.tl_burst.specs.declared.message.Message.TheVariants.{A, B, C, D, E}
 use Rattle.tl_burst.specs.declared.message.MessageA.{MessageA}
-use Rattle.tl_burst.specs.Burst.{beats_of, beat_of, a_beat_of}
+use Rattle.tl_burst.specs.statement.Burst.{beats_of, beat_of, a_beat_of}
 use Rattle.tl_burst.proofs.Splitting.{beats-positive}
 use Rattle.tl_params.specs.declared.level.Level.{Level}
 use Rattle.tl_params.specs.declared.level.Level.TheVariants as level
 use Rattle.tl_params.specs.declared.rule.Rule.{Rule}
 use Rattle.tl_params.specs.declared.rule.Rule.TheVariants.{L1, L2, L3, L4}
-use Rattle.tl_rules.specs.Legality.{illegal, illegal_message, first_illegal, beats_from, breaks_l1, a_of_level, a_has_param, a_has_size, is_aligned}
-use Rattle.tl_rules.specs.Control.{a_control, a_own}
+use Rattle.tl_rules.specs.statement.Legality.{illegal, illegal_message, first_illegal, beats_from, breaks_l1, a_of_level, a_has_param, a_has_size, is_aligned}
+use Rattle.tl_rules.specs.code.Control.{a_control, a_own}
 use Rattle.tl_rules.proofs.Verdicts.{illegal_a}
 
 first_of : {w : ℕ} (l : Level) (ch : Channel) (m : Message w) (n : ℕ) → 0 < n → first_illegal l ch (beats_from m 0 n) ≡ None → illegal l ch (beat_of m 0) ≡ None

@@ -12,9 +12,9 @@ use Rattle.tl_beat.specs.declared.beat.Beat.{Beat}
 use Rattle.tl_beat.specs.declared.beat.Beat.TheVariants as beat
 use Rattle.tl_beat.specs.declared.opcode.OpB.{OpB}
 use Rattle.tl_beat.specs.declared.opcode.OpB.TheVariants as b
-use Rattle.tl_beat.specs.Opcode.{a_carries_data, b_carries_data, c_carries_data, d_carries_data}
-use Rattle.tl_beat.specs.Width.{IsWidth}
-use Rattle.tl_beat.specs.First.{first_if}
+use Rattle.tl_beat.specs.statement.Opcode.{a_carries_data, b_carries_data, c_carries_data, d_carries_data}
+use Rattle.tl_beat.specs.statement.Width.{IsWidth}
+use Rattle.tl_beat.specs.statement.First.{first_if}
 use Rattle.tl_burst.specs.declared.message.Message.{Message}
 use Rattle.tl_burst.specs.declared.message.Message.TheVariants.{A, B, C, D, E}
 use Rattle.tl_burst.specs.declared.message.MessageA.{MessageA}
@@ -22,15 +22,15 @@ use Rattle.tl_burst.specs.declared.message.MessageB.{MessageB}
 use Rattle.tl_burst.specs.declared.message.MessageC.{MessageC}
 use Rattle.tl_burst.specs.declared.message.MessageD.{MessageD}
 use Rattle.tl_burst.specs.declared.message.MessageE.{MessageE}
-use Rattle.tl_burst.specs.Burst.{beats_of, beat_of, a_beat_of, b_beat_of, c_beat_of, d_beat_of, data_beats, mask_at, bit}
-use Rattle.tl_burst.specs.Messages.{on}
+use Rattle.tl_burst.specs.statement.Burst.{beats_of, beat_of, a_beat_of, b_beat_of, c_beat_of, d_beat_of, data_beats, mask_at, bit}
+use Rattle.tl_burst.specs.statement.Messages.{on}
 use Rattle.tl_burst.proofs.Splitting.{beats-positive}
 use Rattle.tl_params.specs.declared.level.Level.{Level}
 use Rattle.tl_params.specs.declared.rule.Rule.{Rule}
 use Rattle.tl_params.specs.declared.rule.Rule.TheVariants.{L1, L6, L7}
-use Rattle.tl_params.specs.Refusal.{ok_unless}
-use Rattle.tl_rules.specs.Legality.{illegal, breaks_l1, illegal_message, first_illegal, beats_from, has_transfers, is_forwarded}
-use Rattle.tl_rules.specs.Control.{a_control, a_own, b_control, b_own, c_control, c_own, d_control, d_own}
+use Rattle.tl_params.specs.statement.Refusal.{ok_unless}
+use Rattle.tl_rules.specs.statement.Legality.{illegal, breaks_l1, illegal_message, first_illegal, beats_from, has_transfers, is_forwarded}
+use Rattle.tl_rules.specs.code.Control.{a_control, a_own, b_control, b_own, c_control, c_own, d_control, d_own}
 use Rattle.tl_rules.proofs.Bursts.{next_rule, both_none}
 use Rattle.tl_rules.proofs.Verdicts.{illegal_a, illegal_b, illegal_c, illegal_d}
 use Rattle.tl_rules.proofs.Widths.{width-bounds}

@@ -2,8 +2,8 @@
 use Rattle.std.proofs.Common.{◌≡◌, ℕ, ◌-◌, ◌*◌, ◌/◌, ◌%◌, ◌^◌, ◌<◌, ◌≤◌, refl, arith, zero-add}
 use Rattle.std.proofs.lemmas.Bool.{le-leb, lt-leb}
 use Rattle.std.proofs.lemmas.Nat.{one_shl}
-use Rattle.tl_burst.specs.Burst.{bit}
-use Rattle.tl_rules.specs.Legality.{is_lane}
+use Rattle.tl_burst.specs.statement.Burst.{bit}
+use Rattle.tl_rules.specs.statement.Legality.{is_lane}
 use Rattle.tl_rules.proofs.Masks.{run_of_ones}
 
 pub all_lanes : (w size address lane : ℕ) (run : ℕ × ℕ) → run ≡ (0, w) → w ≤ 16 → size ≤ 6 → w ≤ 1 * 2 ^ size % 2 ^ 64 → lane < 16

@@ -1,13 +1,13 @@
 -- A beat that goes on with its message breaks no rule of order, and a lawful message in order none.
 use Rattle.std.proofs.Common.{◌≡◌, ℕ, zero, suc, ◌<◌, [], ◌++◌, None, refl, ◌∙◌, ap}
 use Rattle.tl_burst.specs.declared.message.Message.{Message}
-use Rattle.tl_burst.specs.Burst.{beats_of, beat_of, begun}
-use Rattle.tl_burst.specs.Messages.{History, channel_of, channel_in, unfinished}
+use Rattle.tl_burst.specs.statement.Burst.{beats_of, beat_of, begun}
+use Rattle.tl_burst.specs.statement.Messages.{History, channel_of, channel_in, unfinished}
 use Rattle.tl_burst.proofs.Splitting.{control_own}
 use Rattle.tl_params.specs.declared.level.Level.{Level}
 use Rattle.tl_params.specs.declared.profile.Profile.{Profile}
-use Rattle.tl_rules.specs.Conformance.{broken_in_order, broken_after}
-use Rattle.tl_rules.specs.Legality.{illegal, illegal_message}
+use Rattle.tl_rules.specs.statement.Conformance.{broken_in_order, broken_after}
+use Rattle.tl_rules.specs.statement.Legality.{illegal, illegal_message}
 use Rattle.tl_rules.proofs.Legal.{legal_beat}
 use Rattle.tl_rules.proofs.Sent.{same_channel, unfinished-begun}
 

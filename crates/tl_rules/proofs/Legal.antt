@@ -7,19 +7,19 @@ use Rattle.tl_beat.specs.declared.opcode.OpA.{OpA}
 use Rattle.tl_beat.specs.declared.opcode.OpA.TheVariants as a
 use Rattle.tl_beat.specs.declared.beat.BeatA.{BeatA}
 use Rattle.tl_beat.specs.declared.beat.Beat.TheVariants as beat
-use Rattle.tl_beat.specs.Opcode.{a_code}
-use Rattle.tl_beat.specs.Width.{IsWidth}
-use Rattle.tl_beat.specs.First.{first_if}
+use Rattle.tl_beat.specs.statement.Opcode.{a_code}
+use Rattle.tl_beat.specs.statement.Width.{IsWidth}
+use Rattle.tl_beat.specs.statement.First.{first_if}
 use Rattle.tl_burst.specs.declared.message.Message.{Message}
 use Rattle.tl_burst.specs.declared.message.Message.TheVariants.{A}
 use Rattle.tl_burst.specs.declared.message.MessageA.{MessageA}
-use Rattle.tl_burst.specs.Burst.{beats_of, beat_of, a_beat_of}
+use Rattle.tl_burst.specs.statement.Burst.{beats_of, beat_of, a_beat_of}
 use Rattle.tl_params.specs.declared.level.Level.{Level}
 use Rattle.tl_params.specs.declared.level.Level.TheVariants as level
 use Rattle.tl_params.specs.declared.rule.Rule.{Rule}
 use Rattle.tl_params.specs.declared.rule.Rule.TheVariants.{L1, L2, L3}
-use Rattle.tl_rules.specs.Legality.{illegal, illegal_message, first_illegal, beats_from, a_of_level, a_has_param, a_has_size, access_has_size}
-use Rattle.tl_rules.specs.Control.{a_control, a_own}
+use Rattle.tl_rules.specs.statement.Legality.{illegal, illegal_message, first_illegal, beats_from, a_of_level, a_has_param, a_has_size, access_has_size}
+use Rattle.tl_rules.specs.code.Control.{a_control, a_own}
 use Rattle.tl_rules.proofs.Bursts.{next_rule, both_none}
 use Rattle.tl_rules.proofs.Verdicts.{illegal_a}
 use Rattle.tl_rules.proofs.Widths.{size_above_width}

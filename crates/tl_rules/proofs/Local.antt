@@ -5,10 +5,10 @@ use Rattle.tl_beat.specs.declared.opcode.OpA.{OpA}
 use Rattle.tl_beat.specs.declared.opcode.OpA.TheVariants as a
 use Rattle.tl_burst.specs.declared.message.MessageA.{MessageA}
 use Rattle.tl_burst.specs.declared.message.Message.TheVariants.{A}
-use Rattle.tl_burst.specs.Burst.{byte_at}
-use Rattle.tl_params.specs.Param.{arithmetic_of, logical_of}
-use Rattle.tl_rules.specs.Effect.{Memory, bytes_from, number_from, operand_of, byte_count, number_stored, with_number, by_param, arithmetic_result}
-use Rattle.tl_rules.specs.Effect.{logical_result, after, Bytes, access_result, SameBlock}
+use Rattle.tl_burst.specs.statement.Burst.{byte_at}
+use Rattle.tl_params.specs.statement.Param.{arithmetic_of, logical_of}
+use Rattle.tl_rules.specs.statement.Effect.{Memory, bytes_from, number_from, operand_of, byte_count, number_stored, with_number, by_param, arithmetic_result}
+use Rattle.tl_rules.specs.statement.Effect.{logical_result, after, Bytes, access_result, SameBlock}
 use Rattle.tl_rules.proofs.Places.{number_same}
 
 pub bytes_same : (f g : Memory) (x n : ℕ) → ((i : ℕ) → i < n → f (x + i) ≡ g (x + i)) → bytes_from f x n ≡ bytes_from g x n

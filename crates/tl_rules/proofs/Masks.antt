@@ -7,8 +7,8 @@ use Rattle.std.proofs.lemmas.Bool.Decides.{nat_tests, same_from_decides, Decides
 use Rattle.std.proofs.lemmas.Nat.{shr_split, pow_pos, and_le_l}
 use Rattle.std.proofs.lemmas.Nat.Bits.{ones_shr, bit_at_cat_low, bit_at_cat_high, bit_at-zero, bit_at_ones, bit_at_ones_above, bit_at-lt, bit_at_and, bit_at_not, same_from_bits_below}
 use Rattle.std.specs.Cmp.{booleans_Decides}
-use Rattle.tl_burst.specs.Burst.{bit}
-use Rattle.tl_rules.specs.Legality.{each_below}
+use Rattle.tl_burst.specs.statement.Burst.{bit}
+use Rattle.tl_rules.specs.statement.Legality.{each_below}
 
 -- ---- a run of ones
 

@@ -9,7 +9,7 @@ use Rattle.std.proofs.lemmas.List.{take_at, drop_at, length-take-le, length-drop
 use Rattle.std.proofs.lemmas.Bool.{cases_eq, ne_eqb}
 use mathlib.Core.Bool.{not}
 use lib.Lanes.{top, sel_l}
-use Rattle.tl_rules.specs.Merge.{merged}
+use Rattle.tl_rules.specs.code.Merge.{merged}
 
 abbrev pub test : ℕ → ℕ → Bool
 test m k = top 7 (cond (not (eqb (bit_and m (2 ^ k)) 0)) 255 0)

@@ -2,9 +2,9 @@
 use Rattle.std.proofs.Common.{◌≡◌, ℕ, Bool, true, false, cond, ◌&&◌, [], ◌∷◌, Option, Some, refl}
 use Rattle.std.specs.Prelude.{◌==◌, is_some}
 use Rattle.tl_beat.specs.declared.beat.Beat.TheVariants.{A, B, C, D, E}
-use Rattle.tl_burst.specs.Messages.{History}
+use Rattle.tl_burst.specs.statement.Messages.{History}
 use Rattle.tl_params.specs.declared.key.Key.TheVariants.{RequestSource, ReleaseSource, ProbeOf}
-use Rattle.tl_rules.specs.History.{begins, ends, closes, pending, request_of, release_of, probe_of, block_at, is_probe, is_release}
+use Rattle.tl_rules.specs.statement.History.{begins, ends, closes, pending, request_of, release_of, probe_of, block_at, is_probe, is_release}
 use Rattle.tl_rules.proofs.Sent.{pending-quiet, pending-closed}
 
 pub still : (b p : Bool) → cond b false p ≡ true → p ≡ true

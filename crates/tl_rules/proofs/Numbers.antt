@@ -3,7 +3,7 @@ use Rattle.std.proofs.Common.{◌≡◌, ℕ, zero, suc, ◌+◌, ◌-◌, ◌*�
 use Rattle.std.specs.Int.{to_le_bytes, w64}
 use Rattle.std.proofs.Math.Nat.{pow-suc}
 use Rattle.std.proofs.lemmas.Nat.{pow-add, mod-pow-add, mod_low, field_of, mod_below}
-use Rattle.tl_rules.specs.Effect.{number_from, byte_of}
+use Rattle.tl_rules.specs.statement.Effect.{number_from, byte_of}
 
 bytes_pow : (j : ℕ) → 256 ^ j ≡ 2 ^ (8 * j)
 bytes_pow zero = refl

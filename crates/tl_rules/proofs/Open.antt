@@ -5,24 +5,24 @@ use Rattle.std.proofs.lemmas.Bool.{cases_Bool}
 use Rattle.tl_beat.specs.declared.beat.Beat.TheVariants.{A, B, C, D, E}
 use Rattle.tl_beat.specs.declared.beat.BeatC.{BeatC}
 use Rattle.tl_beat.specs.declared.beat.BeatD.{BeatD}
-use Rattle.tl_burst.specs.Messages.{History, unfinished}
+use Rattle.tl_burst.specs.statement.Messages.{History, unfinished}
 use Rattle.tl_params.specs.declared.key.Key.TheVariants.{RequestSource, ReleaseSource, ReleaseOf, GrantSink, ProbeOf}
 use Rattle.tl_params.specs.declared.profile.Profile.{Profile}
 use Rattle.tl_params.specs.declared.rule.Rule.TheVariants.{H2, H3, H6, H7, H10, H11, H12}
-use Rattle.tl_rules.specs.History.{begins, ends, closes, pending, request_of, release_of, probe_of, is_release, is_grant, is_release_ack, is_probe, block_at, held}
-use Rattle.tl_rules.specs.Conformance.{answers_wrong_probe, misreports, is_probe_block, is_report_at, answers, admits, size_of_request, broken_d}
-use Rattle.tl_rules.specs.Conformance.{broken_probe_ack, comes_in_release, comes_in_request, misgrants}
-use Rattle.tl_rules.specs.Open.{open_request, open_release, open_probe, request_fields, release_size, probe_fields}
+use Rattle.tl_rules.specs.statement.History.{begins, ends, closes, pending, request_of, release_of, probe_of, is_release, is_grant, is_release_ack, is_probe, block_at, held}
+use Rattle.tl_rules.specs.statement.Conformance.{answers_wrong_probe, misreports, is_probe_block, is_report_at, answers, admits, size_of_request, broken_d}
+use Rattle.tl_rules.specs.statement.Conformance.{broken_probe_ack, comes_in_release, comes_in_request, misgrants}
+use Rattle.tl_rules.specs.code.Open.{open_request, open_release, open_probe, request_fields, release_size, probe_fields}
 use Rattle.tl_rules.specs.declared.past.Probe.{Probe}
 use Rattle.tl_params.specs.declared.perm.Perm.{Perm}
-use Rattle.tl_params.specs.Param.{cap_of}
-use Rattle.tl_beat.specs.Opcode.{c_carries_data}
+use Rattle.tl_params.specs.statement.Param.{cap_of}
+use Rattle.tl_beat.specs.statement.Opcode.{c_carries_data}
 use Rattle.tl_beat.specs.declared.beat.BeatB.{BeatB}
 use Rattle.tl_rules.specs.declared.past.Request.{Request}
 use Rattle.tl_beat.specs.declared.channel.Channel.TheVariants as channel
 use Rattle.tl_params.specs.declared.rule.Rule.{Rule}
 use Rattle.tl_beat.specs.declared.beat.BeatA.{BeatA}
-use Rattle.tl_beat.specs.First.{first_if}
+use Rattle.tl_beat.specs.statement.First.{first_if}
 use Rattle.tl_beat.specs.declared.opcode.OpD.{OpD}
 use Rattle.tl_beat.specs.declared.opcode.OpD.TheVariants as d
 

@@ -3,15 +3,15 @@ use Rattle.std.proofs.Common.{◌≡◌, ℕ, zero, suc, ◌+◌, ◌-◌, ◌*�
 use Rattle.std.specs.Prelude.{replicate, unwrap_or, if◌then◌else◌}
 use Rattle.std.proofs.Math.Seq.{take-add}
 use Rattle.std.proofs.lemmas.List.{take-append-drop, length-take-le}
-use Rattle.tl_beat.specs.Width.{IsWidth}
+use Rattle.tl_beat.specs.statement.Width.{IsWidth}
 use Rattle.tl_beat.specs.declared.beat.Beat.{Beat}
-use Rattle.tl_beat.specs.Opcode.{a_carries_data, c_carries_data, d_carries_data}
+use Rattle.tl_beat.specs.statement.Opcode.{a_carries_data, c_carries_data, d_carries_data}
 use Rattle.tl_burst.specs.declared.message.Message.TheVariants.{A, C, D}
 use Rattle.tl_burst.specs.declared.message.MessageA.{MessageA}
 use Rattle.tl_burst.specs.declared.message.MessageC.{MessageC}
 use Rattle.tl_burst.specs.declared.message.MessageD.{MessageD}
-use Rattle.tl_burst.specs.Burst.{beats_of, begun, lanes_at, IsZeroFrom, IsBurst}
-use Rattle.tl_rules.specs.Agent.{bytes_carried, payload_of}
+use Rattle.tl_burst.specs.statement.Burst.{beats_of, begun, lanes_at, IsZeroFrom, IsBurst}
+use Rattle.tl_rules.specs.statement.Agent.{bytes_carried, payload_of}
 use Rattle.tl_rules.proofs.Checks.{beats_room}
 
 -- the lanes of the first n beats

@@ -4,8 +4,8 @@ use Rattle.std.specs.Int.{from_le_bytes, w64}
 use Rattle.std.proofs.lemmas.Bool.{cases_lt}
 use Rattle.std.proofs.lemmas.List.{append-nil, length-drop, length-take, length-replicate, get_or-replicate, length-take-le, take-replicate, drop-replicate}
 use Rattle.std.proofs.lemmas.List.{get_or-drop, get_or-take, get_or_past, get_or_append_left, get_or-append_right}
-use Rattle.tl_rules.specs.Effect.{number_from}
-use Rattle.tl_rules.specs.Place.{moved_up}
+use Rattle.tl_rules.specs.statement.Effect.{number_from}
+use Rattle.tl_rules.specs.code.Place.{moved_up}
 
 -- 64 zeros with bytes written from a place on
 pub over_zeros : (at : ℕ) (new out : List ℕ) → at + length new ≤ 64 → out ≡ take at (replicate 64 0) ++ new ++ drop (at + length new) (replicate 64 0)

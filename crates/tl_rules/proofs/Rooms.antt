@@ -2,8 +2,8 @@
 use Rattle.std.proofs.Common.{◌≡◌, ℕ, zero, suc, ◌+◌, ◌*◌, ◌/◌, ◌%◌, ◌^◌, ◌≤◌, inl, inr, arith, lit<, lit≤}
 use Rattle.std.proofs.Math.Nat.{pow-le-pow_right}
 use Rattle.std.proofs.lemmas.Bool.{cases_eq}
-use Rattle.tl_beat.specs.Width.{IsWidth}
-use Rattle.tl_rules.specs.Place.{base_of}
+use Rattle.tl_beat.specs.statement.Width.{IsWidth}
+use Rattle.tl_rules.specs.code.Place.{base_of}
 use Rattle.tl_rules.proofs.Widths.{width-bounds}
 
 pub room_in_block : (size address : ℕ) → size ≤ 6 → address % 2 ^ size ≡ 0 → address % 64 + 2 ^ size ≤ 64

@@ -8,13 +8,13 @@ use Rattle.tl_beat.specs.declared.opcode.OpA.TheVariants as a
 use Rattle.tl_beat.specs.declared.opcode.OpB.TheVariants as b
 use Rattle.tl_beat.specs.declared.opcode.OpC.TheVariants as c
 use Rattle.tl_beat.specs.declared.opcode.OpD.TheVariants as d
-use Rattle.tl_burst.specs.Messages.{unfinished}
+use Rattle.tl_burst.specs.statement.Messages.{unfinished}
 use Rattle.tl_params.specs.declared.level.Level.TheVariants as level
 use Rattle.tl_params.specs.declared.profile.Profile.TheVariants as profile
 use Rattle.tl_params.specs.declared.rule.Rule.TheVariants.{L1, L3, L4, L5, S1, H1, H2, H4, H6, H8, H12}
-use Rattle.tl_rules.specs.History.{request_of, release_of, probe_of, grant_sink, pending, held}
-use Rattle.tl_rules.specs.Legality.{illegal, each_below}
-use Rattle.tl_rules.specs.Conformance.{Trace, broken_order, broken_after, on_link, fault_from, first_fault}
+use Rattle.tl_rules.specs.statement.History.{request_of, release_of, probe_of, grant_sink, pending, held}
+use Rattle.tl_rules.specs.statement.Legality.{illegal, each_below}
+use Rattle.tl_rules.specs.statement.Conformance.{Trace, broken_order, broken_after, on_link, fault_from, first_fault}
 
 abbrev on_0 : {w : ℕ} → Beat w → Link × Beat w
 on_0 x = (record { 0 = 0 }, x)

@@ -11,15 +11,15 @@ use Rattle.tl_burst.specs.declared.message.Message.TheVariants.{A, B, C, D, E}
 use Rattle.tl_burst.specs.declared.message.MessageA.{MessageA}
 use Rattle.tl_burst.specs.declared.message.MessageC.{MessageC}
 use Rattle.tl_burst.specs.declared.message.MessageD.{MessageD}
-use Rattle.tl_burst.specs.Burst.{a_beat_of, beats_of, beat_of, begun}
-use Rattle.tl_burst.specs.Messages.{History, channel_of, channel_in, on, grown, unfinished}
+use Rattle.tl_burst.specs.statement.Burst.{a_beat_of, beats_of, beat_of, begun}
+use Rattle.tl_burst.specs.statement.Messages.{History, channel_of, channel_in, on, grown, unfinished}
 use Rattle.tl_burst.proofs.Begun.{length-begun}
 use Rattle.tl_burst.proofs.Splitting.{length-of_beat}
 use Rattle.tl_params.specs.declared.key.Key.{Key}
 use Rattle.tl_params.specs.declared.key.Key.TheVariants as key
 use Rattle.tl_params.specs.declared.perm.Perm.{Perm}
-use Rattle.tl_rules.specs.History.{begins, ends, opens, closes, pending, request_of, release_of, asks_for, is_grant, capped, says_held, held}
-use Rattle.tl_rules.specs.Agent.{sent}
+use Rattle.tl_rules.specs.statement.History.{begins, ends, opens, closes, pending, request_of, release_of, asks_for, is_grant, capped, says_held, held}
+use Rattle.tl_rules.specs.statement.Agent.{sent}
 
 -- ---- beats of one message
 

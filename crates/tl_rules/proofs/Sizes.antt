@@ -1,7 +1,7 @@
 -- The sizes that the rules let through are those of a block at most.
 use Rattle.std.proofs.Common.{◌≡◌, ℕ, ◌≤◌, true, None, arith, inl, inr}
 use Rattle.std.proofs.lemmas.Bool.{cases_lt, eqb-true, leb-true, not-false, both_ways}
-use Rattle.tl_beat.specs.Width.{IsWidth}
+use Rattle.tl_beat.specs.statement.Width.{IsWidth}
 use Rattle.tl_beat.specs.declared.beat.BeatD.{BeatD}
 use Rattle.tl_beat.specs.declared.beat.Beat.TheVariants.{D}
 use Rattle.tl_beat.specs.declared.channel.Channel.{Channel}
@@ -10,7 +10,7 @@ use Rattle.tl_beat.specs.declared.opcode.OpD.TheVariants as d
 use Rattle.tl_params.specs.declared.level.Level.{Level}
 use Rattle.tl_params.specs.declared.level.Level.TheVariants as level
 use Rattle.tl_params.specs.declared.rule.Rule.TheVariants.{L1, L2, L3, L7}
-use Rattle.tl_rules.specs.Legality.{access_has_size, d_has_size, breaks_l1, breaks_l2, breaks_l3, breaks_l7, illegal}
+use Rattle.tl_rules.specs.statement.Legality.{access_has_size, d_has_size, breaks_l1, breaks_l2, breaks_l3, breaks_l7, illegal}
 use Rattle.tl_rules.proofs.Bursts.{next_rule}
 use Rattle.tl_rules.proofs.Widths.{size_above_width}
 

@@ -7,16 +7,16 @@ use Rattle.tl_beat.specs.declared.beat.Beat.TheVariants.{A, B, C, D, E}
 use Rattle.tl_beat.specs.declared.beat.BeatC.{BeatC}
 use Rattle.tl_beat.specs.declared.opcode.OpD.{OpD}
 use Rattle.tl_beat.specs.declared.opcode.OpD.TheVariants as d
-use Rattle.tl_burst.specs.Messages.{History}
+use Rattle.tl_burst.specs.statement.Messages.{History}
 use Rattle.tl_params.specs.declared.key.Key.TheVariants.{RequestSource, ReleaseSource, AcquireOf, ReleaseOf, GrantSink, GrantAckOf, ProbeOf}
 use Rattle.tl_params.specs.declared.perm.Perm.{Perm}
 use Rattle.tl_rules.specs.declared.past.Probe.{Probe}
 use Rattle.tl_rules.specs.declared.table.Block.{Block}
-use Rattle.tl_rules.specs.History.{begins, ends, block_at, is_acquire, is_probe, is_probe_ack, is_release, is_grant, is_release_ack, asks_for, releases}
-use Rattle.tl_rules.specs.History.{is_sink, request_of, release_of, probe_of, grant_sink, grants, pending, held, reported, capped}
+use Rattle.tl_rules.specs.statement.History.{begins, ends, block_at, is_acquire, is_probe, is_probe_ack, is_release, is_grant, is_release_ack, asks_for, releases}
+use Rattle.tl_rules.specs.statement.History.{is_sink, request_of, release_of, probe_of, grant_sink, grants, pending, held, reported, capped}
 use Rattle.tl_rules.proofs.Open.{never, still, release-begun, probe-begun}
-use Rattle.tl_rules.specs.Open.{request_fields, release_size, probe_fields, open_probe}
-use Rattle.tl_rules.specs.Tables.{release_fields, kept_request, kept_release, kept_grant, kept_block, request_next, release_next, sink_next, block_next, bears_on}
+use Rattle.tl_rules.specs.code.Open.{request_fields, release_size, probe_fields, open_probe}
+use Rattle.tl_rules.specs.code.Tables.{release_fields, kept_request, kept_release, kept_grant, kept_block, request_next, release_next, sink_next, block_next, bears_on}
 
 -- ---- plain steps of what is pending
 

@@ -5,9 +5,9 @@ use Rattle.std.specs.Int.{bit_at}
 use Rattle.std.proofs.lemmas.Bool.{cases_lt, lt-leb, le-leb, ltb-true, eqb-true, and_parts}
 use Rattle.std.proofs.lemmas.Nat.{pow_pos, mod_below}
 use Rattle.std.proofs.lemmas.Nat.Bits.{bit_at-lt, bit_at_above, same_from_bits_below}
-use Rattle.tl_beat.specs.Width.{IsWidth}
-use Rattle.tl_burst.specs.Burst.{bit}
-use Rattle.tl_rules.specs.Legality.{each_below, is_aligned, is_lane, is_full_mask, is_part_mask}
+use Rattle.tl_beat.specs.statement.Width.{IsWidth}
+use Rattle.tl_burst.specs.statement.Burst.{bit}
+use Rattle.tl_rules.specs.statement.Legality.{each_below, is_aligned, is_lane, is_full_mask, is_part_mask}
 use Rattle.tl_rules.proofs.Masks.{bit_at_mod}
 
 -- an aligned message that is shorter than a beat lies within one

@@ -2,16 +2,16 @@
 use Rattle.std.proofs.Common.{◌≡◌, ℕ, suc, ◌+◌, ◌-◌, ◌*◌, ◌/◌, ◌%◌, ◌^◌, ◌<◌, ◌≤◌, Bool, true, false, List, [], ◌∷◌, ◌++◌, length, Option, Some, None, unwrap_or, ◌∙◌, ap, arith, inl, inr}
 use Rattle.std.specs.Prelude.{IfSome, replicate, drop}
 use Rattle.std.proofs.lemmas.List.{length-append, length-replicate, length-take-le, length-drop}
-use Rattle.tl_beat.specs.Width.{IsWidth}
+use Rattle.tl_beat.specs.statement.Width.{IsWidth}
 use Rattle.tl_beat.specs.declared.beat.Beat.{Beat}
 use Rattle.tl_beat.specs.declared.beat.Beat.TheVariants as beat
-use Rattle.tl_beat.specs.Opcode.{a_carries_data, b_carries_data, c_carries_data, d_carries_data}
+use Rattle.tl_beat.specs.statement.Opcode.{a_carries_data, b_carries_data, c_carries_data, d_carries_data}
 use Rattle.tl_burst.specs.declared.message.Message.{Message}
 use Rattle.tl_burst.specs.declared.message.Message.TheVariants.{A, B, C, D, E}
-use Rattle.tl_burst.specs.Burst.{beats_of, beat_of, lanes_at}
+use Rattle.tl_burst.specs.statement.Burst.{beats_of, beat_of, lanes_at}
 use Rattle.tl_burst.proofs.Lanes.{within_payload}
-use Rattle.tl_rules.specs.Agent.{lanes_of, bytes_carried, payload_of}
-use Rattle.tl_rules.specs.Typed.{IsTyped, AreTyped, HasBlock}
+use Rattle.tl_rules.specs.statement.Agent.{lanes_of, bytes_carried, payload_of}
+use Rattle.tl_rules.specs.laws.Typed.{IsTyped, AreTyped, HasBlock}
 
 -- ---- the beats of a message
 

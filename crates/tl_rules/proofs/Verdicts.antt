@@ -7,12 +7,12 @@ use Rattle.tl_beat.specs.declared.beat.BeatB.{BeatB}
 use Rattle.tl_beat.specs.declared.beat.BeatC.{BeatC}
 use Rattle.tl_beat.specs.declared.beat.BeatD.{BeatD}
 use Rattle.tl_beat.specs.declared.beat.Beat.TheVariants.{A, B, C, D}
-use Rattle.tl_beat.specs.First.{first_if}
+use Rattle.tl_beat.specs.statement.First.{first_if}
 use Rattle.tl_params.specs.declared.level.Level.{Level}
 use Rattle.tl_params.specs.declared.rule.Rule.{Rule}
-use Rattle.tl_params.specs.Refusal.{ok_unless}
-use Rattle.tl_rules.specs.Legality.{illegal}
-use Rattle.tl_rules.specs.Control.{a_control, a_own, b_control, b_own, c_control, c_own, d_control, d_own}
+use Rattle.tl_params.specs.statement.Refusal.{ok_unless}
+use Rattle.tl_rules.specs.statement.Legality.{illegal}
+use Rattle.tl_rules.specs.code.Control.{a_control, a_own, b_control, b_own, c_control, c_own, d_control, d_own}
 
 or-first_if : (t : Bool) (r : Rule) (x y : Option Rule) → option_or (first_if t r x) y ≡ first_if t r (option_or x y)
 or-first_if true r x y = refl

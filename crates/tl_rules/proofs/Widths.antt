@@ -3,8 +3,8 @@ use Rattle.std.proofs.Common.{◌≡◌, ℕ, ◌<◌, ◌≤◌, ◌^◌, false
 use Rattle.std.proofs.lemmas.Bool.{lt-leb, eqb-true, eq-eqb}
 use Rattle.std.proofs.lemmas.Nat.{shr_split, pow_pos, mod_below}
 use Rattle.std.proofs.Math.Nat.{pow-le-pow_right, div-eq_of_lt}
-use Rattle.tl_beat.specs.Width.{IsWidth}
-use Rattle.tl_burst.specs.Burst.{data_beats}
+use Rattle.tl_beat.specs.statement.Width.{IsWidth}
+use Rattle.tl_burst.specs.statement.Burst.{data_beats}
 
 pub width-bounds : (w : ℕ) → IsWidth w → (4 ≤ w) × (w ≤ 16)
 width-bounds w is = elim is [ inl e ↦ (omega arith, omega arith) | inr more ↦ elim more [ inl e ↦ (omega arith, omega arith) | inr e ↦ (omega arith, omega arith) ] ]

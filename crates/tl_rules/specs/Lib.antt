@@ -1,12 +1,3 @@
-pub mod Agent
-pub mod Conformance
-pub mod Control
-pub mod Effect
-pub mod Handed
-pub mod History
-pub mod Legality
-pub mod Merge
-pub mod Open
-pub mod Place
-pub mod Tables
-pub mod Typed
+pub mod code
+pub mod laws
+pub mod statement

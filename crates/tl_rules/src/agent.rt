@@ -1,7 +1,7 @@
 //! What an agent judges of a beat that breaks no rule of its link.
 
 ghost use Rattle.std.specs.Prelude.{◌≡◌};
-ghost use Rattle.tl_rules.specs.Agent;
+ghost use Rattle.tl_rules.specs.statement.Agent;
 
 use tl_beat::beat::Beat;
 

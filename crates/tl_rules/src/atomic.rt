@@ -1,7 +1,7 @@
 //! Atomic operations on the numbers of a block.
 
 ghost use Rattle.std.specs.Prelude.{◌≡◌, ◌<◌, ◌≤◌, ◌*◌, ◌%◌, ◌^◌, int_lt};
-ghost use Rattle.tl_rules.specs.Effect.{arithmetic_result, logical_result, signed};
+ghost use Rattle.tl_rules.specs.statement.Effect.{arithmetic_result, logical_result, signed};
 
 use tl_params::param::{Arithmetic, Logical};
 

@@ -1,9 +1,9 @@
 //! Messages that say nothing where no beat carries it.
 
 ghost use Rattle.std.specs.Prelude.{◌≡◌, ◌<◌, ◌≤◌, ◌*◌, ◌^◌, ◌↔◌, IsTrue, if◌then◌else◌};
-ghost use Rattle.tl_beat.specs.Width.{IsWidth};
-ghost use Rattle.tl_burst.specs.Burst;
-ghost use Rattle.tl_burst.specs.Burst.{IsBlankAfter, IsZeroFrom};
+ghost use Rattle.tl_beat.specs.statement.Width.{IsWidth};
+ghost use Rattle.tl_burst.specs.statement.Burst;
+ghost use Rattle.tl_burst.specs.statement.Burst.{IsBlankAfter, IsZeroFrom};
 
 use tl_burst::burst::beats_of;
 use tl_burst::message::Message;

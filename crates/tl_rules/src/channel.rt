@@ -2,11 +2,11 @@
 //! beats of a burst share, then those of what each beat has of its own.
 
 ghost use Rattle.std.specs.Prelude.{◌≡◌, ◌<◌, ◌≤◌, ◌^◌, IsTrue, OnOk};
-ghost use Rattle.tl_params.specs.Refusal.{ok_unless};
-ghost use Rattle.tl_beat.specs.Width.{IsWidth};
-ghost use Rattle.tl_rules.specs.Legality.{is_aligned};
-ghost use Rattle.tl_rules.specs.Control.{a_control, b_control, c_control, d_control};
-ghost use Rattle.tl_rules.specs.Control.{a_own, b_own, c_own, d_own};
+ghost use Rattle.tl_params.specs.statement.Refusal.{ok_unless};
+ghost use Rattle.tl_beat.specs.statement.Width.{IsWidth};
+ghost use Rattle.tl_rules.specs.statement.Legality.{is_aligned};
+ghost use Rattle.tl_rules.specs.code.Control.{a_control, b_control, c_control, d_control};
+ghost use Rattle.tl_rules.specs.code.Control.{a_own, b_own, c_own, d_own};
 
 use crate::{field, mask};
 use tl_beat::opcode::{OpA, OpB, OpC, OpD};

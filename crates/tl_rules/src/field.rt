@@ -1,10 +1,10 @@
 //! What each field of a beat may hold by its opcode and by the level of its link.
 
 ghost use Rattle.std.specs.Prelude.{◌≡◌, ◌≤◌, IsTrue};
-ghost use Rattle.tl_beat.specs.Width.{IsWidth};
-ghost use Rattle.tl_rules.specs.Legality.{a_of_level, d_of_level, has_transfers};
-ghost use Rattle.tl_rules.specs.Legality.{a_has_param, c_has_param, d_has_param, c_has_source, d_has_sink};
-ghost use Rattle.tl_rules.specs.Legality.{access_has_size, a_has_size, d_has_size, is_aligned, may_be_denied};
+ghost use Rattle.tl_beat.specs.statement.Width.{IsWidth};
+ghost use Rattle.tl_rules.specs.statement.Legality.{a_of_level, d_of_level, has_transfers};
+ghost use Rattle.tl_rules.specs.statement.Legality.{a_has_param, c_has_param, d_has_param, c_has_source, d_has_sink};
+ghost use Rattle.tl_rules.specs.statement.Legality.{access_has_size, a_has_size, d_has_size, is_aligned, may_be_denied};
 
 use tl_beat::opcode::{OpA, OpC, OpD};
 use tl_params::level::Level;

@@ -1,8 +1,8 @@
 //! Kinds of messages, and what the ones that tell of permissions say.
 
 ghost use Rattle.std.specs.Prelude.{◌≡◌};
-ghost use Rattle.tl_rules.specs.Conformance;
-ghost use Rattle.tl_rules.specs.History;
+ghost use Rattle.tl_rules.specs.statement.Conformance;
+ghost use Rattle.tl_rules.specs.statement.History;
 
 use tl_beat::opcode::{OpA, OpB, OpC, OpD};
 use tl_params::param::{Cap, Report};

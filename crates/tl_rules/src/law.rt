@@ -3,23 +3,23 @@
 ghost use Rattle.std.specs.Prelude.{ℕ, suc, true, [], ◌++◌, None, is_some, length, ◌≡◌, ◌<◌, ◌≤◌, ◌+◌, ◌*◌, ◌/◌, ◌%◌, ◌^◌, List};
 ghost use Rattle.tl_beat.specs.declared.beat.Beat.{Beat};
 ghost use Rattle.tl_beat.specs.declared.channel.Channel.{Channel};
-ghost use Rattle.tl_beat.specs.Width.{IsWidth};
+ghost use Rattle.tl_beat.specs.statement.Width.{IsWidth};
 ghost use Rattle.tl_burst.specs.declared.message.Message.{Message};
 ghost use Rattle.tl_burst.specs.declared.message.MessageA.{MessageA};
-ghost use Rattle.tl_burst.specs.Burst.{beats_of, beat_of, begun};
-ghost use Rattle.tl_burst.specs.Messages;
-ghost use Rattle.tl_burst.specs.Messages.{History, channel_in};
+ghost use Rattle.tl_burst.specs.statement.Burst.{beats_of, beat_of, begun};
+ghost use Rattle.tl_burst.specs.statement.Messages;
+ghost use Rattle.tl_burst.specs.statement.Messages.{History, channel_in};
 ghost use Rattle.tl_params.specs.declared.key.Key.{Key};
 ghost use Rattle.tl_params.specs.declared.level.Level.{Level};
 ghost use Rattle.tl_params.specs.declared.profile.Profile.{Profile};
-ghost use Rattle.tl_rules.specs.Agent.{sent, payload_of};
-ghost use Rattle.tl_rules.specs.Conformance.{broken_in_order, broken_after};
-ghost use Rattle.tl_rules.specs.Legality.{illegal_message};
-ghost use Rattle.tl_rules.specs.Effect.{Memory, SameBlock};
-ghost use Rattle.tl_rules.specs.Effect;
-ghost use Rattle.tl_rules.specs.Handed.{pending_with, held_with, request_with, release_with, probe_with, sink_with};
-ghost use Rattle.tl_rules.specs.History;
-ghost use Rattle.tl_rules.specs.Typed.{IsTyped, AreTyped, HasBlock};
+ghost use Rattle.tl_rules.specs.statement.Agent.{sent, payload_of};
+ghost use Rattle.tl_rules.specs.statement.Conformance.{broken_in_order, broken_after};
+ghost use Rattle.tl_rules.specs.statement.Legality.{illegal_message};
+ghost use Rattle.tl_rules.specs.statement.Effect.{Memory, SameBlock};
+ghost use Rattle.tl_rules.specs.statement.Effect;
+ghost use Rattle.tl_rules.specs.laws.Handed.{pending_with, held_with, request_with, release_with, probe_with, sink_with};
+ghost use Rattle.tl_rules.specs.statement.History;
+ghost use Rattle.tl_rules.specs.laws.Typed.{IsTyped, AreTyped, HasBlock};
 
 /// After a message was handed out on a channel where none was unfinished, a history says of
 /// everything what the first beat of the message says alone.

@@ -3,9 +3,9 @@
 
 ghost use Rattle.std.specs.Prelude.{◌≡◌, ◌<◌, ◌≤◌, ◌^◌, ℕ, IsTrue};
 ghost use Rattle.std.specs.Bool.{OnTrue};
-ghost use Rattle.tl_beat.specs.Width.{IsWidth};
-ghost use Rattle.tl_burst.specs.Burst.{bit};
-ghost use Rattle.tl_rules.specs.Legality.{is_aligned, is_lane, is_full_mask, is_part_mask};
+ghost use Rattle.tl_beat.specs.statement.Width.{IsWidth};
+ghost use Rattle.tl_burst.specs.statement.Burst.{bit};
+ghost use Rattle.tl_rules.specs.statement.Legality.{is_aligned, is_lane, is_full_mask, is_part_mask};
 
 /// The lanes that carry a byte of a message of this size and address.
 fn lanes<const W: usize>(size: u8, address: u32) -> u16

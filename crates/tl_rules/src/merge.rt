@@ -1,7 +1,7 @@
 //! A masked merge of the bytes of a block, by lanes.
 
 ghost use Rattle.std.specs.Prelude.{◌≡◌, ◌≤◌, ◌+◌, ◌++◌, take, drop};
-ghost use Rattle.tl_rules.specs.Merge.{merged};
+ghost use Rattle.tl_rules.specs.code.Merge.{merged};
 
 use std::simd::u8x8;
 

@@ -3,13 +3,13 @@
 
 ghost use Rattle.std.specs.Prelude.{true, false, not, Option, Some, ◌≡◌, ◌&&◌, ◌||◌};
 ghost use Rattle.tl_beat.specs.declared.beat.BeatA.{BeatA};
-ghost use Rattle.tl_beat.specs.Opcode.{c_carries_data};
-ghost use Rattle.tl_burst.specs.Messages.{History};
+ghost use Rattle.tl_beat.specs.statement.Opcode.{c_carries_data};
+ghost use Rattle.tl_burst.specs.statement.Messages.{History};
 ghost use Rattle.tl_params.specs.declared.profile.Profile.{Profile};
-ghost use Rattle.tl_params.specs.Param.{prune_of, cap_of};
-ghost use Rattle.tl_rules.specs.Conformance;
-ghost use Rattle.tl_rules.specs.History.{pending, is_release_ack};
-ghost use Rattle.tl_rules.specs.Open.{request_fields};
+ghost use Rattle.tl_params.specs.statement.Param.{prune_of, cap_of};
+ghost use Rattle.tl_rules.specs.statement.Conformance;
+ghost use Rattle.tl_rules.specs.statement.History.{pending, is_release_ack};
+ghost use Rattle.tl_rules.specs.code.Open.{request_fields};
 
 use crate::kind::{
     answers, is_acquire, is_grant, is_probe, is_probe_ack, is_release, is_release_ack,
@@ -246,7 +246,7 @@ fn broken_e<const W: usize, P: Past<W>>(x: &BeatE, past: &P) -> Option<Rule>
 }
 
 /// The first rule of the order of messages that a message which begins with this beat breaks.
-#[tactic(auto, unfolding(crate::specs::Conformance::broken_order))]
+#[tactic(auto, unfolding(crate::specs::statement::Conformance::broken_order))]
 pub fn broken_order<const W: usize, P: Past<W>>(
     profile: Profile,
     beat: &Beat<W>,

@@ -1,9 +1,9 @@
 //! What the order of messages asks of the history of a link.
 
 ghost use Rattle.std.specs.Prelude.{◌≡◌};
-ghost use Rattle.tl_burst.specs.Messages.{History};
-ghost use Rattle.tl_rules.specs.History as history;
-ghost use Rattle.tl_rules.specs.Open.{open_request, open_release, open_probe, has_open_grant};
+ghost use Rattle.tl_burst.specs.statement.Messages.{History};
+ghost use Rattle.tl_rules.specs.statement.History as history;
+ghost use Rattle.tl_rules.specs.code.Open.{open_request, open_release, open_probe, has_open_grant};
 
 use tl_beat::opcode::{OpA, OpB};
 use tl_params::key::Key;

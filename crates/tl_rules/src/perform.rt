@@ -2,13 +2,13 @@
 //! TL-UL and TL-UH).
 
 ghost use Rattle.std.specs.Prelude.{◌≡◌, ◌≤◌, ◌%◌, ◌*◌, ◌/◌, ◌^◌, ℕ, IsTrue, is_some, ◌≢◌, ◌<◌, slice_index};
-ghost use Rattle.tl_beat.specs.Width.{IsWidth};
-ghost use Rattle.tl_burst.specs.Burst.{beats_of, IsBlankAfter};
-ghost use Rattle.tl_rules.specs.Legality.{illegal_message, is_aligned};
-ghost use Rattle.tl_rules.specs.Control.{a_control};
-ghost use Rattle.tl_beat.specs.Opcode.{a_carries_data};
-ghost use Rattle.tl_rules.specs.Effect.{IsBlock, number_from, effect, request_block, answer_of, after, access_result, answer_at, as_payload, bytes_from, byte_count};
-ghost use Rattle.tl_params.specs.Param.{arithmetic_of, logical_of};
+ghost use Rattle.tl_beat.specs.statement.Width.{IsWidth};
+ghost use Rattle.tl_burst.specs.statement.Burst.{beats_of, IsBlankAfter};
+ghost use Rattle.tl_rules.specs.statement.Legality.{illegal_message, is_aligned};
+ghost use Rattle.tl_rules.specs.code.Control.{a_control};
+ghost use Rattle.tl_beat.specs.statement.Opcode.{a_carries_data};
+ghost use Rattle.tl_rules.specs.statement.Effect.{IsBlock, number_from, effect, request_block, answer_of, after, access_result, answer_at, as_payload, bytes_from, byte_count};
+ghost use Rattle.tl_params.specs.statement.Param.{arithmetic_of, logical_of};
 
 use crate::answer::Answer;
 use crate::merge::merge_masked;

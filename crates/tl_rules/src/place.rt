@@ -2,10 +2,10 @@
 
 ghost use Rattle.std.specs.Prelude.{◌≡◌, ◌<◌, ◌≤◌, ◌+◌, ◌*◌, ◌%◌, ◌^◌, ◌++◌, ℕ, IsTrue, length, take, drop, slice_index, ◌&&◌, nat_le, nat_lt};
 ghost use Rattle.std.specs.Int.{to_le_bytes, w64};
-ghost use Rattle.tl_beat.specs.Width.{IsWidth};
-ghost use Rattle.tl_burst.specs.Burst.{bit};
-ghost use Rattle.tl_rules.specs.Effect.{as_payload, number_from};
-ghost use Rattle.tl_rules.specs.Place.{base_of, moved_up};
+ghost use Rattle.tl_beat.specs.statement.Width.{IsWidth};
+ghost use Rattle.tl_burst.specs.statement.Burst.{bit};
+ghost use Rattle.tl_rules.specs.statement.Effect.{as_payload, number_from};
+ghost use Rattle.tl_rules.specs.code.Place.{base_of, moved_up};
 
 /// Where the bytes of a request lie in its block and in its payload, and how many they are.
 #[derive(Clone, Copy)]
@@ -19,7 +19,7 @@ pub struct Span {
 }
 
 impl Span {
-    ghost use Rattle.tl_rules.specs.Legality.{is_aligned};
+    ghost use Rattle.tl_rules.specs.statement.Legality.{is_aligned};
 
     /// Where the `2^size` bytes from an address on lie.
     pub fn new<const W: usize>(address: u32, size: u8) -> Self

@@ -3,8 +3,8 @@ use Rattle.std.proofs.Common.{◌≡◌, ◌≤◌, ◌-◌, ◌^◌, ℕ, List,
 use Rattle.std.proofs.Math.Nat.{pow-le-pow_right}
 use Rattle.std.proofs.lemmas.List.{append-nil}
 use Rattle.std.specs.Prelude.{Option, Some, None, option_map}
-use Rattle.tl_schedule.specs.EventLine.{filled}
-use Rattle.tl_schedule.specs.FieldReading.{bytes_in, last}
+use Rattle.tl_schedule.specs.statement.EventLine.{filled}
+use Rattle.tl_schedule.specs.code.FieldReading.{bytes_in, last}
 use Rattle.tl_schedule.proofs.SpelledFields.{bytes_taken, last_taken}
 
 pub smaller_power : (size : ℕ) → size ≤ 3 → 2 ^ size ≤ 8

@@ -3,7 +3,7 @@ use Rattle.std.proofs.Common.{◌≡◌, ◌<◌, ◌≤◌, ℕ, suc, ◌+◌, 
 use Rattle.std.proofs.Math.Nat.{pow-le-pow_right}
 use Rattle.std.proofs.Math.Seq.{drop-cons}
 use Rattle.std.proofs.lemmas.List.{append-nil, drop_all, take_all}
-use Rattle.tl_beat.specs.Digits.{digits, lane_digits}
+use Rattle.tl_beat.specs.statement.Digits.{digits, lane_digits}
 
 no_digits : lane_digits [] ≡ []
 unfolding lane_digits

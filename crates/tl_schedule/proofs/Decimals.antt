@@ -4,9 +4,9 @@ use Rattle.std.proofs.lemmas.Bool.Decides.{nat_tests}
 use Rattle.std.proofs.lemmas.Fmt.{decimal_digit, decimal_step, decimal_by_steps, first_decimal}
 use Rattle.std.specs.Fmt.{decimal}
 use Rattle.std.specs.Prelude.{Option, Some, None}
-use Rattle.tl_params.specs.Range.{is_from_to}
+use Rattle.tl_params.specs.statement.Range.{is_from_to}
 use Rattle.tl_params.proofs.Options.{some_pair}
-use Rattle.tl_schedule.specs.HeaderReading.{is_decimal, digit_at, decimal_from, starts_with_zero, within, number_at}
+use Rattle.tl_schedule.specs.code.HeaderReading.{is_decimal, digit_at, decimal_from, starts_with_zero, within, number_at}
 
 -- ---- digit by digit
 

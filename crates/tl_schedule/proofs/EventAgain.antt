@@ -2,9 +2,9 @@
 use Rattle.std.proofs.Common.{◌≡◌, ℕ, zero, suc, ◌+◌, ◌*◌, ◌/◌, ◌%◌, ◌^◌, ◌≤◌, Bool, true, false, cond, List, [], ◌∷◌, length, refl, arith, inl, inr}
 use Rattle.std.specs.Prelude.{nat_lt, Some}
 use Rattle.tl_burst.proofs.Lanes.{block_size}
-use Rattle.tl_beat.specs.Digits.{digits, lane_digits}
-use Rattle.tl_beat.specs.Line.{letter}
-use Rattle.tl_beat.specs.Width.{IsWidth}
+use Rattle.tl_beat.specs.statement.Digits.{digits, lane_digits}
+use Rattle.tl_beat.specs.statement.Line.{letter}
+use Rattle.tl_beat.specs.statement.Width.{IsWidth}
 use Rattle.tl_beat.proofs.SpelledDigits.{digit_char-no_space, length-digits, length-lane_digits}
 use Rattle.tl_beat.proofs.Pieces.{NoSpace, NoSpaces}
 use Rattle.tl_beat.specs.declared.channel.Channel.{Channel}
@@ -19,11 +19,11 @@ use Rattle.tl_params.specs.declared.param.Logical.{Logical}
 use Rattle.tl_params.specs.declared.param.Logical.TheVariants as logical
 use Rattle.tl_params.specs.declared.param.Prune.{Prune}
 use Rattle.tl_params.specs.declared.param.Prune.TheVariants as prune
-use Rattle.tl_params.specs.Names.{arithmetic_name, grow_name, intent_name, logical_name, prune_name}
-use Rattle.tl_schedule.specs.EventLine.{Asked, Said, Get, Put, Part, Arith, Logic, Hint, Load, Store, Acquire, Whole, Release, Access, Deliver, AskedFits, Fits}
-use Rattle.tl_schedule.specs.EventLine.{asked_fields, asked_name, mask_digits, said_fields}
-use Rattle.tl_schedule.specs.EventReading.{ask_at}
-use Rattle.tl_schedule.specs.NameReading.{arithmetic_in, grow_in, intent_in, logical_in, prune_in}
+use Rattle.tl_params.specs.statement.Names.{arithmetic_name, grow_name, intent_name, logical_name, prune_name}
+use Rattle.tl_schedule.specs.statement.EventLine.{Asked, Said, Get, Put, Part, Arith, Logic, Hint, Load, Store, Acquire, Whole, Release, Access, Deliver, AskedFits, Fits}
+use Rattle.tl_schedule.specs.statement.EventLine.{asked_fields, asked_name, mask_digits, said_fields}
+use Rattle.tl_schedule.specs.code.EventReading.{ask_at}
+use Rattle.tl_schedule.specs.code.NameReading.{arithmetic_in, grow_in, intent_in, logical_in, prune_in}
 use Rattle.tl_schedule.proofs.AccessBytes.{smaller_power}
 use Rattle.tl_schedule.proofs.SpelledFields.{number_again, size_again, bytes_again, channel_again}
 use Rattle.tl_beat.proofs.SpelledLines.{NoSpace-append}

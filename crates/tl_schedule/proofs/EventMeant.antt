@@ -9,9 +9,9 @@ use Rattle.tl_client.specs.declared.operation.Op.TheVariants as op
 use Rattle.tl_coherence.specs.declared.event.Event.TheVariants as event
 use Rattle.tl_schedule.specs.declared.access.Request.{Request}
 use Rattle.tl_schedule.specs.declared.name.Word.{Word}
-use Rattle.tl_schedule.specs.EventLine.{Asked, Said, Load, Store, Acquire, Whole, Release, Access, Deliver, Fits, event_of}
-use Rattle.tl_schedule.specs.EventReading.{access_at, asked_at, meant, meant_by, request_of, size_if, small_size}
-use Rattle.tl_schedule.specs.FieldReading.{front, number_in, size_in}
+use Rattle.tl_schedule.specs.statement.EventLine.{Asked, Said, Load, Store, Acquire, Whole, Release, Access, Deliver, Fits, event_of}
+use Rattle.tl_schedule.specs.code.EventReading.{access_at, asked_at, meant, meant_by, request_of, size_if, small_size}
+use Rattle.tl_schedule.specs.code.FieldReading.{front, number_in, size_in}
 
 abbrev some_proof : {n : ℕ} → n ≤ 6 → Option (n ≤ 6)
 some_proof h = Some h

@@ -1,16 +1,16 @@
 -- What was read of an event's line was said by it.
 use Rattle.std.proofs.Common.{◌≡◌, ℕ, ◌*◌, ◌^◌, List, [], ◌∷◌, refl, sym, ap, ap₂, ◌∙◌}
 use Rattle.std.specs.Prelude.{codes, Some}
-use Rattle.tl_params.specs.Names.{arithmetic_name, grow_name, intent_name, logical_name, prune_name}
-use Rattle.tl_beat.specs.Digits.{digits, lane_digits}
-use Rattle.tl_beat.specs.Line.{channel_named}
+use Rattle.tl_params.specs.statement.Names.{arithmetic_name, grow_name, intent_name, logical_name, prune_name}
+use Rattle.tl_beat.specs.statement.Digits.{digits, lane_digits}
+use Rattle.tl_beat.specs.statement.Line.{channel_named}
 use Rattle.tl_schedule.specs.declared.name.Word.{Word}
 use Rattle.tl_schedule.specs.declared.name.Word.TheVariants as word
-use Rattle.tl_schedule.specs.EventLine.{Asked, Said, Get, Put, Part, Arith, Logic, Hint, Load, Store, Acquire, Whole, Release, Access, Deliver, AskedFits, Fits}
-use Rattle.tl_schedule.specs.EventLine.{HasRoom, asked_fields, asked_name, mask_digits, said_fields}
-use Rattle.tl_schedule.specs.EventReading.{get_at, put_at, part_at, arith_at, logic_at, hint_at, asked_at, load_at, store_at, acquire_at, whole_at, release_at, access_at, deliver_at, said_at, ask_at}
-use Rattle.tl_schedule.specs.FieldReading.{bytes_in, front, last, number_in, size_in}
-use Rattle.tl_schedule.specs.NameReading.{arithmetic_in, arithmetics, grow_in, grows, intent_in, intents, logical_in, logicals, prune_in, prunes, word_in, word_name, words}
+use Rattle.tl_schedule.specs.statement.EventLine.{Asked, Said, Get, Put, Part, Arith, Logic, Hint, Load, Store, Acquire, Whole, Release, Access, Deliver, AskedFits, Fits}
+use Rattle.tl_schedule.specs.statement.EventLine.{HasRoom, asked_fields, asked_name, mask_digits, said_fields}
+use Rattle.tl_schedule.specs.code.EventReading.{get_at, put_at, part_at, arith_at, logic_at, hint_at, asked_at, load_at, store_at, acquire_at, whole_at, release_at, access_at, deliver_at, said_at, ask_at}
+use Rattle.tl_schedule.specs.code.FieldReading.{bytes_in, front, last, number_in, size_in}
+use Rattle.tl_schedule.specs.code.NameReading.{arithmetic_in, arithmetics, grow_in, grows, intent_in, intents, logical_in, logicals, prune_in, prunes, word_in, word_name, words}
 use Rattle.tl_schedule.proofs.SpelledFields.{number_taken, size_taken, bytes_taken, name_taken, front_taken, end_taken, last_taken, map_taken}
 use Rattle.tl_beat.proofs.ReadLines.{letter-named}
 use Rattle.tl_schedule.proofs.Options.{bind_some}

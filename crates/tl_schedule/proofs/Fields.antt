@@ -7,11 +7,11 @@ use Rattle.std.specs.List.{position_or_len}
 use Rattle.std.proofs.lemmas.Bool.{cases_lt, lt-ltb}
 use Rattle.std.proofs.lemmas.Bool.Decides.{nat_tests}
 use Rattle.std.proofs.lemmas.List.{take_all, drop_all, replicate-append-replicate}
-use Rattle.tl_beat.specs.Line.{pieces, onto_first}
+use Rattle.tl_beat.specs.statement.Line.{pieces, onto_first}
 use Rattle.tl_beat.proofs.Pieces.{pieces-some}
 use Rattle.tl_beat.proofs.Spaces.{position_some}
-use Rattle.tl_schedule.specs.EventLine.{filled}
-use Rattle.tl_schedule.specs.FieldReading.{hex_at, number_in, pair_at, pairs_in, bytes_in, fields_behind, is_none_left}
+use Rattle.tl_schedule.specs.statement.EventLine.{filled}
+use Rattle.tl_schedule.specs.code.FieldReading.{hex_at, number_in, pair_at, pairs_in, bytes_in, fields_behind, is_none_left}
 
 -- ---- the first field
 

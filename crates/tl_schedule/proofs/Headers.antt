@@ -7,17 +7,17 @@ use Rattle.std.proofs.lemmas.Bool.{and_parts}
 use Rattle.tl_params.specs.declared.config.ClientConfig.{ClientConfig}
 use Rattle.tl_params.specs.declared.header.Version.{Version}
 use Rattle.tl_params.specs.declared.level.Level.{Level}
-use Rattle.tl_params.specs.Config.{all_sources_fit, blocks_fit, trackers_fit, sources_fit}
-use Rattle.tl_params.specs.Header.{is_end, level_text, version_text}
-use Rattle.tl_params.specs.HeaderReading.{after_word, level_at, onto, version_at}
-use Rattle.tl_params.specs.Range.{is_from_to}
+use Rattle.tl_params.specs.statement.Config.{all_sources_fit, blocks_fit, trackers_fit, sources_fit}
+use Rattle.tl_params.specs.statement.Header.{is_end, level_text, version_text}
+use Rattle.tl_params.specs.code.HeaderReading.{after_word, level_at, onto, version_at}
+use Rattle.tl_params.specs.statement.Range.{is_from_to}
 use Rattle.tl_params.proofs.Headers.{after_taken, is_end-taken, level_again, level_taken, more_levels, version_again, version_taken}
 use Rattle.tl_params.proofs.Options.{some_pair}
 use Rattle.tl_params.proofs.UpTo.{all-so, up_to-end, up_to-step}
 use Rattle.tl_schedule.specs.declared.header.Schedule.{Schedule}
-use Rattle.tl_schedule.specs.Schedule.{IsSchedule, SpellsSchedule, clients_text, schedule_word, schedule_line}
-use Rattle.tl_schedule.specs.HeaderReading.{Named, byte_at, digit_at, number_at, client_of, client_at, clients_at, some_clients, named_at, header_at, named_by, GivesSchedule}
-use Rattle.tl_schedule.specs.Then.{◌>>=◌}
+use Rattle.tl_schedule.specs.statement.Schedule.{IsSchedule, SpellsSchedule, clients_text, schedule_word, schedule_line}
+use Rattle.tl_schedule.specs.code.HeaderReading.{Named, byte_at, digit_at, number_at, client_of, client_at, clients_at, some_clients, named_at, header_at, named_by, GivesSchedule}
+use Rattle.tl_schedule.specs.code.Then.{◌>>=◌}
 use Rattle.tl_schedule.proofs.Options.{bind_some}
 use Rattle.tl_schedule.proofs.Decimals.{number_taken, number_again}
 

@@ -1,7 +1,7 @@
 -- What is left of a reading that gave something.
 use Rattle.std.proofs.Common.{◌≡◌, refl}
 use Rattle.std.specs.Prelude.{Option, Some, None}
-use Rattle.tl_schedule.specs.Then.{◌>>=◌}
+use Rattle.tl_schedule.specs.code.Then.{◌>>=◌}
 
 -- each of two readings in a row gave something
 pub bind_some : {A B : Type 0} (o : Option A) (f : A → Option B) (y : B) → (o >>= f) ≡ Some y → (x : A) × (o ≡ Some x) × (f x ≡ Some y)

@@ -9,14 +9,14 @@ use Rattle.tl_beat.specs.declared.fault.LineFault.{LineFault}
 use Rattle.tl_beat.specs.declared.fault.LineFault.TheVariants.{F3}
 use Rattle.tl_beat.specs.declared.channel.Channel.{Channel}
 use Rattle.tl_beat.specs.declared.channel.Channel.TheVariants as channel
-use Rattle.tl_beat.specs.Digits.{digits, lane_digits, is_digit, digit_value, is_digits, value_from, value_of, is_pairs, lanes_before, is_dash}
-use Rattle.tl_beat.specs.Line.{channel_named, letter}
-use Rattle.tl_beat.specs.Reading as beat_reading
+use Rattle.tl_beat.specs.statement.Digits.{digits, lane_digits, is_digit, digit_value, is_digits, value_from, value_of, is_pairs, lanes_before, is_dash}
+use Rattle.tl_beat.specs.statement.Line.{channel_named, letter}
+use Rattle.tl_beat.specs.code.Reading as beat_reading
 use Rattle.tl_beat.proofs.SpelledDigits.{number_in-digits, number_in-ok, data_in-text, data_in-ok, pairs-no_dash}
-use Rattle.tl_schedule.specs.EventLine.{AreBytes, HasRoom}
-use Rattle.tl_schedule.specs.FieldReading.{with_rest, number_in, byte_of, pairs_in, bytes_in, at_most, size_in, before_fields, front, at_end, last}
-use Rattle.tl_schedule.specs.NameReading.{with_name}
-use Rattle.tl_schedule.specs.Then.{◌>>=◌}
+use Rattle.tl_schedule.specs.statement.EventLine.{AreBytes, HasRoom}
+use Rattle.tl_schedule.specs.code.FieldReading.{with_rest, number_in, byte_of, pairs_in, bytes_in, at_most, size_in, before_fields, front, at_end, last}
+use Rattle.tl_schedule.specs.code.NameReading.{with_name}
+use Rattle.tl_schedule.specs.code.Then.{◌>>=◌}
 use Rattle.tl_params.proofs.Options.{some_pair}
 use Rattle.tl_schedule.proofs.Options.{bind_some}
 use Rattle.tl_burst.proofs.Whole.{some_is}

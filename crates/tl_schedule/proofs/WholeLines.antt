@@ -6,8 +6,8 @@ use Rattle.std.proofs.lemmas.List.{drop_all, take-append-drop}
 use Rattle.std.proofs.lemmas.Slice.Eq.{bytes_eq-Decides}
 use Rattle.std.specs.Prelude.{not, ◌==◌, ◌||◌, nat_lt, bytes_eq, codes, IfErr, IfOk, Option, Some, None, option_map, Result, Ok, Err, ok_or}
 use Rattle.std.specs.Io.BufRead.{ends_with_byte}
-use Rattle.tl_beat.specs.Line.{pieces, spaced}
-use Rattle.tl_beat.specs.Width.{IsWidth}
+use Rattle.tl_beat.specs.statement.Line.{pieces, spaced}
+use Rattle.tl_beat.specs.statement.Width.{IsWidth}
 use Rattle.tl_beat.proofs.Pieces.{pieces-spaced, spaced-pieces}
 use Rattle.tl_beat.proofs.SpelledLines.{ends_with_byte-line, without_last-line, length-spaced}
 use Rattle.tl_coherence.specs.declared.event.Event.{Event}
@@ -15,8 +15,8 @@ use Rattle.tl_schedule.specs.declared.line.EventFault.{EventFault}
 use Rattle.tl_schedule.specs.declared.line.EventFault.TheVariants.{F1, F8}
 use Rattle.tl_schedule.specs.declared.line.Line.{Line}
 use Rattle.tl_schedule.specs.declared.line.Line.TheVariants as line_of
-use Rattle.tl_schedule.specs.EventLine.{Said, SpellsEvent, SpellsLine, event_of, drain_line, event_fault, said_fields}
-use Rattle.tl_schedule.specs.EventReading.{ask_at, event_at, line_at, meant, meant_by}
+use Rattle.tl_schedule.specs.statement.EventLine.{Said, SpellsEvent, SpellsLine, event_of, drain_line, event_fault, said_fields}
+use Rattle.tl_schedule.specs.code.EventReading.{ask_at, event_at, line_at, meant, meant_by}
 use Rattle.tl_schedule.proofs.EventAgain.{ask_again, said-no_spaces, said-short, said-some}
 use Rattle.tl_schedule.proofs.EventMeant.{meant-event}
 use Rattle.tl_schedule.proofs.EventTaken.{ask_taken}

@@ -1,11 +1,11 @@
 //! Reading what an access asks for.
 
 ghost use Rattle.std.specs.Prelude.{◌≡◌, ◌≤◌, ◌-◌, ◌*◌, ◌^◌, ◌++◌, take, drop, option_map};
-ghost use Rattle.tl_beat.specs.Width.{IsWidth};
-ghost use Rattle.tl_burst.specs.Burst.{data_beats};
-ghost use Rattle.tl_schedule.specs.EventLine.{lanes_of, mask_digits, placed};
-ghost use Rattle.tl_schedule.specs.EventReading.{arith_at, asked_at, data_request, get_at, hint_at, logic_at, part_at, put_at, request_of};
-ghost use Rattle.tl_schedule.specs.FieldReading.{bytes_in, fields_behind, last};
+ghost use Rattle.tl_beat.specs.statement.Width.{IsWidth};
+ghost use Rattle.tl_burst.specs.statement.Burst.{data_beats};
+ghost use Rattle.tl_schedule.specs.statement.EventLine.{lanes_of, mask_digits, placed};
+ghost use Rattle.tl_schedule.specs.code.EventReading.{arith_at, asked_at, data_request, get_at, hint_at, logic_at, part_at, put_at, request_of};
+ghost use Rattle.tl_schedule.specs.code.FieldReading.{bytes_in, fields_behind, last};
 
 use crate::field::{is_end, last_bytes, number_field};
 use crate::name::{Word, arithmetic_field, intent_field, logical_field};

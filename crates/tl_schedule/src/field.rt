@@ -1,10 +1,10 @@
 //! Reading the fields of a line: the pieces between its spaces.
 
 ghost use Rattle.std.specs.Prelude.{◌≡◌, ◌==◌, ◌<◌, ◌≤◌, ◌*◌, ◌^◌, ◌∷◌, ℕ, [], IfSome, MatchOption, option_map, position};
-ghost use Rattle.tl_beat.specs.Line.{pieces};
-ghost use Rattle.tl_schedule.specs.EventLine.{filled};
-ghost use Rattle.tl_params.specs.HeaderReading.{Gives as GivesRest};
-ghost use Rattle.tl_schedule.specs.FieldReading.{Gives, bytes_in, fields_behind, front, hex_at, hex_in, is_none_left, last, number_in, pair_at, size_in};
+ghost use Rattle.tl_beat.specs.statement.Line.{pieces};
+ghost use Rattle.tl_schedule.specs.statement.EventLine.{filled};
+ghost use Rattle.tl_params.specs.code.HeaderReading.{Gives as GivesRest};
+ghost use Rattle.tl_schedule.specs.code.FieldReading.{Gives, bytes_in, fields_behind, front, hex_at, hex_in, is_none_left, last, number_in, pair_at, size_in};
 
 /// The value of a hexadecimal digit, lower-case.
 fn hex(byte: u8) -> Option<u8>

@@ -3,10 +3,10 @@
 ghost use Rattle.std.specs.Prelude.{◌≡◌, ◌≢◌, ◌≤◌, ◌++◌, List, ℕ, IfSome, MatchOption};
 ghost use Rattle.tl_params.specs.declared.config.ClientConfig.{ClientConfig};
 ghost use Rattle.tl_params.specs.declared.header.Version.{Version};
-ghost use Rattle.tl_params.specs.Header.{profile_of};
-ghost use Rattle.tl_params.specs.HeaderReading.{Gives, GivesAll};
-ghost use Rattle.tl_schedule.specs.HeaderReading.{GivesSchedule, byte_at, client_at, clients_at, decimal_from, digit_at, header_at, number_at, starts_with_zero, within};
-ghost use Rattle.tl_schedule.specs.Schedule.{IsSchedule, SpellsSchedule, schedule_word};
+ghost use Rattle.tl_params.specs.statement.Header.{profile_of};
+ghost use Rattle.tl_params.specs.code.HeaderReading.{Gives, GivesAll};
+ghost use Rattle.tl_schedule.specs.code.HeaderReading.{GivesSchedule, byte_at, client_at, clients_at, decimal_from, digit_at, header_at, number_at, starts_with_zero, within};
+ghost use Rattle.tl_schedule.specs.statement.Schedule.{IsSchedule, SpellsSchedule, schedule_word};
 
 use arrayvec::ArrayVec;
 use tl_params::config::{ClientConfig, Config};

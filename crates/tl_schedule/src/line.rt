@@ -1,12 +1,12 @@
 //! Reads a line of a schedule.
 
 ghost use Rattle.std.specs.Prelude.{◌≡◌, ◌≤◌, ◌*◌, ◌^◌, Ok, IfErr, IfOk, bytes_eq, codes};
-ghost use Rattle.tl_beat.specs.Width.{IsWidth};
-ghost use Rattle.tl_beat.specs.Line.{pieces};
+ghost use Rattle.tl_beat.specs.statement.Width.{IsWidth};
+ghost use Rattle.tl_beat.specs.statement.Line.{pieces};
 ghost use Rattle.tl_schedule.specs.declared.line.Line.{Line};
-ghost use Rattle.tl_schedule.specs.EventLine.{SpellsLine, event_fault};
-ghost use Rattle.tl_schedule.specs.EventReading.{access_at, acquire_at, ask_at, deliver_at, event_at, line_at, load_at, meant_by, release_at, said_at, store_at, whole_at};
-ghost use Rattle.tl_schedule.specs.FieldReading.{Gives, fields_behind, front, number_in};
+ghost use Rattle.tl_schedule.specs.statement.EventLine.{SpellsLine, event_fault};
+ghost use Rattle.tl_schedule.specs.code.EventReading.{access_at, acquire_at, ask_at, deliver_at, event_at, line_at, load_at, meant_by, release_at, said_at, store_at, whole_at};
+ghost use Rattle.tl_schedule.specs.code.FieldReading.{Gives, fields_behind, front, number_in};
 
 use crate::access::asked_request;
 use crate::field::{

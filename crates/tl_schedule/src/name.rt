@@ -1,9 +1,9 @@
 //! Reading the names in a line: of what is asked for, and of params.
 
 ghost use Rattle.std.specs.Prelude.{◌≡◌, bytes_eq};
-ghost use Rattle.tl_beat.specs.Line.{channel_named};
-ghost use Rattle.tl_schedule.specs.FieldReading.{Gives, fields_behind, front};
-ghost use Rattle.tl_schedule.specs.NameReading.{arithmetic_in, grow_in, intent_in, logical_in, prune_in, word_in};
+ghost use Rattle.tl_beat.specs.statement.Line.{channel_named};
+ghost use Rattle.tl_schedule.specs.code.FieldReading.{Gives, fields_behind, front};
+ghost use Rattle.tl_schedule.specs.code.NameReading.{arithmetic_in, grow_in, intent_in, logical_in, prune_in, word_in};
 
 use crate::field::next;
 use tl_beat::channel::Channel;

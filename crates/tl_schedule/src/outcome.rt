@@ -1,10 +1,10 @@
 //! Writes the lines of outcomes.
 
 ghost use Rattle.std.specs.Prelude.{◌≡◌, ◌<◌, ◌≤◌, ◌^◌, ◌++◌, ◌∷◌, [], length, take, OnOk};
-ghost use Rattle.tl_beat.specs.Digits.{digit_char, digits, lane_digits};
-ghost use Rattle.tl_beat.specs.Line.{IsWritable, fields_of, spaced};
-ghost use Rattle.tl_beat.specs.Width.{IsWidth};
-ghost use Rattle.tl_schedule.specs.OutcomeLine.{HasLine, asked_size, busy_name, data_text, done_text, drained_line, finish_text, link_of, outcome_line, outcome_text, perm_name, reply_text, trace_text};
+ghost use Rattle.tl_beat.specs.statement.Digits.{digit_char, digits, lane_digits};
+ghost use Rattle.tl_beat.specs.statement.Line.{IsWritable, fields_of, spaced};
+ghost use Rattle.tl_beat.specs.statement.Width.{IsWidth};
+ghost use Rattle.tl_schedule.specs.statement.OutcomeLine.{HasLine, asked_size, busy_name, data_text, done_text, drained_line, finish_text, link_of, outcome_line, outcome_text, perm_name, reply_text, trace_text};
 
 use itoa::Buffer;
 use std::alloc::AllocError;
@@ -26,7 +26,7 @@ fn digit(value: u8) -> u8
 }
 
 /// The two digits of a byte.
-#[tactic(auto, unfolding(tl_beat::specs::Digits::digits))]
+#[tactic(auto, unfolding(tl_beat::specs::statement::Digits::digits))]
 fn pair(byte: u8) -> [u8; 2]
     ensures { result ≡ digits 2 byte }
 {

@@ -8,14 +8,14 @@ use Rattle.tl_beat.specs.declared.beat.BeatC.{BeatC}
 use Rattle.tl_beat.specs.declared.beat.BeatD.{BeatD}
 use Rattle.tl_beat.specs.declared.beat.BeatE.{BeatE}
 use Rattle.tl_beat.specs.declared.beat.Beat.TheVariants.{A, B, C, D, E}
-use Rattle.tl_beat.specs.Digits.{digits, lanes_text, bit_text}
-use Rattle.tl_beat.specs.Line.{AreLanes, Spells, spaced}
-use Rattle.tl_beat.specs.Names.{a_name, b_name, c_name, d_name}
-use Rattle.tl_beat.specs.Opcode.{a_code, b_code, c_code, d_code}
-use Rattle.tl_beat.specs.Width.{IsWidth}
-use Rattle.tl_tool.specs.Cuts.{request_text, release_text, response_text, acknowledgement_text}
-use Rattle.tl_tool.specs.ParamNames.{a_param_name, b_param_name, c_param_name, d_param_name}
-use Rattle.tl_tool.specs.Text.{text_of}
+use Rattle.tl_beat.specs.statement.Digits.{digits, lanes_text, bit_text}
+use Rattle.tl_beat.specs.statement.Line.{AreLanes, Spells, spaced}
+use Rattle.tl_beat.specs.statement.Names.{a_name, b_name, c_name, d_name}
+use Rattle.tl_beat.specs.statement.Opcode.{a_code, b_code, c_code, d_code}
+use Rattle.tl_beat.specs.statement.Width.{IsWidth}
+use Rattle.tl_tool.specs.code.Cuts.{request_text, release_text, response_text, acknowledgement_text}
+use Rattle.tl_tool.specs.statement.ParamNames.{a_param_name, b_param_name, c_param_name, d_param_name}
+use Rattle.tl_tool.specs.statement.Text.{text_of}
 use Rattle.tl_tool.proofs.Cuts.{request_line, request_is, release_is, response_is, acknowledgement_is}
 use Rattle.tl_beat.proofs.SpelledDigits.{length-lane_digits}
 

@@ -3,11 +3,11 @@ use Rattle.std.proofs.Common.{get_or-append-add, ◌≡◌, ℕ, ◌+◌, ◌-�
 use Rattle.std.specs.Prelude.{slice_range, unwrap_or, Option, Bool, true, false, slice_index}
 use Rattle.std.proofs.lemmas.List.{length-drop, take_all}
 use Rattle.std.proofs.Math.Seq.{take-append_seam}
-use Rattle.tl_beat.specs.Digits.{digits, bit_text}
-use Rattle.tl_beat.specs.Line.{spaced}
-use Rattle.tl_beat.specs.Width.{IsWidth}
-use Rattle.tl_tool.specs.Cuts.{address_text, head_text, size_and_source, tail_text, request_text, release_text, response_text, acknowledgement_text}
-use Rattle.tl_tool.specs.Text.{param_text}
+use Rattle.tl_beat.specs.statement.Digits.{digits, bit_text}
+use Rattle.tl_beat.specs.statement.Line.{spaced}
+use Rattle.tl_beat.specs.statement.Width.{IsWidth}
+use Rattle.tl_tool.specs.code.Cuts.{address_text, head_text, size_and_source, tail_text, request_text, release_text, response_text, acknowledgement_text}
+use Rattle.tl_tool.specs.statement.Text.{param_text}
 
 to_end : (k : ℕ) (line : List ℕ) → slice_range line k (length line) ≡ drop k line
 to_end k line = take_all (length line - k) (drop k line) (omega (arith, length-drop k line))

@@ -6,21 +6,21 @@ use Rattle.tl_beat.specs.declared.beat.Link.{Link}
 use Rattle.tl_beat.specs.declared.beat.Beat.{Beat}
 use Rattle.tl_beat.specs.declared.fault.LineFault.{LineFault}
 use Rattle.std.specs.Io.BufRead.{ends_with_byte}
-use Rattle.tl_beat.specs.Line.{Spells, line_fault, fields_fault, pieces, without_last}
+use Rattle.tl_beat.specs.statement.Line.{Spells, line_fault, fields_fault, pieces, without_last}
 use Rattle.tl_tool.specs.declared.fault.Fault.TheVariants.{Line}
 use Rattle.tl_tool.specs.declared.status.Status.{Status}
 use Rattle.tl_tool.specs.declared.status.Status.TheVariants.{Clean, Broken}
-use Rattle.tl_tool.specs.Decoded.{Decodes, DecodesBefore, is_width}
+use Rattle.tl_tool.specs.statement.Decoded.{Decodes, DecodesBefore, is_width}
 use Rattle.tl_beat.specs.declared.fault.LineFault.TheVariants.{F1}
-use Rattle.tl_beat.specs.Reading.{reading}
-use Rattle.tl_beat.specs.Width.{IsWidth}
+use Rattle.tl_beat.specs.code.Reading.{reading}
+use Rattle.tl_beat.specs.statement.Width.{IsWidth}
 use Rattle.tl_beat.proofs.Faults.{reading-fault}
 use Rattle.tl_beat.proofs.ReadLines.{reading-spells}
-use Rattle.tl_beat.specs.First.{first_if}
+use Rattle.tl_beat.specs.statement.First.{first_if}
 use Rattle.std.specs.Result.{result_err}
-use Rattle.tl_tool.specs.Lines.{IsOpen}
-use Rattle.tl_tool.specs.Fault.{fault_text}
-use Rattle.tl_tool.specs.Text.{text_of}
+use Rattle.tl_tool.specs.code.Lines.{IsOpen}
+use Rattle.tl_tool.specs.statement.Fault.{fault_text}
+use Rattle.tl_tool.specs.statement.Text.{text_of}
 
 -- a line that spells a beat
 pub before-line : (w : ℕ) (lines : List (List ℕ)) (text line : List ℕ) (link : Link) (beat : Beat w) → DecodesBefore w lines text → Spells line link beat

@@ -5,7 +5,7 @@ use Rattle.std.proofs.lemmas.List.{take_more, take-append-drop, get_or-take, len
 use Rattle.std.proofs.lemmas.List.Elements.{All-from_get_or}
 use Rattle.std.specs.Prelude.{◌==◌}
 use Rattle.memchr.specs.Find.{NoneBefore, Passes, is_byte}
-use Rattle.tl_tool.specs.Lines.{LacksLf, IsLine}
+use Rattle.tl_tool.specs.code.Lines.{LacksLf, IsLine}
 
 not_true : (b : Bool) → (b ≡ true → ⊥) → b ≡ false
 not_true true apart = absurd (apart refl)

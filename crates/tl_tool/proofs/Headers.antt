@@ -5,14 +5,14 @@ use Rattle.tl_params.specs.declared.header.Version.{Version}
 use Rattle.tl_params.specs.declared.level.Level.{Level}
 use Rattle.tl_params.specs.declared.profile.Profile.{Profile}
 use Rattle.tl_params.specs.declared.width.Width.{Width}
-use Rattle.tl_params.specs.Header.{level_text, profile_of, version_text, width_of}
-use Rattle.tl_params.specs.HeaderReading.{after_word, level_at, onto, version_at}
+use Rattle.tl_params.specs.statement.Header.{level_text, profile_of, version_text, width_of}
+use Rattle.tl_params.specs.code.HeaderReading.{after_word, level_at, onto, version_at}
 use Rattle.tl_params.proofs.Headers.{after_taken, is_end-taken, level_again, level_taken, more_levels, version_again, version_taken}
 use Rattle.tl_params.proofs.Options.{some_pair}
 use Rattle.tl_params.proofs.UpTo.{all-so, up_to-end, up_to-step}
 use Rattle.tl_tool.specs.declared.header.Header.{Header}
-use Rattle.tl_tool.specs.Trace.{IsHeader, SpellsHeader, header_line, levels_text, trace_word}
-use Rattle.tl_tool.specs.TraceReading.{GivesHeader, header_at, levels_at, named_at, some_levels}
+use Rattle.tl_tool.specs.statement.Trace.{IsHeader, SpellsHeader, header_line, levels_text, trace_word}
+use Rattle.tl_tool.specs.code.TraceReading.{GivesHeader, header_at, levels_at, named_at, some_levels}
 
 -- ---- what was read was spelled so
 

@@ -5,8 +5,8 @@ use Rattle.std.proofs.lemmas.List.{append-nil}
 use Rattle.std.proofs.lemmas.List.Elements.{All-head, All-tail}
 use Rattle.std.proofs.lemmas.List.Sums.{sum_by-append}
 use Rattle.std.specs.Io.BufRead.{ends_with_byte}
-use Rattle.tl_tool.specs.Lines.{lines_of, before_first, LacksLf, IsLine, IsOpen}
-use Rattle.tl_tool.specs.Progress.{ended_lines}
+use Rattle.tl_tool.specs.code.Lines.{lines_of, before_first, LacksLf, IsLine, IsOpen}
+use Rattle.tl_tool.specs.code.Progress.{ended_lines}
 
 head_is : (b : ℕ) (bs : List ℕ) → LacksLf (b ∷ bs) → (b == 10) ≡ false
 head_is b bs lacks = All-head (λ b. (b == 10) ≡ false) b bs lacks

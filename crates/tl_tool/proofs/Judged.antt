@@ -8,32 +8,32 @@ use Rattle.tl_beat.specs.declared.beat.Link.{Link}
 use Rattle.tl_beat.specs.declared.beat.Beat.{Beat}
 use Rattle.tl_beat.specs.declared.fault.LineFault.{LineFault}
 use Rattle.tl_beat.specs.declared.fault.LineFault.TheVariants.{F1}
-use Rattle.tl_beat.specs.Line.{Spells, line_fault}
+use Rattle.tl_beat.specs.statement.Line.{Spells, line_fault}
 use Rattle.tl_params.specs.declared.header.Version.{Version}
 use Rattle.tl_params.specs.declared.level.Level.{Level}
 use Rattle.tl_params.specs.declared.profile.Profile.{Profile}
 use Rattle.tl_params.specs.declared.rule.Rule.{Rule}
 use Rattle.tl_params.specs.declared.width.Width.{Width}
 use Rattle.tl_params.specs.declared.width.Width.TheVariants as width
-use Rattle.tl_params.specs.Header.{level_text, version_text}
+use Rattle.tl_params.specs.statement.Header.{level_text, version_text}
 use Rattle.tl_params.proofs.Headers.{level-short, version-short}
-use Rattle.tl_rules.specs.Conformance.{Trace, broken_on_link}
+use Rattle.tl_rules.specs.statement.Conformance.{Trace, broken_on_link}
 use Rattle.tl_monitor.specs.declared.monitor.Monitor.{Monitor}
-use Rattle.tl_monitor.specs.Knows.{Knows}
+use Rattle.tl_monitor.specs.statement.Knows.{Knows}
 use Rattle.tl_tool.specs.declared.fault.Fault.{Fault}
 use Rattle.tl_tool.specs.declared.fault.Fault.TheVariants.{Header, Line, Rule as Breaks}
 use Rattle.tl_tool.specs.declared.status.Status.{Status}
 use Rattle.tl_tool.specs.declared.status.Status.TheVariants.{Clean, Broken}
 use Rattle.tl_tool.specs.declared.watcher.Watcher.{Watcher}
 use Rattle.tl_tool.specs.declared.watcher.Watcher.TheVariants.{Waiting, Four, Eight, Sixteen}
-use Rattle.tl_tool.specs.Decoded.{is_width}
-use Rattle.tl_tool.specs.Fault.{fault_text}
-use Rattle.tl_tool.specs.Judged.{clean_text, IsAtFault, Judged, JudgedAfter}
-use Rattle.tl_tool.specs.Judging.{IsTotal, Judges, Stops, Finishes}
-use Rattle.tl_tool.specs.Lines.{IsOpen}
-use Rattle.tl_tool.specs.Trace.{levels_text, header_line, trace_word, SpellsHeader}
-use Rattle.tl_tool.specs.Watching.{KnowsLines, KnowsTrace, Watches}
-use Rattle.tl_tool.specs.Width.{bytes_of}
+use Rattle.tl_tool.specs.statement.Decoded.{is_width}
+use Rattle.tl_tool.specs.statement.Fault.{fault_text}
+use Rattle.tl_tool.specs.statement.Judged.{clean_text, IsAtFault, Judged, JudgedAfter}
+use Rattle.tl_tool.specs.code.Judging.{IsTotal, Judges, Stops, Finishes}
+use Rattle.tl_tool.specs.code.Lines.{IsOpen}
+use Rattle.tl_tool.specs.statement.Trace.{levels_text, header_line, trace_word, SpellsHeader}
+use Rattle.tl_tool.specs.code.Watching.{KnowsLines, KnowsTrace, Watches}
+use Rattle.tl_tool.specs.statement.Width.{bytes_of}
 use Rattle.tl_tool.proofs.Decoded.{judged_line, open_fault}
 use Rattle.tl_tool.proofs.Headers.{header_or_none}
 use Rattle.tl_beat.proofs.SpelledLines.{ends_with_byte-line}

@@ -5,23 +5,23 @@ use Rattle.std.specs.Result.{result_err}
 use Rattle.tl_beat.specs.declared.beat.Link.{Link}
 use Rattle.tl_beat.specs.declared.beat.Beat.{Beat}
 use Rattle.tl_beat.specs.declared.fault.LineFault.{LineFault}
-use Rattle.tl_beat.specs.Line.{Spells, line_fault}
-use Rattle.tl_beat.specs.Reading.{reading}
-use Rattle.tl_beat.specs.Width.{IsWidth}
+use Rattle.tl_beat.specs.statement.Line.{Spells, line_fault}
+use Rattle.tl_beat.specs.code.Reading.{reading}
+use Rattle.tl_beat.specs.statement.Width.{IsWidth}
 use Rattle.tl_beat.proofs.Faults.{reading-fault}
 use Rattle.tl_beat.proofs.SpelledLines.{reading-spelled, one-beat}
 use Rattle.tl_params.specs.declared.level.Level.{Level}
 use Rattle.tl_params.specs.declared.profile.Profile.{Profile}
-use Rattle.tl_rules.specs.Conformance.{Trace, broken_on_link}
+use Rattle.tl_rules.specs.statement.Conformance.{Trace, broken_on_link}
 use Rattle.tl_params.specs.declared.width.Width.{Width}
 use Rattle.tl_params.specs.declared.width.Width.TheVariants as width
 use Rattle.tl_tool.specs.declared.fault.Fault.{Fault}
 use Rattle.tl_tool.specs.declared.fault.Fault.TheVariants.{Header, Line, Rule as Breaks, Event}
 use Rattle.tl_tool.specs.declared.status.Status.{Status}
-use Rattle.tl_tool.specs.Decoded.{Decodes}
-use Rattle.tl_tool.specs.Fault.{fault_text}
-use Rattle.tl_tool.specs.Judged.{IsAtFault, Judged, JudgedAfter}
-use Rattle.tl_tool.specs.Width.{bytes_of}
+use Rattle.tl_tool.specs.statement.Decoded.{Decodes}
+use Rattle.tl_tool.specs.statement.Fault.{fault_text}
+use Rattle.tl_tool.specs.statement.Judged.{IsAtFault, Judged, JudgedAfter}
+use Rattle.tl_tool.specs.statement.Width.{bytes_of}
 use Rattle.tl_tool.proofs.Headers.{one_header}
 
 -- the texts and the statuses are the same

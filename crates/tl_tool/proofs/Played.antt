@@ -18,10 +18,10 @@ use Rattle.tl_world.proofs.Drained.{drained-more}
 use Rattle.tl_coherence.proofs.bound.Settling.{drain}
 use Rattle.tl_schedule.specs.declared.line.Line.{Line}
 use Rattle.tl_schedule.specs.declared.line.Line.TheVariants as line_of
-use Rattle.tl_schedule.specs.OutcomeLine.{drained_line}
-use Rattle.tl_tool.specs.Played.{delivery_text, deliveries_text, event_text, number_text, outcome_after}
-use Rattle.tl_tool.specs.Playing.{Drains, Happens, PlaysOn}
-use Rattle.tl_tool.specs.Stage.{Contained, Reaches}
+use Rattle.tl_schedule.specs.statement.OutcomeLine.{drained_line}
+use Rattle.tl_tool.specs.statement.Played.{delivery_text, deliveries_text, event_text, number_text, outcome_after}
+use Rattle.tl_tool.specs.code.Playing.{Drains, Happens, PlaysOn}
+use Rattle.tl_tool.specs.code.Stage.{Contained, Reaches}
 
 -- ---- deliveries
 

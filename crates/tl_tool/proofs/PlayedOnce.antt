@@ -1,21 +1,21 @@
 -- A schedule is played to one text.
 use Rattle.std.proofs.Common.{◌≡◌, ℕ, ◌+◌, Bool, List, [], ◌∷◌, ◌++◌, refl, sym, ◌∙◌, ap, subst, inl, inr}
 use Rattle.std.specs.Prelude.{Option, Some, None}
-use Rattle.tl_beat.specs.Width.{IsWidth}
+use Rattle.tl_beat.specs.statement.Width.{IsWidth}
 use Rattle.tl_params.specs.declared.config.Config.{Config}
 use Rattle.tl_params.specs.declared.header.Version.{Version}
 use Rattle.tl_schedule.specs.declared.line.Line.{Line}
 use Rattle.tl_schedule.specs.declared.line.Line.TheVariants as line_of
-use Rattle.tl_schedule.specs.EventLine.{SpellsLine}
-use Rattle.tl_schedule.specs.EventReading.{event_at}
-use Rattle.tl_schedule.specs.HeaderReading.{Named, header_at}
-use Rattle.tl_params.specs.Header.{width_of}
+use Rattle.tl_schedule.specs.statement.EventLine.{SpellsLine}
+use Rattle.tl_schedule.specs.code.EventReading.{event_at}
+use Rattle.tl_schedule.specs.code.HeaderReading.{Named, header_at}
+use Rattle.tl_params.specs.statement.Header.{width_of}
 use Rattle.tl_schedule.proofs.WholeLines.{said_read}
 use Rattle.tl_schedule.proofs.Headers.{spelled_read}
 use Rattle.tl_coherence.specs.statement.Log.{Log}
 use Rattle.tl_tool.specs.declared.status.Status.{Status}
-use Rattle.tl_tool.specs.Played.{HeadsSchedule, Played, PlayedAfter, Plays, header_text}
-use Rattle.tl_tool.specs.Width.{bytes_of}
+use Rattle.tl_tool.specs.statement.Played.{HeadsSchedule, Played, PlayedAfter, Plays, header_text}
+use Rattle.tl_tool.specs.statement.Width.{bytes_of}
 use Rattle.tl_tool.proofs.OneText.{AreOne, is_width_of}
 use Rattle.tl_tool.proofs.Played.{drained-once}
 use Rattle.tl_tool.proofs.Playing.{schedule_of}

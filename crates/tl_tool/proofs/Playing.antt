@@ -5,19 +5,19 @@ use Rattle.std.specs.Prelude.{◌⊎◌, IfOk, Option, Some, None, Result, Ok, E
 use Rattle.std.proofs.lemmas.List.{append-nil}
 use Rattle.tl_beat.specs.declared.beat.Link.{Link}
 use Rattle.tl_beat.specs.declared.channel.Channel.{Channel}
-use Rattle.tl_beat.specs.Width.{IsWidth}
+use Rattle.tl_beat.specs.statement.Width.{IsWidth}
 use Rattle.tl_params.specs.declared.config.Config.{Config}
-use Rattle.tl_params.specs.Config.{config_fault}
+use Rattle.tl_params.specs.statement.Config.{config_fault}
 use Rattle.tl_schedule.specs.declared.header.Schedule.{Schedule}
 use Rattle.tl_params.specs.declared.header.Version.{Version}
 use Rattle.tl_params.specs.declared.width.Width.{Width}
-use Rattle.tl_params.specs.Header.{profile_of, width_of}
+use Rattle.tl_params.specs.statement.Header.{profile_of, width_of}
 use Rattle.tl_schedule.specs.declared.line.EventFault.TheVariants.{F1}
 use Rattle.tl_schedule.specs.declared.line.Line.{Line}
 use Rattle.tl_schedule.specs.declared.line.Line.TheVariants as line_of
-use Rattle.tl_schedule.specs.EventLine.{SpellsLine, event_fault}
-use Rattle.tl_schedule.specs.HeaderReading.{Named, header_at}
-use Rattle.tl_schedule.specs.Schedule.{SpellsSchedule}
+use Rattle.tl_schedule.specs.statement.EventLine.{SpellsLine, event_fault}
+use Rattle.tl_schedule.specs.code.HeaderReading.{Named, header_at}
+use Rattle.tl_schedule.specs.statement.Schedule.{SpellsSchedule}
 use Rattle.tl_schedule.proofs.Headers.{read_spelled, spelled_read}
 use Rattle.tl_coherence.specs.statement.Headline.{IsGiven, AreTyped}
 use Rattle.tl_coherence.specs.statement.Log.{Log, IsLog, after}
@@ -30,13 +30,13 @@ use Rattle.tl_tool.specs.declared.player.Player.{Player}
 use Rattle.tl_tool.specs.declared.player.Player.TheVariants.{Waiting, Four, Eight, Sixteen}
 use Rattle.tl_tool.specs.declared.status.Status.{Status}
 use Rattle.tl_tool.specs.declared.status.Status.TheVariants.{Clean, Broken}
-use Rattle.tl_tool.specs.Fault.{fault_text}
-use Rattle.tl_tool.specs.Judging.{Finishes, IsTotal, Judges, Stops}
-use Rattle.tl_tool.specs.Lines.{IsOpen}
-use Rattle.tl_tool.specs.Played.{HeadsSchedule, Played, PlayedAfter, Plays, deliveries_text, event_text, header_text, number_text, outcome_after}
-use Rattle.tl_tool.specs.Playing.{KnowsPlay, KnowsSchedule, Opens, PlaysLine, is_trace}
-use Rattle.tl_tool.specs.Stage.{Contained, Reaches}
-use Rattle.tl_tool.specs.Width.{bytes_of}
+use Rattle.tl_tool.specs.statement.Fault.{fault_text}
+use Rattle.tl_tool.specs.code.Judging.{Finishes, IsTotal, Judges, Stops}
+use Rattle.tl_tool.specs.code.Lines.{IsOpen}
+use Rattle.tl_tool.specs.statement.Played.{HeadsSchedule, Played, PlayedAfter, Plays, deliveries_text, event_text, header_text, number_text, outcome_after}
+use Rattle.tl_tool.specs.code.Playing.{KnowsPlay, KnowsSchedule, Opens, PlaysLine, is_trace}
+use Rattle.tl_tool.specs.code.Stage.{Contained, Reaches}
+use Rattle.tl_tool.specs.statement.Width.{bytes_of}
 use Rattle.tl_tool.proofs.OneText.{is_width_of}
 use Rattle.tl_tool.proofs.ShortHeaders.{header-unopened}
 use Rattle.tl_tool.proofs.SaidLines.{open-fault, open-none, says-or-not, typed-spelled}

@@ -9,10 +9,10 @@ use Rattle.tl_tool.specs.declared.lines.Lines.{Lines}
 use Rattle.tl_tool.specs.declared.status.Status.{Status}
 use Rattle.tl_tool.specs.declared.status.ToolFault.{ToolFault}
 use Rattle.tl_tool.specs.declared.status.Status.TheVariants.{Clean, Broken}
-use Rattle.tl_tool.specs.Fault.{fault_text}
-use Rattle.tl_tool.specs.Judging.{Finishes}
-use Rattle.tl_tool.specs.Lines.{lines_of, LacksLf, IsLine, IsOpen}
-use Rattle.tl_tool.specs.Progress.{Progress, StopsAt, CountsLine, Feeds, FinishesInput}
+use Rattle.tl_tool.specs.statement.Fault.{fault_text}
+use Rattle.tl_tool.specs.code.Judging.{Finishes}
+use Rattle.tl_tool.specs.code.Lines.{lines_of, LacksLf, IsLine, IsOpen}
+use Rattle.tl_tool.specs.code.Progress.{Progress, StopsAt, CountsLine, Feeds, FinishesInput}
 use Rattle.tl_tool.proofs.InputLines.{lines_of-line, lines_of-begun, lines_of-rest, ends-lacks, open_from, ended_lines-append, ended_lines-lacks, ended_lines-line}
 
 pub lacks-append : (xs ys : List ℕ) → LacksLf xs → LacksLf ys → LacksLf (xs ++ ys)

@@ -8,11 +8,11 @@ use Rattle.tl_tool.specs.declared.lines.Lines.{Lines}
 use Rattle.tl_tool.specs.declared.status.Status.{Status}
 use Rattle.tl_tool.specs.declared.status.Status.TheVariants.{Clean, Broken}
 use Rattle.tl_tool.specs.declared.status.ToolFault.{ToolFault}
-use Rattle.tl_tool.specs.Judging.{IsTotal}
-use Rattle.tl_tool.specs.Lines.{lines_of}
-use Rattle.tl_tool.specs.Parts.{AppendsPart}
-use Rattle.tl_tool.specs.Progress.{Progress, Feeds, FinishesInput}
-use Rattle.tl_tool.specs.Run.{Passes, FailsAfter, FailsAt, EndsAs}
+use Rattle.tl_tool.specs.code.Judging.{IsTotal}
+use Rattle.tl_tool.specs.code.Lines.{lines_of}
+use Rattle.tl_tool.specs.code.Parts.{AppendsPart}
+use Rattle.tl_tool.specs.code.Progress.{Progress, Feeds, FinishesInput}
+use Rattle.tl_tool.specs.code.Run.{Passes, FailsAfter, FailsAt, EndsAs}
 use Rattle.tl_tool.proofs.Parts.{longer, part_more}
 use Rattle.tl_tool.proofs.Progress.{all_lines}
 

@@ -5,7 +5,7 @@ use Rattle.std.specs.Io.BufRead.{ends_with_byte}
 use Rattle.std.proofs.Math.Nat.{pow-le-pow_right}
 use Rattle.std.proofs.lemmas.List.{length-take, length-replicate}
 use Rattle.std.proofs.lemmas.List.Elements.{All-append, All-take}
-use Rattle.tl_beat.specs.Width.{IsWidth}
+use Rattle.tl_beat.specs.statement.Width.{IsWidth}
 use Rattle.tl_coherence.specs.declared.event.Event.{Event}
 use Rattle.tl_coherence.specs.statement.Headline.{IsTyped}
 use Rattle.tl_coherence.specs.statement.Ranged.{AreBytes, IsRanged}
@@ -13,11 +13,11 @@ use Rattle.tl_coherence.proofs.lines.Ranges.{zeros-bytes}
 use Rattle.tl_schedule.specs.declared.line.EventFault.{EventFault}
 use Rattle.tl_schedule.specs.declared.line.EventFault.TheVariants.{F1, F8}
 use Rattle.tl_schedule.specs.declared.line.Line.{Line}
-use Rattle.tl_schedule.specs.EventLine.{Asked, Get, Put, Part, Arith, Logic, Hint, AskedFits, Fits, Said, Load, Store, Acquire, Whole, Release, Access, Deliver}
-use Rattle.tl_schedule.specs.EventLine.{SpellsEvent, SpellsLine, asked_payload, event_fault, event_of, payload_of}
-use Rattle.tl_schedule.specs.EventReading.{event_at, line_at}
+use Rattle.tl_schedule.specs.statement.EventLine.{Asked, Get, Put, Part, Arith, Logic, Hint, AskedFits, Fits, Said, Load, Store, Acquire, Whole, Release, Access, Deliver}
+use Rattle.tl_schedule.specs.statement.EventLine.{SpellsEvent, SpellsLine, asked_payload, event_fault, event_of, payload_of}
+use Rattle.tl_schedule.specs.code.EventReading.{event_at, line_at}
 use Rattle.tl_schedule.proofs.WholeLines.{read_said, said_read}
-use Rattle.tl_tool.specs.Lines.{IsOpen}
+use Rattle.tl_tool.specs.code.Lines.{IsOpen}
 
 -- ---- sizes
 

@@ -8,13 +8,13 @@ use Rattle.std.proofs.lemmas.Fmt.{length-decimal-le}
 use Rattle.tl_params.specs.declared.config.ClientConfig.{ClientConfig}
 use Rattle.tl_params.specs.declared.config.Config.{Config}
 use Rattle.tl_params.specs.declared.header.Version.{Version}
-use Rattle.tl_params.specs.Config.{all_sources_fit, sources_fit}
-use Rattle.tl_params.specs.Header.{level_text, version_text}
-use Rattle.tl_params.specs.Range.{is_from_to}
+use Rattle.tl_params.specs.statement.Config.{all_sources_fit, sources_fit}
+use Rattle.tl_params.specs.statement.Header.{level_text, version_text}
+use Rattle.tl_params.specs.statement.Range.{is_from_to}
 use Rattle.tl_params.proofs.Headers.{level-short, version-short}
-use Rattle.tl_schedule.specs.Schedule.{clients_text, schedule_line, schedule_word}
-use Rattle.tl_tool.specs.Lines.{IsOpen}
-use Rattle.tl_tool.specs.Played.{HeadsSchedule}
+use Rattle.tl_schedule.specs.statement.Schedule.{clients_text, schedule_line, schedule_word}
+use Rattle.tl_tool.specs.code.Lines.{IsOpen}
+use Rattle.tl_tool.specs.statement.Played.{HeadsSchedule}
 use Rattle.tl_beat.proofs.SpelledLines.{ends_with_byte-line}
 
 decimal-short : (limit k n : ℕ) → limit < 10 ^ k → limit < 2 ^ 64 → 0 < k → is_from_to 1 limit n ≡ true → length (decimal n) ≤ k

@@ -4,8 +4,8 @@ use Rattle.tl_words.specs.declared.command.Command.{Command}
 use Rattle.tl_words.specs.declared.command.Command.TheVariants.{Decode, Monitor, Run}
 use Rattle.tl_params.specs.declared.width.Width.TheVariants.{Four, Eight, Sixteen}
 use Rattle.tl_tool.specs.declared.status.Status.{Status}
-use Rattle.tl_tool.specs.Told.{text_told}
-use Rattle.tl_tool.specs.Width.{bytes_of}
+use Rattle.tl_tool.specs.statement.Told.{text_told}
+use Rattle.tl_tool.specs.statement.Width.{bytes_of}
 use Rattle.tl_tool.proofs.Decoded.{decodes, judged_line}
 use Rattle.tl_tool.proofs.Judged.{judged_whole}
 use Rattle.tl_tool.proofs.OneText.{AreOne, decodes_once, is_width_of, judged_once}

@@ -8,24 +8,24 @@ use Rattle.std.proofs.lemmas.Option.{slice_get-map, slice_get_within}
 use Rattle.tl_beat.specs.declared.beat.Link.{Link}
 use Rattle.tl_beat.specs.declared.beat.Beat.{Beat}
 use Rattle.tl_beat.specs.declared.channel.Channel.{Channel}
-use Rattle.tl_beat.specs.Line.{IsInRange, Spells, fields_of, line_of as beat_line, spaced}
-use Rattle.tl_burst.specs.Messages.{History}
+use Rattle.tl_beat.specs.statement.Line.{IsInRange, Spells, fields_of, line_of as beat_line, spaced}
+use Rattle.tl_burst.specs.statement.Messages.{History}
 use Rattle.tl_params.specs.declared.config.ClientConfig.{ClientConfig}
 use Rattle.tl_params.specs.declared.config.Config.{Config}
 use Rattle.tl_params.specs.declared.level.Level.{Level}
 use Rattle.tl_params.specs.declared.profile.Profile.{Profile}
 use Rattle.tl_params.specs.declared.rule.Rule.{Rule}
-use Rattle.tl_rules.specs.Conformance.{Trace, broken_after, broken_at_level, broken_on_link, is_legal, on_link}
-use Rattle.tl_client.specs.End.{Terms}
-use Rattle.tl_manager.specs.Offer.{level_of}
+use Rattle.tl_rules.specs.statement.Conformance.{Trace, broken_after, broken_at_level, broken_on_link, is_legal, on_link}
+use Rattle.tl_client.specs.statement.End.{Terms}
+use Rattle.tl_manager.specs.statement.Offer.{level_of}
 use Rattle.tl_manager.proofs.Placing.{limits}
 use Rattle.tl_params.specs.declared.header.Version.{Version}
-use Rattle.tl_params.specs.Header.{version_text, width_of}
+use Rattle.tl_params.specs.statement.Header.{version_text, width_of}
 use Rattle.tl_schedule.specs.declared.line.EventFault.{EventFault}
 use Rattle.tl_schedule.specs.declared.line.Line.{Line}
 use Rattle.tl_schedule.specs.declared.line.Line.TheVariants as line_of
-use Rattle.tl_schedule.specs.EventLine.{SpellsLine, event_fault}
-use Rattle.tl_schedule.specs.OutcomeLine.{trace_text}
+use Rattle.tl_schedule.specs.statement.EventLine.{SpellsLine, event_fault}
+use Rattle.tl_schedule.specs.statement.OutcomeLine.{trace_text}
 use Rattle.tl_coherence.specs.declared.event.Event.{Event}
 use Rattle.tl_coherence.specs.declared.event.Event.TheVariants.{Ask, Deliver}
 use Rattle.tl_coherence.specs.declared.event.Outcome.{Outcome}
@@ -45,13 +45,13 @@ use Rattle.tl_coherence.proofs.outstanding.Outstanding.{first-moved}
 use Rattle.tl_tool.specs.declared.fault.Fault.TheVariants.{Event as NoEvent}
 use Rattle.tl_tool.specs.declared.status.Status.{Status}
 use Rattle.tl_tool.specs.declared.status.Status.TheVariants.{Clean, Broken}
-use Rattle.tl_tool.specs.Clean.{IsClean, IsCleanUpTo}
-use Rattle.tl_tool.specs.Fault.{fault_text}
-use Rattle.tl_tool.specs.Judged.{Judged, JudgedAfter, clean_text}
-use Rattle.tl_tool.specs.Lines.{lines_of}
-use Rattle.tl_tool.specs.Played.{HeadsSchedule, Played, PlayedAfter, Plays, deliveries_text, delivery_text, outcome_after}
-use Rattle.tl_tool.specs.Trace.{SpellsHeader, header_line, levels_text, trace_word}
-use Rattle.tl_tool.specs.Width.{bytes_of}
+use Rattle.tl_tool.specs.laws.Clean.{IsClean, IsCleanUpTo}
+use Rattle.tl_tool.specs.statement.Fault.{fault_text}
+use Rattle.tl_tool.specs.statement.Judged.{Judged, JudgedAfter, clean_text}
+use Rattle.tl_tool.specs.code.Lines.{lines_of}
+use Rattle.tl_tool.specs.statement.Played.{HeadsSchedule, Played, PlayedAfter, Plays, deliveries_text, delivery_text, outcome_after}
+use Rattle.tl_tool.specs.statement.Trace.{SpellsHeader, header_line, levels_text, trace_word}
+use Rattle.tl_tool.specs.statement.Width.{bytes_of}
 use Rattle.tl_tool.proofs.InputLines.{lines_of-line}
 use Rattle.tl_tool.proofs.OneText.{is_width_of}
 use Rattle.tl_tool.proofs.Playing.{given-first, header-fits}

@@ -8,17 +8,17 @@ use Rattle.std.specs.List.{list_all}
 use Rattle.tl_beat.specs.declared.beat.Beat.{Beat}
 use Rattle.tl_beat.specs.declared.beat.Beat.TheVariants.{A, B, C, D, E}
 use Rattle.tl_beat.specs.declared.beat.Link.{Link}
-use Rattle.tl_beat.specs.Digits.{bit_text, digit_char, digits, lane_digits, lanes_text}
-use Rattle.tl_beat.specs.Line.{fields_of, spaced}
+use Rattle.tl_beat.specs.statement.Digits.{bit_text, digit_char, digits, lane_digits, lanes_text}
+use Rattle.tl_beat.specs.statement.Line.{fields_of, spaced}
 use Rattle.tl_params.specs.declared.header.Version.{Version}
 use Rattle.tl_params.specs.declared.header.Version.TheVariants.{First, Second, Third}
 use Rattle.tl_params.specs.declared.level.Level.{Level}
 use Rattle.tl_params.specs.declared.level.Level.TheVariants as level
 use Rattle.tl_params.specs.declared.profile.Profile.TheVariants as profile
 use Rattle.tl_params.specs.declared.width.Width.TheVariants.{Four, Eight, Sixteen}
-use Rattle.tl_params.specs.Header.{level_text, version_text}
-use Rattle.tl_tool.specs.Lines.{LacksLf}
-use Rattle.tl_tool.specs.Trace.{levels_text, trace_word}
+use Rattle.tl_params.specs.statement.Header.{level_text, version_text}
+use Rattle.tl_tool.specs.code.Lines.{LacksLf}
+use Rattle.tl_tool.specs.statement.Trace.{levels_text, trace_word}
 use Rattle.tl_tool.proofs.Progress.{lacks-append}
 
 -- no byte of it is LF

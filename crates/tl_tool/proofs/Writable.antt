@@ -6,10 +6,10 @@ use Rattle.std.proofs.lemmas.List.Elements.{All-head}
 use Rattle.tl_beat.specs.declared.beat.Link.{Link}
 use Rattle.tl_beat.specs.declared.beat.Beat.{Beat}
 use Rattle.tl_beat.specs.declared.channel.Channel.{Channel}
-use Rattle.tl_beat.specs.Line.{IsWritable}
-use Rattle.tl_burst.specs.Messages.{History}
+use Rattle.tl_beat.specs.statement.Line.{IsWritable}
+use Rattle.tl_burst.specs.statement.Messages.{History}
 use Rattle.tl_params.specs.declared.config.Config.{Config}
-use Rattle.tl_schedule.specs.OutcomeLine.{HasLine}
+use Rattle.tl_schedule.specs.statement.OutcomeLine.{HasLine}
 use Rattle.tl_coherence.specs.declared.event.Event.{Event}
 use Rattle.tl_coherence.specs.declared.event.Event.TheVariants.{Ask, Deliver}
 use Rattle.tl_coherence.specs.declared.event.Outcome.{Outcome}

@@ -1,7 +1,7 @@
 //! Says in words what each beat line spells.
 
 ghost use Rattle.std.specs.Prelude.{IsTrue};
-ghost use Rattle.tl_tool.specs.Decoded.{DecodesBefore, DecodesTo, is_width};
+ghost use Rattle.tl_tool.specs.statement.Decoded.{DecodesBefore, DecodesTo, is_width};
 
 use crate::fault::Fault;
 use crate::judge::Judge;

@@ -2,11 +2,11 @@
 
 ghost use Rattle.std.specs.Prelude.{◌≡◌, ◌⊎◌, ◌+◌, ◌++◌, [], ◌≤◌, ◌<◌, ℕ, List, IfOk, OnOk, OnErr, IfErr, length, take, vec_len};
 ghost use Rattle.std.specs.Io.KnownBytes.{Appends, Consumes, IsAtEnd, Keeps};
-ghost use Rattle.tl_tool.specs.Judging.{IsTotal};
-ghost use Rattle.tl_tool.specs.Lines.{lines_of};
-ghost use Rattle.tl_tool.specs.Parts.{AppendsPart};
-ghost use Rattle.tl_tool.specs.Progress.{FinishesInput, GivesUp, Progress, lines_judged};
-ghost use Rattle.tl_tool.specs.Run.{FailsAfter, FailsAt, Passes, RunsTo};
+ghost use Rattle.tl_tool.specs.code.Judging.{IsTotal};
+ghost use Rattle.tl_tool.specs.code.Lines.{lines_of};
+ghost use Rattle.tl_tool.specs.code.Parts.{AppendsPart};
+ghost use Rattle.tl_tool.specs.code.Progress.{FinishesInput, GivesUp, Progress, lines_judged};
+ghost use Rattle.tl_tool.specs.code.Run.{FailsAfter, FailsAt, Passes, RunsTo};
 ghost use Rattle.tl_tool.specs.declared.status.Status.{Status};
 
 use crate::judge::Judge;

@@ -1,7 +1,7 @@
 //! What a line can be at fault for.
 
 ghost use Rattle.std.specs.Prelude.{◌≡◌, ◌++◌, OnOk};
-ghost use Rattle.tl_tool.specs.Fault.{fault_name, fault_text};
+ghost use Rattle.tl_tool.specs.statement.Fault.{fault_name, fault_text};
 
 use itoa::Buffer;
 use std::alloc::AllocError;
@@ -37,7 +37,7 @@ impl Fault {
     }
 }
 
-#[tactic(auto, unfolding(crate::specs::Fault::fault_text))]
+#[tactic(auto, unfolding(crate::specs::statement::Fault::fault_text))]
 /// Appends `line N X`, where line N is at fault for X.
 pub fn append_fault(number: u64, fault: Fault, out: &mut Vec<u8>) -> Result<(), AllocError>
     ensures { OnOk result (out.new.items ≡ out.old.items ++ fault_text number fault) }

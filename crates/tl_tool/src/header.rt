@@ -4,9 +4,9 @@ ghost use Rattle.std.specs.Prelude.{◌≡◌, ◌≢◌, ◌++◌, List, ℕ, I
 ghost use Rattle.tl_params.specs.declared.level.Level.{Level};
 ghost use Rattle.tl_params.specs.declared.profile.Profile.{Profile};
 ghost use Rattle.tl_params.specs.declared.width.Width.{Width};
-ghost use Rattle.tl_params.specs.HeaderReading.{GivesAll};
-ghost use Rattle.tl_tool.specs.Trace.{IsHeader, SpellsHeader, trace_word};
-ghost use Rattle.tl_tool.specs.TraceReading.{GivesHeader, header_at, levels_at};
+ghost use Rattle.tl_params.specs.code.HeaderReading.{GivesAll};
+ghost use Rattle.tl_tool.specs.statement.Trace.{IsHeader, SpellsHeader, trace_word};
+ghost use Rattle.tl_tool.specs.code.TraceReading.{GivesHeader, header_at, levels_at};
 
 use arrayvec::ArrayVec;
 use tl_params::header::{front_level, front_version, is_end};

@@ -1,8 +1,8 @@
 //! What judges the lines of an input.
 
 ghost use Rattle.std.specs.Prelude.{◌≡◌, ◌++◌, ℕ, List, IfOk};
-ghost use Rattle.tl_tool.specs.Judging.{Judges, Finishes, Stops};
-ghost use Rattle.tl_tool.specs.Lines.{IsOpen};
+ghost use Rattle.tl_tool.specs.code.Judging.{Judges, Finishes, Stops};
+ghost use Rattle.tl_tool.specs.code.Lines.{IsOpen};
 ghost use Rattle.tl_tool.specs.declared.status.Status.{Status};
 
 use crate::fault::Fault;

@@ -1,8 +1,8 @@
 //! What the commands tell of their lines, as laws.
 
 ghost use Rattle.std.specs.Prelude.{◌≡◌, ℕ, true, List};
-ghost use Rattle.tl_tool.specs.Clean.{IsCleanUpTo};
-ghost use Rattle.tl_tool.specs.Told.{text_told};
+ghost use Rattle.tl_tool.specs.laws.Clean.{IsCleanUpTo};
+ghost use Rattle.tl_tool.specs.statement.Told.{text_told};
 ghost use Rattle.tl_tool.specs.declared.status.Status.{Status};
 ghost use Rattle.tl_words.specs.declared.command.Command.{Command};
 ghost use Rattle.tl_words.specs.declared.command.Command.TheVariants.{Run};

@@ -1,9 +1,9 @@
 //! Cuts an input that comes in pieces into its lines.
 
 ghost use Rattle.std.specs.Prelude.{◌≡◌, ◌+◌, ◌++◌, [], ◌≤◌, ◌<◌, ◌^◌, ◌-◌, ℕ, List, IfOk, IfErr, MatchOption, length};
-ghost use Rattle.tl_tool.specs.Fault.{fault_text};
-ghost use Rattle.tl_tool.specs.Lines.{IsLine, IsOpen, LacksLf};
-ghost use Rattle.tl_tool.specs.Progress.{CountsLine, Feeds, FinishesInput, GivesUp, Progress, StopsAt, lines_judged};
+ghost use Rattle.tl_tool.specs.statement.Fault.{fault_text};
+ghost use Rattle.tl_tool.specs.code.Lines.{IsLine, IsOpen, LacksLf};
+ghost use Rattle.tl_tool.specs.code.Progress.{CountsLine, Feeds, FinishesInput, GivesUp, Progress, StopsAt, lines_judged};
 
 use crate::fault::{Fault, append_fault};
 use crate::judge::Judge;

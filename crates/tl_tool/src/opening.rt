@@ -1,12 +1,12 @@
 //! Begins to play a schedule: its header.
 
 ghost use Rattle.std.specs.Prelude.{◌≡◌, ◌++◌, [], map, IfOk, OnOk, None};
-ghost use Rattle.tl_beat.specs.Width.{IsWidth};
-ghost use Rattle.tl_params.specs.Config.{config_fault};
-ghost use Rattle.tl_params.specs.Header.{level_text, profile_text, version_text, width_text};
-ghost use Rattle.tl_tool.specs.Played.{header_text};
-ghost use Rattle.tl_tool.specs.Stage.{Reaches};
-ghost use Rattle.tl_tool.specs.Trace.{header_line, levels_text};
+ghost use Rattle.tl_beat.specs.statement.Width.{IsWidth};
+ghost use Rattle.tl_params.specs.statement.Config.{config_fault};
+ghost use Rattle.tl_params.specs.statement.Header.{level_text, profile_text, version_text, width_text};
+ghost use Rattle.tl_tool.specs.statement.Played.{header_text};
+ghost use Rattle.tl_tool.specs.code.Stage.{Reaches};
+ghost use Rattle.tl_tool.specs.statement.Trace.{header_line, levels_text};
 
 use std::alloc::{AllocError, Global};
 use tl_client::any::AnyClient;

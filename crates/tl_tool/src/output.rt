@@ -2,8 +2,8 @@
 
 ghost use Rattle.std.specs.Prelude.{◌≡◌, ◌++◌, ◌∷◌, [], ℕ, OnOk, OnErr, IfErr, codes};
 ghost use Rattle.std.specs.Io.KnownBytes.{Appends};
-ghost use Rattle.tl_tool.specs.Fault.{open_fault_text};
-ghost use Rattle.tl_tool.specs.Parts.{AppendsPart};
+ghost use Rattle.tl_tool.specs.statement.Fault.{open_fault_text};
+ghost use Rattle.tl_tool.specs.code.Parts.{AppendsPart};
 
 use crate::status::ToolFault;
 use std::io::Write;

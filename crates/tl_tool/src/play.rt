@@ -1,12 +1,12 @@
 //! Plays the lines of a schedule behind its header.
 
 ghost use Rattle.std.specs.Prelude.{◌≡◌, ◌++◌, [], IfOk, OnOk, None};
-ghost use Rattle.tl_beat.specs.Width.{IsWidth};
-ghost use Rattle.tl_params.specs.Config.{config_fault};
-ghost use Rattle.tl_schedule.specs.OutcomeLine.{HasLine};
-ghost use Rattle.tl_tool.specs.Played.{event_text};
-ghost use Rattle.tl_tool.specs.Playing.{Drains, Happens, PlaysLine, PlaysOn};
-ghost use Rattle.tl_tool.specs.Stage.{IsPlayable, Reaches};
+ghost use Rattle.tl_beat.specs.statement.Width.{IsWidth};
+ghost use Rattle.tl_params.specs.statement.Config.{config_fault};
+ghost use Rattle.tl_schedule.specs.statement.OutcomeLine.{HasLine};
+ghost use Rattle.tl_tool.specs.statement.Played.{event_text};
+ghost use Rattle.tl_tool.specs.code.Playing.{Drains, Happens, PlaysLine, PlaysOn};
+ghost use Rattle.tl_tool.specs.code.Stage.{IsPlayable, Reaches};
 
 use crate::fault::Fault;
 use crate::opening::world_of;
@@ -132,7 +132,7 @@ pub struct Stage<const W: usize> {
 }
 
 impl<const W: usize> Model for Stage<W> {
-    ghost use Rattle.tl_tool.specs.Stage.{Contained, IsPlayable};
+    ghost use Rattle.tl_tool.specs.code.Stage.{Contained, IsPlayable};
 
     ghost Value = { Contained W };
 

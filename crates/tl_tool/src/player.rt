@@ -1,8 +1,8 @@
 //! Judges the lines of a schedule by playing them.
 
 ghost use Rattle.std.specs.Prelude.{◌≡◌, IfOk};
-ghost use Rattle.tl_tool.specs.Played.{Played};
-ghost use Rattle.tl_tool.specs.Playing.{KnowsSchedule, Opens, is_trace};
+ghost use Rattle.tl_tool.specs.statement.Played.{Played};
+ghost use Rattle.tl_tool.specs.code.Playing.{KnowsSchedule, Opens, is_trace};
 
 use crate::fault::Fault;
 use crate::judge::Judge;

@@ -1,7 +1,7 @@
 //! How a run of the command ends.
 
 ghost use Rattle.std.specs.Prelude.{◌≡◌};
-ghost use Rattle.tl_tool.specs.Exit.{exit_status};
+ghost use Rattle.tl_tool.specs.statement.Exit.{exit_status};
 
 use thiserror::Error;
 

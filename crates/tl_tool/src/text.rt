@@ -2,10 +2,10 @@
 
 ghost use Rattle.std.specs.Prelude.{◌≡◌, ◌+◌, ◌≤◌, ◌/◌, ◌++◌, length, OnOk, option_map, unwrap_or, slice_index, slice_range, codes, [], ◌∷◌};
 ghost use Rattle.tl_beat.specs.declared.beat.Link.{Link};
-ghost use Rattle.tl_beat.specs.Line.{Spells};
-ghost use Rattle.tl_beat.specs.Width.{IsWidth};
-ghost use Rattle.tl_tool.specs.Text.{text_of};
-ghost use Rattle.tl_tool.specs.Cuts.{IsShort, acknowledgement_text, address_text, head_text, release_text, request_text, response_text, size_and_source, tail_text};
+ghost use Rattle.tl_beat.specs.statement.Line.{Spells};
+ghost use Rattle.tl_beat.specs.statement.Width.{IsWidth};
+ghost use Rattle.tl_tool.specs.statement.Text.{text_of};
+ghost use Rattle.tl_tool.specs.code.Cuts.{IsShort, acknowledgement_text, address_text, head_text, release_text, request_text, response_text, size_and_source, tail_text};
 
 use crate::params::{name_on_a, name_on_b, name_on_c, name_on_d};
 use arrayvec::ArrayVec;
@@ -35,7 +35,7 @@ fn append(text: &mut ArrayVec<u8, 128>, bytes: &[u8])
 
 /// Link, channel, name and param.
 #[inline(always)]
-#[tactic(auto, unfolding(crate::specs::Cuts::head_text))]
+#[tactic(auto, unfolding(crate::specs::code::Cuts::head_text))]
 fn append_head(text: &mut ArrayVec<u8, 128>, line: &[u8], name: &str, param: Option<&str>)
     requires line { 13 ≤ length line.now }
     requires names { (length name.now ≤ 14) × IsShort (option_map (λ s. s.now) param) }
@@ -51,7 +51,7 @@ fn append_head(text: &mut ArrayVec<u8, 128>, line: &[u8], name: &str, param: Opt
 
 /// Size, source and address of a line of channels A to C.
 #[inline(always)]
-#[tactic(auto, unfolding(crate::specs::Cuts::size_and_source, crate::specs::Cuts::address_text))]
+#[tactic(auto, unfolding(crate::specs::code::Cuts::size_and_source, crate::specs::code::Cuts::address_text))]
 fn address_block(line: &[u8]) -> [u8; 34]
     requires { 22 ≤ length line.now }
     ensures { result ≡ size_and_source line.now (address_text line.now []) }
@@ -73,7 +73,7 @@ fn address_block(line: &[u8]) -> [u8; 34]
 
 /// Size, source, sink and denied of a line of channel D.
 #[inline(always)]
-#[tactic(auto, unfolding(crate::specs::Cuts::size_and_source))]
+#[tactic(auto, unfolding(crate::specs::code::Cuts::size_and_source))]
 fn sink_block(line: &[u8]) -> [u8; 34]
     requires { 18 ≤ length line.now }
     ensures { result ≡ size_and_source line.now (codes " sink=" ++ slice_index line.now 14 ∷ slice_index line.now 15 ∷ (codes " denied=" ++ slice_index line.now 17 ∷ [])) }
@@ -90,7 +90,7 @@ fn sink_block(line: &[u8]) -> [u8; 34]
 
 /// Data and the corrupt bit.
 #[inline(always)]
-#[tactic(auto, unfolding(crate::specs::Cuts::tail_text))]
+#[tactic(auto, unfolding(crate::specs::code::Cuts::tail_text))]
 fn append_tail<const W: usize>(text: &mut ArrayVec<u8, 128>, tail: &[u8])
     requires width { IsWidth W }
     requires tail { 3 ≤ length tail.now }
@@ -112,7 +112,7 @@ fn append_tail<const W: usize>(text: &mut ArrayVec<u8, 128>, tail: &[u8])
 
 /// Size, source, address and mask of a line of channels A and B.
 #[inline(always)]
-#[tactic(auto, unfolding(crate::specs::Cuts::request_text))]
+#[tactic(auto, unfolding(crate::specs::code::Cuts::request_text))]
 fn append_request<const W: usize>(
     text: &mut ArrayVec<u8, 128>,
     line: &[u8],
@@ -135,7 +135,7 @@ fn append_request<const W: usize>(
 
 /// A line of channel C.
 #[inline(always)]
-#[tactic(auto, unfolding(crate::specs::Cuts::release_text))]
+#[tactic(auto, unfolding(crate::specs::code::Cuts::release_text))]
 fn append_release<const W: usize>(
     text: &mut ArrayVec<u8, 128>,
     line: &[u8],
@@ -155,7 +155,7 @@ fn append_release<const W: usize>(
 
 /// A line of channel D.
 #[inline(always)]
-#[tactic(auto, unfolding(crate::specs::Cuts::response_text))]
+#[tactic(auto, unfolding(crate::specs::code::Cuts::response_text))]
 fn append_response<const W: usize>(
     text: &mut ArrayVec<u8, 128>,
     line: &[u8],
@@ -175,7 +175,7 @@ fn append_response<const W: usize>(
 
 /// A line of channel E.
 #[inline(always)]
-#[tactic(auto, unfolding(crate::specs::Cuts::acknowledgement_text))]
+#[tactic(auto, unfolding(crate::specs::code::Cuts::acknowledgement_text))]
 fn append_acknowledgement(text: &mut ArrayVec<u8, 128>, line: &[u8])
     requires line { (5 ≤ length line.now) × (length line.now ≤ 63) }
     requires empty { text.old.items ≡ [] }

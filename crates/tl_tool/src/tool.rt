@@ -1,8 +1,8 @@
 //! Runs a command over an input.
 
 ghost use Rattle.std.specs.Prelude.{◌≡◌, ℕ, List, IfOk, OnErr};
-ghost use Rattle.tl_tool.specs.Run.{FailsAt, RunsTo};
-ghost use Rattle.tl_tool.specs.Told.{text_told};
+ghost use Rattle.tl_tool.specs.code.Run.{FailsAt, RunsTo};
+ghost use Rattle.tl_tool.specs.statement.Told.{text_told};
 
 use crate::decoder::Decoder;
 use crate::engine::judge_input;

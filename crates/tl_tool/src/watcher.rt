@@ -1,10 +1,10 @@
 //! Judges a recorded trace.
 
 ghost use Rattle.std.specs.Prelude.{◌≡◌, ◌++◌, [], false, IfOk, OnOk};
-ghost use Rattle.tl_beat.specs.Width.{IsWidth};
-ghost use Rattle.tl_monitor.specs.Knows.{Knows};
-ghost use Rattle.tl_tool.specs.Judged.{Judged, clean_text};
-ghost use Rattle.tl_tool.specs.Watching.{Begins, KnowsLines, Watches};
+ghost use Rattle.tl_beat.specs.statement.Width.{IsWidth};
+ghost use Rattle.tl_monitor.specs.statement.Knows.{Knows};
+ghost use Rattle.tl_tool.specs.statement.Judged.{Judged, clean_text};
+ghost use Rattle.tl_tool.specs.code.Watching.{Begins, KnowsLines, Watches};
 
 use crate::fault::Fault;
 use crate::header::{Header, read_header};
@@ -51,7 +51,7 @@ fn watch<const W: usize>(monitor: &mut Monitor<W>, line: &[u8]) -> Result<Option
     }
 }
 
-#[tactic(auto, unfolding(crate::specs::Judged::clean_text))]
+#[tactic(auto, unfolding(crate::specs::statement::Judged::clean_text))]
 /// Appends `clean N`, where none of N beats is at fault.
 fn append_clean(number: u64, out: &mut Vec<u8>) -> Result<(), AllocError>
     ensures { OnOk result (out.new.items ≡ out.old.items ++ clean_text number) }

@@ -2,25 +2,25 @@
 use Rattle.std.proofs.Common.{◌≡◌, ◌<◌, ℕ, List, [], ◌∷◌, ◌++◌, ◌+◌, ◌*◌, refl, ap, ap₂, ◌∙◌, length, take, arith}
 use Rattle.std.proofs.lemmas.List.{take_more, take_more_set, length-take}
 use Rattle.std.specs.Prelude.{max, slice_index_or, slice_set}
-use Rattle.tl_beat.specs.Width.{IsWidth}
+use Rattle.tl_beat.specs.statement.Width.{IsWidth}
 use Rattle.tl_beat.specs.declared.beat.Beat.{Beat}
 use Rattle.tl_params.specs.declared.config.Config.{Config}
 use Rattle.tl_params.specs.declared.perm.Perm.{Perm}
-use Rattle.tl_client.specs.End.{Terms, End}
-use Rattle.tl_manager.specs.Knows.{Knows}
-use Rattle.tl_manager.specs.End as manager_end
+use Rattle.tl_client.specs.statement.End.{Terms, End}
+use Rattle.tl_manager.specs.code.Knows.{Knows}
+use Rattle.tl_manager.specs.statement.End as manager_end
 use Rattle.tl_coherence.specs.declared.event.Event.{Event}
 use Rattle.tl_coherence.specs.declared.event.Outcome.{Outcome}
 use Rattle.tl_world.specs.declared.contents.Contents.{Contents}
-use Rattle.tl_world.specs.Carrying.{AreClear, AreFresh}
+use Rattle.tl_world.specs.code.Carrying.{AreClear, AreFresh}
 use Rattle.tl_coherence.specs.statement.Headline.{IsTyped, AreTyped, IsGiven}
-use Rattle.tl_world.specs.Holds.{clients_of, Holds, HasRoom, IsStepped}
+use Rattle.tl_world.specs.code.Holds.{clients_of, Holds, HasRoom, IsStepped}
 use Rattle.tl_coherence.specs.statement.Load.{starts_request, starts_release, ends_request, ends_release, requests, releases}
 use Rattle.tl_coherence.specs.statement.Log.{Log, IsLog, after, logged}
-use Rattle.tl_world.specs.Opened.{counted}
+use Rattle.tl_world.specs.code.Opened.{counted}
 use Rattle.tl_coherence.specs.statement.Step.{stepped}
 use Rattle.tl_coherence.specs.statement.System.{System}
-use Rattle.tl_world.specs.World.{deepest, IsReached, AreReady}
+use Rattle.tl_world.specs.statement.World.{deepest, IsReached, AreReady}
 use Rattle.std.proofs.Math.Nat.{max-le}
 use Rattle.tl_coherence.proofs.links.Given.{channels, carries}
 use Rattle.tl_coherence.proofs.theorem.Soundness.{headline}

@@ -8,12 +8,12 @@ use Rattle.std.specs.Prelude.{◌≢◌, Ok, slice_index_or, Option, ⊤}
 use Rattle.tl_params.specs.declared.config.ClientConfig.{ClientConfig}
 use Rattle.tl_params.specs.declared.config.Config.{Config}
 use Rattle.tl_params.specs.declared.config.NewFault.{NewFault}
-use Rattle.tl_params.specs.Config.{config_fault, client_fault, blocks_fit, trackers_fit, all_sources_fit}
-use Rattle.tl_params.specs.Range.{is_from_to}
-use Rattle.tl_params.specs.Refusal.{ok_unless}
-use Rattle.tl_client.specs.End.{Terms, End}
-use Rattle.tl_world.specs.Agents.{IsHired, AreMade}
-use Rattle.tl_world.specs.Holds.{clients_of}
+use Rattle.tl_params.specs.statement.Config.{config_fault, client_fault, blocks_fit, trackers_fit, all_sources_fit}
+use Rattle.tl_params.specs.statement.Range.{is_from_to}
+use Rattle.tl_params.specs.statement.Refusal.{ok_unless}
+use Rattle.tl_client.specs.statement.End.{Terms, End}
+use Rattle.tl_world.specs.code.Agents.{IsHired, AreMade}
+use Rattle.tl_world.specs.code.Holds.{clients_of}
 use Rattle.tl_coherence.specs.statement.System.{terms_at}
 use Rattle.tl_coherence.proofs.queues.Limits.{limits-fit, all-fit}
 

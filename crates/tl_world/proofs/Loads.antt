@@ -6,18 +6,18 @@ use Rattle.std.proofs.Math.Nat.{min-eq_left}
 use Rattle.tl_params.specs.declared.config.ClientConfig.{ClientConfig}
 use Rattle.tl_params.specs.declared.config.Config.{Config}
 use Rattle.tl_params.specs.declared.level.Level.TheVariants as level
-use Rattle.tl_params.specs.Config.{config_fault, blocks_fit, trackers_fit, all_sources_fit}
-use Rattle.tl_params.specs.Range.{is_from_to}
+use Rattle.tl_params.specs.statement.Config.{config_fault, blocks_fit, trackers_fit, all_sources_fit}
+use Rattle.tl_params.specs.statement.Range.{is_from_to}
 use Rattle.tl_coherence.specs.declared.event.Event.{Event}
 use Rattle.tl_coherence.specs.declared.event.Event.TheVariants.{Ask, Deliver}
 use Rattle.tl_coherence.specs.declared.event.Outcome.{Outcome}
 use Rattle.tl_coherence.specs.declared.event.Outcome.TheVariants as outcome
 use Rattle.tl_coherence.specs.statement.Delivery.{sources_of}
 use Rattle.tl_coherence.specs.statement.Headline.{IsGiven}
-use Rattle.tl_world.specs.Holds.{clients_of}
+use Rattle.tl_world.specs.code.Holds.{clients_of}
 use Rattle.tl_coherence.specs.statement.Load.{starts_request, starts_release, ends_request, ends_release, requests, releases}
 use Rattle.tl_coherence.specs.statement.Log.{Log}
-use Rattle.tl_world.specs.Opened.{counted}
+use Rattle.tl_world.specs.code.Opened.{counted}
 use Rattle.tl_coherence.specs.bound.Potential.{total, is_used, is_let, open_requests, open_releases}
 use Rattle.tl_coherence.specs.statement.System.{terms_at}
 use Rattle.tl_coherence.specs.protocol.Token.{one_if}

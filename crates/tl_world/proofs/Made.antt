@@ -10,9 +10,9 @@ use Rattle.tl_beat.specs.declared.beat.Beat.{Beat}
 use Rattle.tl_beat.specs.declared.channel.Channel.{Channel}
 use Rattle.tl_params.specs.declared.config.ClientConfig.{ClientConfig}
 use Rattle.tl_params.specs.declared.config.Config.{Config}
-use Rattle.tl_world.specs.Carrying.{number, place, capacity_at, AreClear, AreFresh, Carries}
+use Rattle.tl_world.specs.code.Carrying.{number, place, capacity_at, AreClear, AreFresh, Carries}
 use Rattle.tl_coherence.specs.statement.Delivery.{capacity, sources_of}
-use Rattle.tl_world.specs.Holds.{clients_of}
+use Rattle.tl_world.specs.code.Holds.{clients_of}
 use Rattle.tl_coherence.specs.statement.System.{fresh, terms_at}
 use Rattle.tl_world.specs.declared.ring.Ring.{Ring}
 use Rattle.tl_world.specs.declared.rings.Rings.{Rings}

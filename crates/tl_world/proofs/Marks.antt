@@ -5,7 +5,7 @@ use Rattle.std.specs.Int.{bit_at}
 use Rattle.std.proofs.lemmas.Bool.{cases_eq}
 use Rattle.std.proofs.lemmas.List.{get_or-set_same, get_or-set_other}
 use Rattle.tl_beat.specs.declared.channel.Channel.{Channel}
-use Rattle.tl_world.specs.Carrying.{number, place}
+use Rattle.tl_world.specs.code.Carrying.{number, place}
 use Rattle.tl_world.proofs.Queues.{number-below}
 
 -- where one bit of the word of a channel is changed, that of every other place is as before

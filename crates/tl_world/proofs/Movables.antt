@@ -7,17 +7,17 @@ use Rattle.std.specs.Int.{bit_at}
 use Rattle.tl_beat.specs.declared.beat.Beat.{Beat}
 use Rattle.tl_beat.specs.declared.beat.Link.{Link}
 use Rattle.tl_beat.specs.declared.channel.Channel.{Channel}
-use Rattle.tl_burst.specs.Part.{is_empty}
+use Rattle.tl_burst.specs.statement.Part.{is_empty}
 use Rattle.tl_params.specs.declared.config.Config.{Config}
 use Rattle.tl_params.specs.declared.perm.Perm.{Perm}
-use Rattle.tl_client.specs.End.{Terms, End}
-use Rattle.tl_client.specs.Offer as client
-use Rattle.tl_manager.specs.Bit.{bit_if}
-use Rattle.tl_manager.specs.Knows.{Knows}
-use Rattle.tl_manager.specs.End as manager_end
-use Rattle.tl_manager.specs.Offer as manager
-use Rattle.tl_world.specs.Carrying.{word_of, Carries}
-use Rattle.tl_world.specs.Holds.{clients_of, Holds}
+use Rattle.tl_client.specs.statement.End.{Terms, End}
+use Rattle.tl_client.specs.statement.Offer as client
+use Rattle.tl_manager.specs.code.Bit.{bit_if}
+use Rattle.tl_manager.specs.code.Knows.{Knows}
+use Rattle.tl_manager.specs.statement.End as manager_end
+use Rattle.tl_manager.specs.statement.Offer as manager
+use Rattle.tl_world.specs.code.Carrying.{word_of, Carries}
+use Rattle.tl_world.specs.code.Holds.{clients_of, Holds}
 use Rattle.tl_coherence.specs.statement.Movable.{moves, is_movable, first_movable, movable_on}
 use Rattle.tl_coherence.specs.statement.Step.{is_to_client}
 use Rattle.tl_coherence.specs.statement.System.{System, terms_at}

@@ -6,19 +6,19 @@ use Rattle.std.proofs.Math.Nat.{max-eq_left}
 use Rattle.std.proofs.lemmas.Bool.{cases_eq, ne_eqb, eq-eqb}
 use Rattle.std.proofs.lemmas.List.{length-append}
 use Rattle.circular_buffer.specs.Buffer.{Buffer, buffer}
-use Rattle.tl_beat.specs.Width.{IsWidth}
+use Rattle.tl_beat.specs.statement.Width.{IsWidth}
 use Rattle.tl_beat.specs.declared.beat.Beat.{Beat}
 use Rattle.tl_beat.specs.declared.beat.Link.{Link}
 use Rattle.tl_beat.specs.declared.channel.Channel.{Channel}
 use Rattle.tl_beat.specs.declared.channel.Channel.TheVariants as channel
 use Rattle.tl_burst.specs.declared.message.Message.{Message}
-use Rattle.tl_burst.specs.Burst.{beats_of}
-use Rattle.tl_burst.specs.Part.{is_empty}
+use Rattle.tl_burst.specs.statement.Burst.{beats_of}
+use Rattle.tl_burst.specs.statement.Part.{is_empty}
 use Rattle.tl_burst.proofs.Splitting.{beats-positive}
-use Rattle.tl_rules.specs.Legality.{beats_from}
-use Rattle.tl_manager.specs.Bit.{bit_if}
-use Rattle.tl_manager.specs.Handing.{Handed}
-use Rattle.tl_world.specs.Carrying.{number, place, channel_at, word_of, Carries, Fit, AreKept, AreMoved}
+use Rattle.tl_rules.specs.statement.Legality.{beats_from}
+use Rattle.tl_manager.specs.code.Bit.{bit_if}
+use Rattle.tl_manager.specs.statement.Handing.{Handed}
+use Rattle.tl_world.specs.code.Carrying.{number, place, channel_at, word_of, Carries, Fit, AreKept, AreMoved}
 use Rattle.tl_world.specs.declared.ring.Ring.{Ring}
 use Rattle.tl_world.specs.declared.rings.Rings.{Rings}
 use Rattle.tl_coherence.specs.statement.System.{System, same_channel, channel_of_message, with_channel, with_message, with_messages}

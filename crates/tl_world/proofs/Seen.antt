@@ -6,13 +6,13 @@ use Rattle.tl_beat.specs.declared.channel.Channel.{Channel}
 use Rattle.tl_params.specs.declared.config.Config.{Config}
 use Rattle.tl_params.specs.declared.perm.Perm.{Perm}
 use Rattle.tl_params.specs.declared.perm.Perm.TheVariants as perm
-use Rattle.tl_client.specs.End.{Terms, End, held_at}
+use Rattle.tl_client.specs.statement.End.{Terms, End, held_at}
 use Rattle.tl_world.specs.declared.contents.Contents.{Contents}
 use Rattle.tl_world.specs.declared.ring.Ring.{Ring}
-use Rattle.tl_world.specs.Carrying.{place}
-use Rattle.tl_world.specs.Holds.{clients_of}
+use Rattle.tl_world.specs.code.Carrying.{place}
+use Rattle.tl_world.specs.code.Holds.{clients_of}
 use Rattle.tl_coherence.specs.statement.Log.{Log, after}
-use Rattle.tl_world.specs.World.{IsReached, held_by, copy_by, deepest_by}
+use Rattle.tl_world.specs.statement.World.{IsReached, held_by, copy_by, deepest_by}
 use Rattle.tl_world.proofs.Queues.{number-below}
 use Rattle.tl_world.proofs.Stepping.{member}
 

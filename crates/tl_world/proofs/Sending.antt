@@ -4,8 +4,8 @@ use Rattle.std.proofs.lemmas.List.{length-append, append_assoc}
 use Rattle.circular_buffer.specs.Buffer.{Buffer, buffer, keep_last}
 use Rattle.tl_beat.specs.declared.beat.Beat.{Beat}
 use Rattle.tl_burst.specs.declared.message.Message.{Message}
-use Rattle.tl_burst.specs.Burst.{beats_of, beat_of}
-use Rattle.tl_rules.specs.Legality.{beats_from}
+use Rattle.tl_burst.specs.statement.Burst.{beats_of, beat_of}
+use Rattle.tl_rules.specs.statement.Legality.{beats_from}
 use Rattle.tl_coherence.proofs.queues.Beats.{beats_from-next, length-beats_from}
 
 -- a list that has room is kept whole

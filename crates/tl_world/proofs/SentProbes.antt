@@ -5,9 +5,9 @@ use Rattle.std.proofs.lemmas.List.{map-append}
 use Rattle.tl_beat.specs.declared.beat.Link.{Link}
 use Rattle.tl_burst.specs.declared.message.Message.{Message}
 use Rattle.tl_params.specs.declared.param.Cap.{Cap}
-use Rattle.tl_manager.specs.Handing.{Handed, probes, probe_of_block}
-use Rattle.tl_manager.specs.Holders.{clients_from}
-use Rattle.tl_world.specs.Carrying.{Carries, Fit, AreKept, AreMoved}
+use Rattle.tl_manager.specs.statement.Handing.{Handed, probes, probe_of_block}
+use Rattle.tl_manager.specs.statement.Holders.{clients_from}
+use Rattle.tl_world.specs.code.Carrying.{Carries, Fit, AreKept, AreMoved}
 use Rattle.tl_world.specs.declared.rings.Rings.{Rings}
 use Rattle.tl_coherence.specs.statement.System.{System, with_message, with_messages}
 use Rattle.tl_world.proofs.Queues.{moved-more}

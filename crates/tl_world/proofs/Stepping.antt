@@ -6,7 +6,7 @@ use Rattle.std.specs.Prelude.{not, ◌≢◌, Result, Ok, Err, slice_get, slice_
 use Rattle.tl_beat.specs.declared.beat.Beat.{Beat}
 use Rattle.tl_beat.specs.declared.beat.Link.{Link}
 use Rattle.tl_beat.specs.declared.channel.Channel.{Channel}
-use Rattle.tl_burst.specs.Part.{is_empty}
+use Rattle.tl_burst.specs.statement.Part.{is_empty}
 use Rattle.tl_burst.specs.declared.message.Message.{Message}
 use Rattle.tl_params.specs.declared.config.Config.{Config}
 use Rattle.tl_params.specs.declared.perm.Perm.{Perm}
@@ -14,17 +14,17 @@ use Rattle.tl_params.specs.declared.rule.Rule.{Rule}
 use Rattle.tl_client.specs.declared.operation.Op.{Op}
 use Rattle.tl_client.specs.declared.reply.Reply.{Reply}
 use Rattle.tl_client.specs.declared.verdict.Verdict.{Verdict}
-use Rattle.tl_client.specs.Ask.{asked}
-use Rattle.tl_client.specs.End.{Terms, End}
-use Rattle.tl_client.specs.Offer.{offered}
-use Rattle.tl_manager.specs.Bit.{bit_if}
-use Rattle.tl_manager.specs.Handing.{Handed}
-use Rattle.tl_manager.specs.Knows.{Knows}
-use Rattle.tl_manager.specs.End as manager_end
-use Rattle.tl_manager.specs.Offer as manager
-use Rattle.tl_world.specs.Called.{IsAsked, IsOffered}
-use Rattle.tl_world.specs.Carrying.{place, Carries, Fit, AreKept, Deepen, AreMoved}
-use Rattle.tl_world.specs.Holds.{clients_of, Holds, HasRoom, IsStepped, is_stay}
+use Rattle.tl_client.specs.statement.Ask.{asked}
+use Rattle.tl_client.specs.statement.End.{Terms, End}
+use Rattle.tl_client.specs.statement.Offer.{offered}
+use Rattle.tl_manager.specs.code.Bit.{bit_if}
+use Rattle.tl_manager.specs.statement.Handing.{Handed}
+use Rattle.tl_manager.specs.code.Knows.{Knows}
+use Rattle.tl_manager.specs.statement.End as manager_end
+use Rattle.tl_manager.specs.statement.Offer as manager
+use Rattle.tl_world.specs.code.Called.{IsAsked, IsOffered}
+use Rattle.tl_world.specs.code.Carrying.{place, Carries, Fit, AreKept, Deepen, AreMoved}
+use Rattle.tl_world.specs.code.Holds.{clients_of, Holds, HasRoom, IsStepped, is_stay}
 use Rattle.tl_coherence.specs.statement.Step.{Step, stepped, only, handing, handed_by, judged, outcome_of, manager_took, is_to_client, client_of}
 use Rattle.tl_coherence.specs.statement.System.{System, with_client, with_manager, with_channel, with_messages}
 use Rattle.tl_coherence.specs.declared.event.Event.{Event}

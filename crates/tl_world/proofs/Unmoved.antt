@@ -9,14 +9,14 @@ use Rattle.tl_params.specs.declared.config.Config.{Config}
 use Rattle.tl_params.specs.declared.rule.Rule.{Rule}
 use Rattle.tl_client.specs.declared.verdict.Verdict.{Verdict}
 use Rattle.tl_client.specs.declared.verdict.Verdict.TheVariants as verdict
-use Rattle.tl_client.specs.End.{Terms, End}
-use Rattle.tl_client.specs.Offer as offer
-use Rattle.tl_client.specs.Offer.{offered, is_stalled, silent, waits, broken_before, broken_later}
+use Rattle.tl_client.specs.statement.End.{Terms, End}
+use Rattle.tl_client.specs.statement.Offer as offer
+use Rattle.tl_client.specs.statement.Offer.{offered, is_stalled, silent, waits, broken_before, broken_later}
 use Rattle.tl_client.proofs.Stalls.{taken_now}
-use Rattle.tl_manager.specs.Handing.{Handed}
-use Rattle.tl_manager.specs.End as manager_end
-use Rattle.tl_manager.specs.Offer as manager
-use Rattle.tl_world.specs.Holds.{is_stay}
+use Rattle.tl_manager.specs.statement.Handing.{Handed}
+use Rattle.tl_manager.specs.statement.End as manager_end
+use Rattle.tl_manager.specs.statement.Offer as manager
+use Rattle.tl_world.specs.code.Holds.{is_stay}
 use Rattle.tl_coherence.specs.statement.Step.{only, handing, handed_by, judged, outcome_of, manager_took}
 use Rattle.tl_coherence.specs.statement.System.{System, with_client, with_manager, with_channel}
 use Rattle.tl_coherence.specs.declared.event.Outcome.TheVariants as outcome

@@ -1,6 +1,2 @@
-pub mod Agents
-pub mod Called
-pub mod Carrying
-pub mod Holds
-pub mod Opened
-pub mod World
+pub mod code
+pub mod statement

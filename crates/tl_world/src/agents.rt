@@ -1,10 +1,10 @@
 //! The clients of a configuration.
 
 ghost use Rattle.std.specs.Prelude.{◌≡◌, IfOk, IfErr, None};
-ghost use Rattle.tl_params.specs.Config.{config_fault};
-ghost use Rattle.tl_beat.specs.Width.{IsWidth};
-ghost use Rattle.tl_client.specs.KnowsAny.{KnowsAny, any_terms};
-ghost use Rattle.tl_world.specs.World.{AreReady, IsFault};
+ghost use Rattle.tl_params.specs.statement.Config.{config_fault};
+ghost use Rattle.tl_beat.specs.statement.Width.{IsWidth};
+ghost use Rattle.tl_client.specs.code.KnowsAny.{KnowsAny, any_terms};
+ghost use Rattle.tl_world.specs.statement.World.{AreReady, IsFault};
 
 use std::alloc::{AllocError, Global};
 use tl_client::any::AnyClient;

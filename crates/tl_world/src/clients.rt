@@ -1,11 +1,11 @@
 //! Calls on one of several clients.
 
 ghost use Rattle.std.specs.Prelude.{◌≡◌, ◌<◌, ◌≤◌, length, slice_index_or, true, None};
-ghost use Rattle.tl_client.specs.End;
-ghost use Rattle.tl_client.specs.End.{End};
-ghost use Rattle.tl_client.specs.Offer;
+ghost use Rattle.tl_client.specs.statement.End;
+ghost use Rattle.tl_client.specs.statement.End.{End};
+ghost use Rattle.tl_client.specs.statement.Offer;
 ghost use Rattle.tl_params.specs.declared.perm.Perm.TheVariants as perm;
-ghost use Rattle.tl_world.specs.Called.{IsAsked, IsOffered};
+ghost use Rattle.tl_world.specs.code.Called.{IsAsked, IsOffered};
 
 use tl_beat::beat::Beat;
 use tl_beat::channel::Channel;

@@ -1,9 +1,9 @@
 //! What a manager and its clients do at an event.
 
 ghost use Rattle.std.specs.Prelude.{◌≡◌, ◌<◌, length, true, false};
-ghost use Rattle.tl_beat.specs.Width.{IsWidth};
+ghost use Rattle.tl_beat.specs.statement.Width.{IsWidth};
 ghost use Rattle.tl_params.specs.declared.config.Config.{Config};
-ghost use Rattle.tl_world.specs.Holds.{Holds, HasRoom, IsStepped, clients_of, is_stay};
+ghost use Rattle.tl_world.specs.code.Holds.{Holds, HasRoom, IsStepped, clients_of, is_stay};
 ghost use Rattle.tl_coherence.specs.statement.Step;
 ghost use Rattle.tl_coherence.specs.statement.Step.{stepped};
 ghost use Rattle.tl_coherence.specs.statement.System.{System};

@@ -1,9 +1,9 @@
 //! The channels of a new world.
 
 ghost use Rattle.std.specs.Prelude.{◌≡◌, ◌*◌, ◌/◌, IfOk, length};
-ghost use Rattle.tl_beat.specs.Width.{IsWidth};
-ghost use Rattle.tl_world.specs.Carrying;
-ghost use Rattle.tl_world.specs.Carrying.{AreClear, AreFresh};
+ghost use Rattle.tl_beat.specs.statement.Width.{IsWidth};
+ghost use Rattle.tl_world.specs.code.Carrying;
+ghost use Rattle.tl_world.specs.code.Carrying.{AreClear, AreFresh};
 ghost use Rattle.tl_coherence.specs.statement.Delivery;
 
 use crate::occupied::Occupied;

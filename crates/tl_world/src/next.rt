@@ -1,9 +1,9 @@
 //! The delivery that is next.
 
 ghost use Rattle.std.specs.Prelude.{◌≡◌, ◌<◌, ◌∷◌, [], not};
-ghost use Rattle.tl_beat.specs.Width.{IsWidth};
+ghost use Rattle.tl_beat.specs.statement.Width.{IsWidth};
 ghost use Rattle.tl_params.specs.declared.config.Config.{Config};
-ghost use Rattle.tl_world.specs.Holds.{Holds, clients_of};
+ghost use Rattle.tl_world.specs.code.Holds.{Holds, clients_of};
 ghost use Rattle.tl_coherence.specs.statement.Movable;
 ghost use Rattle.tl_coherence.specs.statement.Movable.{is_movable};
 ghost use Rattle.tl_coherence.specs.statement.System.{System, terms_at};

@@ -3,8 +3,8 @@
 ghost use Rattle.std.specs.Prelude.{ℕ, ◌≡◌, ◌≢◌, ◌<◌, IfSome};
 ghost use Rattle.std.specs.Int.{bit_at};
 ghost use Rattle.tl_beat.specs.declared.channel.Channel.{Channel};
-ghost use Rattle.tl_manager.specs.Bit.{bit_if};
-ghost use Rattle.tl_world.specs.Carrying.{AreClear, place, word_of};
+ghost use Rattle.tl_manager.specs.code.Bit.{bit_if};
+ghost use Rattle.tl_world.specs.code.Carrying.{AreClear, place, word_of};
 
 use crate::place::number;
 use tl_beat::beat::Link;

@@ -1,9 +1,9 @@
 //! How many requests and Releases are outstanding.
 
 ghost use Rattle.std.specs.Prelude.{◌≡◌, ◌+◌, ◌*◌, ◌/◌, true, false};
-ghost use Rattle.tl_beat.specs.Width.{IsWidth};
+ghost use Rattle.tl_beat.specs.statement.Width.{IsWidth};
 ghost use Rattle.tl_coherence.specs.statement.Load;
-ghost use Rattle.tl_world.specs.Opened.{counted};
+ghost use Rattle.tl_world.specs.code.Opened.{counted};
 
 use tl_beat::beat::Beat;
 use tl_client::operation::Op;

@@ -1,7 +1,7 @@
 //! Where a channel stands among those of all links.
 
 ghost use Rattle.std.specs.Prelude.{◌≡◌};
-ghost use Rattle.tl_world.specs.Carrying;
+ghost use Rattle.tl_world.specs.code.Carrying;
 
 use tl_beat::beat::Link;
 use tl_beat::channel::Channel;

@@ -3,9 +3,9 @@
 ghost use Rattle.std.specs.Prelude.{◌≡◌, ◌==◌, ◌+◌, ◌++◌, ◌≤◌, ◌<◌, ◌^◌, length, drop, slice_get, IfOk, max, []};
 ghost use Rattle.std.specs.Option.{option_copied};
 ghost use Rattle.circular_buffer.specs.Buffer.{buffer};
-ghost use Rattle.tl_beat.specs.Width.{IsWidth};
-ghost use Rattle.tl_burst.specs.Burst;
-ghost use Rattle.tl_rules.specs.Legality.{beats_from};
+ghost use Rattle.tl_beat.specs.statement.Width.{IsWidth};
+ghost use Rattle.tl_burst.specs.statement.Burst;
+ghost use Rattle.tl_rules.specs.statement.Legality.{beats_from};
 
 use circular_buffer::HeapCircularBuffer;
 use std::alloc::{AllocError, Global};

@@ -3,10 +3,10 @@
 ghost use Rattle.std.specs.Prelude.{ℕ, ◌≡◌, ◌≢◌, ◌+◌, ◌*◌, ◌++◌, ◌∷◌, ◌≤◌, ◌<◌, List, length, drop, max, slice_get, slice_index_or};
 ghost use Rattle.std.specs.Option.{option_copied};
 ghost use Rattle.circular_buffer.specs.Buffer.{buffer};
-ghost use Rattle.tl_beat.specs.Width.{IsWidth};
+ghost use Rattle.tl_beat.specs.statement.Width.{IsWidth};
 ghost use Rattle.tl_beat.specs.declared.beat.Beat.{Beat};
-ghost use Rattle.tl_burst.specs.Burst;
-ghost use Rattle.tl_rules.specs.Legality.{beats_from};
+ghost use Rattle.tl_burst.specs.statement.Burst;
+ghost use Rattle.tl_rules.specs.statement.Legality.{beats_from};
 ghost use Rattle.tl_world.specs.declared.ring.Ring.{Ring};
 ghost use Rattle.tl_coherence.specs.statement.System.{channel_of_message};
 
@@ -65,10 +65,10 @@ pub struct Rings<const W: usize> {
 }
 
 impl<const W: usize> Rings<W> {
-    ghost use Rattle.tl_manager.specs.Sending.{messages_of};
+    ghost use Rattle.tl_manager.specs.code.Sending.{messages_of};
     ghost use Rattle.tl_manager.specs.declared.manager.reply.Sending.TheVariants.{Probes};
-    ghost use Rattle.tl_world.specs.Carrying;
-    ghost use Rattle.tl_world.specs.Carrying.{Carries, Fit, AreKept, AreMoved};
+    ghost use Rattle.tl_world.specs.code.Carrying;
+    ghost use Rattle.tl_world.specs.code.Carrying.{Carries, Fit, AreKept, AreMoved};
     ghost use Rattle.tl_coherence.specs.statement.Step.{handed_by};
     ghost use Rattle.tl_coherence.specs.statement.System.{System, with_channel, with_message, with_messages};
 

@@ -1,12 +1,12 @@
 //! A world of a manager and its clients.
 
 ghost use Rattle.std.specs.Prelude.{ℕ, [], ◌∷◌, ◌≡◌, ◌≤◌, ◌<◌, ◌+◌, length, slice_set, None};
-ghost use Rattle.tl_beat.specs.Width.{IsWidth};
+ghost use Rattle.tl_beat.specs.statement.Width.{IsWidth};
 ghost use Rattle.tl_params.specs.declared.config.Config.{Config};
 ghost use Rattle.tl_coherence.specs.statement.Load;
 ghost use Rattle.tl_coherence.specs.statement.Log.{Log, after, logged};
 ghost use Rattle.tl_coherence.specs.statement.Step.{stepped};
-ghost use Rattle.tl_world.specs.World.{IsReached, IsNewWorld, IsReplayed, AreReady, IsEmpty, held_by, copy_by, deepest_by};
+ghost use Rattle.tl_world.specs.statement.World.{IsReached, IsNewWorld, IsReplayed, AreReady, IsEmpty, held_by, copy_by, deepest_by};
 ghost use Rattle.tl_coherence.specs.statement.Movable;
 ghost use Rattle.tl_coherence.specs.statement.Movable.{drained};
 ghost use Rattle.tl_coherence.specs.statement.Draining.{IsDrained};
@@ -44,7 +44,7 @@ pub struct World<const W: usize, A: Agent<W>, D: Directory> {
 }
 
 impl<const W: usize, A: Agent<W>, D: Directory> Model for World<W, A, D> {
-    ghost use Rattle.tl_beat.specs.Width.{IsWidth};
+    ghost use Rattle.tl_beat.specs.statement.Width.{IsWidth};
     ghost use Rattle.tl_world.specs.declared.contents.Contents.{Contents};
 
     ghost Value = { Contents W A D };

@@ -2,7 +2,7 @@
 #![tactic(auto)]
 
 ghost use Rattle.std.specs.Prelude.{◌≡◌};
-ghost use Rattle.tl_tool.specs.Exit.{exit_status};
+ghost use Rattle.tl_tool.specs.statement.Exit.{exit_status};
 
 use std::process::ExitCode;
 use std::{env, fs, io};

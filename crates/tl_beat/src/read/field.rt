@@ -1,8 +1,8 @@
 //! Reading the fields of a line from left to right.
 
 ghost use Rattle.std.specs.Prelude.{◌≡◌, ◌≤◌, ◌<◌, ◌^◌, ◌*◌, ◌/◌, ℕ, [], IfOk, IfSome, Ok, ◌+◌, ◌++◌, length, take, drop};
-ghost use Rattle.tl_beat.specs.FromLeft.{digit_of, digit_at, digits_at, space_at, field_at, bit_of_byte, bit_field_at, pair_at, lanes_at, value_or_16, data_at, tail_at, Gives, GivesRest};
-ghost use Rattle.tl_beat.specs.Width.{IsWidth};
+ghost use Rattle.tl_beat.specs.code.FromLeft.{digit_of, digit_at, digits_at, space_at, field_at, bit_of_byte, bit_field_at, pair_at, lanes_at, value_or_16, data_at, tail_at, Gives, GivesRest};
+ghost use Rattle.tl_beat.specs.statement.Width.{IsWidth};
 
 use crate::fault::LineFault;
 use crate::lanes::eight_lanes;
@@ -268,7 +268,7 @@ fn data<const W: usize>(field: &[u8]) -> Result<Option<[u8; W]>, LineFault>
 }
 
 /// Data and the corrupt bit, the last two fields of a line.
-#[tactic(auto, unfolding(crate::specs::FromLeft::tail_at))]
+#[tactic(auto, unfolding(crate::specs::code::FromLeft::tail_at))]
 #[inline(always)]
 pub(crate) fn tail<const W: usize>(bytes: &[u8]) -> Result<(Option<[u8; W]>, bool), LineFault>
     requires { IsWidth W }

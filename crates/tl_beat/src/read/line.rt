@@ -1,9 +1,9 @@
 //! Reading the line of each channel.
 
 ghost use Rattle.std.specs.Prelude.{◌≡◌, ◌<◌, ◌/◌, ◌^◌, IfOk, IfSome, Ok, drop};
-ghost use Rattle.tl_beat.specs.FromLeft.{head_at, line_a_at, line_b_at, line_c_at, line_d_at, line_e_at, Gives};
-ghost use Rattle.tl_beat.specs.Reading.{made_a, made_b, made_c, made_d, at_most};
-ghost use Rattle.tl_beat.specs.Width.{IsWidth};
+ghost use Rattle.tl_beat.specs.code.FromLeft.{head_at, line_a_at, line_b_at, line_c_at, line_d_at, line_e_at, Gives};
+ghost use Rattle.tl_beat.specs.code.Reading.{made_a, made_b, made_c, made_d, at_most};
+ghost use Rattle.tl_beat.specs.statement.Width.{IsWidth};
 
 use crate::beat::{Beat, BeatA, BeatB, BeatC, BeatD, BeatE, Link};
 use crate::fault::LineFault;
@@ -74,7 +74,7 @@ fn spelled_head(bytes: &[u8]) -> Option<(Head, &[u8])>
 /// The first fields of a line, from left to right.
 #[cold]
 #[inline(never)]
-#[tactic(auto, unfolding(crate::specs::FromLeft::head_at))]
+#[tactic(auto, unfolding(crate::specs::code::FromLeft::head_at))]
 fn any_head(bytes: &[u8]) -> Result<(Head, &[u8]), LineFault>
     ensures { Gives result (head_at bytes.now) }
 {
@@ -219,7 +219,7 @@ fn beat_d<const W: usize>(
 }
 
 /// The line of a beat of channel A, without its line feed.
-#[tactic(auto, unfolding(crate::specs::FromLeft::line_a_at))]
+#[tactic(auto, unfolding(crate::specs::code::FromLeft::line_a_at))]
 #[inline(always)]
 pub(crate) fn line_a<const W: usize>(bytes: &[u8]) -> Result<(Link, Beat<W>), LineFault>
     requires { IsWidth W }
@@ -234,7 +234,7 @@ pub(crate) fn line_a<const W: usize>(bytes: &[u8]) -> Result<(Link, Beat<W>), Li
 }
 
 /// The line of a beat of channel B, without its line feed.
-#[tactic(auto, unfolding(crate::specs::FromLeft::line_b_at))]
+#[tactic(auto, unfolding(crate::specs::code::FromLeft::line_b_at))]
 #[inline(always)]
 pub(crate) fn line_b<const W: usize>(bytes: &[u8]) -> Result<(Link, Beat<W>), LineFault>
     requires { IsWidth W }
@@ -249,7 +249,7 @@ pub(crate) fn line_b<const W: usize>(bytes: &[u8]) -> Result<(Link, Beat<W>), Li
 }
 
 /// The line of a beat of channel C, without its line feed.
-#[tactic(auto, unfolding(crate::specs::FromLeft::line_c_at))]
+#[tactic(auto, unfolding(crate::specs::code::FromLeft::line_c_at))]
 #[inline(always)]
 pub(crate) fn line_c<const W: usize>(bytes: &[u8]) -> Result<(Link, Beat<W>), LineFault>
     requires { IsWidth W }
@@ -263,7 +263,7 @@ pub(crate) fn line_c<const W: usize>(bytes: &[u8]) -> Result<(Link, Beat<W>), Li
 }
 
 /// The line of a beat of channel D, without its line feed.
-#[tactic(auto, unfolding(crate::specs::FromLeft::line_d_at))]
+#[tactic(auto, unfolding(crate::specs::code::FromLeft::line_d_at))]
 #[inline(always)]
 pub(crate) fn line_d<const W: usize>(bytes: &[u8]) -> Result<(Link, Beat<W>), LineFault>
     requires { IsWidth W }
@@ -278,7 +278,7 @@ pub(crate) fn line_d<const W: usize>(bytes: &[u8]) -> Result<(Link, Beat<W>), Li
 }
 
 /// The line of a beat of channel E, without its line feed.
-#[tactic(auto, unfolding(crate::specs::FromLeft::line_e_at))]
+#[tactic(auto, unfolding(crate::specs::code::FromLeft::line_e_at))]
 #[inline(always)]
 pub(crate) fn line_e<const W: usize>(bytes: &[u8]) -> Result<(Link, Beat<W>), LineFault>
     ensures { result ≡ line_e_at bytes.now }

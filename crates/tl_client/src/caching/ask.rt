@@ -1,11 +1,11 @@
 //! What a caching client answers to an operation.
 
 ghost use Rattle.std.specs.Prelude.{◌≡◌, ◌<◌, ◌≤◌, ◌/◌, not, IsTrue, None};
-ghost use Rattle.tl_client.specs.Ask;
-ghost use Rattle.tl_client.specs.Ask.{breaks_b3};
-ghost use Rattle.tl_client.specs.Caching.{busy_by, bytes_in, free_in, load_reply, Does, Sends};
-ghost use Rattle.tl_client.specs.Requests.{start_with};
-ghost use Rattle.tl_rules.specs.Legality.{is_aligned};
+ghost use Rattle.tl_client.specs.statement.Ask;
+ghost use Rattle.tl_client.specs.statement.Ask.{breaks_b3};
+ghost use Rattle.tl_client.specs.code.Caching.{busy_by, bytes_in, free_in, load_reply, Does, Sends};
+ghost use Rattle.tl_client.specs.statement.Requests.{start_with};
+ghost use Rattle.tl_rules.specs.statement.Legality.{is_aligned};
 
 use super::Caching;
 use crate::busy::Busy;

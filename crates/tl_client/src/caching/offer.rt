@@ -1,16 +1,16 @@
 //! What a caching client judges of a beat.
 
 ghost use Rattle.std.specs.Prelude.{◌≡◌, false, None, Ok, OnOk};
-ghost use Rattle.tl_params.specs.Refusal.{ok_unless};
+ghost use Rattle.tl_params.specs.statement.Refusal.{ok_unless};
 ghost use Rattle.tl_beat.specs.declared.beat.BeatD.{BeatD};
-ghost use Rattle.tl_burst.specs.Messages.{breaks_burst};
-ghost use Rattle.tl_burst.specs.Part.{IsTakeable};
-ghost use Rattle.tl_client.specs.End.{End};
-ghost use Rattle.tl_client.specs.KnowsCaching.{KnowsCaching, terms_of};
-ghost use Rattle.tl_client.specs.Offer;
-ghost use Rattle.tl_client.specs.Takes.{IsJudged, Takes};
-ghost use Rattle.tl_rules.specs.Agent;
-ghost use Rattle.tl_rules.specs.Conformance;
+ghost use Rattle.tl_burst.specs.statement.Messages.{breaks_burst};
+ghost use Rattle.tl_burst.specs.statement.Part.{IsTakeable};
+ghost use Rattle.tl_client.specs.statement.End.{End};
+ghost use Rattle.tl_client.specs.code.KnowsCaching.{KnowsCaching, terms_of};
+ghost use Rattle.tl_client.specs.statement.Offer;
+ghost use Rattle.tl_client.specs.code.Takes.{IsJudged, Takes};
+ghost use Rattle.tl_rules.specs.statement.Agent;
+ghost use Rattle.tl_rules.specs.statement.Conformance;
 
 use super::Caching;
 use crate::order::{broken_in_order, check_alone};

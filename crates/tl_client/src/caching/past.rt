@@ -8,7 +8,7 @@ use tl_rules::past::{Past, Probe, Request};
 use tl_rules::perm::Perm;
 
 impl<const W: usize> Past<W> for Caching<W> {
-    ghost use Rattle.tl_client.specs.KnowsCaching.{KnowsPast};
+    ghost use Rattle.tl_client.specs.code.KnowsCaching.{KnowsPast};
 
     ghost knows = { λ c t. KnowsPast c t };
 

@@ -2,13 +2,13 @@
 
 ghost use Rattle.std.specs.Prelude.{◌≡◌, ◌<◌, ◌/◌, true, false};
 ghost use Rattle.tl_burst.specs.declared.message.Message.TheVariants as message;
-ghost use Rattle.tl_burst.specs.Messages.{breaks_burst};
-ghost use Rattle.tl_burst.specs.Part.{IsTakeable, completes};
-ghost use Rattle.tl_client.specs.KnowsCaching.{terms_of};
-ghost use Rattle.tl_client.specs.Offer;
-ghost use Rattle.tl_client.specs.Takes.{Probes, Grants, Finishes, GrantsInside, Goes, Ends, ack_after, granting_by};
-ghost use Rattle.tl_client.specs.Response.{in_message, in_beats};
-ghost use Rattle.tl_rules.specs.History.{is_grant};
+ghost use Rattle.tl_burst.specs.statement.Messages.{breaks_burst};
+ghost use Rattle.tl_burst.specs.statement.Part.{IsTakeable, completes};
+ghost use Rattle.tl_client.specs.code.KnowsCaching.{terms_of};
+ghost use Rattle.tl_client.specs.statement.Offer;
+ghost use Rattle.tl_client.specs.code.Takes.{Probes, Grants, Finishes, GrantsInside, Goes, Ends, ack_after, granting_by};
+ghost use Rattle.tl_client.specs.code.Response.{in_message, in_beats};
+ghost use Rattle.tl_rules.specs.statement.History.{is_grant};
 
 use super::{Caching, Granting};
 use crate::request::Request;

@@ -6,7 +6,7 @@ use tl_rules::past::{Past, Probe, Request};
 use tl_rules::perm::Perm;
 
 impl<const W: usize> Past<W> for Plain<W> {
-    ghost use Rattle.tl_client.specs.KnowsPlain.{KnowsPast};
+    ghost use Rattle.tl_client.specs.code.KnowsPlain.{KnowsPast};
 
     ghost knows = { λ p t. KnowsPast p t };
 

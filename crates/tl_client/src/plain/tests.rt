@@ -1,7 +1,7 @@
 ghost use Rattle.std.specs.Prelude.{false, is_some, ◌≡◌, ◌≤◌};
-ghost use Rattle.tl_beat.specs.Opcode.{d_carries_data};
-ghost use Rattle.tl_beat.specs.Width.{IsWidth};
-ghost use Rattle.tl_rules.specs.Legality.{has_transfers};
+ghost use Rattle.tl_beat.specs.statement.Opcode.{d_carries_data};
+ghost use Rattle.tl_beat.specs.statement.Width.{IsWidth};
+ghost use Rattle.tl_rules.specs.statement.Legality.{has_transfers};
 
 use super::*;
 use crate::verdict::Finish;

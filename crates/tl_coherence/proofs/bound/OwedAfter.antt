@@ -1,7 +1,7 @@
 -- What is owed in a world falls as the last beat of a message is taken.
 use Rattle.std.proofs.Common.{◌≡◌, ℕ, ◌+◌, ◌/◌, ◌<◌, ◌≤◌, Bool, true, false, List, ◌∷◌, refl, arith, ◌⊎◌}
 use Rattle.std.specs.Prelude.{Some, None, length}
-use Rattle.tl_beat.specs.Width.{IsWidth}
+use Rattle.tl_beat.specs.statement.Width.{IsWidth}
 use Rattle.tl_beat.specs.declared.channel.Channel.TheVariants as channel
 use Rattle.tl_beat.specs.declared.opcode.OpB.TheVariants as opb
 use Rattle.tl_burst.specs.declared.message.Message.{Message}
@@ -12,7 +12,7 @@ use Rattle.tl_params.specs.declared.param.Prune.{Prune}
 use Rattle.tl_params.specs.declared.param.Report.{Report}
 use Rattle.tl_params.specs.declared.perm.Perm.{Perm}
 use Rattle.tl_params.specs.declared.perm.Perm.TheVariants as perm
-use Rattle.tl_client.specs.Send.{probe_ack}
+use Rattle.tl_client.specs.statement.Send.{probe_ack}
 use Rattle.tl_coherence.specs.protocol.Invariant.{IsInvariant, is_replied}
 use Rattle.tl_coherence.specs.statement.Log.{Log, after}
 use Rattle.tl_coherence.specs.protocol.Phase.{Sent}

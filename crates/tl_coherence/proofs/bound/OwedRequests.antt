@@ -1,16 +1,16 @@
 -- What is owed in a world falls as the last beat of an access is taken.
 use Rattle.std.proofs.Common.{◌≡◌, ℕ, ◌+◌, ◌<◌, ◌≤◌, Bool, true, false, List, ◌∷◌, refl, sym, subst}
 use Rattle.std.specs.Prelude.{Option, Some, None, length}
-use Rattle.tl_beat.specs.Width.{IsWidth}
+use Rattle.tl_beat.specs.statement.Width.{IsWidth}
 use Rattle.tl_beat.specs.declared.channel.Channel.TheVariants as channel
 use Rattle.tl_burst.specs.declared.message.Message.{Message}
 use Rattle.tl_burst.specs.declared.message.Message.TheVariants as message
 use Rattle.tl_burst.specs.declared.message.MessageA.{MessageA}
 use Rattle.tl_params.specs.declared.config.Config.{Config}
 use Rattle.tl_params.specs.declared.param.Cap.{Cap}
-use Rattle.tl_rules.specs.Effect.{answer_of, effect}
-use Rattle.tl_rules.specs.History.{is_acquire, block_at}
-use Rattle.tl_manager.specs.Holders.{cap_probed}
+use Rattle.tl_rules.specs.statement.Effect.{answer_of, effect}
+use Rattle.tl_rules.specs.statement.History.{is_acquire, block_at}
+use Rattle.tl_manager.specs.statement.Holders.{cap_probed}
 use Rattle.tl_coherence.specs.refinement.Follow.{Shadow, kind_taken, request_taken, access_taken, probes_some, performs, answers, bytes_at}
 use Rattle.tl_coherence.specs.statement.Log.{Log, after}
 use Rattle.tl_coherence.specs.protocol.Protocol.{Free, Asked, Block, token}

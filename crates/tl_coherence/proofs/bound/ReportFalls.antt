@@ -9,8 +9,8 @@ use Rattle.tl_params.specs.declared.param.Cap.{Cap}
 use Rattle.tl_params.specs.declared.param.Report.{Report}
 use Rattle.tl_params.specs.declared.perm.Perm.{Perm}
 use Rattle.tl_params.specs.declared.perm.Perm.TheVariants as perm
-use Rattle.tl_params.specs.Param.{report_at}
-use Rattle.tl_rules.specs.Conformance.{same_perm}
+use Rattle.tl_params.specs.statement.Param.{report_at}
+use Rattle.tl_rules.specs.statement.Conformance.{same_perm}
 use Rattle.tl_coherence.specs.protocol.Invariant.{IsInvariant, serves_of, is_serving}
 use Rattle.tl_coherence.specs.refinement.Move.{Move}
 use Rattle.tl_coherence.specs.protocol.Phase.{Pair, Own, Granting, Probing, Quiet, Sent, Answered, is_quiet}

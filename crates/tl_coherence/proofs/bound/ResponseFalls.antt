@@ -10,8 +10,8 @@ use Rattle.tl_params.specs.declared.param.Prune.{Prune}
 use Rattle.tl_params.specs.declared.param.Prune.TheVariants as prune
 use Rattle.tl_params.specs.declared.perm.Perm.{Perm}
 use Rattle.tl_params.specs.declared.perm.Perm.TheVariants as perm
-use Rattle.tl_params.specs.Param.{prune_right}
-use Rattle.tl_rules.specs.Conformance.{same_perm}
+use Rattle.tl_params.specs.statement.Param.{prune_right}
+use Rattle.tl_rules.specs.statement.Conformance.{same_perm}
 use Rattle.tl_coherence.specs.protocol.Invariant.{IsInvariant, acquires_of, acquires_with}
 use Rattle.tl_coherence.specs.refinement.Move.{Move}
 use Rattle.tl_coherence.specs.protocol.Phase.{Pair, Granting, Acknowledging, GrantedOther, Probing, Quiet, Sent, Answered, Kept, Releasing, Acked}

@@ -14,18 +14,18 @@ use Rattle.tl_params.specs.declared.config.Config.{Config}
 use Rattle.tl_params.specs.declared.param.Cap.{Cap}
 use Rattle.tl_params.specs.declared.param.Report.{Report}
 use Rattle.tl_params.specs.declared.profile.Profile.{Profile}
-use Rattle.tl_rules.specs.Conformance.{answers}
-use Rattle.tl_rules.specs.Effect as memory
-use Rattle.tl_rules.specs.Effect.{Memory, effect, answer_of, as_payload, bytes_from, byte_count}
-use Rattle.tl_rules.specs.History.{block_at, is_acquire}
+use Rattle.tl_rules.specs.statement.Conformance.{answers}
+use Rattle.tl_rules.specs.statement.Effect as memory
+use Rattle.tl_rules.specs.statement.Effect.{Memory, effect, answer_of, as_payload, bytes_from, byte_count}
+use Rattle.tl_rules.specs.statement.History.{block_at, is_acquire}
 use Rattle.tl_client.specs.declared.operation.Op.{Op}
 use Rattle.tl_client.specs.declared.operation.Op.TheVariants as op
 use Rattle.tl_client.specs.declared.reply.Reply.{Reply}
 use Rattle.tl_client.specs.declared.reply.Reply.TheVariants as reply
-use Rattle.tl_client.specs.Send.{access}
-use Rattle.tl_manager.specs.Handing.{access_answer, no_payload}
-use Rattle.tl_manager.specs.Holders.{cap_probed}
-use Rattle.tl_manager.specs.Service.{is_access_answer}
+use Rattle.tl_client.specs.statement.Send.{access}
+use Rattle.tl_manager.specs.statement.Handing.{access_answer, no_payload}
+use Rattle.tl_manager.specs.statement.Holders.{cap_probed}
+use Rattle.tl_manager.specs.statement.Service.{is_access_answer}
 use Rattle.tl_coherence.specs.refinement.Follow as follow
 use Rattle.tl_coherence.specs.refinement.Follow.{Shadow, with_state, bytes_at, asked, probes_some, some_below, access_taken, request_taken, is_unheld, gift, acquire_taken}
 use Rattle.tl_coherence.specs.refinement.Follow.{granted_after, last_taken, ack_taken, taken_by_client, kind_taken}

@@ -11,20 +11,20 @@ use Rattle.tl_params.specs.declared.level.Level.{Level}
 use Rattle.tl_params.specs.declared.level.Level.TheVariants as level
 use Rattle.tl_params.specs.declared.perm.Perm.{Perm}
 use Rattle.tl_params.specs.declared.perm.Perm.TheVariants as perm
-use Rattle.tl_params.specs.Param.{grow_left, prune_left}
-use Rattle.tl_rules.specs.History.{block_at, pending}
-use Rattle.tl_rules.specs.Legality.{has_transfers}
-use Rattle.tl_rules.specs.Conformance.{same_perm}
+use Rattle.tl_params.specs.statement.Param.{grow_left, prune_left}
+use Rattle.tl_rules.specs.statement.History.{block_at, pending}
+use Rattle.tl_rules.specs.statement.Legality.{has_transfers}
+use Rattle.tl_rules.specs.statement.Conformance.{same_perm}
 use Rattle.tl_client.specs.declared.busy.Busy.{Busy}
 use Rattle.tl_client.specs.declared.operation.Op.{Op}
 use Rattle.tl_client.specs.declared.operation.Op.TheVariants as op
 use Rattle.tl_client.specs.declared.reply.Reply.TheVariants as reply
-use Rattle.tl_client.specs.Ask as ask
-use Rattle.tl_client.specs.Ask.{done, load, store, free_request, free_release, source_or_0}
-use Rattle.tl_client.specs.End.{Terms, End, held_at}
+use Rattle.tl_client.specs.statement.Ask as ask
+use Rattle.tl_client.specs.statement.Ask.{done, load, store, free_request, free_release, source_or_0}
+use Rattle.tl_client.specs.statement.End.{Terms, End, held_at}
 use Rattle.tl_client.proofs.Cases.{NotBusy, asked-cases}
 use Rattle.tl_client.proofs.Free.{least_free-some}
-use Rattle.tl_manager.specs.Offer.{level_of}
+use Rattle.tl_manager.specs.statement.Offer.{level_of}
 use Rattle.tl_coherence.specs.refinement.Follow.{Shadow}
 use Rattle.tl_coherence.specs.statement.Log.{Log}
 use Rattle.tl_coherence.specs.protocol.Phase.{Acquiring, Calm, Wants}

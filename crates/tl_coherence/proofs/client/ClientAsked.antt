@@ -2,7 +2,7 @@
 use Rattle.std.proofs.Common.{◌≡◌, subst, ℕ, Bool, true, false, not, ◌&&◌, cond, List, Option, Some, None, refl, sym, ◌∙◌, ap, ◌⊎◌, inl, inr}
 use Rattle.std.specs.Prelude.{◌==◌, ◌*◌, unwrap_or}
 use Rattle.std.proofs.lemmas.Bool.{cases_eq, eqb-true, ne_eqb, or_parts, not-false}
-use Rattle.tl_beat.specs.Width.{IsWidth}
+use Rattle.tl_beat.specs.statement.Width.{IsWidth}
 use Rattle.tl_beat.specs.declared.beat.BeatA.{BeatA}
 use Rattle.tl_beat.specs.declared.channel.Channel.TheVariants as channel
 use Rattle.tl_beat.specs.declared.opcode.OpA.TheVariants as a
@@ -11,27 +11,27 @@ use Rattle.tl_burst.specs.declared.message.Message.{Message}
 use Rattle.tl_burst.specs.declared.message.Message.TheVariants as message
 use Rattle.tl_burst.specs.declared.message.MessageA.{MessageA}
 use Rattle.tl_burst.specs.declared.message.MessageC.{MessageC}
-use Rattle.tl_burst.specs.Burst.{a_beat_of}
-use Rattle.tl_burst.specs.Messages.{unfinished}
+use Rattle.tl_burst.specs.statement.Burst.{a_beat_of}
+use Rattle.tl_burst.specs.statement.Messages.{unfinished}
 use Rattle.tl_params.specs.declared.key.Key.TheVariants.{AcquireOf, ReleaseOf}
 use Rattle.tl_params.specs.declared.param.Grow.{Grow}
 use Rattle.tl_params.specs.declared.param.Prune.{Prune}
 use Rattle.tl_params.specs.declared.param.Prune.TheVariants as prune
 use Rattle.tl_params.specs.declared.perm.Perm.{Perm}
 use Rattle.tl_params.specs.declared.perm.Perm.TheVariants as perm
-use Rattle.tl_params.specs.Param.{prune_code, prune_left, prune_right}
-use Rattle.tl_rules.specs.Agent.{sent}
-use Rattle.tl_rules.specs.History.{block_at, is_acquire, is_release, held, pending}
-use Rattle.tl_rules.specs.Conformance.{same_perm}
+use Rattle.tl_params.specs.statement.Param.{prune_code, prune_left, prune_right}
+use Rattle.tl_rules.specs.statement.Agent.{sent}
+use Rattle.tl_rules.specs.statement.History.{block_at, is_acquire, is_release, held, pending}
+use Rattle.tl_rules.specs.statement.Conformance.{same_perm}
 use Rattle.tl_client.specs.declared.busy.Busy.{Busy}
 use Rattle.tl_client.specs.declared.operation.Op.{Op}
 use Rattle.tl_client.specs.declared.operation.Op.TheVariants as op
 use Rattle.tl_client.specs.declared.reply.Reply.TheVariants as reply
-use Rattle.tl_client.specs.Ask as ask
-use Rattle.tl_client.specs.Ask.{done, only, load, store, copy_stored, whole_grow, free_request, free_release, source_or_0, is_access_of}
-use Rattle.tl_client.specs.End.{Terms, End, zeros, copy_at, held_at, with_copy, with_waiting, sending, kept_for}
-use Rattle.tl_client.specs.Kept.{holds}
-use Rattle.tl_client.specs.Send.{sourced, acquisition, about, release}
+use Rattle.tl_client.specs.statement.Ask as ask
+use Rattle.tl_client.specs.statement.Ask.{done, only, load, store, copy_stored, whole_grow, free_request, free_release, source_or_0, is_access_of}
+use Rattle.tl_client.specs.statement.End.{Terms, End, zeros, copy_at, held_at, with_copy, with_waiting, sending, kept_for}
+use Rattle.tl_client.specs.statement.Kept.{holds}
+use Rattle.tl_client.specs.statement.Send.{sourced, acquisition, about, release}
 use Rattle.tl_client.proofs.Accounted.{accounted-asked}
 use Rattle.tl_client.proofs.AfterAsked.{kept_copies, kept_closed}
 use Rattle.tl_client.proofs.KeptAsked.{kept_waiting, no_acquire, falls_to, kept-asked}

@@ -8,21 +8,21 @@ use Rattle.tl_beat.specs.declared.channel.Channel.TheVariants as channel
 use Rattle.tl_burst.specs.declared.message.Message.{Message}
 use Rattle.tl_burst.specs.declared.message.Message.TheVariants as message
 use Rattle.tl_burst.specs.declared.message.MessageA.{MessageA}
-use Rattle.tl_burst.specs.Burst.{a_beat_of}
-use Rattle.tl_burst.specs.Messages.{History, unfinished}
+use Rattle.tl_burst.specs.statement.Burst.{a_beat_of}
+use Rattle.tl_burst.specs.statement.Messages.{History, unfinished}
 use Rattle.tl_params.specs.declared.config.Config.{Config}
 use Rattle.tl_params.specs.declared.param.Grow.{Grow}
 use Rattle.tl_params.specs.declared.perm.Perm.TheVariants as perm
 use Rattle.tl_params.specs.declared.key.Key.TheVariants.{RequestSource, AcquireOf, ReleaseOf}
-use Rattle.tl_rules.specs.History.{is_grant, asks_for, held, pending, request_of}
-use Rattle.tl_rules.specs.Conformance.{same_perm}
-use Rattle.tl_client.specs.Accounted as accounted
-use Rattle.tl_client.specs.Accounted.{IsAccounted}
-use Rattle.tl_client.specs.End.{End}
-use Rattle.tl_client.specs.Kept as client
-use Rattle.tl_client.specs.Kept.{IsGranting, is_acquire_beat}
-use Rattle.tl_client.specs.Requests.{open_beat}
-use Rattle.tl_client.specs.Send.{acquisition}
+use Rattle.tl_rules.specs.statement.History.{is_grant, asks_for, held, pending, request_of}
+use Rattle.tl_rules.specs.statement.Conformance.{same_perm}
+use Rattle.tl_client.specs.laws.Accounted as accounted
+use Rattle.tl_client.specs.laws.Accounted.{IsAccounted}
+use Rattle.tl_client.specs.statement.End.{End}
+use Rattle.tl_client.specs.statement.Kept as client
+use Rattle.tl_client.specs.statement.Kept.{IsGranting, is_acquire_beat}
+use Rattle.tl_client.specs.statement.Requests.{open_beat}
+use Rattle.tl_client.specs.statement.Send.{acquisition}
 use Rattle.tl_coherence.specs.refinement.Follow.{acquire_opcode}
 use Rattle.tl_coherence.specs.refinement.Known.{comes_granting, IsKnown}
 use Rattle.tl_coherence.specs.statement.Log.{Log}

@@ -2,7 +2,7 @@
 use Rattle.std.proofs.Common.{◌≡◌, ℕ, Bool, true, false, not, ◌&&◌, cond, List, [], ◌∷◌, Option, Some, None, refl, sym, ◌∙◌, ap}
 use Rattle.std.proofs.lemmas.Option.{same_Some}
 use Rattle.std.specs.Prelude.{◌==◌, is_some, option_map}
-use Rattle.tl_beat.specs.Width.{IsWidth}
+use Rattle.tl_beat.specs.statement.Width.{IsWidth}
 use Rattle.tl_beat.specs.declared.beat.Beat.TheVariants as beat
 use Rattle.tl_beat.specs.declared.beat.BeatA.{BeatA}
 use Rattle.tl_beat.specs.declared.beat.BeatC.{BeatC}
@@ -10,16 +10,16 @@ use Rattle.tl_beat.specs.declared.beat.BeatD.{BeatD}
 use Rattle.tl_beat.specs.declared.channel.Channel.TheVariants as channel
 use Rattle.tl_burst.specs.declared.message.Message.TheVariants.{E}
 use Rattle.tl_burst.specs.declared.message.MessageE.{MessageE}
-use Rattle.tl_burst.specs.Messages.{History, unfinished}
+use Rattle.tl_burst.specs.statement.Messages.{History, unfinished}
 use Rattle.tl_burst.proofs.Splitting.{beats-positive}
 use Rattle.tl_params.specs.declared.key.Key.TheVariants.{RequestSource, ReleaseSource, AcquireOf, ReleaseOf}
 use Rattle.tl_params.specs.declared.perm.Perm.{Perm}
-use Rattle.tl_rules.specs.Agent.{sent}
-use Rattle.tl_rules.specs.History.{block_at, ends, grants, releases, capped, is_grant, is_release_ack, held, pending, request_of, release_of}
+use Rattle.tl_rules.specs.statement.Agent.{sent}
+use Rattle.tl_rules.specs.statement.History.{block_at, ends, grants, releases, capped, is_grant, is_release_ack, held, pending, request_of, release_of}
 use Rattle.tl_rules.proofs.Handed.{held-whole, pending-whole, release_of-whole}
 use Rattle.tl_rules.proofs.Sent.{pending-closed}
-use Rattle.tl_client.specs.End.{End}
-use Rattle.tl_client.specs.Requests.{open_beat}
+use Rattle.tl_client.specs.statement.End.{End}
+use Rattle.tl_client.specs.statement.Requests.{open_beat}
 use Rattle.tl_client.proofs.AccountedResponse.{release_of-d}
 use Rattle.tl_client.proofs.HeldAfter.{held-beat_d}
 use Rattle.tl_client.proofs.Opens.{acquire_of-d, open_beat-d, open_beat-e, unfinished-d}

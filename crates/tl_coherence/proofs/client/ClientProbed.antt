@@ -2,21 +2,21 @@
 use Rattle.std.proofs.Common.{◌≡◌, subst, ℕ, Bool, true, false, not, ◌&&◌, cond, List, ◌∷◌, Some, None, refl, sym, ◌∙◌, ap, inl}
 use Rattle.std.specs.Prelude.{◌==◌}
 use Rattle.std.proofs.lemmas.Bool.{eqb-true}
-use Rattle.tl_beat.specs.Width.{IsWidth}
+use Rattle.tl_beat.specs.statement.Width.{IsWidth}
 use Rattle.tl_beat.specs.declared.beat.Beat.{Beat}
 use Rattle.tl_beat.specs.declared.beat.Beat.TheVariants as beat
 use Rattle.tl_beat.specs.declared.channel.Channel.TheVariants as channel
 use Rattle.tl_beat.specs.declared.opcode.OpB.TheVariants as opb
-use Rattle.tl_burst.specs.Messages.{unfinished}
+use Rattle.tl_burst.specs.statement.Messages.{unfinished}
 use Rattle.tl_params.specs.declared.param.Cap.{Cap}
 use Rattle.tl_params.specs.declared.perm.Perm.{Perm}
 use Rattle.tl_params.specs.declared.perm.Perm.TheVariants as perm
-use Rattle.tl_params.specs.Param.{report_at, report_right}
-use Rattle.tl_rules.specs.Conformance.{same_perm}
-use Rattle.tl_client.specs.End.{End, copy_at, held_at, sending, with_past}
-use Rattle.tl_client.specs.Kept.{holds}
-use Rattle.tl_client.specs.Offer.{probed, report_for}
-use Rattle.tl_client.specs.Send.{probe_ack}
+use Rattle.tl_params.specs.statement.Param.{report_at, report_right}
+use Rattle.tl_rules.specs.statement.Conformance.{same_perm}
+use Rattle.tl_client.specs.statement.End.{End, copy_at, held_at, sending, with_past}
+use Rattle.tl_client.specs.statement.Kept.{holds}
+use Rattle.tl_client.specs.statement.Offer.{probed, report_for}
+use Rattle.tl_client.specs.statement.Send.{probe_ack}
 use Rattle.tl_client.proofs.AfterAsked.{kept_copies, kept_closed}
 use Rattle.tl_client.proofs.KeptAsked.{kept_waiting}
 use Rattle.tl_client.proofs.KeptOffered.{reports_held}

@@ -1,23 +1,23 @@
 -- A client's end after it has handed a request or a Release out: what it knows is what the protocol says then.
 use Rattle.std.proofs.Common.{◌≡◌, ℕ, Bool, true, false, not, cond, List, [], Option, Some, refl, sym, ◌∙◌, ap}
 use Rattle.std.specs.Prelude.{◌==◌, ◌&&◌, is_some, option_map}
-use Rattle.tl_beat.specs.Width.{IsWidth}
+use Rattle.tl_beat.specs.statement.Width.{IsWidth}
 use Rattle.tl_beat.specs.declared.beat.BeatA.{BeatA}
 use Rattle.tl_beat.specs.declared.beat.BeatC.{BeatC}
 use Rattle.tl_beat.specs.declared.channel.Channel.TheVariants as channel
 use Rattle.tl_burst.specs.declared.message.Message.TheVariants.{A, C}
 use Rattle.tl_burst.specs.declared.message.MessageA.{MessageA}
 use Rattle.tl_burst.specs.declared.message.MessageC.{MessageC}
-use Rattle.tl_burst.specs.Burst.{a_beat_of, c_beat_of}
-use Rattle.tl_burst.specs.Messages.{History, unfinished}
+use Rattle.tl_burst.specs.statement.Burst.{a_beat_of, c_beat_of}
+use Rattle.tl_burst.specs.statement.Messages.{History, unfinished}
 use Rattle.tl_burst.proofs.Splitting.{beats-positive}
 use Rattle.tl_params.specs.declared.key.Key.TheVariants.{RequestSource, ReleaseSource, AcquireOf, ReleaseOf}
 use Rattle.tl_params.specs.declared.perm.Perm.{Perm}
-use Rattle.tl_rules.specs.Agent.{sent}
-use Rattle.tl_rules.specs.History.{block_at, is_acquire, is_release, held, pending, release_of}
+use Rattle.tl_rules.specs.statement.Agent.{sent}
+use Rattle.tl_rules.specs.statement.History.{block_at, is_acquire, is_release, held, pending, release_of}
 use Rattle.tl_rules.proofs.Handed.{held-whole, pending-whole, release_of-whole}
-use Rattle.tl_client.specs.End.{End}
-use Rattle.tl_client.specs.Requests.{open_beat}
+use Rattle.tl_client.specs.statement.End.{End}
+use Rattle.tl_client.specs.statement.Requests.{open_beat}
 use Rattle.tl_client.proofs.Opens.{open_beat-a, open_beat-c}
 use Rattle.tl_coherence.specs.refinement.Known.{IsKnown}
 use Rattle.tl_coherence.specs.protocol.Phase.{is_kept}

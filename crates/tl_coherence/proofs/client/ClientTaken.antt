@@ -3,32 +3,32 @@ use Rattle.std.proofs.Common.{◌≡◌, subst, ℕ, Bool, true, false, not, ◌
 use Rattle.std.specs.Prelude.{◌==◌, ◌*◌}
 use Rattle.std.proofs.lemmas.Bool.{cases_eq, eqb-true, ne_eqb}
 use Rattle.std.proofs.Math.Bool.{and-false}
-use Rattle.tl_beat.specs.Width.{IsWidth}
+use Rattle.tl_beat.specs.statement.Width.{IsWidth}
 use Rattle.tl_beat.specs.declared.beat.Beat.TheVariants as beat
 use Rattle.tl_beat.specs.declared.beat.BeatA.{BeatA}
 use Rattle.tl_beat.specs.declared.beat.BeatD.{BeatD}
 use Rattle.tl_beat.specs.declared.opcode.OpD.{OpD}
 use Rattle.tl_burst.specs.declared.message.Message.TheVariants.{E}
-use Rattle.tl_burst.specs.Burst.{a_beat_of}
-use Rattle.tl_burst.specs.Messages.{History}
+use Rattle.tl_burst.specs.statement.Burst.{a_beat_of}
+use Rattle.tl_burst.specs.statement.Messages.{History}
 use Rattle.tl_params.specs.declared.param.Cap.{Cap}
 use Rattle.tl_params.specs.declared.param.Grow.{Grow}
 use Rattle.tl_params.specs.declared.perm.Perm.{Perm}
 use Rattle.tl_params.specs.declared.perm.Perm.TheVariants as perm
-use Rattle.tl_params.specs.Param.{cap_code, cap_right}
-use Rattle.tl_rules.specs.Agent.{sent}
-use Rattle.tl_rules.specs.History.{block_at, ends, capped, is_grant, is_release_ack, request_of}
-use Rattle.tl_rules.specs.Conformance.{same_perm}
-use Rattle.tl_client.specs.After.{copy_granted, waiting_granted}
+use Rattle.tl_params.specs.statement.Param.{cap_code, cap_right}
+use Rattle.tl_rules.specs.statement.Agent.{sent}
+use Rattle.tl_rules.specs.statement.History.{block_at, ends, capped, is_grant, is_release_ack, request_of}
+use Rattle.tl_rules.specs.statement.Conformance.{same_perm}
+use Rattle.tl_client.specs.laws.After.{copy_granted, waiting_granted}
 use Rattle.tl_client.specs.declared.verdict.Finish.{Finish}
-use Rattle.tl_client.specs.End.{End, with_past, sending}
-use Rattle.tl_client.specs.Kept.{is_acquire_beat, is_acquire_perm}
-use Rattle.tl_client.specs.Offer.{address_asked, finish_of, granted, ended, responded}
-use Rattle.tl_client.specs.Requests.{open_beat}
-use Rattle.tl_client.specs.Send.{acquisition, grant_ack}
+use Rattle.tl_client.specs.statement.End.{End, with_past, sending}
+use Rattle.tl_client.specs.statement.Kept.{is_acquire_beat, is_acquire_perm}
+use Rattle.tl_client.specs.statement.Offer.{address_asked, finish_of, granted, ended, responded}
+use Rattle.tl_client.specs.statement.Requests.{open_beat}
+use Rattle.tl_client.specs.statement.Send.{acquisition, grant_ack}
 use Rattle.tl_client.proofs.AfterOffered.{granted_is}
 use Rattle.tl_client.proofs.HeldAfter.{same_block, swapped}
-use Rattle.tl_manager.specs.Handing.{grant_opcode}
+use Rattle.tl_manager.specs.statement.Handing.{grant_opcode}
 use Rattle.tl_manager.proofs.Recording.{cap-gives}
 use Rattle.tl_coherence.specs.refinement.Follow.{acquire_opcode}
 use Rattle.tl_coherence.specs.protocol.Phase.{Pair, Wants, is_kept}

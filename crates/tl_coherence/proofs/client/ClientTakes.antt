@@ -10,8 +10,8 @@ use Rattle.tl_burst.specs.declared.message.Message.{Message}
 use Rattle.tl_burst.specs.declared.message.Message.TheVariants as message
 use Rattle.tl_burst.specs.declared.message.MessageA.{MessageA}
 use Rattle.tl_burst.specs.declared.message.MessageD.{MessageD}
-use Rattle.tl_burst.specs.Burst.{a_beat_of, d_beat_of, beat_of, begun}
-use Rattle.tl_burst.specs.Messages.{History, unfinished}
+use Rattle.tl_burst.specs.statement.Burst.{a_beat_of, d_beat_of, beat_of, begun}
+use Rattle.tl_burst.specs.statement.Messages.{History, unfinished}
 use Rattle.tl_params.specs.declared.config.Config.{Config}
 use Rattle.tl_params.specs.declared.config.ClientConfig.{ClientConfig}
 use Rattle.tl_params.specs.declared.key.Key.TheVariants.{RequestSource}
@@ -24,21 +24,21 @@ use Rattle.tl_params.specs.declared.perm.Perm.{Perm}
 use Rattle.tl_params.specs.declared.perm.Perm.TheVariants as perm
 use Rattle.tl_params.specs.declared.profile.Profile.{Profile}
 use Rattle.tl_params.specs.declared.profile.Profile.TheVariants as profile
-use Rattle.tl_params.specs.Param.{cap_code, grow_code}
-use Rattle.tl_rules.specs.Agent.{is_outside}
-use Rattle.tl_rules.specs.Conformance as rules
-use Rattle.tl_rules.specs.Conformance.{answers, fits_grow, is_acquire_block, is_grant_without_data, broken_in_order, same_perm}
-use Rattle.tl_rules.specs.History.{held, pending, request_of}
-use Rattle.tl_rules.specs.Legality.{illegal}
+use Rattle.tl_params.specs.statement.Param.{cap_code, grow_code}
+use Rattle.tl_rules.specs.statement.Agent.{is_outside}
+use Rattle.tl_rules.specs.statement.Conformance as rules
+use Rattle.tl_rules.specs.statement.Conformance.{answers, fits_grow, is_acquire_block, is_grant_without_data, broken_in_order, same_perm}
+use Rattle.tl_rules.specs.statement.History.{held, pending, request_of}
+use Rattle.tl_rules.specs.statement.Legality.{illegal}
 use Rattle.tl_rules.proofs.Later.{later-legal}
-use Rattle.tl_client.specs.End.{Terms, End}
-use Rattle.tl_client.specs.Offer.{offered, taken, waits}
-use Rattle.tl_client.specs.Requests.{open_beat}
-use Rattle.tl_client.specs.Send.{acquisition}
+use Rattle.tl_client.specs.statement.End.{Terms, End}
+use Rattle.tl_client.specs.statement.Offer.{offered, taken, waits}
+use Rattle.tl_client.specs.statement.Requests.{open_beat}
+use Rattle.tl_client.specs.statement.Send.{acquisition}
 use Rattle.tl_client.proofs.HeldAfter.{same_block}
-use Rattle.tl_manager.specs.Handing.{grant_opcode, release_ack}
-use Rattle.tl_manager.specs.Kept as manager
-use Rattle.tl_manager.specs.Offer.{level_of}
+use Rattle.tl_manager.specs.statement.Handing.{grant_opcode, release_ack}
+use Rattle.tl_manager.specs.code.Kept as manager
+use Rattle.tl_manager.specs.statement.Offer.{level_of}
 use Rattle.tl_coherence.specs.refinement.Follow.{acquire_opcode}
 use Rattle.tl_coherence.specs.statement.Log.{Log}
 use Rattle.tl_coherence.specs.protocol.Phase.{Wants, cap_fits, grant_fits}

@@ -7,16 +7,16 @@ use Rattle.tl_beat.specs.declared.channel.Channel.TheVariants as channel
 use Rattle.tl_beat.specs.declared.opcode.OpD.{OpD}
 use Rattle.tl_beat.specs.declared.opcode.OpD.TheVariants as d
 use Rattle.tl_burst.specs.declared.message.Message.{Message}
-use Rattle.tl_burst.specs.Messages.{unfinished}
+use Rattle.tl_burst.specs.statement.Messages.{unfinished}
 use Rattle.tl_params.specs.declared.rule.Rule.{Rule}
-use Rattle.tl_rules.specs.Agent.{payload_of}
-use Rattle.tl_rules.specs.History.{ends, is_grant, is_release_ack, request_of}
+use Rattle.tl_rules.specs.statement.Agent.{payload_of}
+use Rattle.tl_rules.specs.statement.History.{ends, is_grant, is_release_ack, request_of}
 use Rattle.tl_client.specs.declared.verdict.Finish.{Finish}
 use Rattle.tl_client.specs.declared.verdict.Verdict.{Verdict}
 use Rattle.tl_client.specs.declared.verdict.Verdict.TheVariants as verdict
-use Rattle.tl_client.specs.End.{End, with_past}
-use Rattle.tl_client.specs.Offer.{taken, ended, responded, silent, finish_of, address_asked}
-use Rattle.tl_client.specs.Send.{grant_ack}
+use Rattle.tl_client.specs.statement.End.{End, with_past}
+use Rattle.tl_client.specs.statement.Offer.{taken, ended, responded, silent, finish_of, address_asked}
+use Rattle.tl_client.specs.statement.Send.{grant_ack}
 use Rattle.tl_coherence.specs.statement.Machine.{Requests, Releases, pool_of}
 
 -- how the operation ends, and the message that is handed out

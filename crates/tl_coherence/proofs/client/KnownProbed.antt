@@ -2,7 +2,7 @@
 use Rattle.std.proofs.Common.{◌≡◌, ℕ, Bool, true, false, not, cond, List, [], ◌∷◌, Option, None, refl, sym, ◌∙◌, ap, ◌⊎◌, inl, inr}
 use Rattle.std.specs.Prelude.{◌==◌, if◌then◌else◌, nat_le, option_map}
 use Rattle.std.proofs.lemmas.Bool.{cases_eq, ne_eqb}
-use Rattle.tl_beat.specs.Width.{IsWidth}
+use Rattle.tl_beat.specs.statement.Width.{IsWidth}
 use Rattle.tl_beat.specs.declared.beat.Beat.{Beat}
 use Rattle.tl_beat.specs.declared.beat.Beat.TheVariants as beat
 use Rattle.tl_beat.specs.declared.beat.BeatA.{BeatA}
@@ -12,8 +12,8 @@ use Rattle.tl_beat.specs.declared.opcode.OpB.TheVariants as b
 use Rattle.tl_beat.specs.declared.opcode.OpC.TheVariants as c
 use Rattle.tl_burst.specs.declared.message.Message.TheVariants as message
 use Rattle.tl_burst.specs.declared.message.MessageC.{MessageC}
-use Rattle.tl_burst.specs.Burst.{beat_of}
-use Rattle.tl_burst.specs.Messages.{History, unfinished}
+use Rattle.tl_burst.specs.statement.Burst.{beat_of}
+use Rattle.tl_burst.specs.statement.Messages.{History, unfinished}
 use Rattle.tl_burst.proofs.Splitting.{beats-positive}
 use Rattle.tl_params.specs.declared.key.Key.{Key}
 use Rattle.tl_params.specs.declared.key.Key.TheVariants as key
@@ -23,16 +23,16 @@ use Rattle.tl_params.specs.declared.rule.Rule.{Rule}
 use Rattle.tl_params.specs.declared.param.Report.{Report}
 use Rattle.tl_params.specs.declared.perm.Perm.{Perm}
 use Rattle.tl_params.specs.declared.perm.Perm.TheVariants as perm
-use Rattle.tl_params.specs.Param.{report_at, report_code, report_right}
-use Rattle.tl_rules.specs.Agent.{sent, is_outside}
-use Rattle.tl_rules.specs.Conformance.{broken_order, broken_in_order}
-use Rattle.tl_rules.specs.History.{block_at, opens, closes, held, pending, is_release, is_probe_ack, release_of}
-use Rattle.tl_rules.specs.Legality.{illegal}
+use Rattle.tl_params.specs.statement.Param.{report_at, report_code, report_right}
+use Rattle.tl_rules.specs.statement.Agent.{sent, is_outside}
+use Rattle.tl_rules.specs.statement.Conformance.{broken_order, broken_in_order}
+use Rattle.tl_rules.specs.statement.History.{block_at, opens, closes, held, pending, is_release, is_probe_ack, release_of}
+use Rattle.tl_rules.specs.statement.Legality.{illegal}
 use Rattle.tl_rules.proofs.Sent.{unfinished-sent_other, pending-quiet, held_unsaid}
-use Rattle.tl_client.specs.End.{Terms, End, zeros, copy_at, held_at, with_past, sending}
-use Rattle.tl_client.specs.Offer.{silent, offered, broken_before, broken_later, waits, judged, judged_later, taken, probed, report_for}
+use Rattle.tl_client.specs.statement.End.{Terms, End, zeros, copy_at, held_at, with_past, sending}
+use Rattle.tl_client.specs.statement.Offer.{silent, offered, broken_before, broken_later, waits, judged, judged_later, taken, probed, report_for}
 use Rattle.tl_client.specs.declared.verdict.Verdict.TheVariants as verdict
-use Rattle.tl_client.specs.Send.{about, probe_ack}
+use Rattle.tl_client.specs.statement.Send.{about, probe_ack}
 use Rattle.tl_client.proofs.HeldAfter.{held-probe_ack, kept_past, same_block, still_whole}
 use Rattle.tl_client.proofs.Opens.{open_beat-b, open_beat-c}
 use Rattle.tl_coherence.specs.protocol.Phase.{Pair, is_kept}

@@ -3,7 +3,7 @@
 use Rattle.std.proofs.Common.{◌≡◌, subst, ℕ, zero, suc, ◌<◌, Bool, true, false, not, ◌&&◌, cond, List, [], ◌∷◌, Option, Some, None, refl, sym, ◌∙◌, ap, arith}
 use Rattle.std.specs.Prelude.{◌==◌, map, nat_le}
 use Rattle.std.proofs.lemmas.Bool.{eqb-true, and_right}
-use Rattle.tl_beat.specs.Width.{IsWidth}
+use Rattle.tl_beat.specs.statement.Width.{IsWidth}
 use Rattle.tl_beat.specs.declared.beat.Beat.{Beat}
 use Rattle.tl_beat.specs.declared.beat.Beat.TheVariants as beat
 use Rattle.tl_beat.specs.declared.beat.BeatA.{BeatA}
@@ -13,27 +13,27 @@ use Rattle.tl_burst.specs.declared.message.Message.{Message}
 use Rattle.tl_burst.specs.declared.message.Message.TheVariants as message
 use Rattle.tl_burst.specs.declared.message.MessageA.{MessageA}
 use Rattle.tl_burst.specs.declared.message.MessageD.{MessageD}
-use Rattle.tl_burst.specs.Burst.{beat_of, beats_of, begun}
-use Rattle.tl_burst.specs.Messages.{unfinished}
-use Rattle.tl_burst.specs.Part.{completes}
+use Rattle.tl_burst.specs.statement.Burst.{beat_of, beats_of, begun}
+use Rattle.tl_burst.specs.statement.Messages.{unfinished}
+use Rattle.tl_burst.specs.statement.Part.{completes}
 use Rattle.tl_params.specs.declared.config.Config.{Config}
 use Rattle.tl_params.specs.declared.key.Key.TheVariants.{ReleaseOf}
 use Rattle.tl_params.specs.declared.level.Level.{Level}
 use Rattle.tl_params.specs.declared.param.Cap.{Cap}
 use Rattle.tl_params.specs.declared.rule.Rule.{Rule}
-use Rattle.tl_rules.specs.Agent.{is_outside}
-use Rattle.tl_rules.specs.History.{is_grant, asks_for, pending}
-use Rattle.tl_rules.specs.Legality.{illegal}
+use Rattle.tl_rules.specs.statement.Agent.{is_outside}
+use Rattle.tl_rules.specs.statement.History.{is_grant, asks_for, pending}
+use Rattle.tl_rules.specs.statement.Legality.{illegal}
 use Rattle.tl_client.specs.declared.verdict.Verdict.TheVariants as verdict
-use Rattle.tl_client.specs.End.{Terms, End, held_at}
-use Rattle.tl_client.specs.Offer.{Offered, offered, taken, probed, silent, judged, judged_later, waits, broken_before, broken_later}
+use Rattle.tl_client.specs.statement.End.{Terms, End, held_at}
+use Rattle.tl_client.specs.statement.Offer.{Offered, offered, taken, probed, silent, judged, judged_later, waits, broken_before, broken_later}
 use Rattle.tl_client.proofs.Accounted.{accounted-offered}
 use Rattle.tl_client.proofs.Cases.{passes_before}
 use Rattle.tl_client.proofs.HeldAfter.{same_block}
 use Rattle.tl_client.proofs.KeptOffered.{kept-offered}
-use Rattle.tl_manager.specs.Handing.{probe_of_block, grant_opcode}
-use Rattle.tl_manager.specs.Kept as manager
-use Rattle.tl_manager.specs.Offer.{level_of}
+use Rattle.tl_manager.specs.statement.Handing.{probe_of_block, grant_opcode}
+use Rattle.tl_manager.specs.code.Kept as manager
+use Rattle.tl_manager.specs.statement.Offer.{level_of}
 use Rattle.tl_coherence.specs.refinement.Carried.{IsCarried}
 use Rattle.tl_coherence.specs.refinement.Follow.{Shadow, token_taken, kind_taken}
 use Rattle.tl_coherence.specs.protocol.Invariant.{IsInvariant}

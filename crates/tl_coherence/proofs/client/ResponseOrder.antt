@@ -10,15 +10,15 @@ use Rattle.tl_beat.specs.declared.beat.BeatD.{BeatD}
 use Rattle.tl_beat.specs.declared.channel.Channel.TheVariants as channel
 use Rattle.tl_beat.specs.declared.opcode.OpD.{OpD}
 use Rattle.tl_beat.specs.declared.opcode.OpD.TheVariants as opd
-use Rattle.tl_beat.specs.First.{first_if}
-use Rattle.tl_burst.specs.Messages.{History, unfinished}
+use Rattle.tl_beat.specs.statement.First.{first_if}
+use Rattle.tl_burst.specs.statement.Messages.{History, unfinished}
 use Rattle.tl_params.specs.declared.key.Key.TheVariants.{RequestSource, ReleaseSource, GrantSink, ProbeOf}
 use Rattle.tl_params.specs.declared.perm.Perm.TheVariants as perm
 use Rattle.tl_params.specs.declared.profile.Profile.{Profile}
 use Rattle.tl_params.specs.declared.rule.Rule.TheVariants.{H2, H3, H6, H7}
-use Rattle.tl_rules.specs.Conformance.{answers, comes_in_request, comes_in_release, fits_grow, has_request, misgrants, same_perm, is_acquire_block}
-use Rattle.tl_rules.specs.Conformance.{is_grant_without_data, size_asked, size_of_release, broken_order, broken_in_order}
-use Rattle.tl_rules.specs.History.{block_at, held, is_grant, is_release_ack, pending, request_of, release_of}
+use Rattle.tl_rules.specs.statement.Conformance.{answers, comes_in_request, comes_in_release, fits_grow, has_request, misgrants, same_perm, is_acquire_block}
+use Rattle.tl_rules.specs.statement.Conformance.{is_grant_without_data, size_asked, size_of_release, broken_order, broken_in_order}
+use Rattle.tl_rules.specs.statement.History.{block_at, held, is_grant, is_release_ack, pending, request_of, release_of}
 use Rattle.tl_coherence.proofs.queues.Tokens.{same_number}
 
 rules : (asked sized amiss twice : Bool) → asked ≡ true → sized ≡ true → amiss ≡ false → twice ≡ false

@@ -1,18 +1,18 @@
 -- A GrantAck that is delivered to the manager: the channels and the one memory afterwards.
 use Rattle.std.proofs.Common.{◌≡◌, ℕ, Bool, true, false, List, [], ◌∷◌, Some, None, refl, sym, ◌∙◌, ap, subst}
-use Rattle.tl_beat.specs.Width.{IsWidth}
+use Rattle.tl_beat.specs.statement.Width.{IsWidth}
 use Rattle.tl_beat.specs.declared.beat.Beat.{Beat}
 use Rattle.tl_beat.specs.declared.beat.BeatE.{BeatE}
 use Rattle.tl_beat.specs.declared.beat.Link.{Link}
 use Rattle.tl_beat.specs.declared.channel.Channel.{Channel}
 use Rattle.tl_beat.specs.declared.channel.Channel.TheVariants as channel
-use Rattle.tl_burst.specs.Burst.{beat_of}
-use Rattle.tl_burst.specs.Messages.{unfinished}
-use Rattle.tl_burst.specs.Part.{completes}
+use Rattle.tl_burst.specs.statement.Burst.{beat_of}
+use Rattle.tl_burst.specs.statement.Messages.{unfinished}
+use Rattle.tl_burst.specs.statement.Part.{completes}
 use Rattle.tl_params.specs.declared.config.Config.{Config}
-use Rattle.tl_rules.specs.Conformance.{on_link}
-use Rattle.tl_client.specs.End as client
-use Rattle.tl_manager.specs.Deed.{deed}
+use Rattle.tl_rules.specs.statement.Conformance.{on_link}
+use Rattle.tl_client.specs.statement.End as client
+use Rattle.tl_manager.specs.statement.Deed.{deed}
 use Rattle.tl_manager.proofs.Events.{deed-ack}
 use Rattle.tl_coherence.specs.declared.event.Event.TheVariants.{Deliver}
 use Rattle.tl_coherence.specs.statement.Draining.{is_moving}

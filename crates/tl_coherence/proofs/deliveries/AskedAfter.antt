@@ -1,7 +1,7 @@
 -- An operation that a client is asked for: the channels and the one memory afterwards.
 use Rattle.std.proofs.Common.{◌≡◌, ℕ, Bool, true, false, ◌||◌, List, [], ◌∷◌, Option, Some, None, refl, sym, ◌∙◌, ap, subst, inl, inr}
 use Rattle.std.proofs.lemmas.Bool.{cases_eq, or_right}
-use Rattle.tl_beat.specs.Width.{IsWidth}
+use Rattle.tl_beat.specs.statement.Width.{IsWidth}
 use Rattle.tl_beat.specs.declared.opcode.OpA.TheVariants as a
 use Rattle.tl_burst.specs.declared.message.Message.{Message}
 use Rattle.tl_burst.specs.declared.message.Message.TheVariants as message
@@ -11,16 +11,16 @@ use Rattle.tl_params.specs.declared.param.Grow.{Grow}
 use Rattle.tl_params.specs.declared.param.Prune.{Prune}
 use Rattle.tl_params.specs.declared.param.Prune.TheVariants as prune
 use Rattle.tl_params.specs.declared.perm.Perm.TheVariants as perm
-use Rattle.tl_rules.specs.History.{block_at}
-use Rattle.tl_rules.specs.Conformance.{same_perm}
+use Rattle.tl_rules.specs.statement.History.{block_at}
+use Rattle.tl_rules.specs.statement.Conformance.{same_perm}
 use Rattle.tl_client.specs.declared.operation.Op.{Op}
 use Rattle.tl_client.specs.declared.operation.Op.TheVariants as op
 use Rattle.tl_client.specs.declared.reply.Reply.{Reply}
 use Rattle.tl_client.specs.declared.reply.Reply.TheVariants as reply
-use Rattle.tl_client.specs.Ask as ask
-use Rattle.tl_client.specs.Ask.{whole_grow}
-use Rattle.tl_client.specs.End as client
-use Rattle.tl_client.specs.Send.{access, sourced, acquisition, release}
+use Rattle.tl_client.specs.statement.Ask as ask
+use Rattle.tl_client.specs.statement.Ask.{whole_grow}
+use Rattle.tl_client.specs.statement.End as client
+use Rattle.tl_client.specs.statement.Send.{access, sourced, acquisition, release}
 use Rattle.tl_client.proofs.Outstanding.{unfinished-asked}
 use Rattle.tl_coherence.specs.declared.event.Event.TheVariants.{Ask}
 use Rattle.tl_coherence.specs.declared.event.Outcome.TheVariants as outcome

@@ -3,13 +3,13 @@
 use Rattle.std.proofs.Common.{◌≡◌, ℕ, ◌+◌, ◌*◌, ◌/◌, ◌%◌, ◌^◌, ◌≤◌, Bool, true, false, not, ◌||◌, List, Option, Some, None, refl, sym, ◌∙◌, ap, subst, arith}
 use Rattle.std.specs.Prelude.{◌==◌, is_some, is_none, unwrap_or, slice_index, nat_le}
 use Rattle.std.proofs.lemmas.Bool.{eqb-true, and_parts, not-false, or_parts}
-use Rattle.tl_beat.specs.Width.{IsWidth}
+use Rattle.tl_beat.specs.statement.Width.{IsWidth}
 use Rattle.tl_beat.specs.declared.channel.Channel.TheVariants as channel
 use Rattle.tl_beat.specs.declared.opcode.OpA.TheVariants as a
 use Rattle.tl_burst.specs.declared.message.Message.{Message}
 use Rattle.tl_burst.specs.declared.message.Message.TheVariants as message
 use Rattle.tl_burst.specs.declared.message.MessageA.{MessageA}
-use Rattle.tl_burst.specs.Burst.{beat_of}
+use Rattle.tl_burst.specs.statement.Burst.{beat_of}
 use Rattle.tl_params.specs.declared.config.Config.{Config}
 use Rattle.tl_params.specs.declared.level.Level.{Level}
 use Rattle.tl_params.specs.declared.key.Key.TheVariants.{RequestSource, ReleaseSource, AcquireOf, ReleaseOf}
@@ -17,28 +17,28 @@ use Rattle.tl_params.specs.declared.perm.Perm.{Perm}
 use Rattle.tl_params.specs.declared.perm.Perm.TheVariants as perm
 use Rattle.tl_params.specs.declared.param.Prune.{Prune}
 use Rattle.tl_params.specs.declared.param.Prune.TheVariants as prune
-use Rattle.tl_params.specs.Param.{grow_left, prune_left}
-use Rattle.tl_rules.specs.Effect.{Memory, IsBlock, number_from}
-use Rattle.tl_rules.specs.History.{block_at, pending}
-use Rattle.tl_rules.specs.Legality.{has_transfers, illegal, illegal_message}
+use Rattle.tl_params.specs.statement.Param.{grow_left, prune_left}
+use Rattle.tl_rules.specs.statement.Effect.{Memory, IsBlock, number_from}
+use Rattle.tl_rules.specs.statement.History.{block_at, pending}
+use Rattle.tl_rules.specs.statement.Legality.{has_transfers, illegal, illegal_message}
 use Rattle.tl_rules.proofs.Legal.{legal_from_beats, legal_beat}
 use Rattle.tl_params.specs.declared.rule.Rule.{Rule}
 use Rattle.tl_rules.proofs.Places.{number_same}
-use Rattle.tl_rules.specs.Conformance.{same_perm}
+use Rattle.tl_rules.specs.statement.Conformance.{same_perm}
 use Rattle.tl_client.specs.declared.operation.Op.{Op}
 use Rattle.tl_client.specs.declared.operation.Op.TheVariants as op
 use Rattle.tl_client.specs.declared.busy.Busy.{Busy}
 use Rattle.tl_client.specs.declared.reply.Reply.{Reply}
 use Rattle.tl_client.specs.declared.reply.Reply.TheVariants as reply
-use Rattle.tl_client.specs.Ask.{Asked, asked, done, only, load, store, loaded, is_word, is_clean, is_formed, op_block, free_request, free_release, source_or_0, whole_grow}
-use Rattle.tl_client.specs.End.{Terms, End, zeros, copy_at, held_at}
-use Rattle.tl_client.specs.Send.{access, acquisition, release}
+use Rattle.tl_client.specs.statement.Ask.{Asked, asked, done, only, load, store, loaded, is_word, is_clean, is_formed, op_block, free_request, free_release, source_or_0, whole_grow}
+use Rattle.tl_client.specs.statement.End.{Terms, End, zeros, copy_at, held_at}
+use Rattle.tl_client.specs.statement.Send.{access, acquisition, release}
 use Rattle.tl_client.proofs.Cases.{NotBusy, asked-cases}
 use Rattle.tl_client.proofs.Clean.{to_blank}
 use Rattle.tl_client.proofs.Free.{least_free-some}
 use Rattle.tl_client.proofs.Sound.{formed_access}
 use Rattle.tl_client.proofs.Stores.{word_room}
-use Rattle.tl_manager.specs.Offer.{level_of}
+use Rattle.tl_manager.specs.statement.Offer.{level_of}
 use Rattle.tl_coherence.specs.refinement.Beside.{IsOpened, IsLet}
 use Rattle.tl_coherence.specs.refinement.Follow.{Shadow}
 use Rattle.tl_coherence.specs.statement.Log.{Log}

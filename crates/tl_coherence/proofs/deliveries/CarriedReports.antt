@@ -1,7 +1,7 @@
 -- The channels carry the messages of the tokens after each delivery on channel C or E.
 use Rattle.tl_rules.specs.declared.answer.Answer as answers_of
 use Rattle.tl_rules.specs.declared.answer.Answer.TheVariants as answer
-use Rattle.tl_rules.specs.Conformance.{same_perm}
+use Rattle.tl_rules.specs.statement.Conformance.{same_perm}
 use Rattle.tl_coherence.specs.protocol.Protocol as protocol
 use Rattle.tl_coherence.proofs.simulation.CarriedEvents.{release_taken-carried, report_taken-carried}
 use Rattle.tl_coherence.proofs.simulation.CarriedProbes.{report_answers-carried, report_grants-carried}
@@ -13,14 +13,14 @@ use Rattle.tl_coherence.proofs.manager.Reporting.{report-about, release-about}
 use Rattle.tl_coherence.specs.refinement.Sources.{IsFor}
 use Rattle.tl_burst.specs.declared.message.Message.TheVariants as message
 use Rattle.tl_burst.specs.declared.message.MessageC.{MessageC}
-use Rattle.tl_burst.specs.Burst.{beat_of}
-use Rattle.tl_burst.specs.Messages.{unfinished}
-use Rattle.tl_burst.specs.Part.{completes}
-use Rattle.tl_client.specs.End.{Terms}
-use Rattle.tl_manager.specs.Handing.{Handed, access_answer}
-use Rattle.tl_manager.specs.Kept as manager
-use Rattle.tl_manager.specs.Deed.{deed}
-use Rattle.tl_manager.specs.End.{End}
+use Rattle.tl_burst.specs.statement.Burst.{beat_of}
+use Rattle.tl_burst.specs.statement.Messages.{unfinished}
+use Rattle.tl_burst.specs.statement.Part.{completes}
+use Rattle.tl_client.specs.statement.End.{Terms}
+use Rattle.tl_manager.specs.statement.Handing.{Handed, access_answer}
+use Rattle.tl_manager.specs.code.Kept as manager
+use Rattle.tl_manager.specs.statement.Deed.{deed}
+use Rattle.tl_manager.specs.statement.End.{End}
 use Rattle.tl_coherence.specs.declared.event.Event.TheVariants.{Deliver}
 use Rattle.tl_coherence.specs.declared.event.Outcome.TheVariants as outcome
 use Rattle.tl_coherence.specs.statement.Log.{Log}
@@ -40,7 +40,7 @@ use Rattle.std.specs.Prelude.{◌==◌, if◌then◌else◌, map}
 use Rattle.std.proofs.lemmas.Bool.{cases_eq}
 use Rattle.std.proofs.Math.Bool.{or-true}
 use Rattle.std.proofs.lemmas.Option.{same_Some}
-use Rattle.tl_beat.specs.Width.{IsWidth}
+use Rattle.tl_beat.specs.statement.Width.{IsWidth}
 use Rattle.tl_beat.specs.declared.beat.Beat.{Beat}
 use Rattle.tl_beat.specs.declared.channel.Channel.{Channel}
 use Rattle.tl_beat.specs.declared.channel.Channel.TheVariants as channel
@@ -52,9 +52,9 @@ use Rattle.tl_params.specs.declared.param.Cap.TheVariants as cap
 use Rattle.tl_params.specs.declared.param.Report.{Report}
 use Rattle.tl_params.specs.declared.perm.Perm.{Perm}
 use Rattle.tl_params.specs.declared.perm.Perm.TheVariants as perm
-use Rattle.tl_params.specs.Param.{prune_left, report_right}
-use Rattle.tl_rules.specs.History.{is_acquire}
-use Rattle.tl_manager.specs.Holders.{cap_probed}
+use Rattle.tl_params.specs.statement.Param.{prune_left, report_right}
+use Rattle.tl_rules.specs.statement.History.{is_acquire}
+use Rattle.tl_manager.specs.statement.Holders.{cap_probed}
 use Rattle.tl_coherence.specs.refinement.Follow.{Shadow, performs, ack_taken, answers, followed, granted_after, last_taken, some_below, token_taken, with_state}
 use Rattle.tl_coherence.specs.protocol.Invariant.{IsWell, IsInvariant}
 use Rattle.tl_coherence.specs.protocol.Phase.{Pair, Answered, is_quiet, perm_le, Acquiring, Calm, Wants}

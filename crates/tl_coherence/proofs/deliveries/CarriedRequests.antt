@@ -11,25 +11,25 @@ use Rattle.tl_beat.specs.declared.channel.Channel.TheVariants as channel
 use Rattle.tl_burst.specs.declared.message.Message.{Message}
 use Rattle.tl_burst.specs.declared.message.Message.TheVariants as message
 use Rattle.tl_burst.specs.declared.message.MessageA.{MessageA}
-use Rattle.tl_burst.specs.Burst.{a_beat_of, beats_of}
-use Rattle.tl_burst.specs.Messages.{unfinished}
-use Rattle.tl_burst.specs.Part.{completes}
+use Rattle.tl_burst.specs.statement.Burst.{a_beat_of, beats_of}
+use Rattle.tl_burst.specs.statement.Messages.{unfinished}
+use Rattle.tl_burst.specs.statement.Part.{completes}
 use Rattle.tl_params.specs.declared.config.Config.{Config}
 use Rattle.tl_params.specs.declared.param.Cap.{Cap}
 use Rattle.tl_params.specs.declared.param.Cap.TheVariants as cap
 use Rattle.tl_params.specs.declared.perm.Perm.TheVariants as perm
-use Rattle.tl_rules.specs.Conformance.{on_link, same_perm}
+use Rattle.tl_rules.specs.statement.Conformance.{on_link, same_perm}
 use Rattle.tl_rules.specs.declared.answer.Answer.{Answer}
 use Rattle.tl_rules.specs.declared.answer.Answer.TheVariants as answer
-use Rattle.tl_rules.specs.Effect.{effect, answer_of}
-use Rattle.tl_manager.specs.Handing.{Handed, Deed, access_answer, probes}
-use Rattle.tl_manager.specs.Holders as holders
-use Rattle.tl_manager.specs.Holders.{recorded, probed, cap_probed, is_spared}
-use Rattle.tl_rules.specs.History.{block_at, is_acquire}
+use Rattle.tl_rules.specs.statement.Effect.{effect, answer_of}
+use Rattle.tl_manager.specs.statement.Handing.{Handed, Deed, access_answer, probes}
+use Rattle.tl_manager.specs.statement.Holders as holders
+use Rattle.tl_manager.specs.statement.Holders.{recorded, probed, cap_probed, is_spared}
+use Rattle.tl_rules.specs.statement.History.{block_at, is_acquire}
 use Rattle.tl_rules.proofs.Sent.{is_last}
 use Rattle.tl_client.proofs.HeldAfter.{same_block, swapped}
-use Rattle.tl_manager.specs.Deed.{deed}
-use Rattle.tl_manager.specs.Offer.{must_wait}
+use Rattle.tl_manager.specs.statement.Deed.{deed}
+use Rattle.tl_manager.specs.statement.Offer.{must_wait}
 use Rattle.tl_manager.proofs.Events.{deed-part}
 use Rattle.tl_coherence.specs.declared.event.Outcome.TheVariants as outcome
 use Rattle.tl_coherence.specs.statement.Log.{Log}

@@ -2,7 +2,7 @@
 use Rattle.std.proofs.Common.{◌≡◌, ℕ, Bool, true, false, List, [], ◌∷◌, Option, Some, None, refl, sym, ◌∙◌, ap, subst, ◌⊎◌, inl, inr}
 use Rattle.std.specs.Prelude.{◌==◌, if◌then◌else◌, map, Result, Ok, Err}
 use Rattle.std.proofs.lemmas.Bool.{cases_eq, ne_eqb, not-true, or_right}
-use Rattle.tl_beat.specs.Width.{IsWidth}
+use Rattle.tl_beat.specs.statement.Width.{IsWidth}
 use Rattle.tl_beat.specs.declared.beat.Beat.{Beat}
 use Rattle.tl_beat.specs.declared.beat.Beat.TheVariants as beat
 use Rattle.tl_beat.specs.declared.beat.BeatD.{BeatD}
@@ -12,9 +12,9 @@ use Rattle.tl_beat.specs.declared.channel.Channel.TheVariants as channel
 use Rattle.tl_burst.specs.declared.message.Message.{Message}
 use Rattle.tl_burst.specs.declared.message.Message.TheVariants as message
 use Rattle.tl_burst.specs.declared.message.MessageD.{MessageD}
-use Rattle.tl_burst.specs.Burst.{beat_of, d_beat_of}
-use Rattle.tl_burst.specs.Messages.{unfinished}
-use Rattle.tl_burst.specs.Part.{completes}
+use Rattle.tl_burst.specs.statement.Burst.{beat_of, d_beat_of}
+use Rattle.tl_burst.specs.statement.Messages.{unfinished}
+use Rattle.tl_burst.specs.statement.Part.{completes}
 use Rattle.tl_params.specs.declared.config.Config.{Config}
 use Rattle.tl_params.specs.declared.param.Cap.{Cap}
 use Rattle.tl_params.specs.declared.param.Cap.TheVariants as cap
@@ -23,14 +23,14 @@ use Rattle.tl_params.specs.declared.param.Grow.TheVariants as grow
 use Rattle.tl_params.specs.declared.perm.Perm.{Perm}
 use Rattle.tl_params.specs.declared.perm.Perm.TheVariants as perm
 use Rattle.tl_params.specs.declared.rule.Rule.{Rule}
-use Rattle.tl_rules.specs.Conformance.{on_link, same_perm}
+use Rattle.tl_rules.specs.statement.Conformance.{on_link, same_perm}
 use Rattle.tl_client.specs.declared.verdict.Verdict.{Verdict}
 use Rattle.tl_client.specs.declared.verdict.Verdict.TheVariants as verdict
-use Rattle.tl_client.specs.End as client
-use Rattle.tl_client.specs.Offer as offer
+use Rattle.tl_client.specs.statement.End as client
+use Rattle.tl_client.specs.statement.Offer as offer
 use Rattle.tl_client.proofs.Calls.{refusal-offered}
-use Rattle.tl_manager.specs.End as manager_end
-use Rattle.tl_manager.specs.Offer as manager_offer
+use Rattle.tl_manager.specs.statement.End as manager_end
+use Rattle.tl_manager.specs.statement.Offer as manager_offer
 use Rattle.tl_coherence.specs.declared.event.Event.TheVariants.{Deliver}
 use Rattle.tl_coherence.specs.declared.event.Outcome.{Outcome}
 use Rattle.tl_coherence.specs.declared.event.Outcome.TheVariants as outcome

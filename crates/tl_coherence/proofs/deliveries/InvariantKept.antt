@@ -1,7 +1,7 @@
 -- The protocol keeps its invariant as it follows any event of the world.
 use Rattle.std.proofs.Common.{◌≡◌, subst, ℕ, suc, ◌+◌, Bool, true, false, List, ◌∷◌, Option, Some, None, refl, sym, ◌∙◌, ap, arith}
 use Rattle.std.proofs.lemmas.Bool.{eqb-true}
-use Rattle.tl_beat.specs.Width.{IsWidth}
+use Rattle.tl_beat.specs.statement.Width.{IsWidth}
 use Rattle.tl_beat.specs.declared.beat.Beat.{Beat}
 use Rattle.tl_beat.specs.declared.beat.Beat.TheVariants as beat
 use Rattle.tl_beat.specs.declared.beat.Link.{Link}
@@ -9,12 +9,12 @@ use Rattle.tl_beat.specs.declared.channel.Channel.{Channel}
 use Rattle.tl_beat.specs.declared.channel.Channel.TheVariants as channel
 use Rattle.tl_burst.specs.declared.message.Message.TheVariants as message
 use Rattle.tl_burst.specs.declared.message.MessageA.{MessageA}
-use Rattle.tl_burst.specs.Burst.{a_beat_of, beats_of}
+use Rattle.tl_burst.specs.statement.Burst.{a_beat_of, beats_of}
 use Rattle.tl_params.specs.declared.config.Config.{Config}
-use Rattle.tl_client.specs.End.{Terms}
-use Rattle.tl_manager.specs.End as manager_end
-use Rattle.tl_manager.specs.Offer as manager
-use Rattle.tl_manager.specs.Offer.{must_wait}
+use Rattle.tl_client.specs.statement.End.{Terms}
+use Rattle.tl_manager.specs.statement.End as manager_end
+use Rattle.tl_manager.specs.statement.Offer as manager
+use Rattle.tl_manager.specs.statement.Offer.{must_wait}
 use Rattle.tl_coherence.specs.declared.event.Event.{Event}
 use Rattle.tl_coherence.specs.declared.event.Event.TheVariants.{Deliver}
 use Rattle.tl_coherence.specs.statement.Draining.{is_moving}

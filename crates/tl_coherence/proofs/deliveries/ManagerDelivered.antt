@@ -7,11 +7,11 @@ use Rattle.tl_coherence.proofs.manager.RequestsTaken.{invariant-taken}
 use Rattle.tl_coherence.proofs.manager.ManagersEnd.{at_manager-matched}
 use Rattle.tl_coherence.proofs.manager.ManagerHanded.{grant-rendered}
 use Rattle.tl_manager.proofs.Events.{deed-part, deed-ack}
-use Rattle.tl_manager.specs.Handing.{Deed, Handed, release_ack}
+use Rattle.tl_manager.specs.statement.Handing.{Deed, Handed, release_ack}
 use Rattle.std.proofs.Common.{[], ◌≡◌, ℕ, ◌+◌, Bool, true, false, ◌&&◌, List, ◌∷◌, None, length, refl, sym, ◌∙◌, ap, subst}
 use Rattle.std.specs.Prelude.{◌==◌, if◌then◌else◌, map}
 use Rattle.std.proofs.lemmas.Bool.{eqb-true}
-use Rattle.tl_beat.specs.Width.{IsWidth}
+use Rattle.tl_beat.specs.statement.Width.{IsWidth}
 use Rattle.tl_beat.specs.declared.beat.Beat.{Beat}
 use Rattle.tl_beat.specs.declared.beat.Beat.TheVariants as beat
 use Rattle.tl_beat.specs.declared.beat.BeatE.{BeatE}
@@ -21,24 +21,24 @@ use Rattle.tl_burst.specs.declared.message.Message.{Message}
 use Rattle.tl_burst.specs.declared.message.Message.TheVariants as message
 use Rattle.tl_burst.specs.declared.message.MessageA.{MessageA}
 use Rattle.tl_burst.specs.declared.message.MessageC.{MessageC}
-use Rattle.tl_burst.specs.Burst.{beats_of, begun, c_beat_of}
-use Rattle.tl_burst.specs.Messages.{unfinished}
-use Rattle.tl_burst.specs.Part.{completes}
+use Rattle.tl_burst.specs.statement.Burst.{beats_of, begun, c_beat_of}
+use Rattle.tl_burst.specs.statement.Messages.{unfinished}
+use Rattle.tl_burst.specs.statement.Part.{completes}
 use Rattle.tl_params.specs.declared.config.Config.{Config}
 use Rattle.tl_params.specs.declared.param.Cap.{Cap}
 use Rattle.tl_params.specs.declared.param.Grow.{Grow}
 use Rattle.tl_params.specs.declared.param.Prune.{Prune}
 use Rattle.tl_params.specs.declared.param.Report.{Report}
 use Rattle.tl_params.specs.declared.perm.Perm.TheVariants as perm
-use Rattle.tl_params.specs.Param.{grow_code, prune_code, prune_left, report_code, report_left}
-use Rattle.tl_rules.specs.Conformance.{on_link, broken_in_order, same_perm}
-use Rattle.tl_rules.specs.History.{pending}
+use Rattle.tl_params.specs.statement.Param.{grow_code, prune_code, prune_left, report_code, report_left}
+use Rattle.tl_rules.specs.statement.Conformance.{on_link, broken_in_order, same_perm}
+use Rattle.tl_rules.specs.statement.History.{pending}
 use Rattle.tl_params.specs.declared.key.Key.TheVariants.{GrantSink}
 use Rattle.tl_manager.proofs.Links.{whole-e}
 use Rattle.tl_coherence.specs.refinement.Sources.{IsFor}
-use Rattle.tl_manager.specs.Kept as manager
-use Rattle.tl_manager.specs.Deed.{deed}
-use Rattle.tl_manager.specs.End.{End}
+use Rattle.tl_manager.specs.code.Kept as manager
+use Rattle.tl_manager.specs.statement.Deed.{deed}
+use Rattle.tl_manager.specs.statement.End.{End}
 use Rattle.tl_coherence.specs.refinement.Follow.{Shadow, acquire_opcode, ack_taken, granted_after, last_taken, some_below, token_taken, with_state, answers}
 use Rattle.tl_coherence.specs.protocol.Invariant.{IsInvariant, IsOwnSource, IsWell}
 use Rattle.tl_coherence.specs.statement.Log.{Log}

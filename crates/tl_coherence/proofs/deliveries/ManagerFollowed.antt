@@ -1,22 +1,22 @@
 -- The manager's end after a delivery on channel C or E, as a step of the whole and as the protocol follows it.
 use Rattle.std.proofs.Common.{false, ◌≡◌, ℕ, false, List, ◌∷◌, Option, Some, None, refl, sym, ◌∙◌, ap, subst, arith}
 use Rattle.std.specs.Prelude.{if◌then◌else◌, option_map, slice_get, All}
-use Rattle.tl_beat.specs.Width.{IsWidth}
+use Rattle.tl_beat.specs.statement.Width.{IsWidth}
 use Rattle.tl_beat.specs.declared.beat.Beat.{Beat}
 use Rattle.tl_beat.specs.declared.channel.Channel.{Channel}
 use Rattle.tl_beat.specs.declared.channel.Channel.TheVariants as channel
-use Rattle.tl_burst.specs.Messages.{unfinished}
-use Rattle.tl_burst.specs.Part.{completes}
+use Rattle.tl_burst.specs.statement.Messages.{unfinished}
+use Rattle.tl_burst.specs.statement.Part.{completes}
 use Rattle.tl_params.specs.declared.config.Config.{Config}
 use Rattle.tl_params.specs.declared.config.ClientConfig.{ClientConfig}
-use Rattle.tl_client.specs.End.{Terms}
-use Rattle.tl_manager.specs.Kept as manager
-use Rattle.tl_manager.specs.Kept.{illegal_at}
-use Rattle.tl_manager.specs.Service.{services, least_untaken, trackers_of}
-use Rattle.tl_manager.specs.Offer as manager_offer
-use Rattle.tl_manager.specs.Deed.{deed}
-use Rattle.tl_manager.specs.End.{End}
-use Rattle.tl_manager.specs.Offer.{level_of}
+use Rattle.tl_client.specs.statement.End.{Terms}
+use Rattle.tl_manager.specs.code.Kept as manager
+use Rattle.tl_manager.specs.code.Kept.{illegal_at}
+use Rattle.tl_manager.specs.statement.Service.{services, least_untaken, trackers_of}
+use Rattle.tl_manager.specs.statement.Offer as manager_offer
+use Rattle.tl_manager.specs.statement.Deed.{deed}
+use Rattle.tl_manager.specs.statement.End.{End}
+use Rattle.tl_manager.specs.statement.Offer.{level_of}
 use Rattle.tl_coherence.specs.declared.event.Event.TheVariants.{Deliver}
 use Rattle.tl_coherence.specs.declared.event.Outcome.TheVariants as outcome
 use Rattle.tl_coherence.specs.refinement.Follow.{Shadow, delivered, followed, is_last, token_taken}

@@ -1,13 +1,13 @@
 -- What is kept of the manager's end is kept by every event, where the invariant is.
 use Rattle.std.proofs.Common.{◌≡◌, subst, ℕ, List, [], ◌∷◌, Option, Some, None, refl, sym}
 use Rattle.std.specs.Prelude.{⊤}
-use Rattle.tl_beat.specs.Width.{IsWidth}
+use Rattle.tl_beat.specs.statement.Width.{IsWidth}
 use Rattle.tl_beat.specs.declared.beat.Beat.{Beat}
 use Rattle.tl_beat.specs.declared.channel.Channel.{Channel}
 use Rattle.tl_beat.specs.declared.channel.Channel.TheVariants as channel
 use Rattle.tl_params.specs.declared.config.Config.{Config}
-use Rattle.tl_client.specs.Ask as client_ask
-use Rattle.tl_client.specs.End.{Terms}
+use Rattle.tl_client.specs.statement.Ask as client_ask
+use Rattle.tl_client.specs.statement.End.{Terms}
 use Rattle.tl_coherence.specs.declared.event.Event.{Event}
 use Rattle.tl_coherence.specs.declared.event.Event.TheVariants.{Ask, Deliver}
 use Rattle.tl_coherence.specs.refinement.Follow.{Shadow, delivered, followed}

@@ -2,27 +2,27 @@
 use Rattle.std.proofs.Common.{◌≡◌, subst, ℕ, suc, ◌+◌, ◌<◌, ◌==◌, Bool, true, false, List, [], ◌∷◌, Some, None, length, refl, sym, ◌∙◌, ap, inl, inr, arith}
 use Rattle.std.specs.Prelude.{if◌then◌else◌, map, nat_le}
 use Rattle.std.proofs.lemmas.Bool.{cases_eq, eqb-true, or_parts}
-use Rattle.tl_beat.specs.Width.{IsWidth}
+use Rattle.tl_beat.specs.statement.Width.{IsWidth}
 use Rattle.tl_beat.specs.declared.beat.Beat.{Beat}
 use Rattle.tl_beat.specs.declared.beat.Beat.TheVariants as beat
 use Rattle.tl_beat.specs.declared.channel.Channel.TheVariants as channel
 use Rattle.tl_burst.specs.declared.message.Message.TheVariants as message
 use Rattle.tl_burst.specs.declared.message.MessageA.{MessageA}
-use Rattle.tl_burst.specs.Burst.{a_beat_of, beats_of, begun, IsBlankAfter}
-use Rattle.tl_burst.specs.Messages.{unfinished}
-use Rattle.tl_burst.specs.Part.{completes}
+use Rattle.tl_burst.specs.statement.Burst.{a_beat_of, beats_of, begun, IsBlankAfter}
+use Rattle.tl_burst.specs.statement.Messages.{unfinished}
+use Rattle.tl_burst.specs.statement.Part.{completes}
 use Rattle.tl_burst.proofs.Begun.{length-begun}
 use Rattle.tl_params.specs.declared.config.Config.{Config}
-use Rattle.tl_rules.specs.Conformance.{on_link, broken_in_order}
-use Rattle.tl_rules.specs.History.{ends, block_at}
+use Rattle.tl_rules.specs.statement.Conformance.{on_link, broken_in_order}
+use Rattle.tl_rules.specs.statement.History.{ends, block_at}
 use Rattle.tl_rules.proofs.Sent.{is_last, not_last}
-use Rattle.tl_client.specs.End.{Terms}
+use Rattle.tl_client.specs.statement.End.{Terms}
 use Rattle.tl_client.proofs.HeldAfter.{same_block}
-use Rattle.tl_manager.specs.Service.{services, is_in_service}
-use Rattle.tl_manager.specs.Offer as manager
-use Rattle.tl_manager.specs.Deed.{deed}
-use Rattle.tl_manager.specs.End.{End}
-use Rattle.tl_manager.specs.Offer.{Passes, before_stall, must_wait, judged, offered}
+use Rattle.tl_manager.specs.statement.Service.{services, is_in_service}
+use Rattle.tl_manager.specs.statement.Offer as manager
+use Rattle.tl_manager.specs.statement.Deed.{deed}
+use Rattle.tl_manager.specs.statement.End.{End}
+use Rattle.tl_manager.specs.statement.Offer.{Passes, before_stall, must_wait, judged, offered}
 use Rattle.tl_coherence.specs.refinement.Carried.{IsCarried}
 use Rattle.tl_coherence.specs.declared.event.Event.TheVariants.{Deliver}
 use Rattle.tl_coherence.specs.declared.event.Outcome.TheVariants as outcome
@@ -40,7 +40,7 @@ use Rattle.tl_coherence.specs.refinement.Beside.{IsBeside}
 use Rattle.tl_coherence.specs.statement.Machine.{Machine}
 use Rattle.tl_coherence.specs.refinement.Matched.{AreCarried}
 use Rattle.tl_coherence.specs.statement.Remembered.{accesses_answered, performing}
-use Rattle.tl_manager.specs.Handing.{Handed, Deed}
+use Rattle.tl_manager.specs.statement.Handing.{Handed, Deed}
 use Rattle.tl_manager.proofs.Events.{deed-part}
 use Rattle.tl_coherence.proofs.memory.BesideRequests.{IsOnce, acquire-accesses, beside-request_taken, beside-acquire_taken, request-once}
 use Rattle.tl_coherence.proofs.manager.Arrivals.{link_of, IsComing, ends-coming}

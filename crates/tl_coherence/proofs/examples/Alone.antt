@@ -1,28 +1,28 @@
 -- An Acquire that is alone, drained.
 use Rattle.std.proofs.Common.{◌≡◌, refl}
 use Rattle.std.specs.Prelude.{[], ◌∷◌, length, None}
-use Rattle.tl_burst.specs.Messages.{unfinished}
+use Rattle.tl_burst.specs.statement.Messages.{unfinished}
 use Rattle.tl_params.specs.declared.config.Config.{Config}
 use Rattle.tl_params.specs.declared.level.Level.TheVariants as level
 use Rattle.tl_params.specs.declared.param.Grow.TheVariants as grow
 use Rattle.tl_params.specs.declared.perm.Perm.TheVariants as perm
 use Rattle.tl_params.specs.declared.profile.Profile.TheVariants as profile
-use Rattle.tl_rules.specs.Agent.{bytes_carried}
-use Rattle.tl_rules.specs.Conformance.{on_link, broken_order}
-use Rattle.tl_rules.specs.Effect.{bytes_from, number_from, effect}
-use Rattle.tl_rules.specs.History.{request_of, release_of, probe_of, grant_sink, pending, held}
-use Rattle.tl_rules.specs.Legality.{illegal, first_illegal, beats_from, each_below}
+use Rattle.tl_rules.specs.statement.Agent.{bytes_carried}
+use Rattle.tl_rules.specs.statement.Conformance.{on_link, broken_order}
+use Rattle.tl_rules.specs.statement.Effect.{bytes_from, number_from, effect}
+use Rattle.tl_rules.specs.statement.History.{request_of, release_of, probe_of, grant_sink, pending, held}
+use Rattle.tl_rules.specs.statement.Legality.{illegal, first_illegal, beats_from, each_below}
 use Rattle.tl_client.specs.declared.operation.Op.TheVariants as op
 use Rattle.tl_client.specs.declared.reply.Reply.TheVariants as reply
-use Rattle.tl_client.specs.Ask as ask
-use Rattle.tl_client.specs.End.{held_at}
-use Rattle.tl_client.specs.Offer as offer
-use Rattle.tl_manager.specs.Handing.{with_handed}
-use Rattle.tl_manager.specs.Holders.{clients_from}
-use Rattle.tl_manager.specs.Request.{masks_carried, corrupt_carried, request_carried}
-use Rattle.tl_manager.specs.Service as service
-use Rattle.tl_manager.specs.Deed as manager_deed
-use Rattle.tl_manager.specs.Offer as manager_offer
+use Rattle.tl_client.specs.statement.Ask as ask
+use Rattle.tl_client.specs.statement.End.{held_at}
+use Rattle.tl_client.specs.statement.Offer as offer
+use Rattle.tl_manager.specs.statement.Handing.{with_handed}
+use Rattle.tl_manager.specs.statement.Holders.{clients_from}
+use Rattle.tl_manager.specs.statement.Request.{masks_carried, corrupt_carried, request_carried}
+use Rattle.tl_manager.specs.statement.Service as service
+use Rattle.tl_manager.specs.statement.Deed as manager_deed
+use Rattle.tl_manager.specs.statement.Offer as manager_offer
 use Rattle.tl_coherence.specs.declared.event.Event.TheVariants.{Ask}
 use Rattle.tl_coherence.specs.declared.event.Outcome.TheVariants.{Replied}
 use Rattle.tl_coherence.specs.statement.Load.{requests, releases, load}

@@ -13,8 +13,8 @@ use Rattle.tl_beat.specs.declared.channel.Channel.{Channel}
 use Rattle.tl_beat.specs.declared.channel.Channel.TheVariants as channel
 use Rattle.tl_beat.specs.declared.opcode.OpA.TheVariants as a
 use Rattle.tl_burst.specs.declared.message.MessageA.{MessageA}
-use Rattle.tl_burst.specs.Burst.{a_beat_of}
-use Rattle.tl_burst.specs.Messages.{same_control, unfinished}
+use Rattle.tl_burst.specs.statement.Burst.{a_beat_of}
+use Rattle.tl_burst.specs.statement.Messages.{same_control, unfinished}
 use Rattle.tl_params.specs.declared.config.Config.{Config}
 use Rattle.tl_params.specs.declared.key.Key.TheVariants.{RequestSource, ReleaseSource, AcquireOf, ReleaseOf, GrantSink, GrantAckOf, ProbeOf}
 use Rattle.tl_params.specs.declared.level.Level.TheVariants as level
@@ -23,23 +23,23 @@ use Rattle.tl_params.specs.declared.param.Grow.TheVariants as grow
 use Rattle.tl_params.specs.declared.param.Prune.TheVariants as prune
 use Rattle.tl_params.specs.declared.perm.Perm.TheVariants as perm
 use Rattle.tl_params.specs.declared.profile.Profile.TheVariants as profile
-use Rattle.tl_rules.specs.Agent.{bytes_carried}
-use Rattle.tl_rules.specs.Conformance.{Trace, on_link, comes_in_request, comes_in_grant, broken_order, same_perm}
-use Rattle.tl_rules.specs.Effect.{bytes_from, number_from, effect}
-use Rattle.tl_rules.specs.History.{held, pending, block_at, is_acquire, request_of, release_of, probe_of, grant_sink}
-use Rattle.tl_rules.specs.Legality.{illegal, first_illegal, beats_from, each_below}
-use Rattle.tl_client.specs.Ask as ask
-use Rattle.tl_client.specs.Ask.{same_bytes}
-use Rattle.tl_client.specs.Offer as offer
-use Rattle.tl_client.specs.Requests.{open_beat}
-use Rattle.tl_manager.specs.Handing.{with_handed}
-use Rattle.tl_manager.specs.Holders.{recorded, cap_probed, clients_from}
-use Rattle.tl_manager.specs.Releases.{comes_of, comes_with}
-use Rattle.tl_manager.specs.Request.{masks_carried, corrupt_carried, request_carried}
-use Rattle.tl_manager.specs.Service as service
-use Rattle.tl_manager.specs.Service.{services, service_of_block}
-use Rattle.tl_manager.specs.Deed as manager_deed
-use Rattle.tl_manager.specs.Offer as manager_offer
+use Rattle.tl_rules.specs.statement.Agent.{bytes_carried}
+use Rattle.tl_rules.specs.statement.Conformance.{Trace, on_link, comes_in_request, comes_in_grant, broken_order, same_perm}
+use Rattle.tl_rules.specs.statement.Effect.{bytes_from, number_from, effect}
+use Rattle.tl_rules.specs.statement.History.{held, pending, block_at, is_acquire, request_of, release_of, probe_of, grant_sink}
+use Rattle.tl_rules.specs.statement.Legality.{illegal, first_illegal, beats_from, each_below}
+use Rattle.tl_client.specs.statement.Ask as ask
+use Rattle.tl_client.specs.statement.Ask.{same_bytes}
+use Rattle.tl_client.specs.statement.Offer as offer
+use Rattle.tl_client.specs.statement.Requests.{open_beat}
+use Rattle.tl_manager.specs.statement.Handing.{with_handed}
+use Rattle.tl_manager.specs.statement.Holders.{recorded, cap_probed, clients_from}
+use Rattle.tl_manager.specs.code.Releases.{comes_of, comes_with}
+use Rattle.tl_manager.specs.statement.Request.{masks_carried, corrupt_carried, request_carried}
+use Rattle.tl_manager.specs.statement.Service as service
+use Rattle.tl_manager.specs.statement.Service.{services, service_of_block}
+use Rattle.tl_manager.specs.statement.Deed as manager_deed
+use Rattle.tl_manager.specs.statement.Offer as manager_offer
 use Rattle.tl_coherence.specs.declared.event.Event.{Event}
 use Rattle.tl_coherence.specs.declared.event.Event.TheVariants.{Deliver}
 use Rattle.tl_coherence.specs.refinement.Carried.{spelled}

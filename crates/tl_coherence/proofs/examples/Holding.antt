@@ -3,24 +3,24 @@ use Rattle.std.proofs.Common.{refl, lit≤}
 use Rattle.std.specs.Prelude.{[], ◌∷◌, ◌++◌, replicate}
 use Rattle.tl_beat.specs.declared.channel.Channel.TheVariants as channel
 use Rattle.tl_beat.specs.declared.opcode.OpA.TheVariants as a
-use Rattle.tl_burst.specs.Messages.{unfinished}
+use Rattle.tl_burst.specs.statement.Messages.{unfinished}
 use Rattle.tl_params.specs.declared.level.Level.TheVariants as level
 use Rattle.tl_params.specs.declared.param.Grow.TheVariants as grow
 use Rattle.tl_params.specs.declared.param.Prune.TheVariants as prune
 use Rattle.tl_params.specs.declared.profile.Profile.TheVariants as profile
-use Rattle.tl_rules.specs.Agent.{bytes_carried}
-use Rattle.tl_rules.specs.Conformance.{on_link, broken_order}
-use Rattle.tl_rules.specs.Effect.{bytes_from, number_from, effect}
-use Rattle.tl_rules.specs.History.{request_of, release_of, probe_of, grant_sink, pending, held}
-use Rattle.tl_rules.specs.Legality.{illegal, first_illegal, beats_from, each_below}
-use Rattle.tl_client.specs.Ask as ask
-use Rattle.tl_client.specs.Offer as offer
-use Rattle.tl_manager.specs.Handing.{with_handed}
-use Rattle.tl_manager.specs.Holders.{clients_from}
-use Rattle.tl_manager.specs.Request.{masks_carried, corrupt_carried, request_carried}
-use Rattle.tl_manager.specs.Service as service
-use Rattle.tl_manager.specs.Deed as manager_deed
-use Rattle.tl_manager.specs.Offer as manager_offer
+use Rattle.tl_rules.specs.statement.Agent.{bytes_carried}
+use Rattle.tl_rules.specs.statement.Conformance.{on_link, broken_order}
+use Rattle.tl_rules.specs.statement.Effect.{bytes_from, number_from, effect}
+use Rattle.tl_rules.specs.statement.History.{request_of, release_of, probe_of, grant_sink, pending, held}
+use Rattle.tl_rules.specs.statement.Legality.{illegal, first_illegal, beats_from, each_below}
+use Rattle.tl_client.specs.statement.Ask as ask
+use Rattle.tl_client.specs.statement.Offer as offer
+use Rattle.tl_manager.specs.statement.Handing.{with_handed}
+use Rattle.tl_manager.specs.statement.Holders.{clients_from}
+use Rattle.tl_manager.specs.statement.Request.{masks_carried, corrupt_carried, request_carried}
+use Rattle.tl_manager.specs.statement.Service as service
+use Rattle.tl_manager.specs.statement.Deed as manager_deed
+use Rattle.tl_manager.specs.statement.Offer as manager_offer
 use Rattle.tl_coherence.specs.statement.Movable.{is_movable, first_movable, next_delivery}
 use Rattle.tl_coherence.specs.statement.Step.{stepped}
 use Rattle.tl_coherence.specs.statement.System.{with_messages}
@@ -30,8 +30,8 @@ use Rattle.tl_coherence.specs.statement.Coherent.{started}
 use Rattle.tl_coherence.specs.statement.Flow.{flow}
 use Rattle.tl_coherence.specs.statement.Load.{requests, releases}
 use Rattle.tl_coherence.specs.statement.Remembered.{accesses_answered, performing}
-use Rattle.tl_rules.specs.Conformance.{broken_after, is_legal}
-use Rattle.tl_burst.specs.Messages.{carried_on}
+use Rattle.tl_rules.specs.statement.Conformance.{broken_after, is_legal}
+use Rattle.tl_burst.specs.statement.Messages.{carried_on}
 
 plain_accesses_of_what_a_cache_holds : Holds {w = 8} (world profile.One 2 1 ((level.C, 1) ∷ (level.UL, 1) ∷ []))
     ((acquire 0 0 grow.NtoT ∷ Drains 220 ∷ store 0 0 0 90 ∷ access 1 a.Get 0 0 (lit≤ tt) 0 1 (replicate 64 0) ∷ deliver 1 channel.A ∷ deliver 0 channel.B ∷ [])

@@ -7,10 +7,10 @@ use Rattle.tl_beat.specs.declared.beat.Beat.TheVariants as beat
 use Rattle.tl_beat.specs.declared.beat.BeatA.{BeatA}
 use Rattle.tl_beat.specs.declared.channel.Channel.{Channel}
 use Rattle.tl_beat.specs.declared.channel.Channel.TheVariants as channel
-use Rattle.tl_burst.specs.Messages.{History}
+use Rattle.tl_burst.specs.statement.Messages.{History}
 use Rattle.tl_params.specs.declared.perm.Perm.{Perm}
-use Rattle.tl_rules.specs.Conformance.{comes_in_request, comes_in_grant}
-use Rattle.tl_rules.specs.History.{begins, ends, block_at, is_acquire, request_of, release_of}
+use Rattle.tl_rules.specs.statement.Conformance.{comes_in_request, comes_in_grant}
+use Rattle.tl_rules.specs.statement.History.{begins, ends, block_at, is_acquire, request_of, release_of}
 use Rattle.tl_coherence.specs.refinement.Flowed.{IsFlowed, is_requested, is_let_by, is_sunk}
 use Rattle.tl_coherence.specs.protocol.Protocol.{Block, State, Use, Closed, Asked, InService, Replied, Acquires, view, is_granting, is_acknowledging, is_answered, is_unserved}
 use Rattle.tl_coherence.specs.refinement.Render.{probe_beat}

@@ -7,9 +7,9 @@ use Rattle.tl_beat.specs.declared.beat.Beat.TheVariants as beat
 use Rattle.tl_beat.specs.declared.beat.BeatA.{BeatA}
 use Rattle.tl_beat.specs.declared.channel.Channel.{Channel}
 use Rattle.tl_beat.specs.declared.channel.Channel.TheVariants as channel
-use Rattle.tl_burst.specs.Messages.{History}
-use Rattle.tl_rules.specs.Conformance.{comes_in_request}
-use Rattle.tl_rules.specs.History.{begins, ends, block_at, is_acquire, request_of, probe_of, grant_sink}
+use Rattle.tl_burst.specs.statement.Messages.{History}
+use Rattle.tl_rules.specs.statement.Conformance.{comes_in_request}
+use Rattle.tl_rules.specs.statement.History.{begins, ends, block_at, is_acquire, request_of, probe_of, grant_sink}
 use Rattle.tl_coherence.specs.refinement.Flowed.{IsFlowed, is_requested, is_let_by, is_sunk}
 use Rattle.tl_coherence.specs.protocol.Invariant.{acquires_of}
 use Rattle.tl_coherence.specs.refinement.Known.{comes_granting}

@@ -8,10 +8,10 @@ use Rattle.tl_beat.specs.declared.beat.BeatA.{BeatA}
 use Rattle.tl_beat.specs.declared.beat.BeatE.{BeatE}
 use Rattle.tl_beat.specs.declared.channel.Channel.{Channel}
 use Rattle.tl_beat.specs.declared.channel.Channel.TheVariants as channel
-use Rattle.tl_burst.specs.Messages.{History, on, grown}
+use Rattle.tl_burst.specs.statement.Messages.{History, on, grown}
 use Rattle.tl_params.specs.declared.param.Cap.{Cap}
-use Rattle.tl_rules.specs.Conformance.{comes_in_grant}
-use Rattle.tl_rules.specs.History.{begins, ends, block_at, release_of, probe_of, grant_sink, is_sink}
+use Rattle.tl_rules.specs.statement.Conformance.{comes_in_grant}
+use Rattle.tl_rules.specs.statement.History.{begins, ends, block_at, release_of, probe_of, grant_sink, is_sink}
 use Rattle.tl_coherence.specs.refinement.Flowed.{IsFlowed, is_requested, is_let_by, is_sunk}
 use Rattle.tl_coherence.specs.protocol.Invariant.{AreNamed, is_of, is_busy}
 use Rattle.tl_coherence.specs.refinement.Known.{comes_granting}

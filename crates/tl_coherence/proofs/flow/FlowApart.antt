@@ -11,7 +11,7 @@ use Rattle.tl_params.specs.declared.param.Cap.{Cap}
 use Rattle.tl_params.specs.declared.param.Grow.{Grow}
 use Rattle.tl_params.specs.declared.param.Prune.{Prune}
 use Rattle.tl_params.specs.declared.param.Report.{Report}
-use Rattle.tl_rules.specs.Conformance.{comes_in_grant}
+use Rattle.tl_rules.specs.statement.Conformance.{comes_in_grant}
 use Rattle.tl_coherence.specs.refinement.Flowed.{is_sunk}
 use Rattle.tl_coherence.specs.protocol.Phase.{View, Own, Other, Granting, GrantedOther, is_quiet}
 use Rattle.tl_coherence.specs.protocol.PhaseSteps.{after_report}

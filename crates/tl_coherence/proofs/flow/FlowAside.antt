@@ -5,8 +5,8 @@ use Rattle.tl_beat.specs.declared.beat.Beat.TheVariants as beat
 use Rattle.tl_beat.specs.declared.beat.BeatA.{BeatA}
 use Rattle.tl_beat.specs.declared.channel.Channel.{Channel}
 use Rattle.tl_beat.specs.declared.channel.Channel.TheVariants as channel
-use Rattle.tl_burst.specs.Messages.{History}
-use Rattle.tl_rules.specs.History.{is_grant, asks_for}
+use Rattle.tl_burst.specs.statement.Messages.{History}
+use Rattle.tl_rules.specs.statement.History.{is_grant, asks_for}
 use Rattle.tl_coherence.specs.refinement.Flowed.{IsFlowed, is_requested, is_let, is_let_by, is_sunk}
 use Rattle.tl_coherence.specs.refinement.Known.{comes_granting}
 use Rattle.tl_coherence.specs.protocol.Phase.{Letting}

@@ -8,7 +8,7 @@ use Rattle.tl_beat.specs.declared.channel.Channel.{Channel}
 use Rattle.tl_beat.specs.declared.channel.Channel.TheVariants as channel
 use Rattle.tl_params.specs.declared.param.Grow.{Grow}
 use Rattle.tl_params.specs.declared.param.Prune.{Prune}
-use Rattle.tl_rules.specs.Conformance.{comes_in_request, comes_in_release}
+use Rattle.tl_rules.specs.statement.Conformance.{comes_in_request, comes_in_release}
 use Rattle.tl_coherence.specs.refinement.Flowed.{is_requested, is_let, is_let_by}
 use Rattle.tl_coherence.specs.protocol.Invariant.{is_of}
 use Rattle.tl_coherence.specs.refinement.Known.{comes_granting}

@@ -2,22 +2,22 @@
 use Rattle.std.proofs.Common.{◌≡◌, subst, ℕ, Bool, true, false, Option, refl, sym, ◌∙◌, ap, List, inl, inr}
 use Rattle.std.specs.Prelude.{◌==◌}
 use Rattle.std.proofs.lemmas.Bool.{cases_eq, ne_eqb}
-use Rattle.tl_beat.specs.Width.{IsWidth}
+use Rattle.tl_beat.specs.statement.Width.{IsWidth}
 use Rattle.tl_beat.specs.declared.beat.BeatA.{BeatA}
 use Rattle.tl_beat.specs.declared.channel.Channel.TheVariants as channel
 use Rattle.tl_burst.specs.declared.message.Message.TheVariants as message
 use Rattle.tl_burst.specs.declared.message.MessageA.{MessageA}
-use Rattle.tl_burst.specs.Messages.{History}
+use Rattle.tl_burst.specs.statement.Messages.{History}
 use Rattle.tl_params.specs.declared.config.Config.{Config}
 use Rattle.tl_params.specs.declared.param.Grow.{Grow}
 use Rattle.tl_params.specs.declared.param.Prune.{Prune}
-use Rattle.tl_rules.specs.History.{block_at}
+use Rattle.tl_rules.specs.statement.History.{block_at}
 use Rattle.tl_client.specs.declared.operation.Op.{Op}
 use Rattle.tl_client.specs.declared.operation.Op.TheVariants as op
 use Rattle.tl_client.specs.declared.reply.Reply.{Reply}
 use Rattle.tl_client.specs.declared.reply.Reply.TheVariants as reply
-use Rattle.tl_client.specs.Ask.{copy_stored, whole_grow}
-use Rattle.tl_client.specs.Send.{access}
+use Rattle.tl_client.specs.statement.Ask.{copy_stored, whole_grow}
+use Rattle.tl_client.specs.statement.Send.{access}
 use Rattle.tl_coherence.specs.refinement.Flowed.{IsFlowed}
 use Rattle.tl_coherence.specs.refinement.Follow.{Shadow, asked}
 use Rattle.tl_coherence.specs.statement.Log.{Log}

@@ -4,12 +4,12 @@ use Rattle.std.specs.Prelude.{◌==◌, if◌then◌else◌}
 use Rattle.std.proofs.lemmas.Bool.{cases_eq, ne_eqb, and_right}
 use Rattle.tl_beat.specs.declared.beat.Beat.{Beat}
 use Rattle.tl_burst.specs.declared.message.Message.{Message}
-use Rattle.tl_burst.specs.Burst.{beats_of, begun}
-use Rattle.tl_burst.specs.Messages.{grown}
-use Rattle.tl_burst.specs.Part.{is_empty, completes}
+use Rattle.tl_burst.specs.statement.Burst.{beats_of, begun}
+use Rattle.tl_burst.specs.statement.Messages.{grown}
+use Rattle.tl_burst.specs.statement.Part.{is_empty, completes}
 use Rattle.tl_params.specs.declared.perm.Perm.{Perm}
 use Rattle.tl_params.specs.declared.perm.Perm.TheVariants as perm
-use Rattle.tl_rules.specs.Conformance.{same_perm}
+use Rattle.tl_rules.specs.statement.Conformance.{same_perm}
 use Rattle.tl_coherence.specs.protocol.Invariant.{AreNamed, acquires_of}
 use Rattle.tl_coherence.specs.protocol.Protocol.{State, is_wanting}
 use Rattle.tl_coherence.specs.protocol.Token.{set_at}

@@ -2,7 +2,7 @@
 use Rattle.std.proofs.Common.{◌≡◌, ℕ, zero, suc, ◌*◌, Bool, true, false, ◌&&◌, List, [], ◌∷◌, Option, Some, None, refl, sym, ◌∙◌, ap, subst}
 use Rattle.std.specs.Prelude.{◌==◌, map}
 use Rattle.std.proofs.lemmas.Bool.{eqb-true}
-use Rattle.tl_beat.specs.Width.{IsWidth}
+use Rattle.tl_beat.specs.statement.Width.{IsWidth}
 use Rattle.tl_beat.specs.declared.beat.Beat.{Beat}
 use Rattle.tl_beat.specs.declared.beat.Beat.TheVariants as beat
 use Rattle.tl_beat.specs.declared.beat.BeatA.{BeatA}
@@ -14,11 +14,11 @@ use Rattle.tl_burst.specs.declared.message.Message.TheVariants as message
 use Rattle.tl_burst.specs.declared.message.MessageA.{MessageA}
 use Rattle.tl_burst.specs.declared.message.MessageC.{MessageC}
 use Rattle.tl_burst.specs.declared.message.MessageD.{MessageD}
-use Rattle.tl_burst.specs.Burst.{begun}
-use Rattle.tl_burst.specs.Messages.{unfinished}
+use Rattle.tl_burst.specs.statement.Burst.{begun}
+use Rattle.tl_burst.specs.statement.Messages.{unfinished}
 use Rattle.tl_params.specs.declared.config.Config.{Config}
-use Rattle.tl_rules.specs.Conformance.{on_link, comes_in_release, comes_in_grant}
-use Rattle.tl_rules.specs.History.{block_at, is_grant, is_release, asks_for}
+use Rattle.tl_rules.specs.statement.Conformance.{on_link, comes_in_release, comes_in_grant}
+use Rattle.tl_rules.specs.statement.History.{block_at, is_grant, is_release, asks_for}
 use Rattle.tl_client.proofs.HeldAfter.{same_block}
 use Rattle.tl_coherence.specs.refinement.Carried.{IsCarried}
 use Rattle.tl_coherence.specs.refinement.Known.{comes_granting}

@@ -10,14 +10,14 @@ use Rattle.tl_beat.specs.declared.channel.Channel.TheVariants as channel
 use Rattle.tl_burst.specs.declared.message.Message.{Message}
 use Rattle.tl_burst.specs.declared.message.Message.TheVariants as message
 use Rattle.tl_burst.specs.declared.message.MessageD.{MessageD}
-use Rattle.tl_burst.specs.Burst.{d_beat_of}
-use Rattle.tl_burst.specs.Messages.{History, unfinished}
-use Rattle.tl_burst.specs.Part.{is_empty, completes}
+use Rattle.tl_burst.specs.statement.Burst.{d_beat_of}
+use Rattle.tl_burst.specs.statement.Messages.{History, unfinished}
+use Rattle.tl_burst.specs.statement.Part.{is_empty, completes}
 use Rattle.tl_params.specs.declared.config.Config.{Config}
 use Rattle.tl_params.specs.declared.param.Cap.{Cap}
-use Rattle.tl_params.specs.Param.{cap_right}
-use Rattle.tl_rules.specs.Conformance.{comes_in_grant}
-use Rattle.tl_rules.specs.History.{is_grant, is_release_ack, asks_for}
+use Rattle.tl_params.specs.statement.Param.{cap_right}
+use Rattle.tl_rules.specs.statement.Conformance.{comes_in_grant}
+use Rattle.tl_rules.specs.statement.History.{is_grant, is_release_ack, asks_for}
 use Rattle.tl_client.proofs.HeldAfter.{same_block}
 use Rattle.tl_manager.proofs.Recording.{cap-gives}
 use Rattle.tl_coherence.specs.refinement.Flowed.{IsFlowed}

@@ -8,13 +8,13 @@ use Rattle.tl_beat.specs.declared.beat.BeatA.{BeatA}
 use Rattle.tl_beat.specs.declared.beat.BeatD.{BeatD}
 use Rattle.tl_beat.specs.declared.channel.Channel.{Channel}
 use Rattle.tl_beat.specs.declared.channel.Channel.TheVariants as channel
-use Rattle.tl_burst.specs.Messages.{History}
+use Rattle.tl_burst.specs.statement.Messages.{History}
 use Rattle.tl_params.specs.declared.key.Key.TheVariants.{RequestSource}
 use Rattle.tl_params.specs.declared.param.Cap.{Cap}
 use Rattle.tl_params.specs.declared.perm.Perm.{Perm}
-use Rattle.tl_params.specs.Param.{cap_right}
-use Rattle.tl_rules.specs.Conformance.{comes_in_request, comes_in_grant}
-use Rattle.tl_rules.specs.History.{begins, ends, block_at, pending, is_grant, is_release_ack, asks_for, request_of, release_of, probe_of, grant_sink, releases, capped}
+use Rattle.tl_params.specs.statement.Param.{cap_right}
+use Rattle.tl_rules.specs.statement.Conformance.{comes_in_request, comes_in_grant}
+use Rattle.tl_rules.specs.statement.History.{begins, ends, block_at, pending, is_grant, is_release_ack, asks_for, request_of, release_of, probe_of, grant_sink, releases, capped}
 use Rattle.tl_client.proofs.Opens.{request_of-d}
 use Rattle.tl_client.proofs.AccountedResponse.{release_of-d}
 use Rattle.tl_coherence.specs.refinement.Flowed.{IsFlowed, is_requested, is_let_by, is_sunk}

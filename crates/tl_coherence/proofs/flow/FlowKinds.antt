@@ -11,13 +11,13 @@ use Rattle.tl_beat.specs.declared.channel.Channel.TheVariants as channel
 use Rattle.tl_burst.specs.declared.message.Message.{Message}
 use Rattle.tl_burst.specs.declared.message.Message.TheVariants as message
 use Rattle.tl_burst.specs.declared.message.MessageA.{MessageA}
-use Rattle.tl_burst.specs.Messages.{History}
+use Rattle.tl_burst.specs.statement.Messages.{History}
 use Rattle.tl_params.specs.declared.config.Config.{Config}
 use Rattle.tl_params.specs.declared.param.Cap.{Cap}
 use Rattle.tl_params.specs.declared.param.Report.{Report}
-use Rattle.tl_rules.specs.Conformance.{comes_in_grant}
-use Rattle.tl_rules.specs.History.{block_at}
-use Rattle.tl_manager.specs.Holders.{cap_probed}
+use Rattle.tl_rules.specs.statement.Conformance.{comes_in_grant}
+use Rattle.tl_rules.specs.statement.History.{block_at}
+use Rattle.tl_manager.specs.statement.Holders.{cap_probed}
 use Rattle.tl_coherence.specs.refinement.Flowed.{IsFlowed}
 use Rattle.tl_coherence.specs.refinement.Follow.{Shadow, with_state, some_below, performs, probes_some, access_taken, request_taken, is_unheld, gift, acquire_taken}
 use Rattle.tl_coherence.specs.refinement.Follow.{granted_after, last_taken, ack_taken, is_whole, taken_by_client, kind_taken}

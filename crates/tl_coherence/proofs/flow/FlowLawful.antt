@@ -1,7 +1,7 @@
 -- A beat of channel B or C that is delivered breaks no rule after what was delivered before it.
 use Rattle.std.proofs.Common.{◌≡◌, ℕ, true, false, List, [], ◌∷◌, Option, Some, None, refl, sym, ◌∙◌, ap, subst}
 use Rattle.std.specs.Prelude.{map}
-use Rattle.tl_beat.specs.Width.{IsWidth}
+use Rattle.tl_beat.specs.statement.Width.{IsWidth}
 use Rattle.tl_beat.specs.declared.beat.Beat.{Beat}
 use Rattle.tl_beat.specs.declared.channel.Channel.{Channel}
 use Rattle.tl_beat.specs.declared.channel.Channel.TheVariants as channel
@@ -9,20 +9,20 @@ use Rattle.tl_burst.specs.declared.message.Message.{Message}
 use Rattle.tl_burst.specs.declared.message.Message.TheVariants as message
 use Rattle.tl_burst.specs.declared.message.MessageA.{MessageA}
 use Rattle.tl_burst.specs.declared.message.MessageC.{MessageC}
-use Rattle.tl_burst.specs.Burst.{beat_of, c_beat_of}
-use Rattle.tl_burst.specs.Messages.{History, channel_of, channel_in, unfinished}
+use Rattle.tl_burst.specs.statement.Burst.{beat_of, c_beat_of}
+use Rattle.tl_burst.specs.statement.Messages.{History, channel_of, channel_in, unfinished}
 use Rattle.tl_params.specs.declared.config.Config.{Config}
 use Rattle.tl_params.specs.declared.level.Level.{Level}
 use Rattle.tl_params.specs.declared.param.Prune.{Prune}
 use Rattle.tl_params.specs.declared.param.Report.{Report}
 use Rattle.tl_params.specs.declared.perm.Perm.TheVariants as perm
 use Rattle.tl_params.specs.declared.profile.Profile.{Profile}
-use Rattle.tl_params.specs.Param.{prune_code, prune_left, report_at, report_code, report_left}
-use Rattle.tl_rules.specs.Conformance.{on_link, broken_in_order, broken_after, same_perm}
-use Rattle.tl_rules.specs.Legality.{illegal}
+use Rattle.tl_params.specs.statement.Param.{prune_code, prune_left, report_at, report_code, report_left}
+use Rattle.tl_rules.specs.statement.Conformance.{on_link, broken_in_order, broken_after, same_perm}
+use Rattle.tl_rules.specs.statement.Legality.{illegal}
 use Rattle.tl_client.proofs.HeldAfter.{same_block}
-use Rattle.tl_manager.specs.Kept.{illegal_at}
-use Rattle.tl_manager.specs.Offer.{level_of}
+use Rattle.tl_manager.specs.code.Kept.{illegal_at}
+use Rattle.tl_manager.specs.statement.Offer.{level_of}
 use Rattle.tl_coherence.specs.statement.Flow.{flow}
 use Rattle.tl_coherence.specs.statement.Log.{Log}
 use Rattle.tl_coherence.specs.refinement.Matched.{receiver}

@@ -10,10 +10,10 @@ use Rattle.tl_beat.specs.declared.beat.BeatC.{BeatC}
 use Rattle.tl_beat.specs.declared.beat.BeatE.{BeatE}
 use Rattle.tl_beat.specs.declared.channel.Channel.{Channel}
 use Rattle.tl_beat.specs.declared.channel.Channel.TheVariants as channel
-use Rattle.tl_beat.specs.First.{first_if}
+use Rattle.tl_beat.specs.statement.First.{first_if}
 use Rattle.tl_burst.specs.declared.message.Message.{Message}
-use Rattle.tl_burst.specs.Burst.{beat_of, begun}
-use Rattle.tl_burst.specs.Messages.{History, channel_of, channel_in, unfinished}
+use Rattle.tl_burst.specs.statement.Burst.{beat_of, begun}
+use Rattle.tl_burst.specs.statement.Messages.{History, channel_of, channel_in, unfinished}
 use Rattle.tl_params.specs.declared.key.Key.TheVariants as key
 use Rattle.tl_params.specs.declared.level.Level.{Level}
 use Rattle.tl_params.specs.declared.param.Cap.{Cap}
@@ -21,10 +21,10 @@ use Rattle.tl_params.specs.declared.param.Prune.{Prune}
 use Rattle.tl_params.specs.declared.param.Report.{Report}
 use Rattle.tl_params.specs.declared.profile.Profile.{Profile}
 use Rattle.tl_params.specs.declared.rule.Rule.TheVariants.{H1, H9, H13}
-use Rattle.tl_params.specs.Param.{prune_code, prune_of, prune_left, report_code, report_at}
-use Rattle.tl_rules.specs.Conformance.{broken_order, broken_in_order, broken_after, grows_from, prunes_from, comes_in_request, comes_in_release, comes_in_grant, same_perm}
-use Rattle.tl_rules.specs.History.{block_at, is_acquire, is_probe, is_probe_ack, is_release, held, pending}
-use Rattle.tl_rules.specs.Legality.{illegal}
+use Rattle.tl_params.specs.statement.Param.{prune_code, prune_of, prune_left, report_code, report_at}
+use Rattle.tl_rules.specs.statement.Conformance.{broken_order, broken_in_order, broken_after, grows_from, prunes_from, comes_in_request, comes_in_release, comes_in_grant, same_perm}
+use Rattle.tl_rules.specs.statement.History.{block_at, is_acquire, is_probe, is_probe_ack, is_release, held, pending}
+use Rattle.tl_rules.specs.statement.Legality.{illegal}
 use Rattle.tl_rules.proofs.Later.{later-legal}
 use Rattle.tl_coherence.specs.refinement.Flowed.{IsFlowed, is_requested, is_let, is_let_by, is_sunk}
 use Rattle.tl_coherence.specs.refinement.Known.{comes_granting}

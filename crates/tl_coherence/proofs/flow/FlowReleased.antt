@@ -8,13 +8,13 @@ use Rattle.tl_beat.specs.declared.beat.BeatA.{BeatA}
 use Rattle.tl_beat.specs.declared.beat.BeatC.{BeatC}
 use Rattle.tl_beat.specs.declared.channel.Channel.{Channel}
 use Rattle.tl_beat.specs.declared.channel.Channel.TheVariants as channel
-use Rattle.tl_burst.specs.Messages.{History}
+use Rattle.tl_burst.specs.statement.Messages.{History}
 use Rattle.tl_params.specs.declared.key.Key.TheVariants.{ReleaseSource}
 use Rattle.tl_params.specs.declared.param.Prune.{Prune}
 use Rattle.tl_params.specs.declared.perm.Perm.{Perm}
-use Rattle.tl_params.specs.Param.{prune_right}
-use Rattle.tl_rules.specs.Conformance.{comes_in_release, comes_in_grant}
-use Rattle.tl_rules.specs.History.{begins, ends, block_at, pending, is_probe_ack, is_release, release_of, reported}
+use Rattle.tl_params.specs.statement.Param.{prune_right}
+use Rattle.tl_rules.specs.statement.Conformance.{comes_in_release, comes_in_grant}
+use Rattle.tl_rules.specs.statement.History.{begins, ends, block_at, pending, is_probe_ack, is_release, release_of, reported}
 use Rattle.tl_coherence.specs.refinement.Flowed.{IsFlowed, is_requested, is_let, is_let_by, is_sunk}
 use Rattle.tl_coherence.specs.refinement.Known.{comes_granting}
 use Rattle.tl_coherence.specs.protocol.Invariant.{is_of, releases_with}

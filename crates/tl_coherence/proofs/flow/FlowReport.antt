@@ -7,9 +7,9 @@ use Rattle.tl_beat.specs.declared.beat.BeatA.{BeatA}
 use Rattle.tl_beat.specs.declared.beat.BeatC.{BeatC}
 use Rattle.tl_beat.specs.declared.channel.Channel.{Channel}
 use Rattle.tl_beat.specs.declared.channel.Channel.TheVariants as channel
-use Rattle.tl_burst.specs.Messages.{History}
-use Rattle.tl_rules.specs.Conformance.{comes_in_release}
-use Rattle.tl_rules.specs.History.{begins, ends, block_at, is_probe_ack, is_release, release_of}
+use Rattle.tl_burst.specs.statement.Messages.{History}
+use Rattle.tl_rules.specs.statement.Conformance.{comes_in_release}
+use Rattle.tl_rules.specs.statement.History.{begins, ends, block_at, is_probe_ack, is_release, release_of}
 use Rattle.tl_coherence.specs.refinement.Flowed.{IsFlowed, is_requested, is_let, is_let_by, is_sunk}
 use Rattle.tl_coherence.specs.protocol.Phase.{Letting, Kept, Releasing, Acked}
 use Rattle.tl_coherence.specs.protocol.Protocol.{State, view, is_answered, is_wanting, is_unserved}

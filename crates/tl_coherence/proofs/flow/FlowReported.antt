@@ -8,12 +8,12 @@ use Rattle.tl_beat.specs.declared.beat.BeatA.{BeatA}
 use Rattle.tl_beat.specs.declared.beat.BeatC.{BeatC}
 use Rattle.tl_beat.specs.declared.channel.Channel.{Channel}
 use Rattle.tl_beat.specs.declared.channel.Channel.TheVariants as channel
-use Rattle.tl_burst.specs.Messages.{History}
+use Rattle.tl_burst.specs.statement.Messages.{History}
 use Rattle.tl_params.specs.declared.param.Report.{Report}
 use Rattle.tl_params.specs.declared.perm.Perm.{Perm}
-use Rattle.tl_params.specs.Param.{report_right}
-use Rattle.tl_rules.specs.Conformance.{comes_in_release, comes_in_grant}
-use Rattle.tl_rules.specs.History.{begins, ends, block_at, is_probe_ack, is_release, probe_of, reported}
+use Rattle.tl_params.specs.statement.Param.{report_right}
+use Rattle.tl_rules.specs.statement.Conformance.{comes_in_release, comes_in_grant}
+use Rattle.tl_rules.specs.statement.History.{begins, ends, block_at, is_probe_ack, is_release, probe_of, reported}
 use Rattle.tl_coherence.specs.refinement.Flowed.{IsFlowed, is_requested, is_let, is_let_by, is_sunk}
 use Rattle.tl_coherence.specs.protocol.Phase.{Pair}
 use Rattle.tl_coherence.specs.protocol.PhaseSteps.{after_report}

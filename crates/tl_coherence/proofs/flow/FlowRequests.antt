@@ -1,25 +1,25 @@
 -- A beat of channel A that needn't wait breaks no rule after what was delivered before it.
 use Rattle.std.proofs.Common.{◌≡◌, ℕ, true, false, ◌&&◌, List, ◌∷◌, length, Some, None, refl, sym, ◌∙◌, ap, subst, arith}
 use Rattle.std.specs.Prelude.{map, nat_le}
-use Rattle.tl_beat.specs.Width.{IsWidth}
+use Rattle.tl_beat.specs.statement.Width.{IsWidth}
 use Rattle.tl_beat.specs.declared.beat.Beat.{Beat}
 use Rattle.tl_beat.specs.declared.beat.Beat.TheVariants as beat
 use Rattle.tl_beat.specs.declared.channel.Channel.TheVariants as channel
 use Rattle.tl_burst.specs.declared.message.Message.{Message}
 use Rattle.tl_burst.specs.declared.message.Message.TheVariants as message
 use Rattle.tl_burst.specs.declared.message.MessageA.{MessageA}
-use Rattle.tl_burst.specs.Burst.{a_beat_of, beats_of}
-use Rattle.tl_burst.specs.Messages.{channel_of, unfinished}
+use Rattle.tl_burst.specs.statement.Burst.{a_beat_of, beats_of}
+use Rattle.tl_burst.specs.statement.Messages.{channel_of, unfinished}
 use Rattle.tl_params.specs.declared.config.Config.{Config}
 use Rattle.tl_params.specs.declared.level.Level.{Level}
-use Rattle.tl_rules.specs.Conformance.{broken_after, on_link, same_perm}
-use Rattle.tl_rules.specs.History.{block_at, ends}
-use Rattle.tl_rules.specs.Legality.{illegal}
+use Rattle.tl_rules.specs.statement.Conformance.{broken_after, on_link, same_perm}
+use Rattle.tl_rules.specs.statement.History.{block_at, ends}
+use Rattle.tl_rules.specs.statement.Legality.{illegal}
 use Rattle.tl_rules.proofs.Sent.{is_last}
 use Rattle.std.proofs.lemmas.Bool.{or_parts}
 use Rattle.tl_client.proofs.HeldAfter.{same_block}
-use Rattle.tl_manager.specs.Service.{services, is_in_service}
-use Rattle.tl_manager.specs.Offer.{level_of, must_wait}
+use Rattle.tl_manager.specs.statement.Service.{services, is_in_service}
+use Rattle.tl_manager.specs.statement.Offer.{level_of, must_wait}
 use Rattle.tl_coherence.specs.statement.Flow.{flow}
 use Rattle.tl_coherence.specs.statement.Log.{Log}
 use Rattle.tl_coherence.specs.refinement.Matched.{receiver}

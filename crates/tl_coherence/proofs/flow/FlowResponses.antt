@@ -3,7 +3,7 @@ use Rattle.std.proofs.Common.{◌≡◌, subst, ℕ, zero, suc, Bool, true, fals
 use Rattle.std.specs.Prelude.{◌==◌, if◌then◌else◌, map}
 use Rattle.std.proofs.lemmas.Bool.{eqb-true, and_from}
 use Rattle.std.proofs.lemmas.Option.{same_Some}
-use Rattle.tl_beat.specs.Width.{IsWidth}
+use Rattle.tl_beat.specs.statement.Width.{IsWidth}
 use Rattle.tl_beat.specs.declared.beat.Beat.{Beat}
 use Rattle.tl_beat.specs.declared.beat.BeatA.{BeatA}
 use Rattle.tl_beat.specs.declared.channel.Channel.TheVariants as channel
@@ -14,26 +14,26 @@ use Rattle.tl_burst.specs.declared.message.Message.TheVariants as message
 use Rattle.tl_burst.specs.declared.message.MessageA.{MessageA}
 use Rattle.tl_burst.specs.declared.message.MessageC.{MessageC}
 use Rattle.tl_burst.specs.declared.message.MessageD.{MessageD}
-use Rattle.tl_burst.specs.Burst.{a_beat_of, d_beat_of, beat_of, begun}
-use Rattle.tl_burst.specs.Messages.{unfinished, History, channel_of}
+use Rattle.tl_burst.specs.statement.Burst.{a_beat_of, d_beat_of, beat_of, begun}
+use Rattle.tl_burst.specs.statement.Messages.{unfinished, History, channel_of}
 use Rattle.tl_params.specs.declared.config.Config.{Config}
 use Rattle.tl_params.specs.declared.level.Level.{Level}
 use Rattle.tl_params.specs.declared.profile.Profile.{Profile}
-use Rattle.tl_rules.specs.Legality.{illegal}
-use Rattle.tl_manager.specs.Offer.{level_of}
+use Rattle.tl_rules.specs.statement.Legality.{illegal}
+use Rattle.tl_manager.specs.statement.Offer.{level_of}
 use Rattle.tl_params.specs.declared.key.Key.TheVariants.{RequestSource, ReleaseSource}
 use Rattle.tl_params.specs.declared.param.Prune.{Prune}
 use Rattle.tl_params.specs.declared.param.Prune.TheVariants as prune
 use Rattle.tl_params.specs.declared.param.Report.{Report}
 use Rattle.tl_params.specs.declared.perm.Perm.{Perm}
 use Rattle.tl_params.specs.declared.perm.Perm.TheVariants as perm
-use Rattle.tl_params.specs.Param.{prune_code, report_code, report_left}
-use Rattle.tl_rules.specs.Conformance as rules
-use Rattle.tl_rules.specs.Conformance.{on_link, comes_in_request, comes_in_release, comes_in_grant, broken_in_order, same_perm, broken_after}
-use Rattle.tl_rules.specs.History.{is_release, held, pending, request_of}
-use Rattle.tl_client.specs.End.{zeros}
-use Rattle.tl_client.specs.Send.{acquisition, about, release, probe_ack}
-use Rattle.tl_manager.specs.Handing.{grant_opcode}
+use Rattle.tl_params.specs.statement.Param.{prune_code, report_code, report_left}
+use Rattle.tl_rules.specs.statement.Conformance as rules
+use Rattle.tl_rules.specs.statement.Conformance.{on_link, comes_in_request, comes_in_release, comes_in_grant, broken_in_order, same_perm, broken_after}
+use Rattle.tl_rules.specs.statement.History.{is_release, held, pending, request_of}
+use Rattle.tl_client.specs.statement.End.{zeros}
+use Rattle.tl_client.specs.statement.Send.{acquisition, about, release, probe_ack}
+use Rattle.tl_manager.specs.statement.Handing.{grant_opcode}
 use Rattle.tl_client.proofs.HeldAfter.{same_block}
 use Rattle.tl_coherence.specs.refinement.Carried.{IsCarried}
 use Rattle.tl_coherence.specs.statement.Flow.{flow}

@@ -4,7 +4,7 @@ use Rattle.std.proofs.Common.{◌≡◌, ℕ, zero, suc, Bool, true, false, ◌&
 use Rattle.std.specs.Prelude.{◌==◌, map}
 use Rattle.std.proofs.lemmas.Bool.{ne_eqb, and_right}
 use Rattle.std.proofs.lemmas.Option.{same_Some}
-use Rattle.tl_beat.specs.Width.{IsWidth}
+use Rattle.tl_beat.specs.statement.Width.{IsWidth}
 use Rattle.tl_beat.specs.declared.beat.Beat.{Beat}
 use Rattle.tl_beat.specs.declared.beat.BeatE.{BeatE}
 use Rattle.tl_beat.specs.declared.channel.Channel.TheVariants as channel
@@ -12,16 +12,16 @@ use Rattle.tl_burst.specs.declared.message.Message.{Message}
 use Rattle.tl_burst.specs.declared.message.Message.TheVariants as message
 use Rattle.tl_burst.specs.declared.message.MessageA.{MessageA}
 use Rattle.tl_burst.specs.declared.message.MessageD.{MessageD}
-use Rattle.tl_burst.specs.Burst.{begun}
-use Rattle.tl_burst.specs.Messages.{unfinished, channel_of}
+use Rattle.tl_burst.specs.statement.Burst.{begun}
+use Rattle.tl_burst.specs.statement.Messages.{unfinished, channel_of}
 use Rattle.tl_params.specs.declared.config.Config.{Config}
 use Rattle.tl_params.specs.declared.level.Level.{Level}
 use Rattle.tl_params.specs.declared.param.Cap.{Cap}
-use Rattle.tl_manager.specs.Handing.{grant_opcode}
-use Rattle.tl_rules.specs.Conformance.{broken_after, comes_in_grant, on_link}
-use Rattle.tl_rules.specs.History.{is_grant}
-use Rattle.tl_rules.specs.Legality.{illegal}
-use Rattle.tl_manager.specs.Offer.{level_of}
+use Rattle.tl_manager.specs.statement.Handing.{grant_opcode}
+use Rattle.tl_rules.specs.statement.Conformance.{broken_after, comes_in_grant, on_link}
+use Rattle.tl_rules.specs.statement.History.{is_grant}
+use Rattle.tl_rules.specs.statement.Legality.{illegal}
+use Rattle.tl_manager.specs.statement.Offer.{level_of}
 use Rattle.tl_coherence.specs.refinement.Carried.{IsCarried}
 use Rattle.tl_coherence.specs.statement.Flow.{flow}
 use Rattle.tl_coherence.specs.statement.Log.{Log}

@@ -5,11 +5,11 @@ use Rattle.tl_beat.specs.declared.beat.Beat.{Beat}
 use Rattle.tl_beat.specs.declared.beat.BeatA.{BeatA}
 use Rattle.tl_beat.specs.declared.channel.Channel.{Channel}
 use Rattle.tl_beat.specs.declared.channel.Channel.TheVariants as channel
-use Rattle.tl_burst.specs.Messages.{History, unfinished, on, grown}
+use Rattle.tl_burst.specs.statement.Messages.{History, unfinished, on, grown}
 use Rattle.tl_params.specs.declared.key.Key.{Key}
 use Rattle.tl_params.specs.declared.key.Key.TheVariants.{RequestSource, ReleaseSource, AcquireOf, ReleaseOf, GrantSink, GrantAckOf, ProbeOf}
 use Rattle.tl_params.specs.declared.perm.Perm.{Perm}
-use Rattle.tl_rules.specs.History.{begins, ends, opens, closes, pending, held, says_held, block_at, request_of, release_of, probe_of, grant_sink}
+use Rattle.tl_rules.specs.statement.History.{begins, ends, opens, closes, pending, held, says_held, block_at, request_of, release_of, probe_of, grant_sink}
 use Rattle.tl_coherence.specs.refinement.Flowed.{IsFlowed, is_requested, is_let, is_let_by, is_sunk}
 use Rattle.tl_coherence.specs.refinement.Known.{comes_granting}
 use Rattle.tl_coherence.specs.protocol.Protocol.{Block, State, view, is_granting, is_acknowledging, is_answered, is_wanting, is_unserved}

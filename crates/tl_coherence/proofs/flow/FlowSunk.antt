@@ -2,7 +2,7 @@
 use Rattle.std.proofs.Common.{◌≡◌, ℕ, Bool, true, false, ◌&&◌, ◌||◌, Option, Some, None, refl, sym, ◌∙◌, ap, List, ◌⊎◌, inl, inr}
 use Rattle.std.proofs.lemmas.Bool.{cases_eq}
 use Rattle.tl_beat.specs.declared.beat.Beat.{Beat}
-use Rattle.tl_rules.specs.Conformance.{comes_in_grant}
+use Rattle.tl_rules.specs.statement.Conformance.{comes_in_grant}
 use Rattle.tl_coherence.specs.refinement.Flowed.{is_sunk}
 use Rattle.tl_coherence.specs.protocol.Phase.{View, Idle, Own, Other, Granting, Acknowledging, GrantedOther}
 use Rattle.tl_coherence.specs.protocol.Protocol.{Block, State, view, is_granting, is_acknowledging}

@@ -2,7 +2,7 @@
 use Rattle.std.proofs.Common.{◌≡◌, subst, ℕ, Bool, true, false, not, ◌&&◌, List, [], ◌∷◌, Option, refl, sym, ◌∙◌, ap, length}
 use Rattle.std.proofs.lemmas.Bool.{and_right as with_false}
 use Rattle.std.specs.Prelude.{◌==◌, if◌then◌else◌}
-use Rattle.tl_beat.specs.Width.{IsWidth}
+use Rattle.tl_beat.specs.statement.Width.{IsWidth}
 use Rattle.tl_beat.specs.declared.beat.Beat.{Beat}
 use Rattle.tl_beat.specs.declared.beat.Beat.TheVariants as beat
 use Rattle.tl_beat.specs.declared.beat.BeatA.{BeatA}
@@ -12,18 +12,18 @@ use Rattle.tl_beat.specs.declared.channel.Channel.TheVariants as channel
 use Rattle.tl_burst.specs.declared.message.Message.{Message}
 use Rattle.tl_burst.specs.declared.message.Message.TheVariants as message
 use Rattle.tl_burst.specs.declared.message.MessageC.{MessageC}
-use Rattle.tl_burst.specs.Burst.{c_beat_of}
-use Rattle.tl_burst.specs.Messages.{History}
-use Rattle.tl_burst.specs.Part.{is_empty, completes}
+use Rattle.tl_burst.specs.statement.Burst.{c_beat_of}
+use Rattle.tl_burst.specs.statement.Messages.{History}
+use Rattle.tl_burst.specs.statement.Part.{is_empty, completes}
 use Rattle.tl_params.specs.declared.config.Config.{Config}
 use Rattle.tl_params.specs.declared.param.Prune.{Prune}
 use Rattle.tl_params.specs.declared.param.Prune.TheVariants as prune
 use Rattle.tl_params.specs.declared.param.Report.{Report}
 use Rattle.tl_params.specs.declared.perm.Perm.TheVariants as perm
-use Rattle.tl_params.specs.Param.{prune_code, prune_left, prune_right, report_code, report_left}
-use Rattle.tl_rules.specs.Conformance.{comes_in_release, same_perm}
-use Rattle.tl_rules.specs.History.{is_release, reported}
-use Rattle.tl_client.specs.Send.{release}
+use Rattle.tl_params.specs.statement.Param.{prune_code, prune_left, prune_right, report_code, report_left}
+use Rattle.tl_rules.specs.statement.Conformance.{comes_in_release, same_perm}
+use Rattle.tl_rules.specs.statement.History.{is_release, reported}
+use Rattle.tl_client.specs.statement.Send.{release}
 use Rattle.tl_coherence.specs.refinement.Flowed.{IsFlowed}
 use Rattle.tl_coherence.specs.refinement.Follow.{Shadow}
 use Rattle.tl_coherence.specs.protocol.Invariant.{is_busy}

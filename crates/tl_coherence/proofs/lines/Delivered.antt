@@ -4,12 +4,12 @@ use Rattle.std.specs.Prelude.{◌==◌, All, if◌then◌else◌}
 use Rattle.std.proofs.lemmas.List.Elements.{All-head, All-nil, All-cons}
 use Rattle.tl_beat.specs.declared.beat.Beat.{Beat}
 use Rattle.tl_beat.specs.declared.channel.Channel.{Channel}
-use Rattle.tl_beat.specs.Line.{IsInRange, IsWritable}
-use Rattle.tl_burst.specs.Messages.{channel_of}
+use Rattle.tl_beat.specs.statement.Line.{IsInRange, IsWritable}
+use Rattle.tl_burst.specs.statement.Messages.{channel_of}
 use Rattle.tl_params.specs.declared.config.Config.{Config}
-use Rattle.tl_rules.specs.Agent.{is_outside}
-use Rattle.tl_rules.specs.Legality.{illegal}
-use Rattle.tl_client.specs.End.{Terms}
+use Rattle.tl_rules.specs.statement.Agent.{is_outside}
+use Rattle.tl_rules.specs.statement.Legality.{illegal}
+use Rattle.tl_client.specs.statement.End.{Terms}
 use Rattle.tl_manager.proofs.Placing.{limits}
 use Rattle.tl_coherence.specs.declared.event.Event.{Event}
 use Rattle.tl_coherence.specs.declared.event.Event.TheVariants.{Ask, Deliver}

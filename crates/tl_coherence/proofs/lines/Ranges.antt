@@ -3,14 +3,14 @@ use Rattle.std.proofs.Common.{◌≡◌, ℕ, zero, suc, ◌+◌, ◌-◌, ◌*�
 use Rattle.std.specs.Prelude.{IfSome, drop, nat_le, option_map, replicate, slice_get}
 use Rattle.std.proofs.lemmas.Bool.{and_parts, leb-false, leb-true}
 use Rattle.std.proofs.lemmas.List.Elements.{All-append, All-drop, All-from_get_or, All-replicate, All-take}
-use Rattle.tl_beat.specs.Line.{AreLanes as HasLanes, IsInRange}
-use Rattle.tl_beat.specs.Opcode.{a_carries_data, b_carries_data, c_carries_data, d_carries_data}
+use Rattle.tl_beat.specs.statement.Line.{AreLanes as HasLanes, IsInRange}
+use Rattle.tl_beat.specs.statement.Opcode.{a_carries_data, b_carries_data, c_carries_data, d_carries_data}
 use Rattle.tl_beat.specs.declared.channel.Channel.{Channel}
 use Rattle.tl_beat.specs.declared.opcode.OpB.TheVariants as opb
 use Rattle.tl_burst.specs.declared.message.Message.{Message}
 use Rattle.tl_burst.specs.declared.message.Message.TheVariants as message
 use Rattle.tl_burst.specs.declared.message.MessageA.{MessageA}
-use Rattle.tl_burst.specs.Burst.{beat_of, lanes_at}
+use Rattle.tl_burst.specs.statement.Burst.{beat_of, lanes_at}
 use Rattle.tl_params.specs.declared.config.ClientConfig.{ClientConfig}
 use Rattle.tl_params.specs.declared.config.Config.{Config}
 use Rattle.tl_params.specs.declared.param.Prune.{Prune}
@@ -18,16 +18,16 @@ use Rattle.tl_params.specs.declared.param.Prune.TheVariants as prune
 use Rattle.tl_params.specs.declared.param.Report.{Report}
 use Rattle.tl_params.specs.declared.perm.Perm.{Perm}
 use Rattle.tl_params.specs.declared.perm.Perm.TheVariants as perm
-use Rattle.tl_params.specs.Config.{all_sources_fit, blocks_fit, config_fault, sources_fit, trackers_fit}
-use Rattle.tl_params.specs.Range.{is_from_to}
-use Rattle.tl_rules.specs.Agent.{is_outside}
-use Rattle.tl_rules.specs.Effect as memory
-use Rattle.tl_rules.specs.Effect.{IsBlock, answer_of, as_payload}
-use Rattle.tl_rules.specs.History.{block_at}
+use Rattle.tl_params.specs.statement.Config.{all_sources_fit, blocks_fit, config_fault, sources_fit, trackers_fit}
+use Rattle.tl_params.specs.statement.Range.{is_from_to}
+use Rattle.tl_rules.specs.statement.Agent.{is_outside}
+use Rattle.tl_rules.specs.statement.Effect as memory
+use Rattle.tl_rules.specs.statement.Effect.{IsBlock, answer_of, as_payload}
+use Rattle.tl_rules.specs.statement.History.{block_at}
 use Rattle.tl_client.specs.declared.operation.Op.TheVariants as op
-use Rattle.tl_client.specs.End.{Terms}
-use Rattle.tl_client.specs.Send.{probe_ack, release, sourced}
-use Rattle.tl_manager.specs.Handing.{access_answer, release_ack}
+use Rattle.tl_client.specs.statement.End.{Terms}
+use Rattle.tl_client.specs.statement.Send.{probe_ack, release, sourced}
+use Rattle.tl_manager.specs.statement.Handing.{access_answer, release_ack}
 use Rattle.tl_coherence.specs.refinement.Beside.{Answers, IsOpened}
 use Rattle.tl_coherence.specs.statement.Delivery.{sources_of}
 use Rattle.tl_coherence.specs.statement.Log.{Log}

@@ -12,15 +12,15 @@ use Rattle.tl_beat.specs.declared.opcode.OpC.{OpC}
 use Rattle.tl_beat.specs.declared.opcode.OpC.TheVariants as c
 use Rattle.tl_beat.specs.declared.opcode.OpD.{OpD}
 use Rattle.tl_beat.specs.declared.opcode.OpD.TheVariants as d
-use Rattle.tl_beat.specs.Line.{IsWritable}
-use Rattle.tl_beat.specs.Width.{IsWidth}
+use Rattle.tl_beat.specs.statement.Line.{IsWritable}
+use Rattle.tl_beat.specs.statement.Width.{IsWidth}
 use Rattle.tl_burst.specs.declared.message.Message.{Message}
 use Rattle.tl_burst.specs.declared.message.Message.TheVariants as message
-use Rattle.tl_burst.specs.Burst.{beat_of}
+use Rattle.tl_burst.specs.statement.Burst.{beat_of}
 use Rattle.tl_params.specs.declared.level.Level.{Level}
 use Rattle.tl_params.specs.declared.rule.Rule.TheVariants.{L1, L2, L3, L7}
-use Rattle.tl_params.specs.Param.{cap_of}
-use Rattle.tl_rules.specs.Legality.{a_has_param, a_has_size, breaks_l1, breaks_l2, breaks_l3, breaks_l7, c_has_param, c_has_source, d_has_param, d_has_sink, illegal}
+use Rattle.tl_params.specs.statement.Param.{cap_of}
+use Rattle.tl_rules.specs.statement.Legality.{a_has_param, a_has_size, breaks_l1, breaks_l2, breaks_l3, breaks_l7, c_has_param, c_has_source, d_has_param, d_has_sink, illegal}
 use Rattle.tl_rules.proofs.Bursts.{next_rule}
 use Rattle.tl_rules.proofs.Sizes.{response-small}
 use Rattle.tl_manager.proofs.Masks.{request_small}

@@ -3,7 +3,7 @@ use Rattle.std.proofs.Common.{◌≡◌, ℕ, Bool, true, false, List, [], ◌�
 use Rattle.std.specs.Prelude.{◌++◌, ◌==◌, if◌then◌else◌, All, map, Ok, ⊤}
 use Rattle.std.proofs.lemmas.Bool.{cases_eq, ne_eqb}
 use Rattle.std.proofs.lemmas.List.Elements.{All-head}
-use Rattle.tl_beat.specs.Width.{IsWidth}
+use Rattle.tl_beat.specs.statement.Width.{IsWidth}
 use Rattle.tl_beat.specs.declared.beat.Beat.{Beat}
 use Rattle.tl_beat.specs.declared.beat.Beat.TheVariants as beat
 use Rattle.tl_beat.specs.declared.beat.Link.{Link}
@@ -11,27 +11,27 @@ use Rattle.tl_beat.specs.declared.channel.Channel.{Channel}
 use Rattle.tl_beat.specs.declared.channel.Channel.TheVariants as channel
 use Rattle.tl_burst.specs.declared.message.Message.{Message}
 use Rattle.tl_burst.specs.declared.message.Message.TheVariants as message
-use Rattle.tl_burst.specs.Burst.{beat_of, burst_of}
-use Rattle.tl_burst.specs.Messages.{History, carried_on, channel_of}
+use Rattle.tl_burst.specs.statement.Burst.{beat_of, burst_of}
+use Rattle.tl_burst.specs.statement.Messages.{History, carried_on, channel_of}
 use Rattle.tl_params.specs.declared.config.Config.{Config}
-use Rattle.tl_rules.specs.Agent.{sent_if_any}
-use Rattle.tl_rules.specs.Conformance.{Trace, on_link}
+use Rattle.tl_rules.specs.statement.Agent.{sent_if_any}
+use Rattle.tl_rules.specs.statement.Conformance.{Trace, on_link}
 use Rattle.tl_client.specs.declared.operation.Op.{Op}
 use Rattle.tl_client.specs.declared.verdict.Verdict.{Verdict}
 use Rattle.tl_client.specs.declared.verdict.Verdict.TheVariants as verdict
-use Rattle.tl_client.specs.After as client_after
-use Rattle.tl_client.specs.Ask as ask
-use Rattle.tl_client.specs.End.{End, Terms}
-use Rattle.tl_client.specs.Offer as offer
+use Rattle.tl_client.specs.laws.After as client_after
+use Rattle.tl_client.specs.statement.Ask as ask
+use Rattle.tl_client.specs.statement.End.{End, Terms}
+use Rattle.tl_client.specs.statement.Offer as offer
 use Rattle.tl_client.proofs.AfterAsked.{past-asked}
 use Rattle.tl_client.proofs.AfterOffered.{past-offered}
-use Rattle.tl_manager.specs.Handing.{Handed, with_handed}
-use Rattle.tl_manager.specs.Kept as manager
-use Rattle.tl_manager.specs.Kept.{Each}
-use Rattle.tl_manager.specs.Deed as manager_deed
-use Rattle.tl_manager.specs.End as manager_end
-use Rattle.tl_manager.specs.Offer as manager_offer
-use Rattle.tl_manager.specs.Offer.{is_from_client}
+use Rattle.tl_manager.specs.statement.Handing.{Handed, with_handed}
+use Rattle.tl_manager.specs.code.Kept as manager
+use Rattle.tl_manager.specs.code.Kept.{Each}
+use Rattle.tl_manager.specs.statement.Deed as manager_deed
+use Rattle.tl_manager.specs.statement.End as manager_end
+use Rattle.tl_manager.specs.statement.Offer as manager_offer
+use Rattle.tl_manager.specs.statement.Offer.{is_from_client}
 use Rattle.tl_manager.proofs.Deeds.{deed_handable}
 use Rattle.tl_manager.proofs.Handed.{beats_on_link}
 use Rattle.tl_manager.proofs.Lawful.{IsHandable}

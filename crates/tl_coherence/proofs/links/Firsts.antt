@@ -2,26 +2,26 @@
 -- is a Probe.
 use Rattle.std.proofs.Common.{◌≡◌, ℕ, Bool, true, false, List, ◌∷◌, Option, Some, refl, sym, ◌∙◌, ap, subst}
 use Rattle.std.specs.Prelude.{map, Result, Ok, Err}
-use Rattle.tl_beat.specs.Width.{IsWidth}
+use Rattle.tl_beat.specs.statement.Width.{IsWidth}
 use Rattle.tl_beat.specs.declared.beat.Beat.{Beat}
 use Rattle.tl_beat.specs.declared.beat.Beat.TheVariants as beat
 use Rattle.tl_beat.specs.declared.beat.BeatB.{BeatB}
 use Rattle.tl_beat.specs.declared.channel.Channel.{Channel}
 use Rattle.tl_beat.specs.declared.channel.Channel.TheVariants as channel
 use Rattle.tl_burst.specs.declared.message.Message.{Message}
-use Rattle.tl_burst.specs.Burst.{beat_of}
-use Rattle.tl_burst.specs.Messages.{channel_of, unfinished}
+use Rattle.tl_burst.specs.statement.Burst.{beat_of}
+use Rattle.tl_burst.specs.statement.Messages.{channel_of, unfinished}
 use Rattle.tl_params.specs.declared.config.Config.{Config}
 use Rattle.tl_params.specs.declared.param.Cap.{Cap}
 use Rattle.tl_params.specs.declared.rule.Rule.{Rule}
-use Rattle.tl_rules.specs.History.{is_probe}
+use Rattle.tl_rules.specs.statement.History.{is_probe}
 use Rattle.tl_client.specs.declared.verdict.Verdict.{Verdict}
 use Rattle.tl_client.specs.declared.verdict.Verdict.TheVariants as verdict
-use Rattle.tl_client.specs.After.{is_refused}
-use Rattle.tl_client.specs.End.{Terms}
-use Rattle.tl_client.specs.Offer.{Offered, offered, silent, taken}
-use Rattle.tl_manager.specs.End as manager_end
-use Rattle.tl_manager.specs.Offer as manager
+use Rattle.tl_client.specs.laws.After.{is_refused}
+use Rattle.tl_client.specs.statement.End.{Terms}
+use Rattle.tl_client.specs.statement.Offer.{Offered, offered, silent, taken}
+use Rattle.tl_manager.specs.statement.End as manager_end
+use Rattle.tl_manager.specs.statement.Offer as manager
 use Rattle.tl_coherence.specs.refinement.Follow.{Shadow}
 use Rattle.tl_coherence.specs.statement.Log.{Log, after}
 use Rattle.tl_coherence.specs.protocol.Phase.{is_kept}

@@ -8,8 +8,8 @@ use Rattle.tl_params.specs.declared.config.Config.{Config}
 use Rattle.tl_params.specs.declared.perm.Perm.{Perm}
 use Rattle.tl_client.specs.declared.operation.Op.{Op}
 use Rattle.tl_client.specs.declared.verdict.Finish.TheVariants.{Granted}
-use Rattle.tl_client.specs.Ask.{op_block}
-use Rattle.tl_client.specs.End.{Terms, held_at}
+use Rattle.tl_client.specs.statement.Ask.{op_block}
+use Rattle.tl_client.specs.statement.End.{Terms, held_at}
 use Rattle.tl_coherence.specs.declared.event.Event.TheVariants.{Deliver}
 use Rattle.tl_coherence.specs.declared.event.Outcome.TheVariants as outcome
 use Rattle.tl_coherence.specs.statement.Coherent.{IsCoherent, started}

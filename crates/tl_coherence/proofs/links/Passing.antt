@@ -7,10 +7,10 @@ use Rattle.tl_beat.specs.declared.beat.Beat.{Beat}
 use Rattle.tl_beat.specs.declared.channel.Channel.{Channel}
 use Rattle.tl_burst.specs.declared.message.Message.{Message}
 use Rattle.tl_burst.specs.declared.message.Message.TheVariants as message
-use Rattle.tl_burst.specs.Burst.{beat_of, beats_of, begun, burst_of}
-use Rattle.tl_burst.specs.Messages.{History, carried_on, on}
-use Rattle.tl_rules.specs.Legality.{beats_from}
-use Rattle.tl_manager.specs.Offer.{is_from_client}
+use Rattle.tl_burst.specs.statement.Burst.{beat_of, beats_of, begun, burst_of}
+use Rattle.tl_burst.specs.statement.Messages.{History, carried_on, on}
+use Rattle.tl_rules.specs.statement.Legality.{beats_from}
+use Rattle.tl_manager.specs.statement.Offer.{is_from_client}
 use Rattle.tl_coherence.specs.statement.Step.{is_to_client}
 use Rattle.tl_coherence.specs.statement.System.{same_channel, channel_of_message}
 use Rattle.tl_coherence.proofs.queues.Beats.{reverse-beats_from}

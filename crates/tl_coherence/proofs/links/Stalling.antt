@@ -10,26 +10,26 @@ use Rattle.tl_beat.specs.declared.beat.BeatB.{BeatB}
 use Rattle.tl_beat.specs.declared.channel.Channel.{Channel}
 use Rattle.tl_beat.specs.declared.channel.Channel.TheVariants as channel
 use Rattle.tl_burst.specs.declared.message.MessageA.{MessageA}
-use Rattle.tl_burst.specs.Messages.{channel_of}
-use Rattle.tl_burst.specs.Part.{is_empty}
+use Rattle.tl_burst.specs.statement.Messages.{channel_of}
+use Rattle.tl_burst.specs.statement.Part.{is_empty}
 use Rattle.tl_params.specs.declared.config.Config.{Config}
 use Rattle.tl_params.specs.declared.level.Level.{Level}
 use Rattle.tl_params.specs.declared.param.Prune.{Prune}
 use Rattle.tl_params.specs.declared.rule.Rule.{Rule}
 use Rattle.tl_params.specs.declared.key.Key.TheVariants.{ReleaseOf}
-use Rattle.tl_rules.specs.History.{block_at, is_probe, pending}
+use Rattle.tl_rules.specs.statement.History.{block_at, is_probe, pending}
 use Rattle.tl_client.specs.declared.operation.Op.{Op}
 use Rattle.tl_client.specs.declared.verdict.Verdict.{Verdict}
 use Rattle.tl_client.specs.declared.verdict.Verdict.TheVariants as verdict
 use Rattle.tl_burst.specs.declared.message.Message.{Message}
 use Rattle.tl_client.specs.declared.operation.Op.TheVariants.{Release}
-use Rattle.tl_client.specs.End.{Terms}
-use Rattle.tl_client.specs.End as client
-use Rattle.tl_client.specs.Offer as offer
-use Rattle.tl_client.specs.Offer.{offered}
-use Rattle.tl_manager.specs.End as manager_end
-use Rattle.tl_manager.specs.Offer as manager
-use Rattle.tl_manager.specs.Offer.{must_wait, Judgement, Breaks, Waits, Passes, breaks_or, waits_or, is_waiting, offered_as, judged_on, judged_at, open_level}
+use Rattle.tl_client.specs.statement.End.{Terms}
+use Rattle.tl_client.specs.statement.End as client
+use Rattle.tl_client.specs.statement.Offer as offer
+use Rattle.tl_client.specs.statement.Offer.{offered}
+use Rattle.tl_manager.specs.statement.End as manager_end
+use Rattle.tl_manager.specs.statement.Offer as manager
+use Rattle.tl_manager.specs.statement.Offer.{must_wait, Judgement, Breaks, Waits, Passes, breaks_or, waits_or, is_waiting, offered_as, judged_on, judged_at, open_level}
 use Rattle.tl_manager.proofs.Stalls.{never-stalled}
 use Rattle.tl_coherence.specs.refinement.Beside.{IsLet}
 use Rattle.tl_coherence.specs.statement.Coherent.{IsCoherent, started}

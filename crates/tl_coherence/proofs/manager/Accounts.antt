@@ -7,22 +7,22 @@ use Rattle.std.proofs.Math.Bool.{or_comm, or-true}
 use Rattle.std.proofs.lemmas.Bool.{cases_eq, ne_eqb, eqb-true}
 use Rattle.std.proofs.lemmas.Option.{same_Some}
 use Rattle.tl_burst.specs.declared.message.MessageA.{MessageA}
-use Rattle.tl_burst.specs.Burst.{a_beat_of}
+use Rattle.tl_burst.specs.statement.Burst.{a_beat_of}
 use Rattle.tl_beat.specs.declared.channel.Channel.TheVariants as channel
-use Rattle.tl_burst.specs.Messages.{unfinished}
+use Rattle.tl_burst.specs.statement.Messages.{unfinished}
 use Rattle.tl_params.specs.declared.config.Config.{Config}
 use Rattle.tl_params.specs.declared.key.Key.TheVariants.{ProbeOf}
 use Rattle.tl_params.specs.declared.param.Cap.{Cap}
-use Rattle.tl_rules.specs.Conformance.{Trace, on_link, comes_in_request}
-use Rattle.tl_rules.specs.History.{pending, block_at, request_of, probe_of}
+use Rattle.tl_rules.specs.statement.Conformance.{Trace, on_link, comes_in_request}
+use Rattle.tl_rules.specs.statement.History.{pending, block_at, request_of, probe_of}
 use Rattle.tl_client.proofs.HeldAfter.{swapped}
-use Rattle.tl_manager.specs.Holders.{recorded, cap_probed}
-use Rattle.tl_manager.specs.Kept.{AreApart, blocks_of, IsKept}
-use Rattle.tl_manager.specs.Pending as waits
-use Rattle.tl_manager.specs.Pending.{is_any, is_asking, is_acquiring, is_granted_to, is_granted_with, is_awaited, IsProbed}
-use Rattle.tl_manager.specs.Service as manager
-use Rattle.tl_manager.specs.Service.{services, service_of_block}
-use Rattle.tl_manager.specs.End.{End}
+use Rattle.tl_manager.specs.statement.Holders.{recorded, cap_probed}
+use Rattle.tl_manager.specs.code.Kept.{AreApart, blocks_of, IsKept}
+use Rattle.tl_manager.specs.laws.Pending as waits
+use Rattle.tl_manager.specs.laws.Pending.{is_any, is_asking, is_acquiring, is_granted_to, is_granted_with, is_awaited, IsProbed}
+use Rattle.tl_manager.specs.statement.Service as manager
+use Rattle.tl_manager.specs.statement.Service.{services, service_of_block}
+use Rattle.tl_manager.specs.statement.End.{End}
 use Rattle.tl_manager.proofs.Serving.{some_is, none_of_block}
 use Rattle.tl_manager.proofs.Settled.{all-settled}
 use Rattle.tl_manager.proofs.Sources.{source-pending, sink-pending}

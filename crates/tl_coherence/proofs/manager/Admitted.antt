@@ -10,8 +10,8 @@ use Rattle.tl_beat.specs.declared.channel.Channel.TheVariants as channel
 use Rattle.tl_beat.specs.declared.opcode.OpB.TheVariants as b
 use Rattle.tl_burst.specs.declared.message.Message.TheVariants as message
 use Rattle.tl_burst.specs.declared.message.MessageA.{MessageA}
-use Rattle.tl_burst.specs.Burst.{a_beat_of, begun}
-use Rattle.tl_burst.specs.Messages.{History, unfinished}
+use Rattle.tl_burst.specs.statement.Burst.{a_beat_of, begun}
+use Rattle.tl_burst.specs.statement.Messages.{History, unfinished}
 use Rattle.tl_params.specs.declared.config.Config.{Config}
 use Rattle.tl_params.specs.declared.key.Key.TheVariants as key
 use Rattle.tl_params.specs.declared.param.Grow.{Grow}
@@ -22,27 +22,27 @@ use Rattle.tl_params.specs.declared.param.Report.{Report}
 use Rattle.tl_params.specs.declared.perm.Perm.{Perm}
 use Rattle.tl_params.specs.declared.perm.Perm.TheVariants as perm
 use Rattle.tl_params.specs.declared.profile.Profile.{Profile}
-use Rattle.tl_params.specs.Param.{grow_code, report_left}
-use Rattle.tl_rules.specs.Conformance.{Trace, on_link, broken_order, broken_in_order, grows_from, same_perm}
-use Rattle.tl_rules.specs.History.{pending, block_at, is_acquire, held}
-use Rattle.tl_client.specs.Send.{acquisition, probe_ack, release}
+use Rattle.tl_params.specs.statement.Param.{grow_code, report_left}
+use Rattle.tl_rules.specs.statement.Conformance.{Trace, on_link, broken_order, broken_in_order, grows_from, same_perm}
+use Rattle.tl_rules.specs.statement.History.{pending, block_at, is_acquire, held}
+use Rattle.tl_client.specs.statement.Send.{acquisition, probe_ack, release}
 use Rattle.tl_client.proofs.HeldAfter.{same_block}
-use Rattle.tl_rules.specs.Agent.{is_outside, is_spoiled}
-use Rattle.tl_rules.specs.Legality.{illegal, is_one_of}
+use Rattle.tl_rules.specs.statement.Agent.{is_outside, is_spoiled}
+use Rattle.tl_rules.specs.statement.Legality.{illegal, is_one_of}
 use Rattle.tl_rules.proofs.Later.{later-legal}
 use Rattle.tl_beat.specs.declared.beat.Link.{Link}
-use Rattle.tl_beat.specs.First.{first_if}
+use Rattle.tl_beat.specs.statement.First.{first_if}
 use Rattle.tl_params.specs.declared.level.Level.{Level}
 use Rattle.tl_params.specs.declared.rule.Rule.TheVariants.{H4, H5}
-use Rattle.tl_manager.specs.Kept.{IsSound, IsTyped}
-use Rattle.tl_manager.specs.Offer as manager
-use Rattle.tl_manager.specs.Deed.{deed}
-use Rattle.tl_manager.specs.End.{End}
-use Rattle.tl_manager.specs.Offer.{Passes, level_of, open_level, before_stall, must_wait, judged_at, judged, offered_as, offered, taken}
+use Rattle.tl_manager.specs.code.Kept.{IsSound, IsTyped}
+use Rattle.tl_manager.specs.statement.Offer as manager
+use Rattle.tl_manager.specs.statement.Deed.{deed}
+use Rattle.tl_manager.specs.statement.End.{End}
+use Rattle.tl_manager.specs.statement.Offer.{Passes, level_of, open_level, before_stall, must_wait, judged_at, judged, offered_as, offered, taken}
 use Rattle.tl_manager.proofs.Judged.{judged-passes}
 use Rattle.tl_manager.proofs.Sound.{leveled}
-use Rattle.tl_manager.specs.Releases.{comes_of}
-use Rattle.tl_manager.specs.Service.{services, service_of_block, is_in_service, least_untaken, trackers_of}
+use Rattle.tl_manager.specs.code.Releases.{comes_of}
+use Rattle.tl_manager.specs.statement.Service.{services, service_of_block, is_in_service, least_untaken, trackers_of}
 use Rattle.tl_manager.proofs.Free.{least_free-is_free}
 use Rattle.tl_manager.proofs.Serving.{tracker_among}
 use Rattle.tl_coherence.specs.refinement.Follow.{acquire_opcode}

@@ -2,8 +2,8 @@
 use Rattle.std.proofs.Common.{◌≡◌, subst, ℕ, zero, suc, ◌+◌, ◌-◌, ◌*◌, ◌<◌, ◌≤◌, ◌==◌, Bool, true, false, ◌&&◌, List, [], ◌∷◌, Option, Some, None, length, refl, sym, ◌∙◌, ap, arith}
 use Rattle.std.specs.Prelude.{if◌then◌else◌, replicate, drop, option_map, slice_range, min, ⊤}
 use Rattle.std.proofs.lemmas.List.{length-take, length-drop, length-replicate}
-use Rattle.tl_beat.specs.Width.{IsWidth}
-use Rattle.tl_beat.specs.Opcode.{a_carries_data}
+use Rattle.tl_beat.specs.statement.Width.{IsWidth}
+use Rattle.tl_beat.specs.statement.Opcode.{a_carries_data}
 use Rattle.tl_beat.specs.declared.beat.Beat.{Beat}
 use Rattle.tl_beat.specs.declared.beat.Beat.TheVariants as beat
 use Rattle.tl_beat.specs.declared.beat.BeatA.{BeatA}
@@ -11,21 +11,21 @@ use Rattle.tl_beat.specs.declared.beat.Link.{Link}
 use Rattle.tl_beat.specs.declared.channel.Channel.TheVariants as channel
 use Rattle.tl_burst.specs.declared.message.Message.TheVariants.{A}
 use Rattle.tl_burst.specs.declared.message.MessageA.{MessageA}
-use Rattle.tl_burst.specs.Burst.{lanes_at, a_beat_of, beats_of, begun, IsBlankAfter}
-use Rattle.tl_burst.specs.Messages.{History, unfinished, grown, burst_length}
+use Rattle.tl_burst.specs.statement.Burst.{lanes_at, a_beat_of, beats_of, begun, IsBlankAfter}
+use Rattle.tl_burst.specs.statement.Messages.{History, unfinished, grown, burst_length}
 use Rattle.tl_params.specs.declared.config.Config.{Config}
-use Rattle.tl_rules.specs.Conformance.{Trace, on_link}
-use Rattle.tl_rules.specs.History.{begins, ends, request_of}
-use Rattle.tl_manager.specs.Kept.{IsTyped}
+use Rattle.tl_rules.specs.statement.Conformance.{Trace, on_link}
+use Rattle.tl_rules.specs.statement.History.{begins, ends, request_of}
+use Rattle.tl_manager.specs.code.Kept.{IsTyped}
 use Rattle.tl_rules.proofs.Checks.{beats_room}
-use Rattle.tl_rules.specs.History.{block_at}
+use Rattle.tl_rules.specs.statement.History.{block_at}
 use Rattle.tl_rules.proofs.Sent.{is_last}
 use Rattle.tl_burst.proofs.Begun.{length-begun}
-use Rattle.tl_manager.specs.Kept.{IsKept}
-use Rattle.tl_manager.specs.Request.{request_carried}
-use Rattle.tl_manager.specs.Service.{Service, services, least_untaken, trackers_of}
-use Rattle.tl_manager.specs.End.{End}
-use Rattle.tl_manager.specs.Offer.{Passes, judged}
+use Rattle.tl_manager.specs.code.Kept.{IsKept}
+use Rattle.tl_manager.specs.statement.Request.{request_carried}
+use Rattle.tl_manager.specs.statement.Service.{Service, services, least_untaken, trackers_of}
+use Rattle.tl_manager.specs.statement.End.{End}
+use Rattle.tl_manager.specs.statement.Offer.{Passes, judged}
 use Rattle.tl_manager.proofs.Assembled.{request-again}
 use Rattle.tl_manager.proofs.Judged.{passed}
 use Rattle.tl_manager.proofs.Keeping.{is_taken}
@@ -33,12 +33,12 @@ use Rattle.tl_manager.proofs.Requested.{service_made, made}
 use Rattle.tl_manager.proofs.Serving.{some_is}
 use Rattle.tl_manager.proofs.Steady.{request-ready}
 use Rattle.std.proofs.lemmas.Bool.{le-leb}
-use Rattle.tl_manager.specs.Ready.{IsReady, IsServed, IsTaken}
+use Rattle.tl_manager.specs.code.Ready.{IsReady, IsServed, IsTaken}
 use Rattle.tl_coherence.proofs.queues.Tokens.{same_number}
 use Rattle.tl_coherence.proofs.protocol.Room.{positive}
 use Rattle.std.proofs.lemmas.Bool.{ne_eqb}
 use Rattle.std.specs.Prelude.{IfSome}
-use Rattle.tl_burst.specs.Burst.{IsZeroFrom}
+use Rattle.tl_burst.specs.statement.Burst.{IsZeroFrom}
 
 -- ---- the request that an unfinished burst began with (to stand in tl_rules)
 

@@ -6,20 +6,20 @@ use Rattle.tl_beat.specs.declared.beat.Beat.TheVariants as beat
 use Rattle.tl_beat.specs.declared.channel.Channel.TheVariants as channel
 use Rattle.tl_burst.specs.declared.message.Message.TheVariants.{A}
 use Rattle.tl_burst.specs.declared.message.MessageA.{MessageA}
-use Rattle.tl_burst.specs.Burst.{a_beat_of, beats_of}
+use Rattle.tl_burst.specs.statement.Burst.{a_beat_of, beats_of}
 use Rattle.tl_params.specs.declared.config.Config.{Config}
 use Rattle.tl_params.specs.declared.param.Cap.{Cap}
-use Rattle.tl_rules.specs.Conformance.{on_link}
-use Rattle.tl_rules.specs.Effect.{Memory, bytes_from, effect}
-use Rattle.tl_rules.specs.History.{ends, block_at}
+use Rattle.tl_rules.specs.statement.Conformance.{on_link}
+use Rattle.tl_rules.specs.statement.Effect.{Memory, bytes_from, effect}
+use Rattle.tl_rules.specs.statement.History.{ends, block_at}
 use Rattle.tl_rules.proofs.Sent.{not_last}
-use Rattle.tl_manager.specs.Handing.{Deed, nothing, with_handed, probes, performed}
-use Rattle.tl_manager.specs.Holders.{is_nobody, probed, cap_probed}
-use Rattle.tl_manager.specs.Kept.{IsKept, illegal_message_at}
-use Rattle.tl_manager.specs.Service.{services, least_untaken, trackers_of}
-use Rattle.tl_manager.specs.Deed.{deed}
-use Rattle.tl_manager.specs.End.{End}
-use Rattle.tl_manager.specs.Offer.{Reception, level_of, taken}
+use Rattle.tl_manager.specs.statement.Handing.{Deed, nothing, with_handed, probes, performed}
+use Rattle.tl_manager.specs.statement.Holders.{is_nobody, probed, cap_probed}
+use Rattle.tl_manager.specs.code.Kept.{IsKept, illegal_message_at}
+use Rattle.tl_manager.specs.statement.Service.{services, least_untaken, trackers_of}
+use Rattle.tl_manager.specs.statement.Deed.{deed}
+use Rattle.tl_manager.specs.statement.End.{End}
+use Rattle.tl_manager.specs.statement.Offer.{Reception, level_of, taken}
 use Rattle.tl_manager.proofs.Events.{deed-part, deed-probes, performed-access, performed-acquire}
 use Rattle.tl_manager.proofs.Keeping.{kept-offered}
 use Rattle.tl_manager.proofs.Memories.{memory-elsewhere}

@@ -5,8 +5,8 @@ use Rattle.std.proofs.lemmas.Bool.{lt-ltb}
 use Rattle.std.proofs.lemmas.Option.{slice_get_past}
 use Rattle.tl_params.specs.declared.config.Config.{Config}
 use Rattle.tl_params.specs.declared.param.Cap.{Cap}
-use Rattle.tl_rules.specs.Legality.{is_one_of}
-use Rattle.tl_manager.specs.Holders.{clients_where, is_nobody}
+use Rattle.tl_rules.specs.statement.Legality.{is_one_of}
+use Rattle.tl_manager.specs.statement.Holders.{clients_where, is_nobody}
 use Rattle.tl_manager.proofs.Clients.{among-where, nobody-is, nobody-where, where-same}
 use Rattle.tl_coherence.specs.refinement.Follow.{some_below}
 use Rattle.tl_coherence.specs.protocol.Invariant.{IsInvariant, IsOwnSource}

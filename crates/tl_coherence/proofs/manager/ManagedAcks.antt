@@ -7,17 +7,17 @@ use Rattle.tl_beat.specs.declared.beat.Beat.TheVariants as beat
 use Rattle.tl_beat.specs.declared.beat.BeatE.{BeatE}
 use Rattle.tl_beat.specs.declared.channel.Channel.TheVariants as channel
 use Rattle.tl_burst.specs.declared.message.MessageA.{MessageA}
-use Rattle.tl_burst.specs.Burst.{a_beat_of}
-use Rattle.tl_burst.specs.Messages.{unfinished}
+use Rattle.tl_burst.specs.statement.Burst.{a_beat_of}
+use Rattle.tl_burst.specs.statement.Messages.{unfinished}
 use Rattle.tl_params.specs.declared.key.Key.TheVariants as key
 use Rattle.tl_params.specs.declared.param.Cap.{Cap}
-use Rattle.tl_rules.specs.Conformance.{Trace, on_link}
-use Rattle.tl_rules.specs.History.{is_acquire, held, pending, probe_of, request_of}
+use Rattle.tl_rules.specs.statement.Conformance.{Trace, on_link}
+use Rattle.tl_rules.specs.statement.History.{is_acquire, held, pending, probe_of, request_of}
 use Rattle.tl_rules.proofs.Sent.{held_unsaid, pending-quiet}
-use Rattle.tl_manager.specs.Kept.{AreApart, blocks_of}
-use Rattle.tl_manager.specs.Pending.{IsAccounted, is_granted_to}
-use Rattle.tl_manager.specs.Service as manager
-use Rattle.tl_manager.specs.Service.{services, service_of_block, is_ended_by}
+use Rattle.tl_manager.specs.code.Kept.{AreApart, blocks_of}
+use Rattle.tl_manager.specs.laws.Pending.{IsAccounted, is_granted_to}
+use Rattle.tl_manager.specs.statement.Service as manager
+use Rattle.tl_manager.specs.statement.Service.{services, service_of_block, is_ended_by}
 use Rattle.tl_manager.proofs.Acked.{services-e, granted-left, accounted-e, burst-e, probe_of-e, request_of-e}
 use Rattle.tl_manager.proofs.Links.{own_beat, other_beat, beat-keeps, pending-closed, whole-e}
 use Rattle.tl_manager.proofs.Serving.{if_passes, serving-filter}

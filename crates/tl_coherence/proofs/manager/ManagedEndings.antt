@@ -8,17 +8,17 @@ use Rattle.tl_beat.specs.declared.channel.Channel.TheVariants as channel
 use Rattle.tl_burst.specs.declared.message.Message.TheVariants.{D}
 use Rattle.tl_burst.specs.declared.message.MessageA.{MessageA}
 use Rattle.tl_burst.specs.declared.message.MessageD.{MessageD}
-use Rattle.tl_burst.specs.Burst.{a_beat_of}
-use Rattle.tl_burst.specs.Messages.{unfinished}
+use Rattle.tl_burst.specs.statement.Burst.{a_beat_of}
+use Rattle.tl_burst.specs.statement.Messages.{unfinished}
 use Rattle.tl_params.specs.declared.key.Key.TheVariants as key
 use Rattle.tl_params.specs.declared.param.Cap.{Cap}
 use Rattle.tl_params.specs.declared.param.Report.{Report}
-use Rattle.tl_params.specs.Param.{report_right}
-use Rattle.tl_rules.specs.Conformance.{Trace, on_link, comes_in_request}
-use Rattle.tl_rules.specs.History.{is_acquire, is_grant, is_probe_ack, pending, probe_of, request_of}
-use Rattle.tl_manager.specs.Pending.{IsAccounted, one_if, count_where, is_asking}
-use Rattle.tl_manager.specs.Service as manager
-use Rattle.tl_manager.specs.Service.{services, service_of_block, is_access_answer}
+use Rattle.tl_params.specs.statement.Param.{report_right}
+use Rattle.tl_rules.specs.statement.Conformance.{Trace, on_link, comes_in_request}
+use Rattle.tl_rules.specs.statement.History.{is_acquire, is_grant, is_probe_ack, pending, probe_of, request_of}
+use Rattle.tl_manager.specs.laws.Pending.{IsAccounted, one_if, count_where, is_asking}
+use Rattle.tl_manager.specs.statement.Service as manager
+use Rattle.tl_manager.specs.statement.Service.{services, service_of_block, is_access_answer}
 use Rattle.tl_manager.proofs.Accesses.{answer_kind, services-answer, accounted-answer}
 use Rattle.tl_manager.proofs.Counts.{serving-without}
 use Rattle.tl_manager.proofs.Handed.{after_sent}

@@ -2,27 +2,27 @@
 use Rattle.std.proofs.Common.{◌≡◌, ℕ, ◌==◌, Bool, true, false, not, ◌&&◌, ◌||◌, List, [], Option, Some, None, refl, sym, ◌∙◌, ap, ◌⊎◌, inl, inr, subst}
 use Rattle.std.specs.Prelude.{if◌then◌else◌, unwrap_or}
 use Rattle.std.proofs.lemmas.Bool.{cases_eq, eqb-true, ne_eqb, and_parts}
-use Rattle.tl_beat.specs.Width.{IsWidth}
+use Rattle.tl_beat.specs.statement.Width.{IsWidth}
 use Rattle.tl_beat.specs.declared.beat.BeatC.{BeatC}
 use Rattle.tl_beat.specs.declared.channel.Channel.TheVariants as channel
 use Rattle.tl_burst.specs.declared.message.Message.TheVariants.{D}
 use Rattle.tl_burst.specs.declared.message.MessageA.{MessageA}
 use Rattle.tl_burst.specs.declared.message.MessageD.{MessageD}
-use Rattle.tl_burst.specs.Burst.{a_beat_of}
-use Rattle.tl_burst.specs.Messages.{unfinished}
+use Rattle.tl_burst.specs.statement.Burst.{a_beat_of}
+use Rattle.tl_burst.specs.statement.Messages.{unfinished}
 use Rattle.tl_burst.proofs.Splitting.{beats-positive}
 use Rattle.tl_params.specs.declared.key.Key.TheVariants as key
 use Rattle.tl_params.specs.declared.param.Cap.{Cap}
 use Rattle.tl_params.specs.declared.param.Report.{Report}
-use Rattle.tl_params.specs.Param.{cap_right, report_right}
-use Rattle.tl_rules.specs.Conformance.{Trace, on_link, comes_in_request}
-use Rattle.tl_rules.specs.History.{block_at, asks_for, capped, held, is_grant, is_probe_ack, pending, probe_of, request_of}
+use Rattle.tl_params.specs.statement.Param.{cap_right, report_right}
+use Rattle.tl_rules.specs.statement.Conformance.{Trace, on_link, comes_in_request}
+use Rattle.tl_rules.specs.statement.History.{block_at, asks_for, capped, held, is_grant, is_probe_ack, pending, probe_of, request_of}
 use Rattle.tl_rules.proofs.Handed.{after_whole}
 use Rattle.tl_rules.proofs.Sent.{held-sent_d}
 use Rattle.tl_client.proofs.HeldAfter.{swapped}
-use Rattle.tl_manager.specs.Holders.{recorded}
-use Rattle.tl_manager.specs.Pending.{IsAccounted}
-use Rattle.tl_manager.specs.Service.{service_of_block}
+use Rattle.tl_manager.specs.statement.Holders.{recorded}
+use Rattle.tl_manager.specs.laws.Pending.{IsAccounted}
+use Rattle.tl_manager.specs.statement.Service.{service_of_block}
 use Rattle.tl_manager.proofs.Granted.{IsGrant, services-grant, accounted-grant}
 use Rattle.tl_manager.proofs.Handed.{after_sent, own_link, other_link}
 use Rattle.tl_manager.proofs.Replied.{source-reply}

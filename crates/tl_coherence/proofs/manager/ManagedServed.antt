@@ -4,8 +4,8 @@ use Rattle.tl_params.specs.declared.param.Cap.{Cap}
 use Rattle.tl_params.specs.declared.param.Cap.TheVariants as cap
 use Rattle.tl_params.specs.declared.perm.Perm.{Perm}
 use Rattle.tl_params.specs.declared.perm.Perm.TheVariants as perm
-use Rattle.tl_manager.specs.Holders as holders
-use Rattle.tl_manager.specs.Holders.{recorded, clients_from, clients_where, cap_probed, is_spared, probed}
+use Rattle.tl_manager.specs.statement.Holders as holders
+use Rattle.tl_manager.specs.statement.Holders.{recorded, clients_from, clients_where, cap_probed, is_spared, probed}
 use Rattle.tl_coherence.specs.protocol.PhaseSteps.{is_above}
 
 pub same_above : (k : Cap) (p : Perm) → holders.is_above k p ≡ is_above k p

@@ -3,7 +3,7 @@
 use Rattle.std.proofs.Common.{◌≡◌, ℕ, suc, ◌+◌, Bool, true, false, not, ◌&&◌, ◌||◌, List, [], ◌∷◌, length, refl, sym, ◌∙◌, ap, subst, inl, inr, arith}
 use Rattle.std.specs.Prelude.{◌==◌, if◌then◌else◌}
 use Rattle.std.proofs.lemmas.Bool.{cases_eq, ne_eqb}
-use Rattle.tl_beat.specs.Width.{IsWidth}
+use Rattle.tl_beat.specs.statement.Width.{IsWidth}
 use Rattle.tl_beat.specs.declared.beat.Beat.{Beat}
 use Rattle.tl_beat.specs.declared.beat.Beat.TheVariants as beat
 use Rattle.tl_beat.specs.declared.beat.BeatC.{BeatC}
@@ -14,28 +14,28 @@ use Rattle.tl_burst.specs.declared.message.Message.{Message}
 use Rattle.tl_burst.specs.declared.message.Message.TheVariants as message
 use Rattle.tl_burst.specs.declared.message.MessageC.{MessageC}
 use Rattle.tl_burst.specs.declared.message.MessageD.{MessageD}
-use Rattle.tl_burst.specs.Burst.{beats_of, begun, burst_of, c_beat_of}
-use Rattle.tl_burst.specs.Messages.{unfinished}
+use Rattle.tl_burst.specs.statement.Burst.{beats_of, begun, burst_of, c_beat_of}
+use Rattle.tl_burst.specs.statement.Messages.{unfinished}
 use Rattle.tl_params.specs.declared.config.Config.{Config}
 use Rattle.tl_params.specs.declared.key.Key.TheVariants as key
 use Rattle.tl_params.specs.declared.param.Prune.{Prune}
 use Rattle.tl_params.specs.declared.param.Report.{Report}
 use Rattle.tl_params.specs.declared.perm.Perm.{Perm}
 use Rattle.tl_params.specs.declared.perm.Perm.TheVariants as perm
-use Rattle.tl_params.specs.Param.{prune_code, prune_left, prune_right, report_code, report_left, report_right}
-use Rattle.tl_rules.specs.Agent.{payload_of}
-use Rattle.tl_rules.specs.Conformance.{on_link, same_perm}
-use Rattle.tl_rules.specs.History.{ends, block_at, is_grant, is_probe_ack, is_release_ack, pending, reported}
+use Rattle.tl_params.specs.statement.Param.{prune_code, prune_left, prune_right, report_code, report_left, report_right}
+use Rattle.tl_rules.specs.statement.Agent.{payload_of}
+use Rattle.tl_rules.specs.statement.Conformance.{on_link, same_perm}
+use Rattle.tl_rules.specs.statement.History.{ends, block_at, is_grant, is_probe_ack, is_release_ack, pending, reported}
 use Rattle.tl_rules.proofs.Payload.{payload-c}
 use Rattle.tl_rules.proofs.Sent.{is_last}
 use Rattle.tl_burst.proofs.Begun.{length-begun}
-use Rattle.tl_manager.specs.Handing.{Deed, nothing, release_ack, with_handed}
-use Rattle.tl_manager.specs.Holders.{is_settled, is_missing}
-use Rattle.tl_manager.specs.Kept.{IsKept}
-use Rattle.tl_manager.specs.Offer as manager_offer
-use Rattle.tl_manager.specs.Deed.{deed, written}
-use Rattle.tl_manager.specs.End.{End}
-use Rattle.tl_manager.specs.Offer.{offered, taken}
+use Rattle.tl_manager.specs.statement.Handing.{Deed, nothing, release_ack, with_handed}
+use Rattle.tl_manager.specs.statement.Holders.{is_settled, is_missing}
+use Rattle.tl_manager.specs.code.Kept.{IsKept}
+use Rattle.tl_manager.specs.statement.Offer as manager_offer
+use Rattle.tl_manager.specs.statement.Deed.{deed, written}
+use Rattle.tl_manager.specs.statement.End.{End}
+use Rattle.tl_manager.specs.statement.Offer.{offered, taken}
 use Rattle.tl_manager.proofs.Events.{deed-part, deed-release, deed-report, deed-ack, memory_with}
 use Rattle.tl_manager.proofs.Handed.{whole-taken}
 use Rattle.tl_manager.proofs.Keeping.{kept-offered}

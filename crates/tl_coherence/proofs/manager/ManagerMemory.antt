@@ -2,8 +2,8 @@
 use Rattle.std.proofs.Common.{◌≡◌, ℕ, ◌+◌, ◌*◌, ◌%◌, ◌^◌, ◌<◌, ◌≤◌, Bool, true, false, List, length, Option, Some, None, refl, sym, ◌∙◌, ap, arith, inl, inr}
 use Rattle.std.specs.Prelude.{◌-◌, if◌then◌else◌}
 use Rattle.std.proofs.lemmas.Bool.{cases_eq, eqb-true, ne_eqb}
-use Rattle.tl_beat.specs.Width.{IsWidth}
-use Rattle.tl_beat.specs.Opcode.{c_carries_data}
+use Rattle.tl_beat.specs.statement.Width.{IsWidth}
+use Rattle.tl_beat.specs.statement.Opcode.{c_carries_data}
 use Rattle.tl_beat.specs.declared.beat.Beat.{Beat}
 use Rattle.tl_beat.specs.declared.beat.Beat.TheVariants as beat
 use Rattle.tl_beat.specs.declared.beat.BeatC.{BeatC}
@@ -13,17 +13,17 @@ use Rattle.tl_burst.specs.declared.message.Message.TheVariants as message
 use Rattle.tl_burst.specs.declared.message.MessageA.{MessageA}
 use Rattle.tl_params.specs.declared.config.Config.{Config}
 use Rattle.tl_params.specs.declared.level.Level.{Level}
-use Rattle.tl_rules.specs.Agent.{payload_of}
-use Rattle.tl_rules.specs.Effect.{Memory, AccessResult, SameBlock, answer_of, bytes_from, effect}
-use Rattle.tl_rules.specs.History.{block_at}
+use Rattle.tl_rules.specs.statement.Agent.{payload_of}
+use Rattle.tl_rules.specs.statement.Effect.{Memory, AccessResult, SameBlock, answer_of, bytes_from, effect}
+use Rattle.tl_rules.specs.statement.History.{block_at}
 use Rattle.tl_rules.proofs.Bursts.{control_of_legal, control_aligned}
 use Rattle.tl_rules.proofs.Local.{after-local, reply-local, bytes_same}
 use Rattle.tl_rules.proofs.Rooms.{room_in_block}
-use Rattle.tl_manager.specs.Handing.{access_answer}
-use Rattle.tl_manager.specs.Kept.{IsKept, illegal_message_at}
-use Rattle.tl_manager.specs.End as manager_end
-use Rattle.tl_manager.specs.Deed.{with_block, written}
-use Rattle.tl_manager.specs.Offer.{offered}
+use Rattle.tl_manager.specs.statement.Handing.{access_answer}
+use Rattle.tl_manager.specs.code.Kept.{IsKept, illegal_message_at}
+use Rattle.tl_manager.specs.statement.End as manager_end
+use Rattle.tl_manager.specs.statement.Deed.{with_block, written}
+use Rattle.tl_manager.specs.statement.Offer.{offered}
 use Rattle.tl_manager.proofs.Memories.{memory-elsewhere}
 use Rattle.tl_manager.proofs.Written.{block-written}
 use Rattle.tl_coherence.specs.refinement.Follow.{answers, bytes_at, performs}

@@ -1,7 +1,7 @@
 -- All that is kept of the manager's end, after the last ProbeAck that a request waited for.
-use Rattle.tl_manager.specs.Holders as holders
-use Rattle.tl_manager.specs.Handing as handing
-use Rattle.tl_manager.specs.Ready.{IsReady}
+use Rattle.tl_manager.specs.statement.Holders as holders
+use Rattle.tl_manager.specs.statement.Handing as handing
+use Rattle.tl_manager.specs.code.Ready.{IsReady}
 use Rattle.tl_coherence.proofs.manager.ManagedReports.{reported-records}
 use Rattle.tl_coherence.proofs.manager.ManagedGrants.{IsConceded, managed-conceded, are_served-conceded}
 use Rattle.tl_coherence.specs.protocol.PhaseSteps.{is_granted_data, after_report}
@@ -19,25 +19,25 @@ use Rattle.tl_burst.specs.declared.message.Message.TheVariants as message
 use Rattle.tl_burst.specs.declared.message.MessageA.{MessageA}
 use Rattle.tl_burst.specs.declared.message.MessageC.{MessageC}
 use Rattle.tl_burst.specs.declared.message.MessageD.{MessageD}
-use Rattle.tl_burst.specs.Burst.{c_beat_of}
+use Rattle.tl_burst.specs.statement.Burst.{c_beat_of}
 use Rattle.tl_params.specs.declared.config.Config.{Config}
 use Rattle.tl_params.specs.declared.key.Key.TheVariants as key
 use Rattle.tl_params.specs.declared.param.Cap.{Cap}
 use Rattle.tl_params.specs.declared.param.Report.{Report}
 use Rattle.tl_params.specs.declared.perm.Perm.TheVariants as perm
-use Rattle.tl_params.specs.Param.{report_code, report_left, report_right, cap_code, grow_code}
+use Rattle.tl_params.specs.statement.Param.{report_code, report_left, report_right, cap_code, grow_code}
 use Rattle.tl_rules.specs.declared.answer.Answer.{Answer}
 use Rattle.tl_rules.specs.declared.answer.Answer.TheVariants as answer
-use Rattle.tl_rules.specs.Conformance.{Trace, on_link, same_perm}
-use Rattle.tl_rules.specs.Effect.{effect, Memory}
-use Rattle.tl_rules.specs.History.{block_at, is_release_ack, pending, is_grant, capped}
-use Rattle.tl_manager.specs.Handing.{Deed, access_answer, performed, with_handed, cap_granted, grant, grant_opcode}
-use Rattle.tl_manager.specs.Holders.{is_settled, recorded, has_copy}
-use Rattle.tl_manager.specs.Kept.{IsPerformable}
-use Rattle.tl_manager.specs.Service.{is_access_answer, services, service_of_block}
-use Rattle.tl_manager.specs.Deed.{deed}
-use Rattle.tl_manager.specs.End.{End}
-use Rattle.tl_manager.specs.Offer.{level_of}
+use Rattle.tl_rules.specs.statement.Conformance.{Trace, on_link, same_perm}
+use Rattle.tl_rules.specs.statement.Effect.{effect, Memory}
+use Rattle.tl_rules.specs.statement.History.{block_at, is_release_ack, pending, is_grant, capped}
+use Rattle.tl_manager.specs.statement.Handing.{Deed, access_answer, performed, with_handed, cap_granted, grant, grant_opcode}
+use Rattle.tl_manager.specs.statement.Holders.{is_settled, recorded, has_copy}
+use Rattle.tl_manager.specs.code.Kept.{IsPerformable}
+use Rattle.tl_manager.specs.statement.Service.{is_access_answer, services, service_of_block}
+use Rattle.tl_manager.specs.statement.Deed.{deed}
+use Rattle.tl_manager.specs.statement.End.{End}
+use Rattle.tl_manager.specs.statement.Offer.{level_of}
 use Rattle.tl_manager.proofs.Events.{deed-settled, performed-access, memory_with, performed-acquire}
 use Rattle.tl_manager.proofs.Granted.{of_served}
 use Rattle.tl_manager.proofs.Judged.{passed}

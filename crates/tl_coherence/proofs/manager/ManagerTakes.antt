@@ -7,12 +7,12 @@ use Rattle.tl_beat.specs.declared.beat.Beat.TheVariants as beat
 use Rattle.tl_beat.specs.declared.beat.BeatE.{BeatE}
 use Rattle.tl_beat.specs.declared.channel.Channel.{Channel}
 use Rattle.tl_beat.specs.declared.channel.Channel.TheVariants as channel
-use Rattle.tl_beat.specs.First.{first_if}
+use Rattle.tl_beat.specs.statement.First.{first_if}
 use Rattle.tl_burst.specs.declared.message.Message.TheVariants as message
 use Rattle.tl_burst.specs.declared.message.MessageA.{MessageA}
 use Rattle.tl_burst.specs.declared.message.MessageC.{MessageC}
-use Rattle.tl_burst.specs.Burst.{begun, c_beat_of}
-use Rattle.tl_burst.specs.Messages.{History, channel_of, unfinished}
+use Rattle.tl_burst.specs.statement.Burst.{begun, c_beat_of}
+use Rattle.tl_burst.specs.statement.Messages.{History, channel_of, unfinished}
 use Rattle.tl_params.specs.declared.config.Config.{Config}
 use Rattle.tl_params.specs.declared.key.Key.TheVariants as key
 use Rattle.tl_params.specs.declared.level.Level.{Level}
@@ -24,15 +24,15 @@ use Rattle.tl_params.specs.declared.param.Report.TheVariants as report
 use Rattle.tl_params.specs.declared.perm.Perm.{Perm}
 use Rattle.tl_params.specs.declared.profile.Profile.{Profile}
 use Rattle.tl_params.specs.declared.rule.Rule.TheVariants.{H1, H8, H13}
-use Rattle.tl_params.specs.Param.{prune_code, prune_left, prune_of, report_at, report_code}
-use Rattle.tl_rules.specs.Conformance.{on_link, broken_in_order, broken_order, prunes_from, same_perm}
-use Rattle.tl_rules.specs.History.{held, pending}
+use Rattle.tl_params.specs.statement.Param.{prune_code, prune_left, prune_of, report_at, report_code}
+use Rattle.tl_rules.specs.statement.Conformance.{on_link, broken_in_order, broken_order, prunes_from, same_perm}
+use Rattle.tl_rules.specs.statement.History.{held, pending}
 use Rattle.tl_rules.proofs.Later.{later-legal}
-use Rattle.tl_manager.specs.Kept.{IsSound, IsKept, illegal_at}
-use Rattle.tl_manager.specs.Offer as manager_offer
-use Rattle.tl_manager.specs.Deed.{deed}
-use Rattle.tl_manager.specs.End.{End}
-use Rattle.tl_manager.specs.Offer.{Passes, is_from_client, judged, level_of, must_wait, open_level, unlawful, offered, taken}
+use Rattle.tl_manager.specs.code.Kept.{IsSound, IsKept, illegal_at}
+use Rattle.tl_manager.specs.statement.Offer as manager_offer
+use Rattle.tl_manager.specs.statement.Deed.{deed}
+use Rattle.tl_manager.specs.statement.End.{End}
+use Rattle.tl_manager.specs.statement.Offer.{Passes, is_from_client, judged, level_of, must_wait, open_level, unlawful, offered, taken}
 use Rattle.tl_manager.proofs.Judged.{judged-passes, manager-takes}
 use Rattle.tl_manager.proofs.Links.{whole-e}
 use Rattle.tl_coherence.specs.protocol.Invariant.{IsInvariant, AreNamed}

@@ -2,9 +2,9 @@
 use Rattle.std.proofs.Common.{◌≡◌, ℕ, ◌*◌, Bool, List, [], sym, ◌∙◌}
 use Rattle.tl_burst.specs.declared.message.MessageA.{MessageA}
 use Rattle.tl_params.specs.declared.config.Config.{Config}
-use Rattle.tl_rules.specs.Effect.{bytes_from}
-use Rattle.tl_manager.specs.Kept.{IsKept}
-use Rattle.tl_manager.specs.End.{End}
+use Rattle.tl_rules.specs.statement.Effect.{bytes_from}
+use Rattle.tl_manager.specs.code.Kept.{IsKept}
+use Rattle.tl_manager.specs.statement.End.{End}
 use Rattle.tl_coherence.specs.protocol.Invariant.{IsInvariant}
 use Rattle.tl_coherence.specs.statement.Log.{Log}
 use Rattle.tl_coherence.specs.refinement.Managed.{IsManaged}

@@ -2,16 +2,16 @@
 use Rattle.std.proofs.Common.{◌≡◌, ℕ, zero, suc, ◌+◌, ◌-◌, ◌*◌, ◌%◌, ◌^◌, ◌<◌, ◌≤◌, Option, Some, None, sym, ◌∙◌, ap, arith}
 use Rattle.std.specs.Prelude.{slice_index}
 use Rattle.std.proofs.lemmas.Bool.{eqb-true}
-use Rattle.tl_beat.specs.Width.{IsWidth}
+use Rattle.tl_beat.specs.statement.Width.{IsWidth}
 use Rattle.tl_burst.specs.declared.message.Message.TheVariants.{A}
 use Rattle.tl_burst.specs.declared.message.MessageA.{MessageA}
 use Rattle.tl_params.specs.declared.level.Level.{Level}
-use Rattle.tl_rules.specs.Effect.{Memory, bytes_from, effect, SameBlock}
-use Rattle.tl_rules.specs.History.{block_at}
+use Rattle.tl_rules.specs.statement.Effect.{Memory, bytes_from, effect, SameBlock}
+use Rattle.tl_rules.specs.statement.History.{block_at}
 use Rattle.tl_rules.proofs.Bursts.{control_of_legal, control_aligned}
 use Rattle.tl_rules.proofs.Local.{after-local, reply-local, bytes_same}
 use Rattle.tl_rules.proofs.Rooms.{room_in_block}
-use Rattle.tl_manager.specs.Kept.{illegal_message_at}
+use Rattle.tl_manager.specs.code.Kept.{illegal_message_at}
 use Rattle.tl_coherence.specs.refinement.Follow.{bytes_at, performs}
 
 -- the bytes of a block that no byte of is changed

@@ -6,19 +6,19 @@ use Rattle.tl_beat.specs.declared.beat.Beat.TheVariants as beat
 use Rattle.tl_beat.specs.declared.beat.BeatA.{BeatA}
 use Rattle.tl_beat.specs.declared.beat.BeatB.{BeatB}
 use Rattle.tl_beat.specs.declared.beat.BeatC.{BeatC}
-use Rattle.tl_beat.specs.Opcode.{c_carries_data}
+use Rattle.tl_beat.specs.statement.Opcode.{c_carries_data}
 use Rattle.tl_beat.specs.declared.channel.Channel.TheVariants as channel
-use Rattle.tl_beat.specs.First.{first_if}
-use Rattle.tl_burst.specs.Messages.{History, unfinished}
+use Rattle.tl_beat.specs.statement.First.{first_if}
+use Rattle.tl_burst.specs.statement.Messages.{History, unfinished}
 use Rattle.tl_params.specs.declared.key.Key.TheVariants as key
 use Rattle.tl_params.specs.declared.param.Cap.{Cap}
 use Rattle.tl_params.specs.declared.param.Report.{Report}
 use Rattle.tl_params.specs.declared.perm.Perm.{Perm}
 use Rattle.tl_params.specs.declared.profile.Profile.{Profile}
 use Rattle.tl_params.specs.declared.rule.Rule.TheVariants.{H1, H4, H5, H10, H11, H12}
-use Rattle.tl_params.specs.Param.{report_code, report_at}
-use Rattle.tl_rules.specs.Conformance.{broken_order, broken_in_order, answers_wrong_probe, misreports, grows_from}
-use Rattle.tl_rules.specs.History.{block_at, is_acquire, is_probe_ack, is_release, held, pending, probe_of}
+use Rattle.tl_params.specs.statement.Param.{report_code, report_at}
+use Rattle.tl_rules.specs.statement.Conformance.{broken_order, broken_in_order, answers_wrong_probe, misreports, grows_from}
+use Rattle.tl_rules.specs.statement.History.{block_at, is_acquire, is_probe_ack, is_release, held, pending, probe_of}
 use Rattle.tl_coherence.specs.refinement.Render.{probe_beat}
 use Rattle.tl_coherence.proofs.queues.Tokens.{same_number}
 use Rattle.tl_coherence.proofs.queues.Codes.{cap-again}

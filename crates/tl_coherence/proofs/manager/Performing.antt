@@ -10,25 +10,25 @@ use Rattle.tl_burst.specs.declared.message.Message.{Message}
 use Rattle.tl_burst.specs.declared.message.Message.TheVariants.{A, D}
 use Rattle.tl_burst.specs.declared.message.MessageA.{MessageA}
 use Rattle.tl_burst.specs.declared.message.MessageD.{MessageD}
-use Rattle.tl_burst.specs.Burst.{a_beat_of, beats_of}
-use Rattle.tl_burst.specs.Messages.{unfinished}
+use Rattle.tl_burst.specs.statement.Burst.{a_beat_of, beats_of}
+use Rattle.tl_burst.specs.statement.Messages.{unfinished}
 use Rattle.tl_params.specs.declared.config.Config.{Config}
 use Rattle.tl_params.specs.declared.key.Key.TheVariants.{ProbeOf}
 use Rattle.tl_params.specs.declared.param.Cap.{Cap}
-use Rattle.tl_params.specs.Param.{cap_right}
+use Rattle.tl_params.specs.statement.Param.{cap_right}
 use Rattle.tl_rules.specs.declared.answer.Answer.{Answer}
 use Rattle.tl_rules.specs.declared.answer.Answer.TheVariants as answer
-use Rattle.tl_rules.specs.Conformance.{Trace, on_link}
-use Rattle.tl_rules.specs.Effect.{Memory, effect, answer_of}
-use Rattle.tl_rules.specs.History.{pending, held, block_at, is_acquire, is_grant, request_of, asks_for, capped}
+use Rattle.tl_rules.specs.statement.Conformance.{Trace, on_link}
+use Rattle.tl_rules.specs.statement.Effect.{Memory, effect, answer_of}
+use Rattle.tl_rules.specs.statement.History.{pending, held, block_at, is_acquire, is_grant, request_of, asks_for, capped}
 use Rattle.tl_rules.proofs.Sent.{held-sent_d}
-use Rattle.tl_beat.specs.Width.{IsWidth}
+use Rattle.tl_beat.specs.statement.Width.{IsWidth}
 use Rattle.tl_coherence.specs.protocol.Phase.{Pair, is_quiet}
-use Rattle.tl_manager.specs.Handing.{Deed, with_handed, performed, access_answer, grant, is_granted_data, cap_granted}
-use Rattle.tl_manager.specs.Holders as holders
-use Rattle.tl_manager.specs.Holders.{recorded}
-use Rattle.tl_manager.specs.Service.{Service, services, service_of_block, least_untaken, trackers_of}
-use Rattle.tl_manager.specs.End.{End}
+use Rattle.tl_manager.specs.statement.Handing.{Deed, with_handed, performed, access_answer, grant, is_granted_data, cap_granted}
+use Rattle.tl_manager.specs.statement.Holders as holders
+use Rattle.tl_manager.specs.statement.Holders.{recorded}
+use Rattle.tl_manager.specs.statement.Service.{Service, services, service_of_block, least_untaken, trackers_of}
+use Rattle.tl_manager.specs.statement.End.{End}
 use Rattle.tl_manager.proofs.Events.{performed-access, performed-acquire}
 use Rattle.tl_manager.proofs.Handed.{after_sent, own_link, other_link, whole-taken}
 use Rattle.tl_manager.proofs.Links.{sent-keeps}

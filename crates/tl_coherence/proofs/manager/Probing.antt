@@ -7,22 +7,22 @@ use Rattle.tl_beat.specs.declared.beat.Beat.TheVariants as beat
 use Rattle.tl_beat.specs.declared.channel.Channel.TheVariants as channel
 use Rattle.tl_burst.specs.declared.message.Message.TheVariants.{A}
 use Rattle.tl_burst.specs.declared.message.MessageA.{MessageA}
-use Rattle.tl_burst.specs.Burst.{a_beat_of, beats_of}
-use Rattle.tl_burst.specs.Messages.{unfinished}
+use Rattle.tl_burst.specs.statement.Burst.{a_beat_of, beats_of}
+use Rattle.tl_burst.specs.statement.Messages.{unfinished}
 use Rattle.tl_params.specs.declared.config.Config.{Config}
 use Rattle.tl_params.specs.declared.key.Key.TheVariants.{ProbeOf}
 use Rattle.tl_params.specs.declared.param.Cap.{Cap}
 use Rattle.tl_params.specs.declared.perm.Perm.TheVariants as perm
-use Rattle.tl_rules.specs.Agent.{sent}
-use Rattle.tl_rules.specs.Conformance.{Trace, on_link}
-use Rattle.tl_rules.specs.History.{pending, held, block_at, request_of}
+use Rattle.tl_rules.specs.statement.Agent.{sent}
+use Rattle.tl_rules.specs.statement.Conformance.{Trace, on_link}
+use Rattle.tl_rules.specs.statement.History.{pending, held, block_at, request_of}
 use Rattle.tl_rules.proofs.Sent.{held_unsaid}
 use Rattle.tl_client.proofs.HeldAfter.{swapped}
-use Rattle.tl_manager.specs.Handing.{with_handed, probes, probe_beat, probe_of_block}
-use Rattle.tl_manager.specs.Holders as holders
-use Rattle.tl_manager.specs.Holders.{recorded, cap_probed, is_spared, probed}
-use Rattle.tl_manager.specs.Service.{Service, services, service_of_block, least_untaken, trackers_of}
-use Rattle.tl_manager.specs.End.{End}
+use Rattle.tl_manager.specs.statement.Handing.{with_handed, probes, probe_beat, probe_of_block}
+use Rattle.tl_manager.specs.statement.Holders as holders
+use Rattle.tl_manager.specs.statement.Holders.{recorded, cap_probed, is_spared, probed}
+use Rattle.tl_manager.specs.statement.Service.{Service, services, service_of_block, least_untaken, trackers_of}
+use Rattle.tl_manager.specs.statement.End.{End}
 use Rattle.tl_manager.proofs.Handed.{whole-taken}
 use Rattle.tl_manager.proofs.Probed.{probes-keep}
 use Rattle.tl_manager.proofs.Probes.{probes-within, probes-beyond, services-probes}

@@ -2,7 +2,7 @@
 use Rattle.std.proofs.Common.{◌≡◌, ℕ, ◌==◌, Bool, true, false, not, ◌&&◌, ◌||◌, [], ◌∷◌, Option, Some, None, refl, sym, ◌∙◌, ap, subst, inl, inr}
 use Rattle.std.specs.Prelude.{if◌then◌else◌, unwrap_or}
 use Rattle.std.proofs.lemmas.Bool.{cases_eq, eqb-true, ne_eqb}
-use Rattle.tl_beat.specs.Width.{IsWidth}
+use Rattle.tl_beat.specs.statement.Width.{IsWidth}
 use Rattle.tl_beat.specs.declared.beat.Beat.TheVariants as beat
 use Rattle.tl_beat.specs.declared.beat.BeatC.{BeatC}
 use Rattle.tl_beat.specs.declared.beat.Link.{Link}
@@ -10,15 +10,15 @@ use Rattle.tl_beat.specs.declared.channel.Channel.TheVariants as channel
 use Rattle.tl_burst.specs.declared.message.Message.TheVariants.{D}
 use Rattle.tl_burst.specs.declared.message.MessageA.{MessageA}
 use Rattle.tl_burst.specs.declared.message.MessageD.{MessageD}
-use Rattle.tl_burst.specs.Messages.{unfinished}
+use Rattle.tl_burst.specs.statement.Messages.{unfinished}
 use Rattle.tl_params.specs.declared.key.Key.TheVariants as key
 use Rattle.tl_params.specs.declared.perm.Perm.{Perm}
-use Rattle.tl_rules.specs.Conformance.{Trace, on_link}
-use Rattle.tl_rules.specs.History.{ends, block_at, is_grant, is_probe_ack, is_release, is_release_ack, pending, probe_of, reported, request_of, held}
+use Rattle.tl_rules.specs.statement.Conformance.{Trace, on_link}
+use Rattle.tl_rules.specs.statement.History.{ends, block_at, is_grant, is_probe_ack, is_release, is_release_ack, pending, probe_of, reported, request_of, held}
 use Rattle.tl_rules.proofs.Sent.{held-sent_d, pending-quiet}
 use Rattle.tl_burst.proofs.Splitting.{beats-positive}
-use Rattle.tl_manager.specs.Holders.{recorded}
-use Rattle.tl_manager.specs.Service.{services, service_of_block}
+use Rattle.tl_manager.specs.statement.Holders.{recorded}
+use Rattle.tl_manager.specs.statement.Service.{services, service_of_block}
 use Rattle.tl_manager.proofs.Accesses.{services-release_ack}
 use Rattle.tl_manager.proofs.Handed.{after_sent, own_link, other_link, recorded-taken}
 use Rattle.tl_manager.proofs.Links.{own_beat, other_beat, beat-keeps, pending-closed}

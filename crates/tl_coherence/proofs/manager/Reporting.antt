@@ -1,24 +1,24 @@
 -- What the messages of channel C say that a client has in flight, and what the manager takes of them.
 use Rattle.std.proofs.Common.{◌≡◌, ℕ, ◌*◌, Bool, true, false, not, List, length, refl, arith, pow_pos, lit<}
 use Rattle.std.proofs.lemmas.List.{drop_all}
-use Rattle.tl_beat.specs.Width.{IsWidth}
-use Rattle.tl_beat.specs.Opcode.{c_carries_data}
+use Rattle.tl_beat.specs.statement.Width.{IsWidth}
+use Rattle.tl_beat.specs.statement.Opcode.{c_carries_data}
 use Rattle.tl_beat.specs.declared.opcode.OpB.TheVariants as opb
 use Rattle.tl_beat.specs.declared.opcode.OpC.{OpC}
 use Rattle.tl_beat.specs.declared.opcode.OpC.TheVariants as opc
 use Rattle.tl_burst.specs.declared.message.Message.TheVariants as message
 use Rattle.tl_burst.specs.declared.message.MessageC.{MessageC}
-use Rattle.tl_burst.specs.Burst.{beats_of, data_beats, IsZeroFrom, IsBlankAfter}
+use Rattle.tl_burst.specs.statement.Burst.{beats_of, data_beats, IsZeroFrom, IsBlankAfter}
 use Rattle.tl_params.specs.declared.param.Prune.{Prune}
 use Rattle.tl_params.specs.declared.param.Prune.TheVariants as prune
 use Rattle.tl_params.specs.declared.param.Report.{Report}
 use Rattle.tl_params.specs.declared.param.Report.TheVariants as report
 use Rattle.tl_params.specs.declared.perm.Perm.TheVariants as perm
-use Rattle.tl_params.specs.Param.{prune_code, prune_left, prune_right, report_code, report_left}
-use Rattle.tl_rules.specs.History.{block_at, is_probe_ack, is_release, reported}
-use Rattle.tl_rules.specs.Conformance.{same_perm}
-use Rattle.tl_client.specs.End.{zeros}
-use Rattle.tl_client.specs.Send.{about, probe_ack, release}
+use Rattle.tl_params.specs.statement.Param.{prune_code, prune_left, prune_right, report_code, report_left}
+use Rattle.tl_rules.specs.statement.History.{block_at, is_probe_ack, is_release, reported}
+use Rattle.tl_rules.specs.statement.Conformance.{same_perm}
+use Rattle.tl_client.specs.statement.End.{zeros}
+use Rattle.tl_client.specs.statement.Send.{about, probe_ack, release}
 use Rattle.tl_client.proofs.HeldAfter.{same_block}
 use Rattle.tl_rules.proofs.Widths.{whole_block}
 

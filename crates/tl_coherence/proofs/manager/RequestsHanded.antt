@@ -7,24 +7,24 @@ use Rattle.tl_beat.specs.declared.beat.Beat.TheVariants as beat
 use Rattle.tl_burst.specs.declared.message.Message.{Message}
 use Rattle.tl_burst.specs.declared.message.Message.TheVariants as message
 use Rattle.tl_burst.specs.declared.message.MessageA.{MessageA}
-use Rattle.tl_burst.specs.Burst.{a_beat_of, beats_of}
+use Rattle.tl_burst.specs.statement.Burst.{a_beat_of, beats_of}
 use Rattle.tl_params.specs.declared.config.Config.{Config}
 use Rattle.tl_params.specs.declared.param.Cap.{Cap}
 use Rattle.tl_params.specs.declared.perm.Perm.TheVariants as perm
-use Rattle.tl_params.specs.Param.{cap_right}
-use Rattle.tl_rules.specs.Effect.{Memory, bytes_from, effect, answer_of}
-use Rattle.tl_rules.specs.Effect as memory
-use Rattle.tl_rules.specs.History.{block_at}
-use Rattle.tl_manager.specs.Handing as handing
-use Rattle.tl_manager.specs.Handing.{Handed, Deed, probes, probe_of_block, performed, grant_with, access_answer, cap_granted, grant_payload}
-use Rattle.tl_manager.specs.Holders as holders
-use Rattle.tl_manager.specs.Holders.{recorded, probed, cap_probed}
-use Rattle.tl_rules.specs.Conformance.{Trace, same_perm}
+use Rattle.tl_params.specs.statement.Param.{cap_right}
+use Rattle.tl_rules.specs.statement.Effect.{Memory, bytes_from, effect, answer_of}
+use Rattle.tl_rules.specs.statement.Effect as memory
+use Rattle.tl_rules.specs.statement.History.{block_at}
+use Rattle.tl_manager.specs.statement.Handing as handing
+use Rattle.tl_manager.specs.statement.Handing.{Handed, Deed, probes, probe_of_block, performed, grant_with, access_answer, cap_granted, grant_payload}
+use Rattle.tl_manager.specs.statement.Holders as holders
+use Rattle.tl_manager.specs.statement.Holders.{recorded, probed, cap_probed}
+use Rattle.tl_rules.specs.statement.Conformance.{Trace, same_perm}
 use Rattle.tl_client.proofs.HeldAfter.{same_block}
-use Rattle.tl_manager.specs.Service as manager
-use Rattle.tl_manager.specs.Deed.{deed}
-use Rattle.tl_manager.specs.End.{End}
-use Rattle.tl_manager.specs.Offer.{level_of}
+use Rattle.tl_manager.specs.statement.Service as manager
+use Rattle.tl_manager.specs.statement.Deed.{deed}
+use Rattle.tl_manager.specs.statement.End.{End}
+use Rattle.tl_manager.specs.statement.Offer.{level_of}
 use Rattle.tl_manager.proofs.Events.{performed-access, performed-acquire}
 use Rattle.tl_coherence.specs.refinement.Follow.{answers, gift, is_unheld, probes_some}
 use Rattle.tl_coherence.specs.protocol.Invariant.{IsWell, is_out}

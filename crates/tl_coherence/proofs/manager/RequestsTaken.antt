@@ -7,25 +7,25 @@ use Rattle.tl_beat.specs.declared.beat.Beat.TheVariants as beat
 use Rattle.tl_burst.specs.declared.message.Message.{Message}
 use Rattle.tl_burst.specs.declared.message.Message.TheVariants as message
 use Rattle.tl_burst.specs.declared.message.MessageA.{MessageA}
-use Rattle.tl_burst.specs.Burst.{a_beat_of, beats_of}
+use Rattle.tl_burst.specs.statement.Burst.{a_beat_of, beats_of}
 use Rattle.tl_params.specs.declared.config.Config.{Config}
 use Rattle.tl_params.specs.declared.param.Cap.{Cap}
 use Rattle.tl_params.specs.declared.param.Grow.{Grow}
 use Rattle.tl_params.specs.declared.param.Grow.TheVariants as grow
 use Rattle.tl_params.specs.declared.perm.Perm.{Perm}
 use Rattle.tl_params.specs.declared.perm.Perm.TheVariants as perm
-use Rattle.tl_rules.specs.Conformance.{on_link, same_perm}
-use Rattle.tl_rules.specs.History.{ends, block_at, is_acquire}
+use Rattle.tl_rules.specs.statement.Conformance.{on_link, same_perm}
+use Rattle.tl_rules.specs.statement.History.{ends, block_at, is_acquire}
 use Rattle.tl_rules.proofs.Sent.{is_last}
-use Rattle.tl_client.specs.Send.{acquisition}
+use Rattle.tl_client.specs.statement.Send.{acquisition}
 use Rattle.tl_client.proofs.HeldAfter.{same_block, swapped}
-use Rattle.tl_manager.specs.Handing.{performed, cap_granted}
-use Rattle.tl_manager.specs.Holders as holders
-use Rattle.tl_manager.specs.Holders.{recorded, is_nobody, probed, cap_probed, is_spared}
-use Rattle.tl_manager.specs.Service.{services, is_in_service, least_untaken, trackers_of}
-use Rattle.tl_manager.specs.Deed.{deed}
-use Rattle.tl_manager.specs.End.{End}
-use Rattle.tl_manager.specs.Offer.{must_wait}
+use Rattle.tl_manager.specs.statement.Handing.{performed, cap_granted}
+use Rattle.tl_manager.specs.statement.Holders as holders
+use Rattle.tl_manager.specs.statement.Holders.{recorded, is_nobody, probed, cap_probed, is_spared}
+use Rattle.tl_manager.specs.statement.Service.{services, is_in_service, least_untaken, trackers_of}
+use Rattle.tl_manager.specs.statement.Deed.{deed}
+use Rattle.tl_manager.specs.statement.End.{End}
+use Rattle.tl_manager.specs.statement.Offer.{must_wait}
 use Rattle.tl_manager.proofs.Events.{deed-unprobed, deed-intent}
 use Rattle.tl_coherence.specs.refinement.Follow.{Shadow, some_below, probes_some, access_taken, request_taken, acquire_opcode, is_unheld, gift, acquire_taken, kind_taken}
 use Rattle.tl_coherence.specs.protocol.Invariant.{IsInvariant, cap_asked}

@@ -2,13 +2,13 @@
 use Rattle.std.proofs.Common.{◌≡◌, ℕ, Bool, not, Option, Some, sym, ◌∙◌, ap, ap₂, inl, inr}
 use Rattle.std.proofs.lemmas.Bool.{cases_eq}
 use Rattle.tl_burst.specs.declared.message.MessageA.{MessageA}
-use Rattle.tl_burst.specs.Burst.{a_beat_of}
+use Rattle.tl_burst.specs.statement.Burst.{a_beat_of}
 use Rattle.tl_params.specs.declared.key.Key.TheVariants.{ProbeOf}
 use Rattle.tl_params.specs.declared.param.Cap.{Cap}
-use Rattle.tl_rules.specs.Conformance.{Trace, on_link}
-use Rattle.tl_rules.specs.History.{pending, request_of}
-use Rattle.tl_manager.specs.Holders.{recorded}
-use Rattle.tl_manager.specs.Service.{services, service_of_block}
+use Rattle.tl_rules.specs.statement.Conformance.{Trace, on_link}
+use Rattle.tl_rules.specs.statement.History.{pending, request_of}
+use Rattle.tl_manager.specs.statement.Holders.{recorded}
+use Rattle.tl_manager.specs.statement.Service.{services, service_of_block}
 use Rattle.tl_coherence.specs.protocol.Phase.{is_quiet, ok}
 use Rattle.tl_coherence.specs.protocol.Protocol.{Service, Free, Waits, GrantSent, GrantTaken, Block, State}
 use Rattle.tl_coherence.specs.refinement.Managed.{client_in, service_with}

@@ -8,14 +8,14 @@ use Rattle.tl_params.specs.declared.config.Config.{Config}
 use Rattle.tl_params.specs.declared.param.Cap.{Cap}
 use Rattle.tl_params.specs.declared.param.Grow.{Grow}
 use Rattle.tl_params.specs.declared.param.Prune.{Prune}
-use Rattle.tl_rules.specs.History.{block_at}
+use Rattle.tl_rules.specs.statement.History.{block_at}
 use Rattle.tl_client.specs.declared.operation.Op.{Op}
 use Rattle.tl_client.specs.declared.operation.Op.TheVariants as op
 use Rattle.tl_client.specs.declared.reply.Reply.{Reply}
 use Rattle.tl_client.specs.declared.reply.Reply.TheVariants as reply
-use Rattle.tl_client.specs.Ask.{copy_stored, whole_grow}
-use Rattle.tl_client.specs.Send.{access}
-use Rattle.tl_manager.specs.End.{End}
+use Rattle.tl_client.specs.statement.Ask.{copy_stored, whole_grow}
+use Rattle.tl_client.specs.statement.Send.{access}
+use Rattle.tl_manager.specs.statement.End.{End}
 use Rattle.tl_coherence.specs.refinement.Follow.{Shadow, asked, is_whole, taken_by_client, kind_taken}
 use Rattle.tl_coherence.specs.protocol.Invariant.{IsInvariant}
 use Rattle.tl_coherence.specs.protocol.Phase.{Pair, Sent, is_quiet}

@@ -3,7 +3,7 @@ use Rattle.std.proofs.Common.{◌≡◌, ℕ, Bool, true, false, ◌&&◌, List,
 use Rattle.std.specs.Prelude.{◌==◌, if◌then◌else◌, ⊤}
 use Rattle.std.proofs.lemmas.Bool.{cases_eq, ne_eqb}
 use Rattle.tl_burst.specs.declared.message.Message.{Message}
-use Rattle.tl_rules.specs.Effect.{IsBlock, effect}
+use Rattle.tl_rules.specs.statement.Effect.{IsBlock, effect}
 use Rattle.tl_client.specs.declared.operation.Op.TheVariants as op
 use Rattle.tl_coherence.specs.refinement.Beside.{IsAccess, Answers, IsOpened, IsLet, IsBeside}
 use Rattle.tl_coherence.specs.statement.Machine.{Machine, Open, Pool, Requests, Releases, same_pool, with_open, with_memory, performed}

@@ -7,15 +7,15 @@ use Rattle.tl_burst.specs.declared.message.MessageA.{MessageA}
 use Rattle.tl_params.specs.declared.param.Grow.{Grow}
 use Rattle.tl_params.specs.declared.perm.Perm.TheVariants as perm
 use Rattle.tl_params.specs.declared.param.Prune.{Prune}
-use Rattle.tl_rules.specs.Effect.{Memory, IsBlock}
-use Rattle.tl_rules.specs.History.{block_at}
-use Rattle.tl_rules.specs.Conformance.{same_perm}
+use Rattle.tl_rules.specs.statement.Effect.{Memory, IsBlock}
+use Rattle.tl_rules.specs.statement.History.{block_at}
+use Rattle.tl_rules.specs.statement.Conformance.{same_perm}
 use Rattle.tl_client.specs.declared.operation.Op.{Op}
 use Rattle.tl_client.specs.declared.operation.Op.TheVariants as op
 use Rattle.tl_client.specs.declared.reply.Reply.{Reply}
 use Rattle.tl_client.specs.declared.reply.Reply.TheVariants as reply
-use Rattle.tl_client.specs.Ask.{copy_stored, is_word, whole_grow}
-use Rattle.tl_client.specs.Send.{access}
+use Rattle.tl_client.specs.statement.Ask.{copy_stored, is_word, whole_grow}
+use Rattle.tl_client.specs.statement.Send.{access}
 use Rattle.tl_client.proofs.Stores.{word_room}
 use Rattle.tl_coherence.specs.refinement.Beside.{op_of, IsBeside}
 use Rattle.tl_coherence.specs.refinement.Follow.{Shadow, asked}

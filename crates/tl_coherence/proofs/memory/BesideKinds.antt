@@ -10,11 +10,11 @@ use Rattle.tl_params.specs.declared.config.Config.{Config}
 use Rattle.tl_params.specs.declared.param.Cap.{Cap}
 use Rattle.tl_params.specs.declared.param.Report.{Report}
 use Rattle.tl_params.specs.declared.profile.Profile.{Profile}
-use Rattle.tl_rules.specs.Effect.{IsBlock, effect}
-use Rattle.tl_rules.specs.History.{block_at}
+use Rattle.tl_rules.specs.statement.Effect.{IsBlock, effect}
+use Rattle.tl_rules.specs.statement.History.{block_at}
 use Rattle.tl_client.specs.declared.operation.Op.{Op}
 use Rattle.tl_client.specs.declared.operation.Op.TheVariants as op
-use Rattle.tl_manager.specs.Holders.{cap_probed}
+use Rattle.tl_manager.specs.statement.Holders.{cap_probed}
 use Rattle.tl_coherence.specs.refinement.Beside.{op_of, IsOpened, IsLet, IsBeside}
 use Rattle.tl_coherence.specs.refinement.Follow.{Shadow, some_below, bytes_at, performs, answers, probes_some, access_taken, request_taken, acquire_taken, granted_after, last_taken, ack_taken, is_whole}
 use Rattle.tl_coherence.specs.protocol.Invariant.{acquires_of, IsInvariant}

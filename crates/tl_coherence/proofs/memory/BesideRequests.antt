@@ -4,20 +4,20 @@ use Rattle.tl_beat.specs.declared.beat.Beat.TheVariants as beat
 use Rattle.tl_burst.specs.declared.message.Message.{Message}
 use Rattle.tl_burst.specs.declared.message.Message.TheVariants as message
 use Rattle.tl_burst.specs.declared.message.MessageA.{MessageA}
-use Rattle.tl_burst.specs.Burst.{a_beat_of, beats_of}
+use Rattle.tl_burst.specs.statement.Burst.{a_beat_of, beats_of}
 use Rattle.tl_params.specs.declared.config.Config.{Config}
 use Rattle.tl_params.specs.declared.param.Cap.{Cap}
 use Rattle.tl_rules.specs.declared.answer.Answer.{Answer}
 use Rattle.tl_rules.specs.declared.answer.Answer.TheVariants as answer
-use Rattle.tl_rules.specs.History.{block_at}
+use Rattle.tl_rules.specs.statement.History.{block_at}
 use Rattle.std.specs.Prelude.{if◌then◌else◌}
-use Rattle.tl_rules.specs.Conformance.{Trace}
-use Rattle.tl_rules.specs.Effect.{Memory, effect, answer_of}
+use Rattle.tl_rules.specs.statement.Conformance.{Trace}
+use Rattle.tl_rules.specs.statement.Effect.{Memory, effect, answer_of}
 use Rattle.tl_client.proofs.HeldAfter.{same_block}
-use Rattle.tl_manager.specs.Handing.{Handed, Deed, probes, access_answer, grant_opcode, is_granted_data, grant}
-use Rattle.tl_manager.specs.Holders.{recorded, cap_probed, probed}
-use Rattle.tl_manager.specs.Service.{Service, is_access_answer}
-use Rattle.tl_manager.specs.Deed.{deed}
+use Rattle.tl_manager.specs.statement.Handing.{Handed, Deed, probes, access_answer, grant_opcode, is_granted_data, grant}
+use Rattle.tl_manager.specs.statement.Holders.{recorded, cap_probed, probed}
+use Rattle.tl_manager.specs.statement.Service.{Service, is_access_answer}
+use Rattle.tl_manager.specs.statement.Deed.{deed}
 use Rattle.tl_manager.proofs.Events.{performed-acquire}
 use Rattle.tl_coherence.specs.refinement.Beside.{IsAccess, IsBeside}
 use Rattle.tl_coherence.specs.refinement.Follow.{Shadow, bytes_at, probes_some, some_below, request_taken, kind_taken}

@@ -3,7 +3,7 @@
 use Rattle.std.proofs.Common.{◌≡◌, subst, ℕ, ◌^◌, ◌≤◌, Bool, true, false, not, ◌&&◌, List, [], ◌∷◌, Some, None, length, refl, sym, ◌∙◌, ap, ◌⊎◌, inl, inr}
 use Rattle.std.specs.Prelude.{if◌then◌else◌}
 use Rattle.std.proofs.lemmas.Bool.{cases_eq, cases_lt, not-true}
-use Rattle.tl_beat.specs.Width.{IsWidth}
+use Rattle.tl_beat.specs.statement.Width.{IsWidth}
 use Rattle.tl_beat.specs.declared.opcode.OpA.{OpA}
 use Rattle.tl_beat.specs.declared.opcode.OpA.TheVariants as a
 use Rattle.tl_burst.specs.declared.message.Message.{Message}
@@ -15,16 +15,16 @@ use Rattle.tl_params.specs.declared.param.Cap.TheVariants as cap
 use Rattle.tl_params.specs.declared.param.Report.{Report}
 use Rattle.tl_params.specs.declared.perm.Perm.{Perm}
 use Rattle.tl_params.specs.declared.perm.Perm.TheVariants as perm
-use Rattle.tl_params.specs.Param.{report_left}
-use Rattle.tl_rules.specs.Effect as memory
-use Rattle.tl_rules.specs.Effect.{Memory, IsBlock, effect, answer_of}
-use Rattle.tl_rules.specs.History.{block_at, is_acquire}
-use Rattle.tl_rules.specs.Conformance.{same_perm}
+use Rattle.tl_params.specs.statement.Param.{report_left}
+use Rattle.tl_rules.specs.statement.Effect as memory
+use Rattle.tl_rules.specs.statement.Effect.{Memory, IsBlock, effect, answer_of}
+use Rattle.tl_rules.specs.statement.History.{block_at, is_acquire}
+use Rattle.tl_rules.specs.statement.Conformance.{same_perm}
 use Rattle.tl_client.specs.declared.operation.Op.TheVariants as op
-use Rattle.tl_client.specs.Send.{sourced}
-use Rattle.tl_manager.specs.Handing.{access_answer}
-use Rattle.tl_manager.specs.Holders.{cap_probed}
-use Rattle.tl_manager.specs.Offer.{level_of}
+use Rattle.tl_client.specs.statement.Send.{sourced}
+use Rattle.tl_manager.specs.statement.Handing.{access_answer}
+use Rattle.tl_manager.specs.statement.Holders.{cap_probed}
+use Rattle.tl_manager.specs.statement.Offer.{level_of}
 use Rattle.tl_manager.proofs.Filled.{length-bytes}
 use Rattle.tl_coherence.specs.refinement.Beside.{IsAccess, IsReach, Answers, IsBeside}
 use Rattle.tl_coherence.specs.refinement.Follow.{some_below, bytes_at, performs, answers}

@@ -6,14 +6,14 @@ use Rattle.tl_burst.specs.declared.message.MessageA.{MessageA}
 use Rattle.tl_params.specs.declared.config.Config.{Config}
 use Rattle.tl_params.specs.declared.perm.Perm.{Perm}
 use Rattle.tl_params.specs.declared.perm.Perm.TheVariants as perm
-use Rattle.tl_rules.specs.Effect as memory
-use Rattle.tl_rules.specs.Effect.{IsBlock}
-use Rattle.tl_rules.specs.Conformance.{same_perm}
+use Rattle.tl_rules.specs.statement.Effect as memory
+use Rattle.tl_rules.specs.statement.Effect.{IsBlock}
+use Rattle.tl_rules.specs.statement.Conformance.{same_perm}
 use Rattle.tl_client.specs.declared.operation.Op.{Op}
 use Rattle.tl_client.specs.declared.operation.Op.TheVariants as op
 use Rattle.tl_client.specs.declared.reply.Reply.{Reply}
 use Rattle.tl_client.specs.declared.reply.Reply.TheVariants as reply
-use Rattle.tl_client.specs.Kept.{holds}
+use Rattle.tl_client.specs.statement.Kept.{holds}
 use Rattle.tl_client.proofs.HeldAfter.{swapped}
 use Rattle.tl_coherence.specs.declared.event.Event.{Event}
 use Rattle.tl_coherence.specs.declared.event.Event.TheVariants.{Ask, Deliver}

@@ -2,22 +2,22 @@
 use Rattle.std.proofs.Common.{◌≡◌, ℕ, zero, suc, ◌+◌, ◌-◌, ◌*◌, ◌/◌, ◌%◌, ◌^◌, ◌<◌, ◌≤◌, Bool, true, false, ◌&&◌, List, [], ◌∷◌, Option, Some, None, length, refl, sym, ◌∙◌, ap, ◌⊎◌, inl, inr, arith}
 use Rattle.std.specs.Prelude.{◌≢◌, if◌then◌else◌, slice_index, get_or, nat_le, nat_lt}
 use Rattle.std.proofs.lemmas.Bool.{cases_lt, ne_eqb, le-leb, lt-ltb, leb-true, ltb-true, and_parts}
-use Rattle.tl_beat.specs.Width.{IsWidth}
+use Rattle.tl_beat.specs.statement.Width.{IsWidth}
 use Rattle.tl_beat.specs.declared.opcode.OpA.{OpA}
 use Rattle.tl_beat.specs.declared.opcode.OpA.TheVariants as a
 use Rattle.tl_burst.specs.declared.message.Message.TheVariants.{A}
 use Rattle.tl_burst.specs.declared.message.MessageA.{MessageA}
-use Rattle.tl_burst.specs.Burst.{beats_of, IsBlankAfter, reaches}
+use Rattle.tl_burst.specs.statement.Burst.{beats_of, IsBlankAfter, reaches}
 use Rattle.tl_params.specs.declared.level.Level.{Level}
-use Rattle.tl_rules.specs.Effect.{Memory, IsBlock, bytes_from, byte_of, effect}
-use Rattle.tl_rules.specs.History.{block_at, is_acquire}
+use Rattle.tl_rules.specs.statement.Effect.{Memory, IsBlock, bytes_from, byte_of, effect}
+use Rattle.tl_rules.specs.statement.History.{block_at, is_acquire}
 use Rattle.tl_rules.proofs.Blocks.{effect_elsewhere}
 use Rattle.tl_rules.proofs.Legal.{access_at_uh}
-use Rattle.tl_client.specs.Ask.{copy_stored}
-use Rattle.tl_client.specs.Send.{sourced}
+use Rattle.tl_client.specs.statement.Ask.{copy_stored}
+use Rattle.tl_client.specs.statement.Send.{sourced}
 use Rattle.tl_client.proofs.Stores.{stored-inside, stored-outside, length-stored}
-use Rattle.tl_manager.specs.Kept.{illegal_message_at}
-use Rattle.tl_manager.specs.Deed.{with_block}
+use Rattle.tl_manager.specs.code.Kept.{illegal_message_at}
+use Rattle.tl_manager.specs.statement.Deed.{with_block}
 use Rattle.tl_manager.proofs.Written.{bytes_are}
 use Rattle.tl_coherence.specs.refinement.Follow.{bytes_at, performs}
 use Rattle.tl_coherence.specs.statement.Machine.{with_number}

@@ -8,13 +8,13 @@ use Rattle.tl_params.specs.declared.config.Config.{Config}
 use Rattle.tl_params.specs.declared.rule.Rule.{Rule}
 use Rattle.tl_client.specs.declared.verdict.Verdict.{Verdict}
 use Rattle.tl_client.specs.declared.verdict.Verdict.TheVariants as verdict
-use Rattle.tl_client.specs.End.{Terms}
-use Rattle.tl_client.specs.End as client
-use Rattle.tl_client.specs.Offer.{is_stalled, offered}
+use Rattle.tl_client.specs.statement.End.{Terms}
+use Rattle.tl_client.specs.statement.End as client
+use Rattle.tl_client.specs.statement.Offer.{is_stalled, offered}
 use Rattle.tl_client.proofs.Stalls.{stalls-offered}
-use Rattle.tl_manager.specs.Kept as kept
-use Rattle.tl_manager.specs.End as manager_end
-use Rattle.tl_manager.specs.Offer as manager
+use Rattle.tl_manager.specs.code.Kept as kept
+use Rattle.tl_manager.specs.statement.End as manager_end
+use Rattle.tl_manager.specs.statement.Offer as manager
 use Rattle.tl_manager.proofs.Stalls.{stalls-answered}
 use Rattle.tl_coherence.specs.statement.Delivery.{is_stall}
 use Rattle.tl_coherence.specs.statement.Headline.{Continues}

@@ -1,7 +1,7 @@
 -- What is outstanding after a log is what is open: the starts of the log are its ends and what is open after it.
 use Rattle.std.proofs.Common.{◌≡◌, ℕ, ◌+◌, Bool, true, false, [], ◌∷◌, length, refl, ◌∙◌, ap, arith}
 use Rattle.std.specs.Prelude.{◌*◌, ◌/◌, if◌then◌else◌, filter}
-use Rattle.tl_beat.specs.Width.{IsWidth}
+use Rattle.tl_beat.specs.statement.Width.{IsWidth}
 use Rattle.tl_params.specs.declared.config.Config.{Config}
 use Rattle.tl_coherence.specs.declared.event.Event.{Event}
 use Rattle.tl_coherence.specs.declared.event.Outcome.{Outcome}

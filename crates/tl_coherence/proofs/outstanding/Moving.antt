@@ -4,21 +4,21 @@ use Rattle.std.specs.Prelude.{not, map, nat_le, Option, Some, None}
 use Rattle.std.proofs.lemmas.Bool.Decides.{nat_tests}
 use Rattle.std.proofs.Math.Bool.{and-false}
 use Rattle.std.proofs.lemmas.Bool.{true_from_ne_false}
-use Rattle.tl_beat.specs.Width.{IsWidth}
+use Rattle.tl_beat.specs.statement.Width.{IsWidth}
 use Rattle.tl_beat.specs.declared.beat.Beat.{Beat}
 use Rattle.tl_beat.specs.declared.beat.Beat.TheVariants as beat
 use Rattle.tl_beat.specs.declared.channel.Channel.{Channel}
 use Rattle.tl_beat.specs.declared.channel.Channel.TheVariants as channel
 use Rattle.tl_burst.specs.declared.message.Message.{Message}
 use Rattle.tl_burst.specs.declared.message.MessageA.{MessageA}
-use Rattle.tl_burst.specs.Messages.{unfinished}
+use Rattle.tl_burst.specs.statement.Messages.{unfinished}
 use Rattle.tl_params.specs.declared.config.Config.{Config}
 use Rattle.tl_params.specs.declared.key.Key.TheVariants.{ReleaseOf}
-use Rattle.tl_rules.specs.Conformance.{on_link}
-use Rattle.tl_rules.specs.History.{block_at, ends, pending}
-use Rattle.tl_client.specs.End.{Terms}
-use Rattle.tl_manager.specs.Service as manager
-use Rattle.tl_manager.specs.Service.{services, service_of_block}
+use Rattle.tl_rules.specs.statement.Conformance.{on_link}
+use Rattle.tl_rules.specs.statement.History.{block_at, ends, pending}
+use Rattle.tl_client.specs.statement.End.{Terms}
+use Rattle.tl_manager.specs.statement.Service as manager
+use Rattle.tl_manager.specs.statement.Service.{services, service_of_block}
 use Rattle.tl_coherence.specs.refinement.Carried.{IsCarried}
 use Rattle.tl_coherence.specs.statement.Coherent.{IsCoherent}
 use Rattle.tl_coherence.specs.statement.Delivery.{Moves}

@@ -7,15 +7,15 @@ use Rattle.tl_params.specs.declared.param.Grow.{Grow}
 use Rattle.tl_params.specs.declared.param.Prune.{Prune}
 use Rattle.tl_params.specs.declared.perm.Perm.{Perm}
 use Rattle.tl_params.specs.declared.perm.Perm.TheVariants as perm
-use Rattle.tl_rules.specs.History.{block_at, pending}
+use Rattle.tl_rules.specs.statement.History.{block_at, pending}
 use Rattle.tl_client.specs.declared.busy.Busy.{Busy}
 use Rattle.tl_client.specs.declared.operation.Op.{Op}
 use Rattle.tl_client.specs.declared.operation.Op.TheVariants as op
 use Rattle.tl_client.specs.declared.reply.Reply.{Reply}
 use Rattle.tl_client.specs.declared.reply.Reply.TheVariants as reply
-use Rattle.tl_client.specs.Ask as ask
-use Rattle.tl_client.specs.Ask.{done, load, store, free_request, free_release, source_or_0}
-use Rattle.tl_client.specs.End.{Terms, End, held_at}
+use Rattle.tl_client.specs.statement.Ask as ask
+use Rattle.tl_client.specs.statement.Ask.{done, load, store, free_request, free_release, source_or_0}
+use Rattle.tl_client.specs.statement.End.{Terms, End, held_at}
 use Rattle.tl_client.proofs.Cases.{NotBusy, asked-cases}
 use Rattle.tl_client.proofs.Free.{least_free-some}
 use Rattle.tl_coherence.specs.declared.event.Event.TheVariants.{Ask}

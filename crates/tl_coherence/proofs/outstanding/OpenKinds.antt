@@ -11,8 +11,8 @@ use Rattle.tl_params.specs.declared.param.Cap.{Cap}
 use Rattle.tl_params.specs.declared.param.Prune.{Prune}
 use Rattle.tl_params.specs.declared.param.Report.{Report}
 use Rattle.tl_params.specs.declared.profile.Profile.{Profile}
-use Rattle.tl_rules.specs.History.{block_at}
-use Rattle.tl_manager.specs.Holders.{cap_probed}
+use Rattle.tl_rules.specs.statement.History.{block_at}
+use Rattle.tl_manager.specs.statement.Holders.{cap_probed}
 use Rattle.tl_coherence.specs.refinement.Follow as follow
 use Rattle.tl_coherence.specs.refinement.Follow.{Shadow, with_state, some_below, probes_some, access_taken, request_taken, acquire_taken, is_unheld, gift, granted_after}
 use Rattle.tl_coherence.specs.refinement.Follow.{last_taken, ack_taken, is_whole, taken_by_client, kind_taken}

@@ -2,7 +2,7 @@
 -- opens and closes.
 use Rattle.std.proofs.Common.{◌≡◌, subst, ℕ, zero, suc, ◌+◌, ◌<◌, Bool, true, false, List, [], ◌∷◌, refl, sym, ◌∙◌, ap, arith, Option, Some, None}
 use Rattle.std.specs.Prelude.{◌==◌, if◌then◌else◌, map, Result, Ok, Err}
-use Rattle.tl_beat.specs.Width.{IsWidth}
+use Rattle.tl_beat.specs.statement.Width.{IsWidth}
 use Rattle.tl_beat.specs.declared.beat.Beat.{Beat}
 use Rattle.tl_beat.specs.declared.beat.Beat.TheVariants as beat
 use Rattle.tl_beat.specs.declared.beat.BeatD.{BeatD}
@@ -13,20 +13,20 @@ use Rattle.tl_beat.specs.declared.opcode.OpD.{OpD}
 use Rattle.tl_beat.specs.declared.opcode.OpD.TheVariants as opd
 use Rattle.tl_burst.specs.declared.message.Message.{Message}
 use Rattle.tl_burst.specs.declared.message.MessageD.{MessageD}
-use Rattle.tl_burst.specs.Burst.{beat_of, beats_of, d_beat_of}
-use Rattle.tl_burst.specs.Messages.{channel_of, unfinished}
-use Rattle.tl_burst.specs.Part.{completes}
+use Rattle.tl_burst.specs.statement.Burst.{beat_of, beats_of, d_beat_of}
+use Rattle.tl_burst.specs.statement.Messages.{channel_of, unfinished}
+use Rattle.tl_burst.specs.statement.Part.{completes}
 use Rattle.tl_params.specs.declared.config.Config.{Config}
 use Rattle.tl_params.specs.declared.rule.Rule.{Rule}
-use Rattle.tl_rules.specs.History.{is_release_ack}
+use Rattle.tl_rules.specs.statement.History.{is_release_ack}
 use Rattle.tl_client.specs.declared.verdict.Verdict.{Verdict}
 use Rattle.tl_client.specs.declared.verdict.Verdict.TheVariants as verdict
-use Rattle.tl_client.specs.End as client
-use Rattle.tl_client.specs.End.{Terms}
-use Rattle.tl_client.specs.Offer as offer
-use Rattle.tl_client.specs.Offer.{finish_of}
-use Rattle.tl_manager.specs.Handing.{grant_opcode}
-use Rattle.tl_manager.specs.Service.{is_access_answer}
+use Rattle.tl_client.specs.statement.End as client
+use Rattle.tl_client.specs.statement.End.{Terms}
+use Rattle.tl_client.specs.statement.Offer as offer
+use Rattle.tl_client.specs.statement.Offer.{finish_of}
+use Rattle.tl_manager.specs.statement.Handing.{grant_opcode}
+use Rattle.tl_manager.specs.statement.Service.{is_access_answer}
 use Rattle.tl_coherence.specs.declared.event.Event.{Event}
 use Rattle.tl_coherence.specs.declared.event.Event.TheVariants.{Ask, Deliver}
 use Rattle.tl_coherence.specs.declared.event.Outcome.{Outcome}

@@ -3,10 +3,10 @@
 use Rattle.std.proofs.Common.{◌≡◌, subst, ℕ, ◌<◌, true, [], ◌∷◌, None, length, sym, arith}
 use Rattle.std.specs.Prelude.{◌==◌, is_none}
 use Rattle.std.proofs.lemmas.Bool.Decides.{nat_tests}
-use Rattle.tl_beat.specs.Width.{IsWidth}
+use Rattle.tl_beat.specs.statement.Width.{IsWidth}
 use Rattle.tl_params.specs.declared.config.Config.{Config}
-use Rattle.tl_params.specs.Config.{config_fault, blocks_fit, trackers_fit, all_sources_fit}
-use Rattle.tl_params.specs.Range.{is_from_to}
+use Rattle.tl_params.specs.statement.Config.{config_fault, blocks_fit, trackers_fit, all_sources_fit}
+use Rattle.tl_params.specs.statement.Range.{is_from_to}
 use Rattle.tl_coherence.specs.declared.event.Outcome.{Outcome}
 use Rattle.tl_coherence.specs.refinement.Follow.{followed}
 use Rattle.tl_coherence.specs.statement.Headline.{AreTyped, IsGiven}

@@ -3,7 +3,7 @@
 use Rattle.std.proofs.Common.{◌≡◌, ℕ, ◌+◌, ◌/◌, ◌≤◌, Bool, true, false, List, [], ◌∷◌, refl, sym, ◌∙◌, arith, inl, inr}
 use Rattle.std.specs.Prelude.{not, ◌==◌, ◌||◌, if◌then◌else◌, Option, Some, None}
 use Rattle.std.proofs.lemmas.Bool.{eqb-true, not-false}
-use Rattle.tl_beat.specs.Width.{IsWidth}
+use Rattle.tl_beat.specs.statement.Width.{IsWidth}
 use Rattle.tl_beat.specs.declared.beat.Beat.{Beat}
 use Rattle.tl_beat.specs.declared.channel.Channel.{Channel}
 use Rattle.tl_beat.specs.declared.opcode.OpA.{OpA}
@@ -11,25 +11,25 @@ use Rattle.tl_beat.specs.declared.opcode.OpA.TheVariants as a
 use Rattle.tl_beat.specs.declared.opcode.OpB.TheVariants as opb
 use Rattle.tl_beat.specs.declared.opcode.OpD.{OpD}
 use Rattle.tl_beat.specs.declared.opcode.OpD.TheVariants as d
-use Rattle.tl_beat.specs.Opcode.{a_carries_data, d_carries_data}
+use Rattle.tl_beat.specs.statement.Opcode.{a_carries_data, d_carries_data}
 use Rattle.tl_burst.specs.declared.message.Message.{Message}
 use Rattle.tl_burst.specs.declared.message.Message.TheVariants as message
 use Rattle.tl_burst.specs.declared.message.MessageA.{MessageA}
-use Rattle.tl_burst.specs.Burst.{beats_of, data_beats}
+use Rattle.tl_burst.specs.statement.Burst.{beats_of, data_beats}
 use Rattle.tl_params.specs.declared.config.Config.{Config}
 use Rattle.tl_params.specs.declared.level.Level.{Level}
 use Rattle.tl_params.specs.declared.param.Report.{Report}
 use Rattle.tl_params.specs.declared.perm.Perm.{Perm}
 use Rattle.tl_params.specs.declared.perm.Perm.TheVariants as perm
 use Rattle.tl_params.specs.declared.rule.Rule.TheVariants.{L1, L2, L3}
-use Rattle.tl_params.specs.Param.{report_left}
-use Rattle.tl_rules.specs.Conformance.{answers, same_perm}
-use Rattle.tl_rules.specs.Legality.{is_one_of, a_of_level, a_has_param, a_has_size}
+use Rattle.tl_params.specs.statement.Param.{report_left}
+use Rattle.tl_rules.specs.statement.Conformance.{answers, same_perm}
+use Rattle.tl_rules.specs.statement.Legality.{is_one_of, a_of_level, a_has_param, a_has_size}
 use Rattle.tl_rules.proofs.Bursts.{control_of_legal, next_rule}
-use Rattle.tl_client.specs.Send.{probe_ack}
-use Rattle.tl_manager.specs.Kept.{illegal_message_at}
-use Rattle.tl_manager.specs.Service.{is_access_answer}
-use Rattle.tl_manager.specs.Offer.{level_of}
+use Rattle.tl_client.specs.statement.Send.{probe_ack}
+use Rattle.tl_manager.specs.code.Kept.{illegal_message_at}
+use Rattle.tl_manager.specs.statement.Service.{is_access_answer}
+use Rattle.tl_manager.specs.statement.Offer.{level_of}
 use Rattle.tl_coherence.specs.protocol.Invariant.{IsInvariant}
 use Rattle.tl_coherence.specs.protocol.Phase.{Pair, View, Acquiring, Calm, Wants, Probing, Quiet, Sent, Answered, ok}
 use Rattle.tl_coherence.specs.protocol.Protocol.{State, Asked, Replied, view}

@@ -4,7 +4,7 @@ use Rattle.std.specs.Prelude.{ℕ, Bool, true, false, List, ◌∷◌}
 use Rattle.tl_beat.specs.declared.channel.Channel.{Channel}
 use Rattle.tl_beat.specs.declared.channel.Channel.TheVariants as channel
 use Rattle.tl_params.specs.declared.perm.Perm.TheVariants as perm
-use Rattle.tl_rules.specs.Conformance.{same_perm}
+use Rattle.tl_rules.specs.statement.Conformance.{same_perm}
 use Rattle.tl_coherence.specs.protocol.Token.{Kind, Request, Acquire, Probe, ProbeAck, Release, Answer, Grant, ReleaseAck, GrantAck, Token, set}
 use Rattle.tl_coherence.specs.protocol.Protocol.{Block, State, Link, Closed, Asked, Replied, view, token, shown, is_transfer, performed_block, answered_link, access_answered, answer_taken}
 use Rattle.tl_coherence.specs.refinement.Move.{Move, Stays, Pushes, Pops, AreMoved, is_own_move, channel_for}

@@ -9,8 +9,8 @@ use Rattle.tl_params.specs.declared.param.Prune.{Prune}
 use Rattle.tl_params.specs.declared.param.Prune.TheVariants as prune
 use Rattle.tl_params.specs.declared.perm.Perm.{Perm}
 use Rattle.tl_params.specs.declared.perm.Perm.TheVariants as perm
-use Rattle.tl_params.specs.Param.{prune_left}
-use Rattle.tl_rules.specs.Conformance.{same_perm}
+use Rattle.tl_params.specs.statement.Param.{prune_left}
+use Rattle.tl_rules.specs.statement.Conformance.{same_perm}
 use Rattle.tl_coherence.specs.protocol.Phase.{Pair, View, Own, Kept, Calm, Wants, is_calm, is_quiet, grow_fits}
 use Rattle.tl_coherence.specs.protocol.PhaseSteps.{after_acquire, after_release}
 use Rattle.tl_coherence.specs.protocol.Token.{Kind, Request, Acquire, Probe, ProbeAck, Release, Answer, Grant, ReleaseAck, GrantAck, set, set_at}

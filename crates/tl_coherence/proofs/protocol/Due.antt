@@ -9,10 +9,10 @@ use Rattle.tl_burst.specs.declared.message.MessageA.{MessageA}
 use Rattle.tl_burst.specs.declared.message.MessageD.{MessageD}
 use Rattle.tl_params.specs.declared.param.Cap.{Cap}
 use Rattle.tl_params.specs.declared.param.Grow.{Grow}
-use Rattle.tl_params.specs.Param.{cap_code}
-use Rattle.tl_rules.specs.Conformance.{answers}
-use Rattle.tl_manager.specs.Handing.{grant_opcode, no_payload}
-use Rattle.tl_manager.specs.Service.{is_access_answer}
+use Rattle.tl_params.specs.statement.Param.{cap_code}
+use Rattle.tl_rules.specs.statement.Conformance.{answers}
+use Rattle.tl_manager.specs.statement.Handing.{grant_opcode, no_payload}
+use Rattle.tl_manager.specs.statement.Service.{is_access_answer}
 use Rattle.tl_coherence.specs.protocol.Invariant.{is_replied, IsInvariant}
 use Rattle.tl_coherence.specs.protocol.Phase.{Own, Other, Granting, Acknowledging, GrantedOther, Letting, Kept, Releasing, Acked, Acquiring, Calm, Wants, is_calm, is_kept, grant_fits}
 use Rattle.tl_coherence.specs.protocol.Protocol.{Service, Free, Waits, GrantSent, GrantTaken, State, Replied, Acquires, view, token, shown, is_wanting, is_granting, is_acked}

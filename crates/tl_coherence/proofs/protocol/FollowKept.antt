@@ -18,16 +18,16 @@ use Rattle.tl_params.specs.declared.perm.Perm.{Perm}
 use Rattle.tl_params.specs.declared.perm.Perm.TheVariants as perm
 use Rattle.tl_params.specs.declared.profile.Profile.{Profile}
 use Rattle.tl_params.specs.declared.profile.Profile.TheVariants as profile
-use Rattle.tl_params.specs.Param.{grow_left, prune_left}
-use Rattle.tl_rules.specs.Effect.{Memory, bytes_from, effect}
-use Rattle.tl_rules.specs.History.{block_at, is_acquire}
-use Rattle.tl_rules.specs.Conformance.{same_perm}
+use Rattle.tl_params.specs.statement.Param.{grow_left, prune_left}
+use Rattle.tl_rules.specs.statement.Effect.{Memory, bytes_from, effect}
+use Rattle.tl_rules.specs.statement.History.{block_at, is_acquire}
+use Rattle.tl_rules.specs.statement.Conformance.{same_perm}
 use Rattle.tl_client.specs.declared.operation.Op.{Op}
 use Rattle.tl_client.specs.declared.operation.Op.TheVariants as op
 use Rattle.tl_client.specs.declared.reply.Reply.{Reply}
 use Rattle.tl_client.specs.declared.reply.Reply.TheVariants as reply
-use Rattle.tl_client.specs.Ask.{copy_stored, whole_grow}
-use Rattle.tl_manager.specs.Holders.{cap_probed}
+use Rattle.tl_client.specs.statement.Ask.{copy_stored, whole_grow}
+use Rattle.tl_manager.specs.statement.Holders.{cap_probed}
 use Rattle.tl_manager.proofs.Written.{bytes_are}
 use Rattle.tl_coherence.specs.refinement.Follow.{Shadow, with_state, asked, some_below, bytes_at, performs, probes_some, access_taken, request_taken, is_unheld, gift}
 use Rattle.tl_coherence.specs.refinement.Follow.{acquire_taken, granted_after, last_taken, ack_taken, is_whole, taken_by_client, kind_taken}

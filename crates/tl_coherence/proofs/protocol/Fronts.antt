@@ -2,25 +2,25 @@
 use Rattle.std.proofs.Common.{◌≡◌, ℕ, ◌-◌, ◌*◌, ◌^◌, ◌<◌, Bool, true, false, ◌&&◌, List, ◌∷◌, Some, None, refl, sym, ◌∙◌, ap, inl, inr, arith}
 use Rattle.std.proofs.lemmas.Option.{same_Some}
 use Rattle.std.specs.Prelude.{map}
-use Rattle.tl_beat.specs.Width.{IsWidth}
+use Rattle.tl_beat.specs.statement.Width.{IsWidth}
 use Rattle.tl_beat.specs.declared.beat.Beat.{Beat}
 use Rattle.tl_beat.specs.declared.channel.Channel.TheVariants as channel
 use Rattle.tl_burst.specs.declared.message.Message.{Message}
 use Rattle.tl_burst.specs.declared.message.Message.TheVariants as message
 use Rattle.tl_burst.specs.declared.message.MessageA.{MessageA}
-use Rattle.tl_burst.specs.Burst.{a_beat_of, beats_of, IsBlankAfter}
-use Rattle.tl_burst.specs.Messages.{unfinished}
+use Rattle.tl_burst.specs.statement.Burst.{a_beat_of, beats_of, IsBlankAfter}
+use Rattle.tl_burst.specs.statement.Messages.{unfinished}
 use Rattle.tl_burst.proofs.Splitting.{beats-positive}
 use Rattle.tl_params.specs.declared.config.Config.{Config}
 use Rattle.tl_params.specs.declared.param.Grow.{Grow}
-use Rattle.tl_rules.specs.Conformance.{on_link}
-use Rattle.tl_rules.specs.History.{block_at, is_acquire}
-use Rattle.tl_client.specs.Requests.{open_beat}
-use Rattle.tl_client.specs.Kept.{acquires}
-use Rattle.tl_client.specs.Send.{acquisition}
+use Rattle.tl_rules.specs.statement.Conformance.{on_link}
+use Rattle.tl_rules.specs.statement.History.{block_at, is_acquire}
+use Rattle.tl_client.specs.statement.Requests.{open_beat}
+use Rattle.tl_client.specs.statement.Kept.{acquires}
+use Rattle.tl_client.specs.statement.Send.{acquisition}
 use Rattle.tl_client.proofs.HeldAfter.{same_block}
-use Rattle.tl_manager.specs.Kept.{illegal_message_at}
-use Rattle.tl_manager.specs.Offer.{level_of}
+use Rattle.tl_manager.specs.code.Kept.{illegal_message_at}
+use Rattle.tl_manager.specs.statement.Offer.{level_of}
 use Rattle.tl_coherence.specs.refinement.Carried.{IsCarried}
 use Rattle.tl_coherence.specs.refinement.Follow.{acquire_opcode}
 use Rattle.tl_coherence.specs.protocol.Invariant.{is_asked}

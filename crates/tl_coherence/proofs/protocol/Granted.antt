@@ -9,8 +9,8 @@ use Rattle.tl_params.specs.declared.param.Grow.TheVariants as grow
 use Rattle.tl_params.specs.declared.param.Report.{Report}
 use Rattle.tl_params.specs.declared.perm.Perm.{Perm}
 use Rattle.tl_params.specs.declared.perm.Perm.TheVariants as perm
-use Rattle.tl_params.specs.Param.{cap_right, report_left, report_right}
-use Rattle.tl_rules.specs.Conformance.{same_perm}
+use Rattle.tl_params.specs.statement.Param.{cap_right, report_left, report_right}
+use Rattle.tl_rules.specs.statement.Conformance.{same_perm}
 use Rattle.tl_coherence.specs.protocol.Phase.{Pair, Own, Other, Granting, GrantedOther, Quiet, Answered, Calm, Wants, ok, same_cap, perm_le, is_quiet, cap_fits}
 use Rattle.tl_coherence.specs.protocol.PhaseSteps.{is_granted_data, after_grant_sent, after_report}
 use Rattle.tl_coherence.specs.protocol.Token.{set}

@@ -5,7 +5,7 @@ use Rattle.std.proofs.lemmas.Bool.{cases_eq}
 use Rattle.tl_beat.specs.declared.beat.Beat.{Beat}
 use Rattle.tl_beat.specs.declared.channel.Channel.{Channel}
 use Rattle.tl_beat.specs.declared.channel.Channel.TheVariants as channel
-use Rattle.tl_burst.specs.Burst.{beats_of}
+use Rattle.tl_burst.specs.statement.Burst.{beats_of}
 use Rattle.tl_coherence.specs.refinement.Move.{Move, Stays, Pushes, Pops, IsMoved, channel_for}
 use Rattle.tl_coherence.specs.bound.Potential.{Left}
 use Rattle.tl_coherence.specs.protocol.Protocol.{State, token, tokens_on, is_on, is_transfer, shown}

@@ -8,8 +8,8 @@ use Rattle.tl_params.specs.declared.param.Cap.{Cap}
 use Rattle.tl_params.specs.declared.param.Cap.TheVariants as cap
 use Rattle.tl_params.specs.declared.perm.Perm.{Perm}
 use Rattle.tl_params.specs.declared.perm.Perm.TheVariants as perm
-use Rattle.tl_params.specs.Param.{report_right, report_at}
-use Rattle.tl_rules.specs.Conformance.{same_perm}
+use Rattle.tl_params.specs.statement.Param.{report_right, report_at}
+use Rattle.tl_rules.specs.statement.Conformance.{same_perm}
 use Rattle.tl_coherence.specs.protocol.Phase.{Pair, View, Quiet, Sent, Kept, is_quiet}
 use Rattle.tl_coherence.specs.protocol.PhaseSteps.{after_probe}
 use Rattle.tl_coherence.specs.protocol.Token.{Kind, Request, Acquire, Probe, ProbeAck, Release, Answer, Grant, ReleaseAck, GrantAck, Token, set, count}

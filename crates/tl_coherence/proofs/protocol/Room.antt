@@ -3,14 +3,14 @@ use Rattle.std.proofs.Common.{◌≡◌, ℕ, ◌+◌, ◌-◌, ◌*◌, ◌/◌
 use Rattle.std.specs.Prelude.{not, length, map}
 use Rattle.std.proofs.lemmas.List.{length-append}
 use Rattle.std.proofs.lemmas.Nat.{le-div}
-use Rattle.tl_beat.specs.Width.{IsWidth}
+use Rattle.tl_beat.specs.statement.Width.{IsWidth}
 use Rattle.tl_beat.specs.declared.beat.Beat.{Beat}
 use Rattle.tl_beat.specs.declared.channel.Channel.{Channel}
 use Rattle.tl_beat.specs.declared.channel.Channel.TheVariants as channel
 use Rattle.tl_burst.specs.declared.message.Message.{Message}
-use Rattle.tl_burst.specs.Burst.{beats_of}
+use Rattle.tl_burst.specs.statement.Burst.{beats_of}
 use Rattle.tl_rules.proofs.Checks.{beats_room}
-use Rattle.tl_rules.specs.Legality.{beats_from}
+use Rattle.tl_rules.specs.statement.Legality.{beats_from}
 use Rattle.tl_coherence.specs.refinement.Carried.{spelled, IsCarried}
 use Rattle.tl_coherence.specs.statement.Delivery.{capacity}
 use Rattle.tl_coherence.specs.protocol.Invariant.{IsInvariant}

@@ -5,11 +5,11 @@ use Rattle.std.proofs.lemmas.List.{append_assoc, append-nil}
 use Rattle.tl_beat.specs.declared.beat.Beat.{Beat}
 use Rattle.tl_burst.specs.declared.message.Message.{Message}
 use Rattle.tl_burst.specs.declared.message.Message.TheVariants.{A}
-use Rattle.tl_burst.specs.Burst.{beats_of, beat_of, begun, burst_of}
-use Rattle.tl_burst.specs.Messages.{grown}
-use Rattle.tl_burst.specs.Part.{completes}
+use Rattle.tl_burst.specs.statement.Burst.{beats_of, beat_of, begun, burst_of}
+use Rattle.tl_burst.specs.statement.Messages.{grown}
+use Rattle.tl_burst.specs.statement.Part.{completes}
 use Rattle.tl_burst.proofs.Begun.{length-begun}
-use Rattle.tl_rules.specs.Legality.{beats_from}
+use Rattle.tl_rules.specs.statement.Legality.{beats_from}
 use Rattle.tl_rules.proofs.Sent.{not_last, is_last}
 use Rattle.tl_coherence.specs.refinement.Carried.{spelled, IsCarried}
 use Rattle.tl_burst.proofs.Splitting.{length-of_beat}

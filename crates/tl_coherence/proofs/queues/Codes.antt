@@ -5,7 +5,7 @@ use Rattle.tl_beat.specs.declared.opcode.OpA.{OpA}
 use Rattle.tl_beat.specs.declared.opcode.OpA.TheVariants as a
 use Rattle.tl_beat.specs.declared.opcode.OpD.{OpD}
 use Rattle.tl_beat.specs.declared.opcode.OpD.TheVariants as opd
-use Rattle.tl_params.specs.Param.{cap_code, cap_of, cap_right, grow_code}
+use Rattle.tl_params.specs.statement.Param.{cap_code, cap_of, cap_right, grow_code}
 use Rattle.tl_params.specs.declared.param.Cap.{Cap}
 use Rattle.tl_params.specs.declared.param.Cap.TheVariants as cap
 use Rattle.tl_params.specs.declared.param.Grow.{Grow}
@@ -14,12 +14,12 @@ use Rattle.tl_params.specs.declared.perm.Perm.{Perm}
 use Rattle.tl_params.specs.declared.perm.Perm.TheVariants as perm
 use Rattle.tl_params.specs.declared.profile.Profile.{Profile}
 use Rattle.tl_params.specs.declared.profile.Profile.TheVariants as profile
-use Rattle.tl_rules.specs.Conformance.{same_perm}
-use Rattle.tl_rules.specs.History.{is_acquire, is_grant, is_release_ack}
-use Rattle.tl_manager.specs.Handing.{grant_opcode}
-use Rattle.tl_manager.specs.Handing as handing
-use Rattle.tl_manager.specs.Holders.{cap_probed}
-use Rattle.tl_manager.specs.Service.{is_access_answer}
+use Rattle.tl_rules.specs.statement.Conformance.{same_perm}
+use Rattle.tl_rules.specs.statement.History.{is_acquire, is_grant, is_release_ack}
+use Rattle.tl_manager.specs.statement.Handing.{grant_opcode}
+use Rattle.tl_manager.specs.statement.Handing as handing
+use Rattle.tl_manager.specs.statement.Holders.{cap_probed}
+use Rattle.tl_manager.specs.statement.Service.{is_access_answer}
 use Rattle.tl_coherence.specs.refinement.Follow.{acquire_opcode, gift}
 use Rattle.tl_coherence.specs.protocol.Phase.{same_cap}
 use Rattle.tl_coherence.specs.protocol.PhaseSteps.{is_granted_data}

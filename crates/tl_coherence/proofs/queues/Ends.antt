@@ -10,11 +10,11 @@ use Rattle.tl_params.specs.declared.rule.Rule.{Rule}
 use Rattle.tl_client.specs.declared.operation.Op.{Op}
 use Rattle.tl_client.specs.declared.verdict.Verdict.{Verdict}
 use Rattle.tl_client.specs.declared.verdict.Verdict.TheVariants as verdict
-use Rattle.tl_client.specs.Ask.{asked}
-use Rattle.tl_client.specs.End.{End, Terms, fresh}
-use Rattle.tl_client.specs.Offer.{offered}
-use Rattle.tl_manager.specs.End as manager_end
-use Rattle.tl_manager.specs.Offer as manager
+use Rattle.tl_client.specs.statement.Ask.{asked}
+use Rattle.tl_client.specs.statement.End.{End, Terms, fresh}
+use Rattle.tl_client.specs.statement.Offer.{offered}
+use Rattle.tl_manager.specs.statement.End as manager_end
+use Rattle.tl_manager.specs.statement.Offer as manager
 use Rattle.tl_coherence.specs.declared.event.Event.{Event}
 use Rattle.tl_coherence.specs.declared.event.Event.TheVariants.{Ask, Deliver}
 use Rattle.tl_coherence.specs.statement.Log.{Log, after}

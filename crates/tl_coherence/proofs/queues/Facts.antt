@@ -10,8 +10,8 @@ use Rattle.tl_params.specs.declared.param.Report.{Report}
 use Rattle.tl_params.specs.declared.param.Prune.{Prune}
 use Rattle.tl_params.specs.declared.perm.Perm.{Perm}
 use Rattle.tl_params.specs.declared.perm.Perm.TheVariants as perm
-use Rattle.tl_params.specs.Param.{prune_left, report_left, report_right, cap_right, report_at}
-use Rattle.tl_rules.specs.Conformance.{same_perm}
+use Rattle.tl_params.specs.statement.Param.{prune_left, report_left, report_right, cap_right, report_at}
+use Rattle.tl_rules.specs.statement.Conformance.{same_perm}
 use Rattle.tl_coherence.specs.protocol.Phase.{grant_fits, grow_fits, Pair, View, Idle, Own, Other, Granting, Acknowledging, Probing, Quiet, Answered, Letting, Releasing}
 use Rattle.tl_coherence.specs.protocol.Phase.{Calm, Wants, ok, same_cap, same_report, perm_le, is_calm, is_kept, is_quiet}
 use Rattle.tl_coherence.specs.protocol.Protocol.{is_granting, is_unserved, is_acked, is_answered}

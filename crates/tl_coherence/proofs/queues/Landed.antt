@@ -6,14 +6,14 @@ use Rattle.tl_beat.specs.declared.beat.Beat.{Beat}
 use Rattle.tl_beat.specs.declared.channel.Channel.{Channel}
 use Rattle.tl_beat.specs.declared.channel.Channel.TheVariants as channel
 use Rattle.tl_burst.specs.declared.message.Message.{Message}
-use Rattle.tl_burst.specs.Burst.{beats_of}
-use Rattle.tl_burst.specs.Messages.{History, on, grown, unfinished}
-use Rattle.tl_burst.specs.Part.{completes}
-use Rattle.tl_rules.specs.Conformance.{on_link}
-use Rattle.tl_rules.specs.Legality.{beats_from}
-use Rattle.tl_client.specs.End as client
-use Rattle.tl_manager.specs.Handing.{Handed}
-use Rattle.tl_manager.specs.End as manager_end
+use Rattle.tl_burst.specs.statement.Burst.{beats_of}
+use Rattle.tl_burst.specs.statement.Messages.{History, on, grown, unfinished}
+use Rattle.tl_burst.specs.statement.Part.{completes}
+use Rattle.tl_rules.specs.statement.Conformance.{on_link}
+use Rattle.tl_rules.specs.statement.Legality.{beats_from}
+use Rattle.tl_client.specs.statement.End as client
+use Rattle.tl_manager.specs.statement.Handing.{Handed}
+use Rattle.tl_manager.specs.statement.End as manager_end
 use Rattle.tl_coherence.specs.refinement.Matched.{receiver}
 use Rattle.tl_coherence.specs.statement.Step.{handed_by, is_to_client}
 use Rattle.tl_coherence.specs.statement.System.{System, same_channel, channel_of_message, with_client, with_manager, with_channel, with_messages}

@@ -4,7 +4,7 @@ use Rattle.std.specs.Prelude.{slice_index_or, Option, not, if◌then◌else◌}
 use Rattle.tl_params.specs.declared.config.ClientConfig.{ClientConfig}
 use Rattle.tl_params.specs.declared.config.NewFault.{NewFault}
 use Rattle.tl_params.specs.declared.config.NewFault.TheVariants as fault
-use Rattle.tl_params.specs.Config.{sources_fit, all_sources_fit}
+use Rattle.tl_params.specs.statement.Config.{sources_fit, all_sources_fit}
 
 pub all-fit : (clients : List ClientConfig) (i : ℕ) (d : ClientConfig) → all_sources_fit clients ≡ true → i < length clients → sources_fit (slice_index_or clients i d) ≡ true
 all-fit [] i d fit lt = absurd (omega (arith, lt))

@@ -7,8 +7,8 @@ use Rattle.tl_params.specs.declared.param.Grow.{Grow}
 use Rattle.tl_params.specs.declared.param.Prune.{Prune}
 use Rattle.tl_params.specs.declared.param.Report.{Report}
 use Rattle.tl_params.specs.declared.perm.Perm.TheVariants as perm
-use Rattle.tl_params.specs.Param.{prune_left}
-use Rattle.tl_rules.specs.Conformance.{same_perm}
+use Rattle.tl_params.specs.statement.Param.{prune_left}
+use Rattle.tl_rules.specs.statement.Conformance.{same_perm}
 use Rattle.tl_coherence.specs.protocol.Phase.{Pair, View, Idle, Own, Other, Granting, Acknowledging, GrantedOther, Probing, Quiet, Sent, Answered, Letting, Kept, Releasing}
 use Rattle.tl_coherence.specs.protocol.Phase.{Acked, Acquiring, Calm, Wants, ok, grow_fits, cap_fits, same_cap, is_calm, is_kept}
 use Rattle.tl_coherence.specs.protocol.PhaseSteps.{after_acquire, after_release, after_served, is_granted_data, after_grant_sent, after_probe, after_report, after_release_taken, after_release_ack, after_grant}

@@ -9,9 +9,9 @@ use Rattle.tl_params.specs.declared.param.Prune.TheVariants as prune
 use Rattle.tl_params.specs.declared.param.Report.{Report}
 use Rattle.tl_params.specs.declared.perm.Perm.{Perm}
 use Rattle.tl_params.specs.declared.perm.Perm.TheVariants as perm
-use Rattle.tl_params.specs.Param.{prune_left, report_left}
-use Rattle.tl_rules.specs.Conformance.{same_perm}
-use Rattle.tl_client.specs.Send.{release, probe_ack}
+use Rattle.tl_params.specs.statement.Param.{prune_left, report_left}
+use Rattle.tl_rules.specs.statement.Conformance.{same_perm}
+use Rattle.tl_client.specs.statement.Send.{release, probe_ack}
 use Rattle.tl_coherence.specs.protocol.Phase.{Pair, View, Granting, GrantedOther, ok}
 use Rattle.tl_coherence.specs.protocol.Token.{Kind, Request, Acquire, Probe, ProbeAck, Release, Answer, Grant, ReleaseAck, GrantAck, set}
 use Rattle.tl_coherence.specs.protocol.Protocol.{Service, Free, Waits, GrantSent, GrantTaken, Block, State, view, is_granting, shown}

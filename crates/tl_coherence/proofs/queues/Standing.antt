@@ -8,7 +8,7 @@ use Rattle.tl_beat.specs.declared.channel.Channel.{Channel}
 use Rattle.tl_beat.specs.declared.channel.Channel.TheVariants as channel
 use Rattle.tl_params.specs.declared.config.ClientConfig.{ClientConfig}
 use Rattle.tl_params.specs.declared.config.Config.{Config}
-use Rattle.tl_client.specs.End.{Terms}
+use Rattle.tl_client.specs.statement.End.{Terms}
 use Rattle.tl_coherence.specs.statement.Movable.{is_movable, first_movable, moves, movable_on, next_delivery, or_later}
 use Rattle.tl_coherence.specs.statement.System.{System, terms_at}
 

@@ -7,11 +7,11 @@ use Rattle.tl_beat.specs.declared.channel.Channel.{Channel}
 use Rattle.tl_beat.specs.declared.channel.Channel.TheVariants as channel
 use Rattle.tl_params.specs.declared.config.Config.{Config}
 use Rattle.tl_client.specs.declared.operation.Op.{Op}
-use Rattle.tl_client.specs.Ask.{asked}
-use Rattle.tl_client.specs.End.{Terms}
-use Rattle.tl_client.specs.Offer.{offered}
-use Rattle.tl_manager.specs.Handing.{Handed}
-use Rattle.tl_manager.specs.Offer as manager
+use Rattle.tl_client.specs.statement.Ask.{asked}
+use Rattle.tl_client.specs.statement.End.{Terms}
+use Rattle.tl_client.specs.statement.Offer.{offered}
+use Rattle.tl_manager.specs.statement.Handing.{Handed}
+use Rattle.tl_manager.specs.statement.Offer as manager
 use Rattle.tl_coherence.specs.declared.event.Event.TheVariants.{Ask, Deliver}
 use Rattle.tl_coherence.specs.declared.event.Outcome.TheVariants as outcome
 use Rattle.tl_coherence.specs.statement.Step.{stepped, only, replied, client_took, manager_took, is_to_client}

@@ -7,10 +7,10 @@ use Rattle.tl_burst.specs.declared.message.Message.TheVariants as message
 use Rattle.tl_burst.specs.declared.message.MessageA.{MessageA}
 use Rattle.tl_params.specs.declared.config.Config.{Config}
 use Rattle.tl_params.specs.declared.key.Key.TheVariants.{RequestSource, ReleaseSource}
-use Rattle.tl_rules.specs.History.{pending}
-use Rattle.tl_rules.specs.Legality.{is_one_of}
-use Rattle.tl_manager.specs.Kept as kept
-use Rattle.tl_manager.specs.Service.{services, service_of_block, trackers_of}
+use Rattle.tl_rules.specs.statement.History.{pending}
+use Rattle.tl_rules.specs.statement.Legality.{is_one_of}
+use Rattle.tl_manager.specs.code.Kept as kept
+use Rattle.tl_manager.specs.statement.Service.{services, service_of_block, trackers_of}
 use Rattle.tl_manager.proofs.Serving.{tracker_among}
 use Rattle.tl_coherence.specs.statement.Delivery.{sources_of}
 use Rattle.tl_coherence.specs.protocol.Invariant.{tracks_with, is_busy}

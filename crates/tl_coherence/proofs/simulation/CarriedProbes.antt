@@ -3,17 +3,17 @@
 use Rattle.std.proofs.Common.{◌≡◌, ℕ, zero, suc, ◌+◌, ◌<◌, ◌≤◌, Bool, true, false, not, ◌&&◌, List, [], ◌∷◌, ◌++◌, Option, Some, None, refl, sym, ◌∙◌, ap, ◌⊎◌, inl, inr, arith}
 use Rattle.std.specs.Prelude.{◌==◌, if◌then◌else◌}
 use Rattle.std.proofs.lemmas.Bool.{cases_eq, cases_lt, ne_eqb}
-use Rattle.tl_beat.specs.Width.{IsWidth}
+use Rattle.tl_beat.specs.statement.Width.{IsWidth}
 use Rattle.tl_beat.specs.declared.beat.Beat.{Beat}
 use Rattle.tl_beat.specs.declared.channel.Channel.{Channel}
 use Rattle.tl_beat.specs.declared.channel.Channel.TheVariants as channel
 use Rattle.tl_burst.specs.declared.message.Message.{Message}
-use Rattle.tl_burst.specs.Burst.{beats_of}
+use Rattle.tl_burst.specs.statement.Burst.{beats_of}
 use Rattle.tl_params.specs.declared.param.Cap.{Cap}
 use Rattle.tl_params.specs.declared.param.Report.{Report}
-use Rattle.tl_rules.specs.Legality.{beats_from}
-use Rattle.tl_manager.specs.Handing.{probes, probe_of_block}
-use Rattle.tl_manager.specs.Holders.{clients_from}
+use Rattle.tl_rules.specs.statement.Legality.{beats_from}
+use Rattle.tl_manager.specs.statement.Handing.{probes, probe_of_block}
+use Rattle.tl_manager.specs.statement.Holders.{clients_from}
 use Rattle.tl_coherence.specs.protocol.Phase.{Pair}
 use Rattle.tl_coherence.specs.protocol.PhaseSteps.{is_above, after_served}
 use Rattle.tl_coherence.specs.protocol.Token.{Kind, Request, Acquire, Probe, ProbeAck, Answer, Grant, Token, set, set_at}

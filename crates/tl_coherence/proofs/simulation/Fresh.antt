@@ -3,15 +3,15 @@ use Rattle.std.proofs.Common.{◌≡◌, ℕ, zero, suc, ◌*◌, ◌+◌, true,
 use Rattle.std.proofs.lemmas.List.{get_or-replicate}
 use Rattle.tl_beat.specs.declared.channel.Channel.{Channel}
 use Rattle.tl_beat.specs.declared.channel.Channel.TheVariants as channel
-use Rattle.tl_burst.specs.Messages.{unfinished}
+use Rattle.tl_burst.specs.statement.Messages.{unfinished}
 use Rattle.tl_params.specs.declared.config.Config.{Config}
-use Rattle.tl_rules.specs.Conformance.{on_link}
-use Rattle.tl_rules.specs.Effect.{bytes_from, IsBlock}
-use Rattle.tl_rules.specs.History.{held, pending}
-use Rattle.tl_client.specs.End.{zeros}
+use Rattle.tl_rules.specs.statement.Conformance.{on_link}
+use Rattle.tl_rules.specs.statement.Effect.{bytes_from, IsBlock}
+use Rattle.tl_rules.specs.statement.History.{held, pending}
+use Rattle.tl_client.specs.statement.End.{zeros}
 use Rattle.tl_client.proofs.Accounted.{accounted-fresh}
 use Rattle.tl_client.proofs.KeptOffered.{kept-fresh}
-use Rattle.tl_manager.specs.Service.{services}
+use Rattle.tl_manager.specs.statement.Service.{services}
 use Rattle.tl_manager.proofs.Keeping.{fresh-kept}
 use Rattle.tl_coherence.specs.refinement.Carried.{IsCarried}
 use Rattle.tl_coherence.specs.statement.Flow.{flow}

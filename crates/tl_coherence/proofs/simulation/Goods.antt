@@ -3,7 +3,7 @@ use Rattle.std.proofs.Common.{◌≡◌, ℕ, zero, suc, ◌+◌, ◌<◌, Bool,
 use Rattle.std.specs.Prelude.{◌==◌, if◌then◌else◌, All, slice_get, nat_le, length, option_map, Result, Ok, Err, ⊤}
 use Rattle.std.proofs.lemmas.Bool.{cases_eq, ne_eqb}
 use Rattle.std.proofs.lemmas.List.Elements.{All-nil, All-cons, All-append, All-rest}
-use Rattle.tl_beat.specs.Width.{IsWidth}
+use Rattle.tl_beat.specs.statement.Width.{IsWidth}
 use Rattle.tl_beat.specs.declared.beat.Beat.{Beat}
 use Rattle.tl_beat.specs.declared.beat.Beat.TheVariants as beat
 use Rattle.tl_beat.specs.declared.channel.Channel.{Channel}
@@ -13,8 +13,8 @@ use Rattle.tl_beat.specs.declared.opcode.OpD.{OpD}
 use Rattle.tl_beat.specs.declared.opcode.OpD.TheVariants as d
 use Rattle.tl_burst.specs.declared.message.Message.{Message}
 use Rattle.tl_burst.specs.declared.message.Message.TheVariants as message
-use Rattle.tl_burst.specs.Burst.{beats_of, beat_of}
-use Rattle.tl_burst.specs.Messages.{channel_of}
+use Rattle.tl_burst.specs.statement.Burst.{beats_of, beat_of}
+use Rattle.tl_burst.specs.statement.Messages.{channel_of}
 use Rattle.tl_params.specs.declared.config.Config.{Config}
 use Rattle.tl_params.specs.declared.level.Level.{Level}
 use Rattle.tl_params.specs.declared.param.Prune.{Prune}
@@ -24,32 +24,32 @@ use Rattle.tl_params.specs.declared.perm.Perm.{Perm}
 use Rattle.tl_params.specs.declared.perm.Perm.TheVariants as perm
 use Rattle.tl_params.specs.declared.rule.Rule.{Rule}
 use Rattle.tl_beat.specs.declared.beat.BeatD.{BeatD}
-use Rattle.tl_burst.specs.Messages.{unfinished}
+use Rattle.tl_burst.specs.statement.Messages.{unfinished}
 use Rattle.tl_params.specs.declared.config.ClientConfig.{ClientConfig}
-use Rattle.tl_rules.specs.Agent.{is_outside, is_spoiled, payload_of}
-use Rattle.tl_rules.specs.History.{block_at, ends, request_of}
+use Rattle.tl_rules.specs.statement.Agent.{is_outside, is_spoiled, payload_of}
+use Rattle.tl_rules.specs.statement.History.{block_at, ends, request_of}
 use Rattle.tl_client.specs.declared.operation.Op.{Op}
 use Rattle.tl_client.specs.declared.operation.Op.TheVariants as op
 use Rattle.tl_client.specs.declared.verdict.Finish.{Finish}
 use Rattle.tl_client.specs.declared.verdict.Verdict.{Verdict}
 use Rattle.tl_client.specs.declared.verdict.Verdict.TheVariants as verdict
-use Rattle.tl_client.specs.Ask.{asked, done, load, store, free_release, source_or_0}
+use Rattle.tl_client.specs.statement.Ask.{asked, done, load, store, free_release, source_or_0}
 use Rattle.tl_coherence.specs.statement.Headline.{IsTypedOp}
-use Rattle.tl_client.specs.End.{Terms, End, copy_at, held_at, with_past}
-use Rattle.tl_client.specs.Offer.{Offered, taken, ended, responded, silent, report_for}
+use Rattle.tl_client.specs.statement.End.{Terms, End, copy_at, held_at, with_past}
+use Rattle.tl_client.specs.statement.Offer.{Offered, taken, ended, responded, silent, report_for}
 use Rattle.tl_client.proofs.Cases.{NotBusy, asked-cases, probe_ack-cases}
 use Rattle.tl_client.proofs.HeldAfter.{same_block}
-use Rattle.tl_rules.specs.Legality.{beats_from, illegal}
-use Rattle.tl_rules.specs.Typed as rules
-use Rattle.tl_rules.specs.Typed.{HasBlock}
+use Rattle.tl_rules.specs.statement.Legality.{beats_from, illegal}
+use Rattle.tl_rules.specs.laws.Typed as rules
+use Rattle.tl_rules.specs.laws.Typed.{HasBlock}
 use Rattle.tl_rules.proofs.Legal.{legal_beat}
 use Rattle.tl_rules.proofs.Typed.{typed-beat}
-use Rattle.tl_client.specs.Sound.{IsSound, corrupt_in}
-use Rattle.tl_client.specs.Send.{release, probe_ack}
-use Rattle.tl_manager.specs.Handing.{Handed}
-use Rattle.tl_manager.specs.Kept as manager
-use Rattle.tl_manager.specs.Kept.{Each, illegal_at, IsClean, IsFilled, AreLawful}
-use Rattle.tl_manager.specs.Offer.{level_of}
+use Rattle.tl_client.specs.laws.Sound.{IsSound, corrupt_in}
+use Rattle.tl_client.specs.statement.Send.{release, probe_ack}
+use Rattle.tl_manager.specs.statement.Handing.{Handed}
+use Rattle.tl_manager.specs.code.Kept as manager
+use Rattle.tl_manager.specs.code.Kept.{Each, illegal_at, IsClean, IsFilled, AreLawful}
+use Rattle.tl_manager.specs.statement.Offer.{level_of}
 use Rattle.tl_manager.proofs.Lawful.{IsHandable, no_bit}
 use Rattle.tl_coherence.specs.statement.System.{System, same_channel, channel_of_message, terms_at, with_channel, with_message, with_messages}
 use Rattle.tl_coherence.specs.refinement.Whole.{AreLanes}

@@ -1,18 +1,18 @@
 -- The protocol keeps its invariant as a client is asked, and as a client takes a message.
 use Rattle.std.proofs.Common.{◌≡◌, ℕ, Bool, true, false, not, List, ◌∷◌, Option, Some, None, refl, sym, ◌∙◌, ap}
 use Rattle.std.specs.Prelude.{map}
-use Rattle.tl_beat.specs.Width.{IsWidth}
+use Rattle.tl_beat.specs.statement.Width.{IsWidth}
 use Rattle.tl_beat.specs.declared.beat.Beat.{Beat}
 use Rattle.tl_beat.specs.declared.beat.Link.{Link}
 use Rattle.tl_beat.specs.declared.channel.Channel.{Channel}
 use Rattle.tl_beat.specs.declared.channel.Channel.TheVariants as channel
 use Rattle.tl_burst.specs.declared.message.MessageA.{MessageA}
-use Rattle.tl_burst.specs.Messages.{unfinished}
+use Rattle.tl_burst.specs.statement.Messages.{unfinished}
 use Rattle.tl_params.specs.declared.config.Config.{Config}
 use Rattle.tl_client.specs.declared.operation.Op.{Op}
-use Rattle.tl_client.specs.Ask as ask
-use Rattle.tl_client.specs.End.{Terms}
-use Rattle.tl_client.specs.Offer.{Offered}
+use Rattle.tl_client.specs.statement.Ask as ask
+use Rattle.tl_client.specs.statement.End.{Terms}
+use Rattle.tl_client.specs.statement.Offer.{Offered}
 use Rattle.tl_coherence.specs.declared.event.Event.TheVariants.{Deliver}
 use Rattle.tl_coherence.specs.statement.Draining.{is_moving}
 use Rattle.tl_coherence.specs.refinement.Follow.{asked}

@@ -1,16 +1,16 @@
 -- Each client's open sources are its own, in every world; and so no channel holds more than it is made for.
 use Rattle.std.proofs.Common.{◌≡◌, ℕ, ◌/◌, ◌≤◌, true, List, refl}
 use Rattle.std.specs.Prelude.{Option, Some, None, length}
-use Rattle.tl_beat.specs.Width.{IsWidth}
+use Rattle.tl_beat.specs.statement.Width.{IsWidth}
 use Rattle.tl_beat.specs.declared.channel.Channel.{Channel}
 use Rattle.tl_burst.specs.declared.message.MessageA.{MessageA}
 use Rattle.tl_params.specs.declared.config.Config.{Config}
 use Rattle.tl_params.specs.declared.key.Key.{Key}
 use Rattle.tl_params.specs.declared.key.Key.TheVariants.{RequestSource, ReleaseSource}
-use Rattle.tl_rules.specs.History.{pending}
-use Rattle.tl_client.specs.End.{End, Terms, fresh}
-use Rattle.tl_client.specs.Inside.{IsInside}
-use Rattle.tl_client.specs.Kept.{IsKept}
+use Rattle.tl_rules.specs.statement.History.{pending}
+use Rattle.tl_client.specs.statement.End.{End, Terms, fresh}
+use Rattle.tl_client.specs.laws.Inside.{IsInside}
+use Rattle.tl_client.specs.statement.Kept.{IsKept}
 use Rattle.tl_client.proofs.Inside.{inside-fresh, inside-asked, inside-offered}
 use Rattle.tl_client.proofs.KeptAsked.{kept-asked}
 use Rattle.tl_client.proofs.KeptOffered.{kept-fresh, kept-offered}

@@ -10,12 +10,12 @@ use Rattle.tl_params.specs.declared.config.Config.{Config}
 use Rattle.tl_params.specs.declared.param.Cap.{Cap}
 use Rattle.tl_params.specs.declared.param.Report.{Report}
 use Rattle.tl_params.specs.declared.profile.Profile.{Profile}
-use Rattle.tl_rules.specs.History.{block_at}
+use Rattle.tl_rules.specs.statement.History.{block_at}
 use Rattle.tl_client.specs.declared.operation.Op.{Op}
 use Rattle.tl_client.specs.declared.operation.Op.TheVariants as op
 use Rattle.tl_client.specs.declared.reply.Reply.{Reply}
 use Rattle.tl_client.specs.declared.reply.Reply.TheVariants as reply
-use Rattle.tl_client.specs.End.{Terms}
+use Rattle.tl_client.specs.statement.End.{Terms}
 use Rattle.tl_coherence.specs.refinement.Follow.{Shadow, asked, access_taken, request_taken, acquire_taken, granted_after, last_taken, taken_by_client, kind_taken}
 use Rattle.tl_coherence.specs.protocol.Invariant.{IsInvariant}
 use Rattle.tl_coherence.specs.protocol.Phase.{Acquiring, Calm, Wants}

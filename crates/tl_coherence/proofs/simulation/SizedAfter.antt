@@ -11,14 +11,14 @@ use Rattle.tl_params.specs.declared.param.Grow.{Grow}
 use Rattle.tl_params.specs.declared.param.Report.{Report}
 use Rattle.tl_params.specs.declared.profile.Profile.{Profile}
 use Rattle.tl_params.specs.declared.perm.Perm.TheVariants as perm
-use Rattle.tl_rules.specs.History.{block_at}
-use Rattle.tl_rules.specs.Conformance.{same_perm}
+use Rattle.tl_rules.specs.statement.History.{block_at}
+use Rattle.tl_rules.specs.statement.Conformance.{same_perm}
 use Rattle.tl_client.specs.declared.operation.Op.{Op}
 use Rattle.tl_client.specs.declared.operation.Op.TheVariants as op
 use Rattle.tl_client.specs.declared.reply.Reply.{Reply}
 use Rattle.tl_client.specs.declared.reply.Reply.TheVariants as reply
-use Rattle.tl_client.specs.Ask.{copy_stored, is_word}
-use Rattle.tl_client.specs.Send.{access}
+use Rattle.tl_client.specs.statement.Ask.{copy_stored, is_word}
+use Rattle.tl_client.specs.statement.Send.{access}
 use Rattle.tl_client.proofs.Stores.{word_room, length-stored}
 use Rattle.tl_manager.proofs.Filled.{length-bytes}
 use Rattle.tl_coherence.specs.refinement.Follow.{Shadow, asked, performs, access_taken, request_taken, acquire_taken, granted_after, last_taken, is_whole, taken_by_client, kind_taken}

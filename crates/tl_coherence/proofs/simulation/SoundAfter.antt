@@ -2,7 +2,7 @@
 use Rattle.std.proofs.Common.{◌≡◌, ℕ, Bool, true, false, List, [], ◌∷◌, Option, Some, None, refl, ◌∙◌, ap, subst}
 use Rattle.std.specs.Prelude.{if◌then◌else◌, All, length, Result, Ok, Err, unwrap_or, is_some}
 use Rattle.std.proofs.lemmas.List.Elements.{All-head}
-use Rattle.tl_beat.specs.Width.{IsWidth}
+use Rattle.tl_beat.specs.statement.Width.{IsWidth}
 use Rattle.tl_beat.specs.declared.beat.Beat.{Beat}
 use Rattle.tl_beat.specs.declared.beat.Link.{Link}
 use Rattle.tl_beat.specs.declared.channel.Channel.{Channel}
@@ -12,24 +12,24 @@ use Rattle.tl_params.specs.declared.config.Config.{Config}
 use Rattle.tl_params.specs.declared.perm.Perm.{Perm}
 use Rattle.tl_params.specs.declared.perm.Perm.TheVariants as perm
 use Rattle.tl_params.specs.declared.rule.Rule.{Rule}
-use Rattle.tl_rules.specs.Conformance.{same_perm}
+use Rattle.tl_rules.specs.statement.Conformance.{same_perm}
 use Rattle.tl_client.specs.declared.operation.Op.{Op}
 use Rattle.tl_client.specs.declared.verdict.Verdict.{Verdict}
 use Rattle.tl_client.specs.declared.verdict.Verdict.TheVariants as verdict
-use Rattle.tl_client.specs.Ask as ask
-use Rattle.tl_client.specs.Ask.{Asked}
-use Rattle.tl_client.specs.End as client
-use Rattle.tl_client.specs.End.{zeros, copy_at}
-use Rattle.tl_client.specs.Kept.{holds}
-use Rattle.tl_client.specs.Offer as offer
-use Rattle.tl_client.specs.Sound.{IsSoundIfAny, IsSoundAnswer}
+use Rattle.tl_client.specs.statement.Ask as ask
+use Rattle.tl_client.specs.statement.Ask.{Asked}
+use Rattle.tl_client.specs.statement.End as client
+use Rattle.tl_client.specs.statement.End.{zeros, copy_at}
+use Rattle.tl_client.specs.statement.Kept.{holds}
+use Rattle.tl_client.specs.statement.Offer as offer
+use Rattle.tl_client.specs.laws.Sound.{IsSoundIfAny, IsSoundAnswer}
 use Rattle.tl_client.proofs.Cases.{offered-cases}
 use Rattle.tl_client.proofs.Sound.{asked-sound, offered-sound}
-use Rattle.tl_manager.specs.Kept as manager
-use Rattle.tl_manager.specs.Kept.{Each}
-use Rattle.tl_manager.specs.Deed as manager_deed
-use Rattle.tl_manager.specs.End as manager_end
-use Rattle.tl_manager.specs.Offer as manager_offer
+use Rattle.tl_manager.specs.code.Kept as manager
+use Rattle.tl_manager.specs.code.Kept.{Each}
+use Rattle.tl_manager.specs.statement.Deed as manager_deed
+use Rattle.tl_manager.specs.statement.End as manager_end
+use Rattle.tl_manager.specs.statement.Offer as manager_offer
 use Rattle.tl_manager.proofs.Deeds.{deed_handable}
 use Rattle.tl_coherence.specs.declared.event.Event.{Event}
 use Rattle.tl_coherence.specs.declared.event.Event.TheVariants.{Ask, Deliver}

@@ -2,7 +2,7 @@
 use Rattle.std.proofs.Common.{◌≡◌, ℕ, ◌<◌, Bool, true, false, List, [], ◌∷◌, refl, sym, ◌∙◌, ap, arith}
 use Rattle.std.specs.Prelude.{◌==◌, ◌&&◌, if◌then◌else◌, Option, Some, None, option_map, slice_get}
 use Rattle.std.proofs.lemmas.Bool.{eqb-true}
-use Rattle.tl_beat.specs.Width.{IsWidth}
+use Rattle.tl_beat.specs.statement.Width.{IsWidth}
 use Rattle.tl_beat.specs.declared.channel.Channel.{Channel}
 use Rattle.tl_burst.specs.declared.message.Message.{Message}
 use Rattle.tl_burst.specs.declared.message.Message.TheVariants as message
@@ -10,10 +10,10 @@ use Rattle.tl_burst.specs.declared.message.MessageA.{MessageA}
 use Rattle.tl_params.specs.declared.config.ClientConfig.{ClientConfig}
 use Rattle.tl_params.specs.declared.config.Config.{Config}
 use Rattle.tl_params.specs.declared.level.Level.{Level}
-use Rattle.tl_client.specs.End.{Terms}
-use Rattle.tl_manager.specs.Kept as kept
-use Rattle.tl_manager.specs.Service.{services, service_of_block}
-use Rattle.tl_manager.specs.Offer.{level_of}
+use Rattle.tl_client.specs.statement.End.{Terms}
+use Rattle.tl_manager.specs.code.Kept as kept
+use Rattle.tl_manager.specs.statement.Service.{services, service_of_block}
+use Rattle.tl_manager.specs.statement.Offer.{level_of}
 use Rattle.tl_manager.proofs.Granted.{of_served}
 use Rattle.tl_coherence.specs.protocol.Invariant.{resting}
 use Rattle.tl_coherence.specs.statement.Log.{Log, after}

@@ -4,7 +4,7 @@ use Rattle.std.specs.Prelude.{replicate}
 use Rattle.std.proofs.lemmas.Bool.{eqb-true}
 use Rattle.std.proofs.lemmas.List.{append_assoc, drop_at, take_at, length-replicate}
 use Rattle.std.proofs.lemmas.Nat.{pow_pos}
-use Rattle.tl_beat.specs.Width.{IsWidth}
+use Rattle.tl_beat.specs.statement.Width.{IsWidth}
 use Rattle.tl_beat.specs.declared.beat.Beat.{Beat}
 use Rattle.tl_beat.specs.declared.beat.Beat.TheVariants as beat
 use Rattle.tl_beat.specs.declared.beat.BeatA.{BeatA}
@@ -16,26 +16,26 @@ use Rattle.tl_burst.specs.declared.message.Message.{Message}
 use Rattle.tl_burst.specs.declared.message.Message.TheVariants as message
 use Rattle.tl_burst.specs.declared.message.MessageA.{MessageA}
 use Rattle.tl_burst.specs.declared.message.MessageD.{MessageD}
-use Rattle.tl_burst.specs.Burst.{a_beat_of, beats_of, burst_of, d_beat_of, data_beats, IsBlankAfter}
-use Rattle.tl_burst.specs.Messages.{History, unfinished}
+use Rattle.tl_burst.specs.statement.Burst.{a_beat_of, beats_of, burst_of, d_beat_of, data_beats, IsBlankAfter}
+use Rattle.tl_burst.specs.statement.Messages.{History, unfinished}
 use Rattle.tl_params.specs.declared.config.Config.{Config}
 use Rattle.tl_params.specs.declared.key.Key.TheVariants.{RequestSource}
 use Rattle.tl_params.specs.declared.level.Level.{Level}
-use Rattle.tl_rules.specs.Agent.{payload_of}
-use Rattle.tl_rules.specs.Effect as memory
-use Rattle.tl_rules.specs.Effect.{as_payload, answer_of}
-use Rattle.tl_rules.specs.History.{pending, request_of}
+use Rattle.tl_rules.specs.statement.Agent.{payload_of}
+use Rattle.tl_rules.specs.statement.Effect as memory
+use Rattle.tl_rules.specs.statement.Effect.{as_payload, answer_of}
+use Rattle.tl_rules.specs.statement.History.{pending, request_of}
 use Rattle.tl_rules.proofs.Bursts.{control_of_legal, control_aligned}
 use Rattle.tl_rules.proofs.Payload.{payload-d}
 use Rattle.tl_client.specs.declared.operation.Op.TheVariants.{Access}
 use Rattle.tl_client.specs.declared.verdict.Finish.{Finish}
 use Rattle.tl_client.specs.declared.verdict.Finish.TheVariants as finish
-use Rattle.tl_client.specs.Offer.{address_asked, finish_of, padded}
-use Rattle.tl_client.specs.Requests.{open_beat}
-use Rattle.tl_client.specs.Send.{sourced}
-use Rattle.tl_manager.specs.Handing.{access_answer, no_payload}
-use Rattle.tl_manager.specs.Kept.{illegal_message_at}
-use Rattle.tl_manager.specs.Offer.{level_of}
+use Rattle.tl_client.specs.statement.Offer.{address_asked, finish_of, padded}
+use Rattle.tl_client.specs.statement.Requests.{open_beat}
+use Rattle.tl_client.specs.statement.Send.{sourced}
+use Rattle.tl_manager.specs.statement.Handing.{access_answer, no_payload}
+use Rattle.tl_manager.specs.code.Kept.{illegal_message_at}
+use Rattle.tl_manager.specs.statement.Offer.{level_of}
 use Rattle.tl_manager.proofs.Filled.{data_room, payload-long, payload-zero, room_in_beats}
 use Rattle.tl_coherence.specs.refinement.Beside.{Answers, IsOpened, IsReach}
 use Rattle.tl_coherence.specs.refinement.Follow.{Shadow}

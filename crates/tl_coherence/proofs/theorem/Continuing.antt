@@ -2,7 +2,7 @@
 use Rattle.std.proofs.Common.{◌≡◌, ℕ, Bool, true, false, List, [], ◌∷◌, Option, Some, None, refl, sym, ◌∙◌, ap, subst, inl}
 use Rattle.std.specs.Prelude.{All, Ok}
 use Rattle.std.proofs.lemmas.List.Elements.{All-head}
-use Rattle.tl_beat.specs.Width.{IsWidth}
+use Rattle.tl_beat.specs.statement.Width.{IsWidth}
 use Rattle.tl_beat.specs.declared.beat.Beat.{Beat}
 use Rattle.tl_beat.specs.declared.beat.Beat.TheVariants as beat
 use Rattle.tl_beat.specs.declared.beat.BeatE.{BeatE}
@@ -11,12 +11,12 @@ use Rattle.tl_beat.specs.declared.channel.Channel.{Channel}
 use Rattle.tl_beat.specs.declared.channel.Channel.TheVariants as channel
 use Rattle.tl_burst.specs.declared.message.Message.{Message}
 use Rattle.tl_burst.specs.declared.message.Message.TheVariants as message
-use Rattle.tl_burst.specs.Messages.{channel_of}
+use Rattle.tl_burst.specs.statement.Messages.{channel_of}
 use Rattle.tl_params.specs.declared.config.Config.{Config}
 use Rattle.tl_client.specs.declared.verdict.Verdict.{Verdict}
-use Rattle.tl_client.specs.End.{Terms}
-use Rattle.tl_manager.specs.Kept as manager
-use Rattle.tl_manager.specs.Deed.{deed}
+use Rattle.tl_client.specs.statement.End.{Terms}
+use Rattle.tl_manager.specs.code.Kept as manager
+use Rattle.tl_manager.specs.statement.Deed.{deed}
 use Rattle.tl_manager.proofs.Events.{deed-ack}
 use Rattle.tl_coherence.specs.declared.event.Event.TheVariants.{Deliver}
 use Rattle.tl_coherence.specs.statement.Draining.{is_moving}

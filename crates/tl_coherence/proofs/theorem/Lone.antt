@@ -13,8 +13,8 @@ use Rattle.tl_params.specs.declared.perm.Perm.{Perm}
 use Rattle.tl_params.specs.declared.perm.Perm.TheVariants as perm
 use Rattle.tl_params.specs.declared.profile.Profile.{Profile}
 use Rattle.tl_params.specs.declared.profile.Profile.TheVariants as profile
-use Rattle.tl_params.specs.Param.{cap_right}
-use Rattle.tl_rules.specs.Conformance.{same_perm}
+use Rattle.tl_params.specs.statement.Param.{cap_right}
+use Rattle.tl_rules.specs.statement.Conformance.{same_perm}
 use Rattle.tl_coherence.specs.statement.Draining.{grown_to}
 use Rattle.tl_coherence.specs.refinement.Follow.{Shadow, acquire_taken, gift, granted_after, is_unheld, kind_taken, last_taken, some_below, taken_by_client, with_state}
 use Rattle.tl_coherence.specs.protocol.Invariant.{IsInvariant, cap_asked, is_replied}

@@ -3,7 +3,7 @@ use Rattle.std.specs.Prelude.{ℕ, zero, suc, Bool, true, false, ◌+◌, if◌t
 use Rattle.tl_params.specs.declared.config.Config.{Config}
 use Rattle.tl_params.specs.declared.perm.Perm.{Perm}
 use Rattle.tl_params.specs.declared.perm.Perm.TheVariants as perm
-use Rattle.tl_rules.specs.Conformance.{same_perm}
+use Rattle.tl_rules.specs.statement.Conformance.{same_perm}
 use Rattle.tl_coherence.specs.statement.Delivery.{sources_of}
 use Rattle.tl_coherence.specs.protocol.Phase.{Pair, View, Own, Granting, Probing, Quiet, Sent, Answered, Letting, Kept, Releasing, Acked}
 use Rattle.tl_coherence.specs.protocol.Protocol.{Block, State, Use, Closed, Asked, InService, Replied, Acquires, view}

@@ -5,7 +5,7 @@ use Rattle.tl_params.specs.declared.param.Cap.{Cap}
 use Rattle.tl_params.specs.declared.param.Cap.TheVariants as cap
 use Rattle.tl_params.specs.declared.param.Grow.TheVariants as grow
 use Rattle.tl_params.specs.declared.perm.Perm.TheVariants as perm
-use Rattle.tl_rules.specs.Conformance.{same_perm}
+use Rattle.tl_rules.specs.statement.Conformance.{same_perm}
 use Rattle.tl_coherence.specs.protocol.Phase.{Acquiring, Wants, same_cap, Pair, View, Quiet, Kept, Calm, ok, is_quiet, is_kept}
 use Rattle.tl_coherence.specs.protocol.Token.{Kind, Request, Answer, Holds, IsOrdered, count}
 use Rattle.tl_coherence.specs.protocol.Protocol.{Service, Free, Waits, Block, State, Use, Asked, InService, Replied, Acquires, view, is_wanting, is_granting, is_transfer, is_on, on, shown, tokens_on}

@@ -5,12 +5,12 @@ use Rattle.tl_burst.specs.declared.message.Message.{Message}
 use Rattle.tl_burst.specs.declared.message.Message.TheVariants as message
 use Rattle.tl_burst.specs.declared.message.MessageA.{MessageA}
 use Rattle.tl_params.specs.declared.param.Prune.{Prune}
-use Rattle.tl_rules.specs.Effect as memory
-use Rattle.tl_rules.specs.Effect.{IsBlock, answer_of}
+use Rattle.tl_rules.specs.statement.Effect as memory
+use Rattle.tl_rules.specs.statement.Effect.{IsBlock, answer_of}
 use Rattle.tl_client.specs.declared.operation.Op.{Op}
 use Rattle.tl_client.specs.declared.operation.Op.TheVariants as op
-use Rattle.tl_client.specs.Send.{sourced}
-use Rattle.tl_manager.specs.Handing.{access_answer}
+use Rattle.tl_client.specs.statement.Send.{sourced}
+use Rattle.tl_manager.specs.statement.Handing.{access_answer}
 use Rattle.tl_coherence.specs.protocol.Phase.{Acquiring, Wants}
 use Rattle.tl_coherence.specs.protocol.Protocol.{State, Use, Closed, Asked, InService, Replied, Acquires}
 use Rattle.tl_coherence.specs.statement.Machine.{Machine, Open, Requests, Releases}

@@ -4,10 +4,10 @@ use Rattle.tl_beat.specs.declared.beat.Beat.{Beat}
 use Rattle.tl_beat.specs.declared.beat.BeatA.{BeatA}
 use Rattle.tl_beat.specs.declared.channel.Channel.{Channel}
 use Rattle.tl_beat.specs.declared.channel.Channel.TheVariants as channel
-use Rattle.tl_burst.specs.Messages.{History, unfinished}
+use Rattle.tl_burst.specs.statement.Messages.{History, unfinished}
 use Rattle.tl_params.specs.declared.key.Key.TheVariants.{RequestSource, ReleaseSource, AcquireOf, ReleaseOf, GrantSink, GrantAckOf, ProbeOf}
-use Rattle.tl_rules.specs.Conformance.{comes_in_request, comes_in_release, comes_in_grant}
-use Rattle.tl_rules.specs.History.{held, pending, block_at, request_of, release_of, probe_of, grant_sink}
+use Rattle.tl_rules.specs.statement.Conformance.{comes_in_request, comes_in_release, comes_in_grant}
+use Rattle.tl_rules.specs.statement.History.{held, pending, block_at, request_of, release_of, probe_of, grant_sink}
 use Rattle.tl_coherence.specs.protocol.Phase.{Letting, Kept, Releasing, Acked}
 use Rattle.tl_coherence.specs.protocol.Protocol.{State, Use, Closed, Asked, InService, Replied, Acquires, view, is_granting, is_acknowledging, is_answered, is_wanting, is_unserved}
 use Rattle.tl_coherence.specs.refinement.Known.{comes_granting}

@@ -8,8 +8,8 @@ use Rattle.tl_beat.specs.declared.opcode.OpA.TheVariants as a
 use Rattle.tl_burst.specs.declared.message.Message.{Message}
 use Rattle.tl_burst.specs.declared.message.Message.TheVariants as message
 use Rattle.tl_burst.specs.declared.message.MessageA.{MessageA}
-use Rattle.tl_burst.specs.Messages.{unfinished}
-use Rattle.tl_burst.specs.Part.{completes}
+use Rattle.tl_burst.specs.statement.Messages.{unfinished}
+use Rattle.tl_burst.specs.statement.Part.{completes}
 use Rattle.tl_params.specs.declared.config.Config.{Config}
 use Rattle.tl_params.specs.declared.param.Cap.{Cap}
 use Rattle.tl_params.specs.declared.param.Grow.{Grow}
@@ -17,20 +17,20 @@ use Rattle.tl_params.specs.declared.param.Grow.TheVariants as grow
 use Rattle.tl_params.specs.declared.param.Report.{Report}
 use Rattle.tl_params.specs.declared.perm.Perm.TheVariants as perm
 use Rattle.tl_params.specs.declared.profile.Profile.{Profile}
-use Rattle.tl_params.specs.Param.{grow_code}
-use Rattle.tl_rules.specs.Effect.{Memory, bytes_from, effect, answer_of}
-use Rattle.tl_rules.specs.History.{block_at}
-use Rattle.tl_rules.specs.Conformance.{same_perm}
+use Rattle.tl_params.specs.statement.Param.{grow_code}
+use Rattle.tl_rules.specs.statement.Effect.{Memory, bytes_from, effect, answer_of}
+use Rattle.tl_rules.specs.statement.History.{block_at}
+use Rattle.tl_rules.specs.statement.Conformance.{same_perm}
 use Rattle.tl_client.specs.declared.operation.Op.{Op}
 use Rattle.tl_client.specs.declared.operation.Op.TheVariants as op
 use Rattle.tl_client.specs.declared.reply.Reply.{Reply}
 use Rattle.tl_client.specs.declared.reply.Reply.TheVariants as reply
-use Rattle.tl_client.specs.Ask.{copy_stored, whole_grow}
-use Rattle.tl_client.specs.End.{zeros}
-use Rattle.tl_client.specs.Send.{access, acquisition}
-use Rattle.tl_manager.specs.Handing.{access_answer, cap_granted}
-use Rattle.tl_manager.specs.Holders.{cap_probed}
-use Rattle.tl_manager.specs.Service.{services, least_untaken, trackers_of}
+use Rattle.tl_client.specs.statement.Ask.{copy_stored, whole_grow}
+use Rattle.tl_client.specs.statement.End.{zeros}
+use Rattle.tl_client.specs.statement.Send.{access, acquisition}
+use Rattle.tl_manager.specs.statement.Handing.{access_answer, cap_granted}
+use Rattle.tl_manager.specs.statement.Holders.{cap_probed}
+use Rattle.tl_manager.specs.statement.Service.{services, least_untaken, trackers_of}
 use Rattle.tl_coherence.specs.declared.event.Event.{Event}
 use Rattle.tl_coherence.specs.declared.event.Event.TheVariants.{Ask, Deliver}
 use Rattle.tl_coherence.specs.declared.event.Outcome.{Outcome}

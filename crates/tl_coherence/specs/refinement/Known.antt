@@ -4,11 +4,11 @@ use Rattle.tl_beat.specs.declared.beat.Beat.{Beat}
 use Rattle.tl_beat.specs.declared.beat.Beat.TheVariants as beat
 use Rattle.tl_beat.specs.declared.beat.BeatA.{BeatA}
 use Rattle.tl_beat.specs.declared.channel.Channel.TheVariants as channel
-use Rattle.tl_burst.specs.Messages.{History, unfinished}
+use Rattle.tl_burst.specs.statement.Messages.{History, unfinished}
 use Rattle.tl_params.specs.declared.key.Key.TheVariants.{AcquireOf, ReleaseOf, GrantSink, GrantAckOf, ProbeOf}
-use Rattle.tl_rules.specs.Conformance.{comes_in_grant}
-use Rattle.tl_rules.specs.History.{held, pending, is_grant, asks_for}
-use Rattle.tl_client.specs.Requests.{open_beat}
+use Rattle.tl_rules.specs.statement.Conformance.{comes_in_grant}
+use Rattle.tl_rules.specs.statement.History.{held, pending, is_grant, asks_for}
+use Rattle.tl_client.specs.statement.Requests.{open_beat}
 use Rattle.tl_coherence.specs.protocol.Phase.{is_kept}
 use Rattle.tl_coherence.specs.protocol.Protocol.{State, is_wanting}
 

@@ -2,8 +2,8 @@
 use Rattle.std.specs.Prelude.{ℕ, List}
 use Rattle.tl_beat.specs.declared.channel.Channel.{Channel}
 use Rattle.tl_beat.specs.declared.channel.Channel.TheVariants as channel
-use Rattle.tl_burst.specs.Messages.{History, unfinished}
-use Rattle.tl_rules.specs.Conformance.{on_link}
+use Rattle.tl_burst.specs.statement.Messages.{History, unfinished}
+use Rattle.tl_rules.specs.statement.Conformance.{on_link}
 use Rattle.tl_coherence.specs.refinement.Carried.{IsCarried}
 use Rattle.tl_coherence.specs.protocol.Protocol.{State}
 use Rattle.tl_coherence.specs.refinement.Render.{Mail, messages_on}

@@ -8,7 +8,7 @@ use Rattle.tl_beat.specs.declared.opcode.OpB.TheVariants as opb
 use Rattle.tl_burst.specs.declared.message.Message.{Message}
 use Rattle.tl_burst.specs.declared.message.Message.TheVariants as message
 use Rattle.tl_burst.specs.declared.message.MessageB.{MessageB}
-use Rattle.tl_burst.specs.Burst.{b_beat_of}
+use Rattle.tl_burst.specs.statement.Burst.{b_beat_of}
 use Rattle.tl_params.specs.declared.param.Cap.{Cap}
 use Rattle.tl_params.specs.declared.param.Cap.TheVariants as cap
 use Rattle.tl_params.specs.declared.param.Grow.TheVariants as grow
@@ -16,9 +16,9 @@ use Rattle.tl_params.specs.declared.param.Prune.{Prune}
 use Rattle.tl_params.specs.declared.param.Prune.TheVariants as prune
 use Rattle.tl_params.specs.declared.param.Report.{Report}
 use Rattle.tl_params.specs.declared.param.Report.TheVariants as report
-use Rattle.tl_params.specs.Param.{cap_code, report_left}
-use Rattle.tl_client.specs.Send.{acquire, release, probe_ack, grant_ack}
-use Rattle.tl_manager.specs.Handing.{probe_of_block, release_ack, grant_opcode, no_payload}
+use Rattle.tl_params.specs.statement.Param.{cap_code, report_left}
+use Rattle.tl_client.specs.statement.Send.{acquire, release, probe_ack, grant_ack}
+use Rattle.tl_manager.specs.statement.Handing.{probe_of_block, release_ack, grant_opcode, no_payload}
 use Rattle.tl_coherence.specs.protocol.Phase.{Probing, Sent, Answered, Letting, Releasing, Acquiring, Wants}
 use Rattle.tl_coherence.specs.protocol.Token.{Kind, Request, Acquire, Probe, ProbeAck, Release, Answer, Grant, ReleaseAck, GrantAck, Token}
 use Rattle.tl_coherence.specs.protocol.Protocol.{Service, GrantSent, Block, State, tokens_on}

@@ -3,14 +3,14 @@ use Rattle.std.specs.Prelude.{ℕ, Bool, true, false, ◌||◌, ◌≡◌, Optio
 use Rattle.tl_beat.specs.declared.beat.BeatA.{BeatA}
 use Rattle.tl_beat.specs.declared.channel.Channel.TheVariants as channel
 use Rattle.tl_burst.specs.declared.message.MessageA.{MessageA}
-use Rattle.tl_burst.specs.Burst.{a_beat_of}
-use Rattle.tl_burst.specs.Messages.{History, unfinished}
+use Rattle.tl_burst.specs.statement.Burst.{a_beat_of}
+use Rattle.tl_burst.specs.statement.Messages.{History, unfinished}
 use Rattle.tl_params.specs.declared.key.Key.TheVariants.{RequestSource, ReleaseSource, GrantSink}
 use Rattle.tl_params.specs.declared.param.Cap.{Cap}
 use Rattle.tl_params.specs.declared.param.Cap.TheVariants as cap
-use Rattle.tl_rules.specs.Conformance.{Trace, on_link, comes_in_request}
-use Rattle.tl_rules.specs.History.{pending, block_at, is_acquire, request_of, release_of, probe_of}
-use Rattle.tl_manager.specs.Holders.{cap_probed}
+use Rattle.tl_rules.specs.statement.Conformance.{Trace, on_link, comes_in_request}
+use Rattle.tl_rules.specs.statement.History.{pending, block_at, is_acquire, request_of, release_of, probe_of}
+use Rattle.tl_manager.specs.statement.Holders.{cap_probed}
 use Rattle.tl_coherence.specs.protocol.Phase.{is_quiet}
 use Rattle.tl_coherence.specs.protocol.Protocol.{Service, Free, Waits, GrantSent, GrantTaken, State, Use, InService, Acquires, view, is_granting, is_acknowledging}
 use Rattle.tl_coherence.specs.refinement.Managed.{is_own}

@@ -8,8 +8,8 @@ use Rattle.tl_beat.specs.declared.channel.Channel.TheVariants as channel
 use Rattle.tl_burst.specs.declared.message.Message.{Message}
 use Rattle.tl_burst.specs.declared.message.Message.TheVariants as message
 use Rattle.tl_burst.specs.declared.message.MessageA.{MessageA}
-use Rattle.tl_burst.specs.Burst.{a_beat_of, beats_of, IsBlankAfter}
-use Rattle.tl_burst.specs.Messages.{unfinished}
+use Rattle.tl_burst.specs.statement.Burst.{a_beat_of, beats_of, IsBlankAfter}
+use Rattle.tl_burst.specs.statement.Messages.{unfinished}
 use Rattle.tl_params.specs.declared.config.Config.{Config}
 use Rattle.tl_params.specs.declared.level.Level.{Level}
 use Rattle.tl_params.specs.declared.level.Level.TheVariants as level
@@ -19,14 +19,14 @@ use Rattle.tl_params.specs.declared.param.Grow.TheVariants as grow
 use Rattle.tl_params.specs.declared.perm.Perm.TheVariants as perm
 use Rattle.tl_params.specs.declared.profile.Profile.{Profile}
 use Rattle.tl_params.specs.declared.profile.Profile.TheVariants as profile
-use Rattle.tl_rules.specs.Conformance.{answers, same_perm}
-use Rattle.tl_rules.specs.Effect.{bytes_from}
-use Rattle.tl_client.specs.Accounted.{IsAccounted}
-use Rattle.tl_client.specs.Kept as client
-use Rattle.tl_manager.specs.Kept as manager
-use Rattle.tl_manager.specs.Kept.{illegal_message_at}
-use Rattle.tl_manager.specs.Service.{is_access_answer}
-use Rattle.tl_manager.specs.Offer.{level_of}
+use Rattle.tl_rules.specs.statement.Conformance.{answers, same_perm}
+use Rattle.tl_rules.specs.statement.Effect.{bytes_from}
+use Rattle.tl_client.specs.laws.Accounted.{IsAccounted}
+use Rattle.tl_client.specs.statement.Kept as client
+use Rattle.tl_manager.specs.code.Kept as manager
+use Rattle.tl_manager.specs.code.Kept.{illegal_message_at}
+use Rattle.tl_manager.specs.statement.Service.{is_access_answer}
+use Rattle.tl_manager.specs.statement.Offer.{level_of}
 use Rattle.tl_coherence.specs.protocol.Phase.{Pair, Acquiring, Calm, Wants}
 use Rattle.tl_coherence.specs.protocol.Token.{Acquire}
 use Rattle.tl_coherence.specs.protocol.Protocol.{Service, Waits, GrantSent, Block, State, Use, Closed, Asked, InService, Replied, Acquires}

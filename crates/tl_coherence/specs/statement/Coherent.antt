@@ -1,11 +1,11 @@
 -- What holds of the clients' copies beside one memory.
 use Rattle.std.specs.Prelude.{ℕ, [], ◌∷◌, ◌≡◌, ◌≢◌, ◌==◌, ◌&&◌, if◌then◌else◌, List, Option, Some, None, is_some, option_map}
 use Rattle.tl_params.specs.declared.perm.Perm.TheVariants as perm
-use Rattle.tl_rules.specs.Effect.{IsBlock}
+use Rattle.tl_rules.specs.statement.Effect.{IsBlock}
 use Rattle.tl_client.specs.declared.operation.Op.{Op}
 use Rattle.tl_client.specs.declared.reply.Reply.TheVariants.{Started}
-use Rattle.tl_client.specs.End.{held_at}
-use Rattle.tl_client.specs.Kept.{holds}
+use Rattle.tl_client.specs.statement.End.{held_at}
+use Rattle.tl_client.specs.statement.Kept.{holds}
 use Rattle.tl_coherence.specs.declared.event.Event.{Event}
 use Rattle.tl_coherence.specs.declared.event.Event.TheVariants.{Ask, Deliver}
 use Rattle.tl_coherence.specs.declared.event.Outcome.{Outcome}

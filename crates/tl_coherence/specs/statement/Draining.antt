@@ -10,14 +10,14 @@ use Rattle.tl_params.specs.declared.perm.Perm.{Perm}
 use Rattle.tl_params.specs.declared.perm.Perm.TheVariants as perm
 use Rattle.tl_params.specs.declared.profile.Profile.{Profile}
 use Rattle.tl_params.specs.declared.profile.Profile.TheVariants as profile
-use Rattle.tl_params.specs.Param.{grow_right}
-use Rattle.tl_rules.specs.Conformance.{same_perm}
+use Rattle.tl_params.specs.statement.Param.{grow_right}
+use Rattle.tl_rules.specs.statement.Conformance.{same_perm}
 use Rattle.tl_client.specs.declared.operation.Op.{Op}
 use Rattle.tl_client.specs.declared.operation.Op.TheVariants.{Acquire}
 use Rattle.tl_client.specs.declared.reply.Reply.TheVariants.{Started}
 use Rattle.tl_client.specs.declared.verdict.Finish.TheVariants.{Granted}
-use Rattle.tl_client.specs.Ask.{op_block}
-use Rattle.tl_client.specs.End.{held_at}
+use Rattle.tl_client.specs.statement.Ask.{op_block}
+use Rattle.tl_client.specs.statement.End.{held_at}
 use Rattle.tl_coherence.specs.declared.event.Event.{Event}
 use Rattle.tl_coherence.specs.declared.event.Event.TheVariants.{Ask, Deliver}
 use Rattle.tl_coherence.specs.declared.event.Outcome.{Outcome}

@@ -1,9 +1,9 @@
 -- What holds of every manager and its clients, whatever happens to them.
 use Rattle.std.specs.Prelude.{ℕ, false, List, [], ◌∷◌, ◌≡◌, ◌≤◌, ◌==◌, length, None, is_none, ⊤}
-use Rattle.tl_beat.specs.Width.{IsWidth}
+use Rattle.tl_beat.specs.statement.Width.{IsWidth}
 use Rattle.tl_burst.specs.declared.message.Message.TheVariants as message
 use Rattle.tl_params.specs.declared.config.Config.{Config}
-use Rattle.tl_params.specs.Config.{config_fault}
+use Rattle.tl_params.specs.statement.Config.{config_fault}
 use Rattle.tl_client.specs.declared.operation.Op.{Op}
 use Rattle.tl_client.specs.declared.operation.Op.TheVariants.{AcquireWhole, Access}
 use Rattle.tl_coherence.specs.declared.event.Event.{Event}

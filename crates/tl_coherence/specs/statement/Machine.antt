@@ -5,21 +5,21 @@ use Rattle.tl_beat.specs.declared.beat.Beat.TheVariants as beat
 use Rattle.tl_beat.specs.declared.channel.Channel.TheVariants as channel
 use Rattle.tl_burst.specs.declared.message.Message.{Message}
 use Rattle.tl_burst.specs.declared.message.Message.TheVariants as message
-use Rattle.tl_burst.specs.Burst.{reaches}
+use Rattle.tl_burst.specs.statement.Burst.{reaches}
 use Rattle.tl_params.specs.declared.config.Config.{Config}
 use Rattle.tl_params.specs.declared.perm.Perm.{Perm}
 use Rattle.tl_params.specs.declared.perm.Perm.TheVariants as perm
-use Rattle.tl_rules.specs.Effect as memory
-use Rattle.tl_rules.specs.Effect.{Memory, number_from, byte_of, effect}
-use Rattle.tl_rules.specs.History.{capped}
+use Rattle.tl_rules.specs.statement.Effect as memory
+use Rattle.tl_rules.specs.statement.Effect.{Memory, number_from, byte_of, effect}
+use Rattle.tl_rules.specs.statement.History.{capped}
 use Rattle.tl_client.specs.declared.operation.Op.{Op}
 use Rattle.tl_client.specs.declared.operation.Op.TheVariants.{Load, Store, Acquire, AcquireWhole, Release, Access}
 use Rattle.tl_client.specs.declared.reply.Reply.{Reply}
 use Rattle.tl_client.specs.declared.reply.Reply.TheVariants.{Value, Stored, Miss, Started, Busy}
 use Rattle.tl_client.specs.declared.verdict.Finish.{Finish}
 use Rattle.tl_client.specs.declared.verdict.Finish.TheVariants.{Ack, Hint, Data, Granted, Released}
-use Rattle.tl_client.specs.Offer.{padded}
-use Rattle.tl_manager.specs.Deed.{with_block}
+use Rattle.tl_client.specs.statement.Offer.{padded}
+use Rattle.tl_manager.specs.statement.Deed.{with_block}
 use Rattle.tl_coherence.specs.declared.event.Event.{Event}
 use Rattle.tl_coherence.specs.declared.event.Event.TheVariants.{Ask, Deliver}
 use Rattle.tl_coherence.specs.declared.event.Outcome.{Outcome}

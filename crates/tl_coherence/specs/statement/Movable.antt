@@ -5,9 +5,9 @@ use Rattle.tl_beat.specs.declared.beat.Link.{Link}
 use Rattle.tl_beat.specs.declared.channel.Channel.{Channel}
 use Rattle.tl_beat.specs.declared.channel.Channel.TheVariants as channel
 use Rattle.tl_params.specs.declared.config.Config.{Config}
-use Rattle.tl_client.specs.End.{Terms}
-use Rattle.tl_client.specs.Offer as client
-use Rattle.tl_manager.specs.Offer as manager
+use Rattle.tl_client.specs.statement.End.{Terms}
+use Rattle.tl_client.specs.statement.Offer as client
+use Rattle.tl_manager.specs.statement.Offer as manager
 use Rattle.tl_coherence.specs.declared.event.Event.TheVariants.{Deliver}
 use Rattle.tl_coherence.specs.statement.Log.{Log, after}
 use Rattle.tl_coherence.specs.statement.Step.{is_to_client, stepped}

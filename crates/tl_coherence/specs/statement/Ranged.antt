@@ -1,6 +1,6 @@
 -- That each beat which is delivered has one line: its numbers are within their types, and have room in their fields.
 use Rattle.std.specs.Prelude.{⊤, ℕ, ◌<◌, ◌^◌, List, [], ◌∷◌, All}
-use Rattle.tl_beat.specs.Line.{IsInRange, IsWritable}
+use Rattle.tl_beat.specs.statement.Line.{IsInRange, IsWritable}
 use Rattle.tl_burst.specs.declared.message.Message.TheVariants as message
 use Rattle.tl_params.specs.declared.config.Config.{Config}
 use Rattle.tl_client.specs.declared.operation.Op.{Op}

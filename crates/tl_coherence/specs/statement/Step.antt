@@ -8,12 +8,12 @@ use Rattle.tl_params.specs.declared.config.Config.{Config}
 use Rattle.tl_params.specs.declared.rule.Rule.{Rule}
 use Rattle.tl_client.specs.declared.verdict.Verdict.{Verdict}
 use Rattle.tl_client.specs.declared.verdict.Verdict.TheVariants as verdict
-use Rattle.tl_client.specs.Ask.{Asked, asked}
-use Rattle.tl_client.specs.End as client
-use Rattle.tl_client.specs.Offer.{Offered, offered}
-use Rattle.tl_manager.specs.Handing.{Handed}
-use Rattle.tl_manager.specs.End as manager_end
-use Rattle.tl_manager.specs.Offer as manager
+use Rattle.tl_client.specs.statement.Ask.{Asked, asked}
+use Rattle.tl_client.specs.statement.End as client
+use Rattle.tl_client.specs.statement.Offer.{Offered, offered}
+use Rattle.tl_manager.specs.statement.Handing.{Handed}
+use Rattle.tl_manager.specs.statement.End as manager_end
+use Rattle.tl_manager.specs.statement.Offer as manager
 use Rattle.tl_coherence.specs.declared.event.Event.{Event}
 use Rattle.tl_coherence.specs.declared.event.Event.TheVariants.{Ask, Deliver}
 use Rattle.tl_coherence.specs.declared.event.Outcome.{Outcome}

@@ -1,9 +1,9 @@
 //! What becomes of a beat, by what is known of it.
 
 ghost use Rattle.std.specs.Prelude.{◌≡◌};
-ghost use Rattle.tl_beat.specs.Width.{IsWidth};
-ghost use Rattle.tl_manager.specs.Admission.{admission_of, judged_by};
-ghost use Rattle.tl_manager.specs.Offer;
+ghost use Rattle.tl_beat.specs.statement.Width.{IsWidth};
+ghost use Rattle.tl_manager.specs.code.Admission.{admission_of, judged_by};
+ghost use Rattle.tl_manager.specs.statement.Offer;
 
 use tl_beat::beat::Beat;
 use tl_rules::rule::Rule;

@@ -1,13 +1,13 @@
 //! The bytes of the blocks.
 
 ghost use Rattle.std.specs.Prelude.{ℕ, ◌≡◌, ◌<◌, ◌*◌, ◌/◌, length, IfOk, if◌then◌else◌};
-ghost use Rattle.tl_beat.specs.Width.{IsWidth};
+ghost use Rattle.tl_beat.specs.statement.Width.{IsWidth};
 ghost use Rattle.tl_burst.specs.declared.message.Message.{Message};
-ghost use Rattle.tl_burst.specs.Burst.{beats_of, IsBlankAfter};
-ghost use Rattle.tl_rules.specs.Effect.{Memory, IsBlock, bytes_from, effect, answer_of};
-ghost use Rattle.tl_rules.specs.Legality.{illegal_message};
-ghost use Rattle.tl_manager.specs.Blocks.{AreBlocks};
-ghost use Rattle.tl_manager.specs.Deed.{with_block};
+ghost use Rattle.tl_burst.specs.statement.Burst.{beats_of, IsBlankAfter};
+ghost use Rattle.tl_rules.specs.statement.Effect.{Memory, IsBlock, bytes_from, effect, answer_of};
+ghost use Rattle.tl_rules.specs.statement.Legality.{illegal_message};
+ghost use Rattle.tl_manager.specs.code.Blocks.{AreBlocks};
+ghost use Rattle.tl_manager.specs.statement.Deed.{with_block};
 
 use std::alloc::{AllocError, Global};
 use tl_beat::channel::Channel;

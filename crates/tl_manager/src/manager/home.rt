@@ -3,25 +3,25 @@
 
 ghost use Rattle.std.specs.Prelude.{ℕ, ◌≡◌, ◌≢◌, ◌⊎◌, ◌<◌, ◌≤◌, ◌==◌, ◌&&◌, ◌*◌, if◌then◌else◌, ◌^◌, ◌∷◌, [], not, length, true, false, Some, None};
 ghost use Rattle.std.specs.Int.{bit_at};
-ghost use Rattle.tl_beat.specs.Width.{IsWidth};
+ghost use Rattle.tl_beat.specs.statement.Width.{IsWidth};
 ghost use Rattle.tl_beat.specs.declared.beat.Beat.{Beat};
 ghost use Rattle.tl_burst.specs.declared.message.Message.{Message};
 ghost use Rattle.tl_params.specs.declared.config.Config.{Config};
-ghost use Rattle.tl_rules.specs.Agent.{payload_of};
-ghost use Rattle.tl_rules.specs.Conformance.{Trace};
-ghost use Rattle.tl_rules.specs.Effect.{Memory, bytes_from};
-ghost use Rattle.tl_manager.specs.Blocks.{AreBlocks};
-ghost use Rattle.tl_rules.specs.History.{is_acquire, block_at};
-ghost use Rattle.tl_manager.specs.Bit.{bit_if};
+ghost use Rattle.tl_rules.specs.statement.Agent.{payload_of};
+ghost use Rattle.tl_rules.specs.statement.Conformance.{Trace};
+ghost use Rattle.tl_rules.specs.statement.Effect.{Memory, bytes_from};
+ghost use Rattle.tl_manager.specs.code.Blocks.{AreBlocks};
+ghost use Rattle.tl_rules.specs.statement.History.{is_acquire, block_at};
+ghost use Rattle.tl_manager.specs.code.Bit.{bit_if};
 ghost use Rattle.tl_beat.specs.declared.beat.BeatC.{BeatC};
 ghost use Rattle.tl_beat.specs.declared.beat.BeatE.{BeatE};
-ghost use Rattle.tl_manager.specs.Handing.{performed};
-ghost use Rattle.tl_manager.specs.Ready.{IsTaken};
-ghost use Rattle.tl_manager.specs.Deed.{begun_with, finish, deed};
-ghost use Rattle.tl_manager.specs.End.{End};
-ghost use Rattle.tl_manager.specs.Holders;
-ghost use Rattle.tl_manager.specs.Holders.{is_above};
-ghost use Rattle.tl_manager.specs.Sending.{messages_of};
+ghost use Rattle.tl_manager.specs.statement.Handing.{performed};
+ghost use Rattle.tl_manager.specs.code.Ready.{IsTaken};
+ghost use Rattle.tl_manager.specs.statement.Deed.{begun_with, finish, deed};
+ghost use Rattle.tl_manager.specs.statement.End.{End};
+ghost use Rattle.tl_manager.specs.statement.Holders;
+ghost use Rattle.tl_manager.specs.statement.Holders.{is_above};
+ghost use Rattle.tl_manager.specs.code.Sending.{messages_of};
 
 use crate::directory::Directory;
 use crate::manager::blocks::Blocks;
@@ -69,10 +69,10 @@ fn without(word: u16, client: u8) -> u16
 }
 
 impl<const W: usize, D: Directory> Home<W, D> {
-    ghost use Rattle.tl_manager.specs.Complete.{IsComplete, IsDue};
-    ghost use Rattle.tl_manager.specs.Home.{IsHome, IsHomeWithout, IsReportedHome, IsDone, IsPlaced, IsPlacedIn, IsReadyAt, IsReport, IsMessage};
-    ghost use Rattle.tl_manager.specs.Tracked.{service_with};
-    ghost use Rattle.tl_manager.specs.Trackers.{tracker_at};
+    ghost use Rattle.tl_manager.specs.code.Complete.{IsComplete, IsDue};
+    ghost use Rattle.tl_manager.specs.code.Home.{IsHome, IsHomeWithout, IsReportedHome, IsDone, IsPlaced, IsPlacedIn, IsReadyAt, IsReport, IsMessage};
+    ghost use Rattle.tl_manager.specs.code.Tracked.{service_with};
+    ghost use Rattle.tl_manager.specs.code.Trackers.{tracker_at};
 
     /// The clients that hold more of a block than this cap leaves them, a bit for each.
     fn above(&self, cap: Cap, block: u16) -> u16

@@ -1,22 +1,22 @@
 //! The links of a manager, and its blocks.
 
 ghost use Rattle.std.specs.Prelude.{ℕ, ◌≡◌, ◌<◌, ◌≤◌, ◌||◌, nat_le, is_none, IfOk, map, OnOk, Ok, Err, true, false, length};
-ghost use Rattle.tl_beat.specs.Width.{IsWidth};
-ghost use Rattle.tl_burst.specs.Part.{IsTakeable};
+ghost use Rattle.tl_beat.specs.statement.Width.{IsWidth};
+ghost use Rattle.tl_burst.specs.statement.Part.{IsTakeable};
 ghost use Rattle.tl_beat.specs.declared.beat.Link.{Link};
 ghost use Rattle.tl_params.specs.declared.config.Config.{Config};
-ghost use Rattle.tl_manager.specs.Admission.{admission_of, judged_in_order, is_stall};
-ghost use Rattle.tl_rules.specs.Conformance.{Trace, on_link, broken_in_order};
+ghost use Rattle.tl_manager.specs.code.Admission.{admission_of, judged_in_order, is_stall};
+ghost use Rattle.tl_rules.specs.statement.Conformance.{Trace, on_link, broken_in_order};
 ghost use Rattle.tl_params.specs.declared.perm.Perm.TheVariants as perm;
-ghost use Rattle.tl_manager.specs.Fresh.{fresh_wire};
-ghost use Rattle.tl_manager.specs.PartIs.{is_first_part, is_last_part};
-ghost use Rattle.tl_manager.specs.Sending.{messages_of};
-ghost use Rattle.tl_manager.specs.Service.{services, is_in_service};
-ghost use Rattle.tl_manager.specs.Offer;
+ghost use Rattle.tl_manager.specs.code.Fresh.{fresh_wire};
+ghost use Rattle.tl_manager.specs.code.PartIs.{is_first_part, is_last_part};
+ghost use Rattle.tl_manager.specs.code.Sending.{messages_of};
+ghost use Rattle.tl_manager.specs.statement.Service.{services, is_in_service};
+ghost use Rattle.tl_manager.specs.statement.Offer;
 ghost use Rattle.tl_beat.specs.declared.channel.Channel.{Channel};
-ghost use Rattle.tl_manager.specs.Deed.{deed};
-ghost use Rattle.tl_manager.specs.End.{End};
-ghost use Rattle.tl_manager.specs.Offer.{judged, open_level, refused, taken};
+ghost use Rattle.tl_manager.specs.statement.Deed.{deed};
+ghost use Rattle.tl_manager.specs.statement.End.{End};
+ghost use Rattle.tl_manager.specs.statement.Offer.{judged, open_level, refused, taken};
 
 use crate::directory::Directory;
 use crate::manager::admission::{Admission, admit, is_from_client};
@@ -90,10 +90,10 @@ fn wires_for<const W: usize>(
 }
 
 impl<const W: usize, D: Directory> Links<W, D> {
-    ghost use Rattle.tl_manager.specs.Knows.{Knows, IsManager};
-    ghost use Rattle.tl_manager.specs.Wire.{IsWire};
-    ghost use Rattle.tl_manager.specs.PartIs.{IsPartOf};
-    ghost use Rattle.tl_manager.specs.Fresh.{IsNew};
+    ghost use Rattle.tl_manager.specs.code.Knows.{Knows, IsManager};
+    ghost use Rattle.tl_manager.specs.code.Wire.{IsWire};
+    ghost use Rattle.tl_manager.specs.code.PartIs.{IsPartOf};
+    ghost use Rattle.tl_manager.specs.code.Fresh.{IsNew};
 
     /// The links and blocks of a configuration, with a fresh directory that covers it: the first limit
     /// that is broken, in the order N1 to N4, or want of memory.

@@ -2,14 +2,14 @@
 
 ghost use Rattle.std.specs.Prelude.{ℕ, ◌≡◌, ◌<◌, ◌==◌, ◌-◌, ◌^◌, is_some, unwrap_or, if◌then◌else◌, Bool, true, false};
 ghost use Rattle.std.specs.Int.{bit_at};
-ghost use Rattle.tl_beat.specs.Width.{IsWidth};
+ghost use Rattle.tl_beat.specs.statement.Width.{IsWidth};
 ghost use Rattle.tl_beat.specs.declared.opcode.OpD.{OpD};
-ghost use Rattle.tl_params.specs.Param.{cap_code};
-ghost use Rattle.tl_manager.specs.Handing;
-ghost use Rattle.tl_manager.specs.Granting;
-ghost use Rattle.tl_manager.specs.Handing.{probe_of_block};
-ghost use Rattle.tl_manager.specs.Holders.{clients_from};
-ghost use Rattle.tl_manager.specs.Sending.{messages_of};
+ghost use Rattle.tl_params.specs.statement.Param.{cap_code};
+ghost use Rattle.tl_manager.specs.statement.Handing;
+ghost use Rattle.tl_manager.specs.code.Granting;
+ghost use Rattle.tl_manager.specs.statement.Handing.{probe_of_block};
+ghost use Rattle.tl_manager.specs.statement.Holders.{clients_from};
+ghost use Rattle.tl_manager.specs.code.Sending.{messages_of};
 
 use arrayvec::ArrayVec;
 use tl_beat::beat::Link;

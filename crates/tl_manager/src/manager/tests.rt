@@ -2,7 +2,7 @@
 //! a manager with each of both directories.
 
 ghost use Rattle.std.specs.Prelude.{◌≡◌, ◌≤◌, length};
-ghost use Rattle.tl_beat.specs.Width.{IsWidth};
+ghost use Rattle.tl_beat.specs.statement.Width.{IsWidth};
 
 use super::*;
 use crate::bits::BitDirectory;

@@ -25,7 +25,7 @@ pub enum Tracker<const W: usize> {
 }
 
 impl<const W: usize> Tracker<W> {
-    ghost use Rattle.tl_manager.specs.Tracking;
+    ghost use Rattle.tl_manager.specs.code.Tracking;
 
     /// Whether it has no request.
     pub fn is_free(&self) -> bool
@@ -61,7 +61,7 @@ impl<const W: usize> Tracker<W> {
 }
 
 impl<const W: usize> Tracker<W> {
-    ghost use Rattle.tl_manager.specs.Tracking;
+    ghost use Rattle.tl_manager.specs.code.Tracking;
 
     /// Its request, which isn't answered.
     pub fn request(&self) -> Option<MessageA<W>>
@@ -115,8 +115,8 @@ pub struct Trackers<const W: usize> {
 }
 
 impl<const W: usize> Trackers<W> {
-    ghost use Rattle.tl_manager.specs.Tracking;
-    ghost use Rattle.tl_manager.specs.Trackers.{tracker_at, IsAsked, IsOfBlock};
+    ghost use Rattle.tl_manager.specs.code.Tracking;
+    ghost use Rattle.tl_manager.specs.code.Trackers.{tracker_at, IsAsked, IsOfBlock};
 
     /// So many free ones.
     pub fn new(count: u8) -> Self

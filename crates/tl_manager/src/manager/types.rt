@@ -1,9 +1,9 @@
 //! What the types of beats and messages say.
 
 ghost use Rattle.std.specs.Prelude.{◌≡◌, length};
-ghost use Rattle.tl_beat.specs.Width.{IsWidth};
-ghost use Rattle.tl_burst.specs.Part.{IsTakeable};
-ghost use Rattle.tl_manager.specs.Kept.{IsFilled, IsTyped};
+ghost use Rattle.tl_beat.specs.statement.Width.{IsWidth};
+ghost use Rattle.tl_burst.specs.statement.Part.{IsTakeable};
+ghost use Rattle.tl_manager.specs.code.Kept.{IsFilled, IsTyped};
 
 use tl_beat::beat::Beat;
 use tl_burst::message::Message;

@@ -1,16 +1,16 @@
 //! One link: the bursts that come on it, and what its messages are judged by.
 
 ghost use Rattle.std.specs.Prelude.{ℕ, ◌≡◌, ◌<◌, ◌≤◌, ◌==◌, ◌&&◌, length, false, true, is_some, IfSome, List, [], ◌∷◌};
-ghost use Rattle.tl_beat.specs.Width.{IsWidth, IsWidth-prop};
-ghost use Rattle.tl_burst.specs.Burst.{IsBurst};
-ghost use Rattle.tl_burst.specs.Messages.{breaks_burst};
-ghost use Rattle.tl_burst.specs.Part.{IsTakeable, part_of, completes};
-ghost use Rattle.tl_rules.specs.Conformance.{comes_in_request};
-ghost use Rattle.tl_manager.specs.BurstFor.{burst_for, burst_with};
-ghost use Rattle.tl_manager.specs.Offer.{is_from_client};
-ghost use Rattle.tl_manager.specs.Releases.{comes_with, comes_of};
-ghost use Rattle.tl_manager.specs.Probed.{probe_in};
-ghost use Rattle.tl_manager.specs.Tracking.{request_in};
+ghost use Rattle.tl_beat.specs.statement.Width.{IsWidth, IsWidth-prop};
+ghost use Rattle.tl_burst.specs.statement.Burst.{IsBurst};
+ghost use Rattle.tl_burst.specs.statement.Messages.{breaks_burst};
+ghost use Rattle.tl_burst.specs.statement.Part.{IsTakeable, part_of, completes};
+ghost use Rattle.tl_rules.specs.statement.Conformance.{comes_in_request};
+ghost use Rattle.tl_manager.specs.code.BurstFor.{burst_for, burst_with};
+ghost use Rattle.tl_manager.specs.statement.Offer.{is_from_client};
+ghost use Rattle.tl_manager.specs.code.Releases.{comes_with, comes_of};
+ghost use Rattle.tl_manager.specs.code.Probed.{probe_in};
+ghost use Rattle.tl_manager.specs.code.Tracking.{request_in};
 
 use crate::directory::Directory;
 use crate::manager::home::{Home, cap_probed};
@@ -40,7 +40,7 @@ pub struct Wire<const W: usize> {
 }
 
 impl<const W: usize> Wire<W> {
-    ghost use Rattle.tl_manager.specs.Fresh.{fresh_wire};
+    ghost use Rattle.tl_manager.specs.code.Fresh.{fresh_wire};
 
     /// A link of this level on which nothing came.
     pub fn new(level: Level) -> Self
@@ -149,7 +149,7 @@ pub struct LinkPast<'a, const W: usize, D: Directory> {
 }
 
 impl<'a, const W: usize, D: Directory> Past<W> for LinkPast<'a, W, D> {
-    ghost use Rattle.tl_manager.specs.Wire.{IsLinkPast};
+    ghost use Rattle.tl_manager.specs.code.Wire.{IsLinkPast};
 
     ghost knows = { λ p t. IsLinkPast D.perm_of p.link p.wire.now p.home.now t };
 

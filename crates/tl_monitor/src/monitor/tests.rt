@@ -1,5 +1,5 @@
 ghost use Rattle.std.specs.Prelude.{false, ◌≡◌};
-ghost use Rattle.tl_beat.specs.Opcode.{d_carries_data};
+ghost use Rattle.tl_beat.specs.statement.Opcode.{d_carries_data};
 
 mod long;
 

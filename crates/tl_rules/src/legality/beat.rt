@@ -2,10 +2,10 @@
 //! taxonomy" and the chapters on the three levels).
 
 ghost use Rattle.std.specs.Prelude.{◌≡◌, OnOk};
-ghost use Rattle.tl_params.specs.Refusal.{ok_unless};
-ghost use Rattle.tl_beat.specs.Width.{IsWidth};
-ghost use Rattle.tl_burst.specs.Part.{IsTakeable};
-ghost use Rattle.tl_rules.specs.Legality.{illegal};
+ghost use Rattle.tl_params.specs.statement.Refusal.{ok_unless};
+ghost use Rattle.tl_beat.specs.statement.Width.{IsWidth};
+ghost use Rattle.tl_burst.specs.statement.Part.{IsTakeable};
+ghost use Rattle.tl_rules.specs.statement.Legality.{illegal};
 
 use crate::{channel, field};
 use tl_beat::beat::{Beat, BeatA, BeatB, BeatC, BeatD};
@@ -15,7 +15,7 @@ use tl_params::rule::Rule;
 
 /// The first L rule that a beat on this channel of a link of this level breaks, in the order L1,
 /// L7, L2, L3, L4, L5, L6. A beat that breaks none can be given to an assembler.
-#[tactic(auto, unfolding(crate::specs::Legality::illegal))]
+#[tactic(auto, unfolding(crate::specs::statement::Legality::illegal))]
 pub fn check_beat<const W: usize>(
     level: Level,
     channel: Channel,
@@ -35,7 +35,7 @@ pub fn check_beat<const W: usize>(
     }
 }
 
-#[tactic(auto, unfolding(crate::specs::Legality::illegal))]
+#[tactic(auto, unfolding(crate::specs::statement::Legality::illegal))]
 fn check_a<const W: usize>(level: Level, beat: &BeatA<W>) -> Result<(), Rule>
     requires { IsWidth W }
     ensures value { result ≡ ok_unless (illegal level Channel.A (Beat.A beat.now)) }
@@ -51,7 +51,7 @@ fn check_a<const W: usize>(level: Level, beat: &BeatA<W>) -> Result<(), Rule>
     )
 }
 
-#[tactic(auto, unfolding(crate::specs::Legality::illegal))]
+#[tactic(auto, unfolding(crate::specs::statement::Legality::illegal))]
 fn check_b<const W: usize>(level: Level, beat: &BeatB<W>) -> Result<(), Rule>
     requires { IsWidth W }
     ensures value { result ≡ ok_unless (illegal level Channel.B (Beat.B beat.now)) }
@@ -74,7 +74,7 @@ fn check_b<const W: usize>(level: Level, beat: &BeatB<W>) -> Result<(), Rule>
     )
 }
 
-#[tactic(auto, unfolding(crate::specs::Legality::illegal))]
+#[tactic(auto, unfolding(crate::specs::statement::Legality::illegal))]
 fn check_c<const W: usize>(level: Level, beat: &BeatC<W>) -> Result<(), Rule>
     requires { IsWidth W }
     ensures value { result ≡ ok_unless (illegal level Channel.C (Beat.C beat.now)) }
@@ -91,7 +91,7 @@ fn check_c<const W: usize>(level: Level, beat: &BeatC<W>) -> Result<(), Rule>
     channel::own_of_c(beat.opcode, beat.corrupt)
 }
 
-#[tactic(auto, unfolding(crate::specs::Legality::illegal))]
+#[tactic(auto, unfolding(crate::specs::statement::Legality::illegal))]
 fn check_d<const W: usize>(level: Level, beat: &BeatD<W>) -> Result<(), Rule>
     requires { IsWidth W }
     ensures value { result ≡ ok_unless (illegal level Channel.D (Beat.D beat.now)) }

@@ -1,13 +1,13 @@
 //! Legality of a message by level and channel alone.
 
 ghost use Rattle.std.specs.Prelude.{◌≡◌, not};
-ghost use Rattle.tl_params.specs.Refusal.{ok_unless};
-ghost use Rattle.tl_beat.specs.Width.{IsWidth};
-ghost use Rattle.tl_beat.specs.First.{first_if};
-ghost use Rattle.tl_burst.specs.Burst;
-ghost use Rattle.tl_burst.specs.Burst.{beat_of};
-ghost use Rattle.tl_burst.specs.Messages.{on};
-ghost use Rattle.tl_rules.specs.Legality.{illegal_message, has_transfers};
+ghost use Rattle.tl_params.specs.statement.Refusal.{ok_unless};
+ghost use Rattle.tl_beat.specs.statement.Width.{IsWidth};
+ghost use Rattle.tl_beat.specs.statement.First.{first_if};
+ghost use Rattle.tl_burst.specs.statement.Burst;
+ghost use Rattle.tl_burst.specs.statement.Burst.{beat_of};
+ghost use Rattle.tl_burst.specs.statement.Messages.{on};
+ghost use Rattle.tl_rules.specs.statement.Legality.{illegal_message, has_transfers};
 
 use crate::{channel, field};
 use tl_beat::channel::Channel;

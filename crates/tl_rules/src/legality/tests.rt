@@ -1,5 +1,5 @@
 ghost use Rattle.std.specs.Prelude.{◌≡◌, is_some};
-ghost use Rattle.tl_beat.specs.Width.{IsWidth};
+ghost use Rattle.tl_beat.specs.statement.Width.{IsWidth};
 
 use crate::legality::beat::check_beat;
 use tl_beat::beat::{Beat, BeatA, BeatB, BeatC, BeatD, BeatE};

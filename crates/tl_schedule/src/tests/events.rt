@@ -1,7 +1,7 @@
 //! Lines of events at each width, and the lines beside them that say nothing.
 
 ghost use Rattle.std.specs.Prelude.{◌≤◌};
-ghost use Rattle.tl_beat.specs.Width.{IsWidth};
+ghost use Rattle.tl_beat.specs.statement.Width.{IsWidth};
 
 use crate::line::{EventFault, Line, read_event};
 use std::process::Abort;

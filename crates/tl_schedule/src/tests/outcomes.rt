@@ -1,6 +1,6 @@
 //! The line of each outcome.
 
-ghost use Rattle.tl_beat.specs.Width.{IsWidth};
+ghost use Rattle.tl_beat.specs.statement.Width.{IsWidth};
 
 use crate::outcome::{append_drained, append_outcome, append_trace};
 use std::process::Abort;

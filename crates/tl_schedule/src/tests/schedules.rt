@@ -1,7 +1,7 @@
 //! Whole schedules, line by line: two caches that contend, releases that race with probes, accesses of
 //! plain clients.
 
-ghost use Rattle.tl_beat.specs.Width.{IsWidth};
+ghost use Rattle.tl_beat.specs.statement.Width.{IsWidth};
 
 use crate::header::read_schedule;
 use crate::line::read_event;

@@ -1,6 +1,6 @@
 use Rattle.std.proofs.Common.{rules, arith, ◌-◌, ◌≡◌, ◌++◌, [], sym, ap, ◌∙◌, List, ℕ}
 use Rattle.std.proofs.lemmas.List.{append-nil}
-use Rattle.tl_beat.specs.Digits.{digits}
+use Rattle.tl_beat.specs.statement.Digits.{digits}
 use Rattle.tl_beat.proofs.Written.{append_one, digits-none}
 use Rattle.tl_beat.proofs.text.append_digits.Goals as goal
 

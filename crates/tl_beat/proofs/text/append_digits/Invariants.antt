@@ -1,5 +1,5 @@
 use Rattle.std.proofs.Common.{◌≡◌, ◌++◌, ◌+◌, ◌-◌, length}
-use Rattle.tl_beat.specs.Digits.{digits}
+use Rattle.tl_beat.specs.statement.Digits.{digits}
 use Rattle.tl_beat.proofs.text.append_digits.Given as goal
 
 abbrev pub invariant-loop-i : goal.invariant-loop-i

@@ -1,5 +1,5 @@
 use Rattle.std.proofs.Common.{◌≡◌, ◌++◌, ◌+◌, ◌-◌, ◌*◌, length, take}
-use Rattle.tl_beat.specs.Digits.{lane_digits}
+use Rattle.tl_beat.specs.statement.Digits.{lane_digits}
 use Rattle.tl_beat.proofs.text.append_lanes.Given as goal
 
 abbrev pub invariant-loop-i : goal.invariant-loop-i

@@ -1,5 +1,5 @@
 use Rattle.std.proofs.Common.{append_assoc}
-use Rattle.tl_beat.specs.Line.{spaced}
+use Rattle.tl_beat.specs.statement.Line.{spaced}
 use Rattle.tl_beat.proofs.write.append_a.Goals as goal
 
 pub returns-clause-text : goal.returns-clause-text

@@ -1,6 +1,6 @@
 use Rattle.std.proofs.Common.{◌≡◌, ℕ, List, ◌++◌, length, drop, replicate, refl}
 use Rattle.std.proofs.lemmas.List.{drop-replicate}
-use Rattle.tl_client.specs.Offer
+use Rattle.tl_client.specs.statement.Offer
 use Rattle.tl_client.proofs.response.padded.Goals as goal
 
 over_zeros : (first new : List ℕ) → new ≡ first → new ++ drop (length first) (replicate 64 0) ≡ Offer.padded first

@@ -1,8 +1,8 @@
 //! Beats that are corrupt, denied or of another size, and beats that break two rules at once.
 
 ghost use Rattle.std.specs.Prelude.{◌≡◌, true, false, is_some};
-ghost use Rattle.tl_beat.specs.Opcode.{d_carries_data};
-ghost use Rattle.tl_beat.specs.Width.{IsWidth};
+ghost use Rattle.tl_beat.specs.statement.Opcode.{d_carries_data};
+ghost use Rattle.tl_beat.specs.statement.Width.{IsWidth};
 
 use super::*;
 

@@ -1,5 +1,5 @@
 use Rattle.tl_manager.proofs.Clients.{among-where, rising-where, nobody-where, unheld-where}
-use Rattle.tl_manager.specs.Holders.{is_missing}
+use Rattle.tl_manager.specs.statement.Holders.{is_missing}
 use Rattle.tl_manager.proofs.law.finds_clients.Goals as goal
 
 pub returns-clause-found : goal.returns-clause-found

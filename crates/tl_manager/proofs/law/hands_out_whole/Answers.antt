@@ -1,7 +1,7 @@
 use Rattle.std.proofs.Common.{refl}
 use Rattle.tl_burst.specs.declared.message.Message.TheVariants.{B, D}
 use Rattle.tl_burst.proofs.Splitting.{beats-positive}
-use Rattle.tl_burst.specs.Burst.{beats_of}
+use Rattle.tl_burst.specs.statement.Burst.{beats_of}
 use Rattle.tl_rules.proofs.Sent.{request_of-other}
 use Rattle.tl_rules.proofs.Handed.{pending-sent_b, pending-sent_d}
 use Rattle.tl_manager.proofs.law.hands_out_whole.Goals as goal

@@ -1,6 +1,6 @@
 //! Sixteen clients, eight trackers, and the limits of a configuration.
 
-ghost use Rattle.tl_beat.specs.Width.{IsWidth};
+ghost use Rattle.tl_beat.specs.statement.Width.{IsWidth};
 
 use super::*;
 

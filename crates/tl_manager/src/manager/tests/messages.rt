@@ -1,6 +1,6 @@
 //! The messages and beats that rows name.
 
-ghost use Rattle.tl_beat.specs.Width.{IsWidth};
+ghost use Rattle.tl_beat.specs.statement.Width.{IsWidth};
 
 use super::*;
 use tl_beat::opcode::OpB;

@@ -1,7 +1,7 @@
 use Rattle.std.proofs.Common.{◌≡◌, arith, ap, sym, ◌∙◌, rules}
 use Rattle.std.proofs.lemmas.Grind.{common_steps}
 use Rattle.std.specs.Prelude.{Some}
-use Rattle.tl_monitor.specs.Blocks.{value_found, value_in}
+use Rattle.tl_monitor.specs.code.Blocks.{value_found, value_in}
 use Rattle.tl_monitor.proofs.OpenBlocks.{open-none, value-in, value-same}
 use Rattle.tl_monitor.proofs.blocks.make_room_in.Goals as goal
 

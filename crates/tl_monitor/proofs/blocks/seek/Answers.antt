@@ -1,7 +1,7 @@
 use Rattle.std.proofs.Common.{◌≡◌, ◌<◌, arith, length, rules, ◌∙◌}
 use Rattle.std.specs.Prelude.{slice_set}
 use Rattle.std.proofs.lemmas.List.{length-set}
-use Rattle.tl_monitor.specs.Blocks.{entries_of, value_found, AreOpen}
+use Rattle.tl_monitor.specs.code.Blocks.{entries_of, value_found, AreOpen}
 use Rattle.tl_monitor.proofs.OpenBlocks.{entries-long, found-same, found-stands, read-found, seen-open, stored}
 use Rattle.tl_monitor.proofs.blocks.seek.Goals as goal
 

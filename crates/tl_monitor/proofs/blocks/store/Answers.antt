@@ -1,6 +1,6 @@
 use Rattle.std.proofs.Common.{◌≡◌, ap, sym, ◌∙◌, rules}
 use Rattle.std.specs.Prelude.{None}
-use Rattle.tl_monitor.specs.Blocks.{value_found}
+use Rattle.tl_monitor.specs.code.Blocks.{value_found}
 use Rattle.tl_monitor.proofs.OpenBlocks.{value-absent}
 use Rattle.tl_monitor.proofs.blocks.store.Goals as goal
 

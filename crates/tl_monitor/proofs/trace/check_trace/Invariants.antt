@@ -1,6 +1,7 @@
 use Rattle.std.proofs.Common.{◌≡◌, [], length, take, drop, reverse, false}
-use Rattle.tl_rules.specs.Conformance.{fault_from}
-use Rattle.tl_monitor.specs.Knows.{Knows, IsCount}
+use Rattle.tl_rules.specs.statement.Conformance.{fault_from}
+use Rattle.tl_monitor.specs.statement.Knows.{Knows}
+use Rattle.tl_params.specs.statement.Config.{IsCount}
 use Rattle.tl_monitor.proofs.trace.check_trace.Given as goal
 
 abbrev pub invariant-loop-i : goal.invariant-loop-i

@@ -1,5 +1,5 @@
 use Rattle.std.proofs.Common.{arith}
-use Rattle.tl_rules.specs.Legality.{is_lane}
+use Rattle.tl_rules.specs.statement.Legality.{is_lane}
 use Rattle.tl_rules.proofs.Masks.{same_mask}
 use Rattle.tl_rules.proofs.Takeable.{if_true, full_mask-narrow}
 use Rattle.tl_rules.proofs.mask.is_full.Goals as goal

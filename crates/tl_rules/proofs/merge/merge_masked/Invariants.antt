@@ -1,5 +1,5 @@
 use Rattle.std.proofs.Common.{◌≡◌, ◌++◌, ◌*◌, take, drop}
-use Rattle.tl_rules.specs.Merge.{merged}
+use Rattle.tl_rules.specs.code.Merge.{merged}
 use Rattle.tl_rules.proofs.merge.merge_masked.Given as goal
 
 abbrev pub invariant-loop-i : goal.invariant-loop-i

@@ -1,5 +1,5 @@
 use Rattle.std.proofs.Common.{◌≡◌, ◌-◌, ◌++◌, ℕ, List, [], length, replicate}
-use Rattle.tl_schedule.specs.FieldReading.{pairs_in}
+use Rattle.tl_schedule.specs.code.FieldReading.{pairs_in}
 use Rattle.tl_schedule.proofs.field.data.Given as goal
 
 abbrev pub invariant-loop-i : goal.invariant-loop-i

@@ -1,5 +1,5 @@
 use Rattle.std.proofs.Common.{◌≡◌, ◌<◌, ◌-◌, ◌^◌}
-use Rattle.tl_schedule.specs.FieldReading.{number_in}
+use Rattle.tl_schedule.specs.code.FieldReading.{number_in}
 use Rattle.tl_schedule.proofs.field.number.Given as goal
 
 abbrev pub invariant-loop : goal.invariant-loop

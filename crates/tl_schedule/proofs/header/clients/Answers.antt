@@ -1,6 +1,6 @@
 use Rattle.std.proofs.Common.{◌≡◌, ◌<◌, ◌++◌, ◌∷◌, [], length, length-append, rules, arith, None}
 use Rattle.tl_params.proofs.UpTo.{all-read, next-is, none-is, too_many}
-use Rattle.tl_schedule.specs.HeaderReading.{client_at}
+use Rattle.tl_schedule.specs.code.HeaderReading.{client_at}
 use Rattle.tl_schedule.proofs.header.clients.Goals as goal
 
 pub returns-in_err-client : goal.returns-in_err-client

@@ -1,5 +1,5 @@
 use Rattle.std.proofs.Common.{◌≡◌, ◌≤◌, length, ◌-◌}
-use Rattle.tl_schedule.specs.HeaderReading.{clients_at}
+use Rattle.tl_schedule.specs.code.HeaderReading.{clients_at}
 use Rattle.tl_params.proofs.UpTo.{behind}
 use Rattle.tl_schedule.proofs.header.clients.Given as goal
 

@@ -1,5 +1,5 @@
 use Rattle.std.proofs.Common.{◌≡◌, ◌≤◌, length}
-use Rattle.tl_schedule.specs.HeaderReading.{decimal_from}
+use Rattle.tl_schedule.specs.code.HeaderReading.{decimal_from}
 use Rattle.tl_schedule.proofs.header.digits.Given as goal
 
 abbrev pub invariant-loop-d : goal.invariant-loop-d

@@ -1,5 +1,5 @@
 use Rattle.std.proofs.Common.{◌≡◌, ◌-◌, ◌++◌, drop}
-use Rattle.tl_beat.specs.Digits.{lane_digits}
+use Rattle.tl_beat.specs.statement.Digits.{lane_digits}
 use Rattle.tl_schedule.proofs.outcome.append_bytes.Given as goal
 
 abbrev pub invariant-loop-i : goal.invariant-loop-i

@@ -1,6 +1,6 @@
 use Rattle.std.proofs.Common.{◌≡◌, ◌<◌, [], ℕ, List, length}
 use Rattle.std.specs.Io.KnownBytes.{Appends, Consumes}
-use Rattle.tl_tool.specs.Progress.{Progress}
+use Rattle.tl_tool.specs.code.Progress.{Progress}
 use Rattle.tl_tool.proofs.engine.judge_input.Given as goal
 
 abbrev pub invariant-loop : goal.invariant-loop

@@ -1,5 +1,5 @@
 use Rattle.std.proofs.Common.{◌≡◌, ◌<◌, ◌++◌, ◌∷◌, [], length, length-append, rules, arith, None}
-use Rattle.tl_params.specs.HeaderReading.{level_at}
+use Rattle.tl_params.specs.code.HeaderReading.{level_at}
 use Rattle.tl_params.proofs.Headers.{level_read, level_unread}
 use Rattle.tl_params.proofs.UpTo.{all-read, next-is, none-is, too_many}
 use Rattle.tl_tool.proofs.header.levels.Goals as goal

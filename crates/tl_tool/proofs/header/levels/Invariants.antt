@@ -1,5 +1,5 @@
 use Rattle.std.proofs.Common.{◌≡◌, ◌≤◌, length, ◌-◌}
-use Rattle.tl_tool.specs.TraceReading.{levels_at}
+use Rattle.tl_tool.specs.code.TraceReading.{levels_at}
 use Rattle.tl_params.proofs.UpTo.{behind}
 use Rattle.tl_tool.proofs.header.levels.Given as goal
 

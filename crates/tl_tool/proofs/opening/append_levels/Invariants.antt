@@ -1,5 +1,5 @@
 use Rattle.std.proofs.Common.{◌≡◌, ◌++◌, map, drop}
-use Rattle.tl_tool.specs.Trace.{levels_text}
+use Rattle.tl_tool.specs.statement.Trace.{levels_text}
 use Rattle.tl_tool.proofs.opening.append_levels.Given as goal
 
 abbrev pub invariant-loop-client : goal.invariant-loop-client

@@ -1,7 +1,7 @@
 use Rattle.std.proofs.Common.{sym, ◌∙◌}
 use Rattle.tl_params.specs.declared.width.Width.TheVariants.{Four, Eight, Sixteen}
-use Rattle.tl_tool.specs.Played.{header_text}
-use Rattle.tl_tool.specs.Playing.{is_trace}
+use Rattle.tl_tool.specs.statement.Played.{header_text}
+use Rattle.tl_tool.specs.code.Playing.{is_trace}
 use Rattle.tl_tool.proofs.Playing.{header-plays}
 use Rattle.tl_tool.proofs.player.open.Goals as goal
 use Rattle.tl_tool.proofs.player.open.Goals.{in-Four+in_ok-new-in-Four, in-Eight+in_ok-new-in-Eight, in-Sixteen+in_ok-new-in-Sixteen}

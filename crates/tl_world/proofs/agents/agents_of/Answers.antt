@@ -2,9 +2,9 @@ use Rattle.std.proofs.Common.{rules, ◌≡◌, ◌<◌, None, ap, length, inr, 
 use Rattle.std.proofs.lemmas.Result.{err_from_is_err_and}
 use Rattle.tl_params.specs.declared.config.ClientConfig.{ClientConfig}
 use Rattle.tl_params.specs.declared.level.Level.TheVariants as level
-use Rattle.tl_params.specs.Config.{config_fault}
-use Rattle.tl_client.specs.KnowsAny.{KnowsAny, any_terms}
-use Rattle.tl_world.specs.Holds.{clients_of}
+use Rattle.tl_params.specs.statement.Config.{config_fault}
+use Rattle.tl_client.specs.code.KnowsAny.{KnowsAny, any_terms}
+use Rattle.tl_world.specs.code.Holds.{clients_of}
 use Rattle.tl_world.proofs.Hired.{no-fault, client-fits, hired}
 use Rattle.tl_world.proofs.agents.agents_of.Goals as goal
 

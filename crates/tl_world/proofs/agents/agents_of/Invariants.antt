@@ -1,5 +1,5 @@
-use Rattle.tl_client.specs.KnowsAny.{KnowsAny, any_terms}
-use Rattle.tl_world.specs.Agents.{AreMade}
+use Rattle.tl_client.specs.code.KnowsAny.{KnowsAny, any_terms}
+use Rattle.tl_world.specs.code.Agents.{AreMade}
 use Rattle.tl_world.proofs.agents.agents_of.Given as goal
 
 abbrev pub invariant-loop-client : goal.invariant-loop-client

@@ -2,8 +2,8 @@ use Rattle.std.proofs.Common.{◌≡◌, ◌/◌, ◌<◌, [], ◌∙◌, ap, sy
 use Rattle.circular_buffer.specs.Buffer.{buffer}
 use Rattle.tl_params.specs.declared.config.ClientConfig.{ClientConfig}
 use Rattle.tl_params.specs.declared.level.Level.TheVariants as level
-use Rattle.tl_world.specs.Carrying.{capacity_at}
-use Rattle.tl_world.specs.Holds.{clients_of}
+use Rattle.tl_world.specs.code.Carrying.{capacity_at}
+use Rattle.tl_world.specs.code.Holds.{clients_of}
 use Rattle.tl_world.proofs.Made.{sources-at, one-more}
 use Rattle.tl_world.proofs.make.make_rings.Goals as goal
 

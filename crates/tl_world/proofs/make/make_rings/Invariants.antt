@@ -1,4 +1,4 @@
-use Rattle.tl_world.specs.Carrying.{AreFresh}
+use Rattle.tl_world.specs.code.Carrying.{AreFresh}
 use Rattle.tl_world.proofs.make.make_rings.Given as goal
 
 abbrev pub invariant-loop-at : goal.invariant-loop-at

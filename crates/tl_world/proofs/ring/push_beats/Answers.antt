@@ -1,6 +1,6 @@
 use Rattle.std.proofs.Common.{rules, refl, sym, arith}
 use Rattle.std.proofs.lemmas.List.{append-nil}
-use Rattle.tl_rules.specs.Legality.{beats_from}
+use Rattle.tl_rules.specs.statement.Legality.{beats_from}
 use Rattle.tl_world.proofs.Sending.{pushed}
 use Rattle.tl_world.proofs.ring.push_beats.Goals as goal
 

@@ -1,6 +1,6 @@
 use Rattle.std.proofs.Common.{◌≡◌, ◌+◌, ◌++◌, ◌≤◌, length}
-use Rattle.tl_burst.specs.Burst
-use Rattle.tl_rules.specs.Legality.{beats_from}
+use Rattle.tl_burst.specs.statement.Burst
+use Rattle.tl_rules.specs.statement.Legality.{beats_from}
 use Rattle.tl_world.proofs.ring.push_beats.Given as goal
 
 abbrev pub invariant-loop-i : goal.invariant-loop-i

@@ -1,6 +1,6 @@
 //! Accesses of clients without copies.
 
-ghost use Rattle.tl_beat.specs.Width.{IsWidth};
+ghost use Rattle.tl_beat.specs.statement.Width.{IsWidth};
 
 use crate::world::tests::made::Setup;
 use crate::world::tests::message::{Bytes, Ends, Says, ZEROS};

@@ -1,7 +1,7 @@
 //! Channels that are filled to the brim: what is outstanding after each event, how deep each channel
 //! ever was, and what a drain makes of each beginning.
 
-ghost use Rattle.tl_beat.specs.Width.{IsWidth};
+ghost use Rattle.tl_beat.specs.statement.Width.{IsWidth};
 
 use crate::world::World;
 use crate::world::tests::made::{Covers, Hires, world_again};

@@ -1,6 +1,6 @@
 //! Copies that clients read and write.
 
-ghost use Rattle.tl_beat.specs.Width.{IsWidth};
+ghost use Rattle.tl_beat.specs.statement.Width.{IsWidth};
 
 use crate::world::tests::made::Setup;
 use crate::world::tests::message::{Bytes, Ends, Says, ZEROS};

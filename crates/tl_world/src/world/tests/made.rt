@@ -1,9 +1,9 @@
 //! Clients, directories and worlds to try.
 
 ghost use Rattle.std.specs.Prelude.{IfOk};
-ghost use Rattle.tl_beat.specs.Width.{IsWidth};
-ghost use Rattle.tl_world.specs.Agents.{IsHired};
-ghost use Rattle.tl_world.specs.World.{AreReady, IsEmpty};
+ghost use Rattle.tl_beat.specs.statement.Width.{IsWidth};
+ghost use Rattle.tl_world.specs.code.Agents.{IsHired};
+ghost use Rattle.tl_world.specs.statement.World.{AreReady, IsEmpty};
 
 use crate::world::World;
 use arrayvec::ArrayVec;

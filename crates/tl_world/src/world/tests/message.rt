@@ -1,7 +1,7 @@
 //! Messages of any width, as the lines of their beats show them.
 
 ghost use Rattle.std.specs.Prelude.{◌≤◌};
-ghost use Rattle.tl_beat.specs.Width.{IsWidth};
+ghost use Rattle.tl_beat.specs.statement.Width.{IsWidth};
 
 use tl_beat::channel::Channel;
 use tl_beat::opcode::{OpA, OpB, OpC, OpD};

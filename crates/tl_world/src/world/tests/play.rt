@@ -1,6 +1,6 @@
 //! Scripts are played by `step`, by `drain` and by `replay`, on any clients and any directory.
 
-ghost use Rattle.tl_beat.specs.Width.{IsWidth};
+ghost use Rattle.tl_beat.specs.statement.Width.{IsWidth};
 
 use crate::world::World;
 use crate::world::tests::made::{Covers, Hires, Setup, is_made, world_again};

@@ -1,6 +1,6 @@
 //! Events that happen one after another in one call: `replay`, and `run` on a world made before.
 
-ghost use Rattle.tl_beat.specs.Width.{IsWidth};
+ghost use Rattle.tl_beat.specs.statement.Width.{IsWidth};
 
 use crate::world::World;
 use crate::world::tests::made::{Covers, Hires, Setup, hire_all, is_made, make_world};

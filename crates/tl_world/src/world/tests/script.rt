@@ -1,6 +1,6 @@
 //! Events, and what comes of each.
 
-ghost use Rattle.tl_beat.specs.Width.{IsWidth};
+ghost use Rattle.tl_beat.specs.statement.Width.{IsWidth};
 
 use crate::world::tests::message::{Ends, Says, channel_of, finish, message};
 use std::alloc::{AllocError, Global};

@@ -1,5 +1,5 @@
 use Rattle.std.proofs.Common.{◌≡◌, ◌-◌, [], drop, length}
-use Rattle.tl_beat.specs.FromLeft.{lanes_at}
+use Rattle.tl_beat.specs.code.FromLeft.{lanes_at}
 use Rattle.tl_beat.proofs.read.field.any_lanes.Given as goal
 
 abbrev pub invariant-loop-i : goal.invariant-loop-i

@@ -1,5 +1,5 @@
 use Rattle.std.proofs.Common.{◌≡◌, ◌<◌, ◌-◌, ◌^◌}
-use Rattle.tl_beat.specs.FromLeft.{digits_at}
+use Rattle.tl_beat.specs.code.FromLeft.{digits_at}
 use Rattle.tl_beat.proofs.read.field.digits.Given as goal
 
 abbrev pub invariant-loop : goal.invariant-loop

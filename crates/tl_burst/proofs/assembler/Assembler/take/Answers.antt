@@ -1,5 +1,5 @@
 use Rattle.std.proofs.Common.{◌≡◌, ◌∙◌, ◌+◌, sym, arith, rules}
-use Rattle.tl_burst.specs.Burst.{beats_of}
+use Rattle.tl_burst.specs.statement.Burst.{beats_of}
 use Rattle.tl_burst.proofs.Begun.{begun_more, completes-not_yet, completes-now, grown-not_yet, grown-now, is_broken, one_more_burst}
 use Rattle.tl_burst.proofs.Lanes.{within_payload, few_beats}
 use Rattle.tl_burst.proofs.Splitting.{own-refused, own-not_yet, own-now, split_grows, split_closes}

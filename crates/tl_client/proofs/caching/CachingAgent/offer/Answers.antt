@@ -1,5 +1,5 @@
 use Rattle.std.proofs.Common.{rules, sym}
-use Rattle.tl_client.specs.KnowsCaching.{terms_of}
+use Rattle.tl_client.specs.code.KnowsCaching.{terms_of}
 use Rattle.tl_client.proofs.CachingJudged.{knows-took, lawful}
 use Rattle.tl_client.proofs.caching.CachingAgent.offer.Goals as goal
 

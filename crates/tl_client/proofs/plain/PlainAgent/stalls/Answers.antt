@@ -1,5 +1,5 @@
 use Rattle.std.proofs.Common.{sym}
-use Rattle.tl_client.specs.KnowsPlain.{terms_of}
+use Rattle.tl_client.specs.code.KnowsPlain.{terms_of}
 use Rattle.tl_client.proofs.PlainOffers.{stalls-plain}
 use Rattle.tl_client.proofs.plain.PlainAgent.stalls.Goals as goal
 

@@ -1,6 +1,6 @@
 use Rattle.std.proofs.Common.{◌≡◌, ◌-◌, is_some}
-use Rattle.tl_client.specs.Ask.{least_free}
-use Rattle.tl_client.specs.Sources.{open_at}
+use Rattle.tl_client.specs.statement.Ask.{least_free}
+use Rattle.tl_client.specs.code.Sources.{open_at}
 use Rattle.tl_client.proofs.sources.Sources.least_free.Given as goal
 
 abbrev pub invariant-loop-source : goal.invariant-loop-source

@@ -1,5 +1,5 @@
 use Rattle.std.proofs.Common.{refl, ap}
-use Rattle.tl_manager.specs.Offer
+use Rattle.tl_manager.specs.statement.Offer
 use Rattle.tl_manager.proofs.Offered.{offered-broken, offered-waits, offered-passes, manager-after}
 use Rattle.tl_manager.proofs.manager.Manager.answer.Goals as goal
 

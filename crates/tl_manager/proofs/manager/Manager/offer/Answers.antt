@@ -1,5 +1,5 @@
 use Rattle.std.proofs.Common.{ap, ◌∙◌}
-use Rattle.tl_manager.specs.Offer
+use Rattle.tl_manager.specs.statement.Offer
 use Rattle.tl_manager.proofs.manager.Manager.offer.Goals as goal
 
 pub returns-in-None-clause-answer : goal.returns-in-None-clause-answer

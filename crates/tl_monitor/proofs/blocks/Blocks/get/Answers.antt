@@ -1,5 +1,5 @@
 use Rattle.std.proofs.Common.{◌≡◌, ◌<◌, ap, arith, length, ◌∙◌, rules}
-use Rattle.tl_monitor.specs.Blocks.{block_or_empty, entries_of, value_found}
+use Rattle.tl_monitor.specs.code.Blocks.{block_or_empty, entries_of, value_found}
 use Rattle.tl_monitor.proofs.OpenBlocks.{entries-long, own-said, other-said, read-found}
 use Rattle.tl_monitor.proofs.blocks.Blocks.get.Goals as goal
 

@@ -1,5 +1,5 @@
 use Rattle.std.proofs.Common.{arith}
-use Rattle.tl_monitor.specs.Blocks.{entries_of, with_seen}
+use Rattle.tl_monitor.specs.code.Blocks.{entries_of, with_seen}
 use Rattle.tl_monitor.proofs.OpenBlocks.{all-le}
 use Rattle.tl_monitor.proofs.blocks.Blocks.len.Goals as goal
 

@@ -1,5 +1,5 @@
 use Rattle.std.specs.Prelude.{None}
-use Rattle.tl_monitor.specs.Blocks.{entries_of, with_seen}
+use Rattle.tl_monitor.specs.code.Blocks.{entries_of, with_seen}
 use Rattle.tl_monitor.proofs.OpenBlocks.{all-none, new-in, new-open, new-seen}
 use Rattle.tl_monitor.proofs.blocks.Blocks.new.Goals as goal
 

@@ -1,5 +1,5 @@
 use Rattle.std.proofs.Common.{ap, arith, refl, rules, ◌∙◌}
-use Rattle.tl_monitor.specs.Blocks.{entries_of, open_of, with_seen}
+use Rattle.tl_monitor.specs.code.Blocks.{entries_of, open_of, with_seen}
 use Rattle.tl_monitor.proofs.OpenBlocks.{all-before, all-changed, all-le, entries-long, own-said, set-said}
 use Rattle.tl_monitor.proofs.blocks.Blocks.set.Goals as goal
 

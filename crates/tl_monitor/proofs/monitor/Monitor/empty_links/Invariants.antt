@@ -1,4 +1,4 @@
-use Rattle.tl_monitor.specs.Knows.{AllEmpty}
+use Rattle.tl_monitor.specs.statement.Knows.{AllEmpty}
 use Rattle.tl_monitor.proofs.monitor.Monitor.empty_links.Given as goal
 
 abbrev pub invariant-loop : goal.invariant-loop

@@ -1,7 +1,7 @@
 use Rattle.std.proofs.Common.{arith, refl, sym, length, ◌<◌}
 use Rattle.std.specs.Prelude.{None}
-use Rattle.tl_rules.specs.Conformance.{on_link}
-use Rattle.tl_monitor.specs.Keeps.{Keeps}
+use Rattle.tl_rules.specs.statement.Conformance.{on_link}
+use Rattle.tl_monitor.specs.code.Keeps.{Keeps}
 use Rattle.tl_monitor.proofs.Keepings.{keeps-more}
 use Rattle.tl_monitor.proofs.Knowing.{fault-is, kept-of, knows-more}
 use Rattle.tl_monitor.proofs.Numbered.{some-more}

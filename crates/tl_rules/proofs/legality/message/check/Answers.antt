@@ -1,5 +1,5 @@
 use Rattle.std.proofs.Common.{rules, ap, sym, ◌∙◌}
-use Rattle.tl_params.specs.Refusal.{ok_unless}
+use Rattle.tl_params.specs.statement.Refusal.{ok_unless}
 use Rattle.tl_rules.proofs.Checks.{other_channel, grant_ack}
 use Rattle.tl_rules.proofs.legality.message.check.Goals as goal
 

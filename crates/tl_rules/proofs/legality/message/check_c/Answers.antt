@@ -1,6 +1,6 @@
 use Rattle.std.proofs.Common.{Err, ap, sym, ◌∙◌}
 use Rattle.std.proofs.lemmas.Result.{err_from_is_err_and}
-use Rattle.tl_params.specs.Refusal.{ok_unless}
+use Rattle.tl_params.specs.statement.Refusal.{ok_unless}
 use Rattle.tl_rules.proofs.Checks.{broken_control, c_owns, c_beats, c_single}
 use Rattle.tl_rules.proofs.legality.message.check_c.Goals as goal
 

@@ -1,6 +1,6 @@
 use Rattle.std.proofs.Common.{◌≡◌, ◌++◌, ℕ, List, length}
 use Rattle.tl_tool.specs.declared.status.Status.TheVariants.{Clean}
-use Rattle.tl_tool.specs.Progress.{Feeds}
+use Rattle.tl_tool.specs.code.Progress.{Feeds}
 use Rattle.tl_tool.proofs.lines.Lines.feed.Given as goal
 
 abbrev pub invariant-loop-line : goal.invariant-loop-line

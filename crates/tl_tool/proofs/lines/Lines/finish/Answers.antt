@@ -1,5 +1,5 @@
 use Rattle.std.proofs.Common.{rules, ◌≡◌, ◌++◌, ◌+◌}
-use Rattle.tl_tool.specs.Fault.{fault_text}
+use Rattle.tl_tool.specs.statement.Fault.{fault_text}
 use Rattle.tl_tool.proofs.Progress.{empty_is, finishes_clean, finishes_broken, finishes_stopped}
 use Rattle.tl_tool.proofs.lines.Lines.finish.Goals as goal
 

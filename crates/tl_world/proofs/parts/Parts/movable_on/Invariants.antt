@@ -1,7 +1,7 @@
 use Rattle.std.proofs.Common.{ℕ, ◌≡◌, false}
 use Rattle.std.specs.Int.{bit_at}
 use Rattle.tl_params.specs.declared.config.Config.{Config}
-use Rattle.tl_world.specs.Holds.{Holds}
+use Rattle.tl_world.specs.code.Holds.{Holds}
 use Rattle.tl_coherence.specs.statement.Movable.{is_movable}
 use Rattle.tl_coherence.specs.statement.System.{System}
 use Rattle.tl_world.proofs.parts.Parts.movable_on.Given as goal

@@ -1,6 +1,6 @@
 use Rattle.std.proofs.Common.{refl, rules}
-use Rattle.tl_manager.specs.Answers.{sent_of}
-use Rattle.tl_manager.specs.Sending.{messages_of}
+use Rattle.tl_manager.specs.code.Answers.{sent_of}
+use Rattle.tl_manager.specs.code.Sending.{messages_of}
 use Rattle.tl_world.proofs.Stepping.{first-brought, steps-empty, manager-refused, manager-stayed, manager-sent}
 use Rattle.tl_world.proofs.parts.Parts.to_manager.Goals as goal
 

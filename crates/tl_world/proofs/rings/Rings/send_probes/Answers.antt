@@ -1,7 +1,7 @@
 use Rattle.std.proofs.Common.{rules, ◌≡◌, ◌==◌, arith}
 use Rattle.std.specs.Int.{bit_at}
-use Rattle.tl_manager.specs.Handing.{probes}
-use Rattle.tl_manager.specs.Holders.{clients_from}
+use Rattle.tl_manager.specs.statement.Handing.{probes}
+use Rattle.tl_manager.specs.statement.Holders.{clients_from}
 use Rattle.tl_coherence.specs.statement.System.{with_messages}
 use Rattle.tl_world.proofs.Queues.{moved-still}
 use Rattle.tl_world.proofs.SentProbes.{probes-unsent, probe-sent}

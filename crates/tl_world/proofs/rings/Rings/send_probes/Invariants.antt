@@ -1,8 +1,8 @@
 use Rattle.std.proofs.Common.{ℕ, ◌==◌}
 use Rattle.std.specs.Int.{bit_at}
-use Rattle.tl_manager.specs.Handing.{probes}
-use Rattle.tl_manager.specs.Holders.{clients_from}
-use Rattle.tl_world.specs.Carrying.{Carries, Fit, AreKept, AreMoved}
+use Rattle.tl_manager.specs.statement.Handing.{probes}
+use Rattle.tl_manager.specs.statement.Holders.{clients_from}
+use Rattle.tl_world.specs.code.Carrying.{Carries, Fit, AreKept, AreMoved}
 use Rattle.tl_coherence.specs.statement.System.{System, with_messages}
 use Rattle.tl_world.proofs.rings.Rings.send_probes.Given as goal
 

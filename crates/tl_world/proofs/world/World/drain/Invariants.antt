@@ -2,7 +2,7 @@ use Rattle.std.proofs.Common.{◌≡◌, ◌+◌, length}
 use Rattle.tl_params.specs.declared.config.Config.{Config}
 use Rattle.tl_coherence.specs.statement.Log.{Log}
 use Rattle.tl_coherence.specs.statement.Movable.{drained}
-use Rattle.tl_world.specs.World.{IsReached}
+use Rattle.tl_world.specs.statement.World.{IsReached}
 use Rattle.tl_world.proofs.world.World.drain.Given as goal
 
 abbrev pub invariant-loop-count : goal.invariant-loop-count

@@ -1,7 +1,7 @@
 use Rattle.std.proofs.Common.{◌≡◌, take, length}
 use Rattle.tl_params.specs.declared.config.Config.{Config}
 use Rattle.tl_coherence.specs.statement.Log.{Log, logged}
-use Rattle.tl_world.specs.World.{IsReached}
+use Rattle.tl_world.specs.statement.World.{IsReached}
 use Rattle.tl_world.proofs.world.World.run.Given as goal
 
 abbrev pub invariant-loop-i : goal.invariant-loop-i

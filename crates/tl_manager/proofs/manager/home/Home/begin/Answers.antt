@@ -1,7 +1,7 @@
 use Rattle.std.proofs.Common.{refl}
 use Rattle.std.proofs.lemmas.Bool.{eq-eqb, ne_eqb}
-use Rattle.tl_manager.specs.Tracked.{service_with}
-use Rattle.tl_rules.specs.History.{block_at}
+use Rattle.tl_manager.specs.code.Tracked.{service_with}
+use Rattle.tl_rules.specs.statement.History.{block_at}
 use Rattle.tl_manager.proofs.Beginning.{probed-word, done-unprobed, done-probed, home-probed}
 use Rattle.tl_manager.proofs.manager.home.Home.begin.Goals as goal
 

@@ -1,4 +1,4 @@
-use Rattle.tl_manager.specs.Sending.{messages_of}
+use Rattle.tl_manager.specs.code.Sending.{messages_of}
 use Rattle.tl_manager.proofs.Completed.{done-reported, done-acked}
 use Rattle.tl_manager.proofs.manager.home.Home.complete.Goals as goal
 

@@ -1,7 +1,7 @@
 use Rattle.std.proofs.Common.{◌∙◌, ap, ◌≡◌, ◌==◌}
-use Rattle.tl_manager.specs.Holders.{is_unheld}
+use Rattle.tl_manager.specs.statement.Holders.{is_unheld}
 use Rattle.tl_manager.specs.declared.manager.tracker.Trackers.{Trackers}
-use Rattle.tl_rules.specs.History.{block_at}
+use Rattle.tl_rules.specs.statement.History.{block_at}
 use Rattle.tl_manager.proofs.Granting.{home-granted}
 use Rattle.tl_manager.proofs.Recording.{unheld-word}
 use Rattle.tl_manager.proofs.manager.home.Home.grant.Goals as goal

@@ -1,6 +1,6 @@
 use Rattle.std.proofs.Common.{refl}
-use Rattle.tl_manager.specs.Sending.{messages_of}
-use Rattle.tl_manager.specs.Trackers.{tracker_at}
+use Rattle.tl_manager.specs.code.Sending.{messages_of}
+use Rattle.tl_manager.specs.code.Trackers.{tracker_at}
 use Rattle.tl_manager.proofs.Completed.{has-room, done-served}
 use Rattle.tl_manager.proofs.manager.home.Home.serve.Goals as goal
 

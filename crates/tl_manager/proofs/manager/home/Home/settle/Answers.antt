@@ -1,6 +1,6 @@
 use Rattle.std.proofs.Common.{refl, sym, ◌∙◌}
 use Rattle.std.proofs.lemmas.Bool.{eq-eqb, ne_eqb}
-use Rattle.tl_manager.specs.Trackers.{tracker_at}
+use Rattle.tl_manager.specs.code.Trackers.{tracker_at}
 use Rattle.tl_manager.proofs.Reporting.{unserved-block, report-served, granted-at, probing-at, missing-reported, missing-word, ready-settled, home-reported, done-settled, done-waiting}
 use Rattle.tl_manager.proofs.manager.home.Home.settle.Goals as goal
 

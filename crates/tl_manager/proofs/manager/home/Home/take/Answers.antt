@@ -1,5 +1,5 @@
 use Rattle.std.proofs.Common.{sym, ◌∙◌, ap, ◌≡◌, true, false}
-use Rattle.tl_rules.specs.History.{is_release}
+use Rattle.tl_rules.specs.statement.History.{is_release}
 use Rattle.tl_manager.proofs.Events.{memory_with}
 use Rattle.tl_manager.proofs.Taking.{home-written, home-released, is_report, done-ack}
 use Rattle.tl_manager.proofs.manager.home.Home.take.Goals as goal

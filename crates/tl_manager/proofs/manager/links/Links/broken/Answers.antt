@@ -1,5 +1,5 @@
 use Rattle.std.proofs.Common.{refl, sym, ◌∙◌}
-use Rattle.tl_rules.specs.Conformance.{on_link}
+use Rattle.tl_rules.specs.statement.Conformance.{on_link}
 use Rattle.tl_manager.proofs.Judging.{begins-so}
 use Rattle.tl_manager.proofs.manager.links.Links.broken.Goals as goal
 

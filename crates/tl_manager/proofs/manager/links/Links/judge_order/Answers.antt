@@ -1,6 +1,6 @@
 use Rattle.std.proofs.Common.{refl, ◌∙◌}
-use Rattle.tl_rules.specs.Conformance.{on_link}
-use Rattle.tl_manager.specs.PartIs.{IsPartOf}
+use Rattle.tl_rules.specs.statement.Conformance.{on_link}
+use Rattle.tl_manager.specs.code.PartIs.{IsPartOf}
 use Rattle.tl_manager.proofs.Judging.{burst-is, breaks-off}
 use Rattle.tl_manager.proofs.manager.links.Links.judge_order.Goals as goal
 

@@ -1,5 +1,5 @@
 use Rattle.std.proofs.Common.{ap, sym, ◌∙◌}
-use Rattle.tl_manager.specs.Admission.{is_stall}
+use Rattle.tl_manager.specs.code.Admission.{is_stall}
 use Rattle.tl_manager.proofs.Refusing.{stalls-judged}
 use Rattle.tl_manager.proofs.Stalls.{never-stalled}
 use Rattle.tl_manager.proofs.manager.links.Links.stalls.Goals as goal

@@ -1,5 +1,5 @@
 use Rattle.std.proofs.Common.{sym, ◌∙◌, ap}
-use Rattle.tl_rules.specs.Open.{open_request}
+use Rattle.tl_rules.specs.code.Open.{open_request}
 use Rattle.tl_manager.proofs.Looking.{request-unasked, request-asked}
 use Rattle.tl_manager.proofs.Past.{looked-past}
 use Rattle.tl_manager.proofs.manager.wire.LinkPastPast.request.Goals as goal

@@ -1,4 +1,4 @@
-use Rattle.tl_world.specs.Agents.{AreMade}
+use Rattle.tl_world.specs.code.Agents.{AreMade}
 use Rattle.tl_world.proofs.world.tests.made.hire_all.Given as goal
 
 abbrev pub invariant-loop-client : goal.invariant-loop-client

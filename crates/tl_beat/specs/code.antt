@@ -1,0 +1,3 @@
+pub mod FromLeft
+pub mod Reading
+pub mod Writing

@@ -1,0 +1,6 @@
+pub mod Digits
+pub mod First
+pub mod Line
+pub mod Names
+pub mod Opcode
+pub mod Width

@@ -1,0 +1,9 @@
+pub mod Caching
+pub mod KnowsAny
+pub mod KnowsCaching
+pub mod KnowsPlain
+pub mod Plain
+pub mod Response
+pub mod Sources
+pub mod Table
+pub mod Takes

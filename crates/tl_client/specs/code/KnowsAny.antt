@@ -1,0 +1,27 @@
+-- What a client of any level knows of its end of the link.
+use Rattle.std.specs.Prelude.{ℕ, ◌≡◌, None, Result, Ok, Err}
+use Rattle.tl_params.specs.declared.config.ClientConfig.{ClientConfig}
+use Rattle.tl_params.specs.declared.config.NewFault.{NewFault}
+use Rattle.tl_params.specs.declared.profile.Profile.{Profile}
+use Rattle.tl_params.specs.statement.Config.{client_fault}
+use Rattle.tl_client.specs.declared.any.AnyClient.{AnyClient}
+use Rattle.tl_client.specs.declared.any.AnyClient.TheVariants as any
+use Rattle.tl_client.specs.statement.End.{Terms, End, fresh}
+use Rattle.tl_client.specs.code.KnowsCaching as caching
+use Rattle.tl_client.specs.code.KnowsPlain as plain
+
+abbrev pub any_terms : {w : ℕ} → AnyClient w → Terms
+any_terms (any.Caching c) = caching.terms_of c
+any_terms (any.Plain p) = plain.terms_of p
+
+abbrev pub KnowsAny : {w : ℕ} → AnyClient w → End w → Type 0
+KnowsAny (any.Caching c) e = caching.KnowsCaching c e
+KnowsAny (any.Plain p) e = plain.KnowsPlain p e
+
+-- what a new client is, or why there is none
+abbrev pub IsNewAny : {w : ℕ} → ClientConfig → ℕ → Profile → Result (AnyClient w) NewFault → Type 0
+IsNewAny config blocks profile (Ok c) =
+    (client_fault config blocks ≡ None)
+    × KnowsAny c fresh
+    × (any_terms c ≡ record { level = config.level; profile = profile; sources = config.sources; blocks = blocks })
+IsNewAny config blocks profile (Err f) = caching.IsFault (client_fault config blocks) f

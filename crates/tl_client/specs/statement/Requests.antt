@@ -1,0 +1,75 @@
+-- What a client keeps of the requests that it handed out.
+use Rattle.std.specs.Prelude.{ℕ, Bool, false, ◌==◌, ◌&&◌, if◌then◌else◌, Option, Some, None}
+use Rattle.tl_beat.specs.declared.beat.BeatA.{BeatA}
+use Rattle.tl_beat.specs.declared.beat.BeatC.{BeatC}
+use Rattle.tl_burst.specs.declared.message.Message.{Message}
+use Rattle.tl_burst.specs.declared.message.Message.TheVariants as message
+use Rattle.tl_burst.specs.declared.message.MessageA.{MessageA}
+use Rattle.tl_burst.specs.declared.message.MessageC.{MessageC}
+use Rattle.tl_burst.specs.statement.Messages.{History}
+use Rattle.tl_params.specs.declared.key.Key.TheVariants.{RequestSource, ReleaseSource}
+use Rattle.tl_rules.specs.declared.past.Request as past
+use Rattle.tl_rules.specs.statement.History.{block_at, is_acquire, is_release, pending, request_of, release_of}
+use Rattle.tl_client.specs.declared.busy.Busy.TheVariants.{B1}
+use Rattle.tl_client.specs.declared.release.Release.{Release}
+use Rattle.tl_client.specs.declared.reply.Reply.{Reply}
+use Rattle.tl_client.specs.declared.reply.Reply.TheVariants as reply
+use Rattle.tl_client.specs.statement.Send.{access}
+use Rattle.tl_client.specs.declared.request.Request.{Request}
+
+-- what a response to a request is judged by
+abbrev pub fields_in : {w : ℕ} → MessageA w → Request
+fields_in m = record { opcode = m.opcode; param = m.param; size = m.size; address = m.address }
+
+abbrev pub fields_of : {w : ℕ} → Option (BeatA w) → Option Request
+fields_of None = None
+fields_of (Some x) = Some (record { opcode = x.opcode; param = x.param; size = x.size; address = x.address })
+
+-- the request with this source that is pending after a history
+abbrev pub open_beat : {w : ℕ} → ℕ → History w → Option (BeatA w)
+open_beat s t = if pending (RequestSource s) t then request_of s t else None
+
+abbrev pub open_request : {w : ℕ} → ℕ → History w → Option Request
+open_request s t = fields_of (open_beat s t)
+
+-- the Release with this source that is pending after a history
+abbrev pub open_release : {w : ℕ} → ℕ → History w → Option (BeatC w)
+open_release s t = if pending (ReleaseSource s) t then release_of s t else None
+
+-- ---- what is open, by what is kept of it
+
+-- what the order of messages asks of it
+abbrev pub judged_in : Request → past.Request
+judged_in r = record { opcode = r.opcode; param = r.param; size = r.size; block = block_at r.address }
+
+-- an Acquire of the block
+abbrev pub acquires_block : ℕ → Option Request → Bool
+acquires_block k None = false
+acquires_block k (Some r) = is_acquire r.opcode && (block_at r.address == k)
+
+-- a Release of the block
+abbrev pub releases_block : ℕ → Option Release → Bool
+releases_block k None = false
+releases_block k (Some r) = block_at r.address == k
+
+abbrev pub release_in : {w : ℕ} → MessageC w → Release
+release_in m = record { size = m.size; address = m.address }
+
+abbrev pub release_fields : {w : ℕ} → Option (BeatC w) → Option Release
+release_fields None = None
+release_fields (Some x) = Some (record { size = x.size; address = x.address })
+
+-- the open request with this source after a message was handed out
+abbrev pub opened_by : {w : ℕ} → ℕ → Option (Message w) → Option Request → Option Request
+opened_by s (Some (message.A m)) r = if m.source == s then Some (fields_in m) else r
+opened_by s _ r = r
+
+-- and the open Release
+abbrev pub released_by : {w : ℕ} → ℕ → Option (Message w) → Option Release → Option Release
+released_by s (Some (message.C m)) r = if is_release m.opcode && (m.source == s) then Some (release_in m) else r
+released_by s _ r = r
+
+-- the request with this source, where it is free
+abbrev pub start_with : {w : ℕ} → Option ℕ → MessageA w → Reply × Option (Message w)
+start_with None m = (reply.Busy B1, None)
+start_with (Some s) m = (reply.Started s, Some (access s m))

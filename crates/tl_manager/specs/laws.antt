@@ -1,0 +1,3 @@
+pub mod After
+pub mod Pending
+pub mod Record

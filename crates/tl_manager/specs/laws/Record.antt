@@ -1,0 +1,44 @@
+-- What is recorded of a client and a block after a beat that the manager is offered.
+use Rattle.std.specs.Prelude.{ℕ, Bool, false, [], ◌∷◌, ◌==◌, ◌&&◌, ◌||◌, if◌then◌else◌, Option, Some, None, unwrap_or}
+use Rattle.tl_beat.specs.declared.beat.Beat.{Beat}
+use Rattle.tl_beat.specs.declared.beat.Beat.TheVariants as beat
+use Rattle.tl_beat.specs.declared.beat.Link.{Link}
+use Rattle.tl_burst.specs.declared.message.Message.{Message}
+use Rattle.tl_burst.specs.declared.message.Message.TheVariants as message
+use Rattle.tl_params.specs.declared.perm.Perm.{Perm}
+use Rattle.tl_rules.specs.statement.Conformance.{Trace, on_link}
+use Rattle.tl_rules.specs.statement.History.{ends, block_at, is_probe_ack, is_release, is_grant, asks_for, request_of, reported, capped}
+use Rattle.tl_manager.specs.statement.Handing.{Handed}
+use Rattle.tl_manager.specs.statement.Holders.{recorded}
+use Rattle.tl_manager.specs.statement.Offer.{Reception, Refused, Stalled, Sent}
+
+-- what a beat says that is taken: the last one of a ProbeAck or Release, what that leaves
+abbrev pub reported_by : {w : ℕ} → Link × Beat w → Trace w → ℕ → ℕ → Option Perm
+reported_by (link, beat.C x) t client block =
+    if (link.0 == client) && (ends (beat.C x) (on_link client t) && ((is_probe_ack x.opcode || is_release x.opcode) && (block_at x.address == block)))
+    then Some (reported x.param) else None
+reported_by _ t client block = None
+
+-- what a message says that is handed out: a Grant of the block to the client, what its cap gives
+abbrev pub granted_by : {w : ℕ} → Link × Message w → Trace w → ℕ → ℕ → Option Perm
+granted_by (link, message.D m) t client block =
+    if (link.0 == client) && (is_grant m.opcode && asks_for block (request_of m.source (on_link client t)))
+    then Some (capped m.param) else None
+granted_by _ t client block = None
+
+abbrev pub granted_by_all : {w : ℕ} → Handed w → Trace w → ℕ → ℕ → Perm → Perm
+granted_by_all [] t client block held = held
+granted_by_all (x ∷ handed) t client block held = granted_by_all handed t client block (unwrap_or (granted_by x t client block) held)
+
+-- what is recorded after a beat that was answered so, where the trace before it was t
+abbrev pub recorded_after : {w : ℕ} → Reception w → Link × Beat w → Trace w → ℕ → ℕ → Perm
+recorded_after (Refused rule) x t client block = recorded client block t
+recorded_after Stalled x t client block = recorded client block t
+recorded_after (Sent handed) x t client block =
+    granted_by_all handed (x ∷ t) client block (unwrap_or (reported_by x t client block) (recorded client block t))
+
+-- the beat is of the block
+abbrev pub is_of_block : {w : ℕ} → ℕ → Beat w → Bool
+is_of_block block (beat.A x) = block_at x.address == block
+is_of_block block (beat.C x) = block_at x.address == block
+is_of_block block _ = false

@@ -1,0 +1,7 @@
+pub mod Deed
+pub mod End
+pub mod Handing
+pub mod Holders
+pub mod Offer
+pub mod Request
+pub mod Service

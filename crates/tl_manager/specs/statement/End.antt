@@ -1,0 +1,14 @@
+-- The manager's end of its links.
+use Rattle.std.specs.Prelude.{ℕ, List, []}
+use Rattle.tl_rules.specs.statement.Conformance.{Trace}
+use Rattle.tl_rules.specs.statement.Effect.{Memory}
+
+-- The manager's end of all links: what it took and handed out, the links that a refusal closed, and
+-- the memory.
+pub record End (w : ℕ) : Type 0 where
+  pub trace : Trace w
+  pub closed : List ℕ
+  pub memory : Memory
+
+abbrev pub fresh : {w : ℕ} → End w
+fresh = record { trace = []; closed = []; memory = λ address. 0 }

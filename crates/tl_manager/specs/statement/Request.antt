@@ -1,0 +1,47 @@
+-- The request of channel A that its beats make up.
+use Rattle.std.specs.Prelude.{ℕ, Bool, true, false, List, [], ◌∷◌, ◌+◌, ◌*◌, ◌^◌, ◌≡◌, refl, if◌then◌else◌, length, nat_le, Option, Some, None}
+use Rattle.std.proofs.lemmas.Bool.{leb-true}
+use Rattle.tl_beat.specs.declared.beat.Beat.{Beat}
+use Rattle.tl_beat.specs.declared.beat.Beat.TheVariants as beat
+use Rattle.tl_beat.specs.declared.beat.BeatA.{BeatA}
+use Rattle.tl_burst.specs.declared.message.MessageA.{MessageA}
+use Rattle.tl_rules.specs.statement.Agent.{payload_of}
+
+abbrev pub mask_of : {w : ℕ} → Beat w → ℕ
+mask_of (beat.A x) = x.mask
+mask_of _ = 0
+
+-- 1 where the beat is corrupt
+abbrev pub corrupt_of : {w : ℕ} → Beat w → ℕ
+corrupt_of (beat.A x) = if x.corrupt then 1 else 0
+corrupt_of _ = 0
+
+-- the mask of the message that has these beats, the newest of which is first
+unfoldable pub masks_carried : {w : ℕ} → List (Beat w) → ℕ
+masks_carried [] = 0
+masks_carried {w} (x ∷ beats) = masks_carried beats + mask_of x * 2 ^ (w * length beats)
+
+-- the bits that say which of these beats are corrupt
+unfoldable pub corrupt_carried : {w : ℕ} → List (Beat w) → ℕ
+corrupt_carried [] = 0
+corrupt_carried (x ∷ beats) = corrupt_carried beats + corrupt_of x * 2 ^ length beats
+
+abbrev pub request_if : {w : ℕ} (x : BeatA w) → List (Beat w) → (fits : Bool) → nat_le x.size 6 ≡ fits → Option (MessageA w)
+request_if x beats false fits = None
+request_if x beats true fits = Some (record {
+  opcode = x.opcode;
+  param = x.param;
+  size = x.size;
+  source = x.source;
+  address = x.address;
+  payload = payload_of beats;
+  mask = masks_carried beats;
+  corrupt = corrupt_carried beats;
+  small = leb-true x.size 6 fits;
+})
+
+-- The request that has these beats, the newest of which is first: their control fields, which they
+-- share, with the lanes, masks and corrupt bits of all of them. There is none of a size over 6.
+unfoldable pub request_carried : {w : ℕ} → List (Beat w) → Option (MessageA w)
+request_carried (beat.A x ∷ beats) = request_if x (beat.A x ∷ beats) (nat_le x.size 6) refl
+request_carried _ = None

@@ -1,0 +1,7 @@
+pub mod Blocks
+pub mod Bursts
+pub mod Control
+pub mod Count
+pub mod Keeps
+pub mod Kept
+pub mod Lookups

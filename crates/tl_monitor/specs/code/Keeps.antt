@@ -1,0 +1,27 @@
+-- The tables of a link say what its history does.
+use Rattle.std.specs.Prelude.{ℕ, ◌≡◌, true, false, List, ◌∷◌, Some, is_some}
+use Rattle.tl_beat.specs.declared.beat.Beat.{Beat}
+use Rattle.tl_beat.specs.declared.beat.Beat.TheVariants as beat
+use Rattle.tl_beat.specs.declared.beat.BeatD.{BeatD}
+use Rattle.tl_beat.specs.declared.channel.Channel.{Channel}
+use Rattle.tl_beat.specs.declared.channel.Channel.TheVariants as channel
+use Rattle.tl_burst.specs.statement.Messages.{History, unfinished}
+use Rattle.tl_params.specs.declared.key.Key.TheVariants.{GrantSink}
+use Rattle.tl_rules.specs.statement.History.{pending, is_release_ack}
+use Rattle.tl_rules.specs.code.Tables.{kept_request, kept_release, kept_grant, kept_block}
+use Rattle.tl_monitor.specs.code.Count.{at}
+use Rattle.tl_monitor.specs.code.Blocks.{block_in}
+use Rattle.tl_monitor.specs.code.Bursts.{burst_on, IsOf}
+use Rattle.tl_monitor.specs.declared.kept.Kept.{Kept}
+
+-- All that is kept is what the history leaves. The block of each GrantAck that is pending stands under
+-- its sink, and a burst of channel D that is unfinished answers a request that is pending.
+pub record Keeps {w : ℕ} (k : Kept) (t : History w) : Type 0 where
+  pub bursts_are : (ch : Channel) → IsOf (burst_on k.bursts ch) (unfinished ch t)
+  pub requests_are : (s : ℕ) → at k.requests s ≡ kept_request s t
+  pub releases_are : (s : ℕ) → at k.releases s ≡ kept_release s t
+  pub sinks_are : (s : ℕ) → is_some (at k.sinks s) ≡ pending (GrantSink s) t
+  pub blocks_are : (b : ℕ) → block_in k.blocks b ≡ kept_block b t
+  pub granted : (b s : ℕ) → kept_grant b t ≡ Some s → at k.sinks s ≡ Some b
+  pub answering : (x : BeatD w) (earlier : List (Beat w)) → unfinished channel.D t ≡ beat.D x ∷ earlier
+      → (is_release_ack x.opcode ≡ false) × (is_some (kept_request x.source t) ≡ true)

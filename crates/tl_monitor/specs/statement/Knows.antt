@@ -1,0 +1,76 @@
+-- What a monitor knows of the trace that it was given.
+use Rattle.std.specs.Prelude.{ℕ, Bool, true, false, List, [], ◌∷◌, ◌≡◌, ◌<◌, ◌≤◌, length, slice_index_or, Option, Some, None, Result, Ok, Err, ⊤}
+use Rattle.tl_beat.specs.declared.beat.Beat.{Beat}
+use Rattle.tl_beat.specs.declared.beat.Link.{Link}
+use Rattle.tl_params.specs.declared.level.Level.{Level}
+use Rattle.tl_params.specs.declared.profile.Profile.{Profile}
+use Rattle.tl_params.specs.declared.rule.Rule.{Rule}
+use Rattle.tl_params.specs.statement.Config.{IsCount}
+use Rattle.tl_rules.specs.statement.Conformance.{Trace, on_link, broken_on_link, first_fault}
+use Rattle.tl_monitor.specs.declared.kept.Kept.{Kept}
+use Rattle.tl_monitor.specs.code.Kept.{IsEmpty}
+use Rattle.tl_monitor.specs.code.Keeps.{Keeps}
+use Rattle.tl_monitor.specs.declared.monitor.Monitor.{Monitor}
+use Rattle.tl_monitor.specs.declared.fault.MonitorFault.{MonitorFault}
+use Rattle.tl_monitor.specs.declared.fault.MonitorFault.TheVariants as monitor
+use Rattle.tl_monitor.specs.declared.fault.TraceFault.{TraceFault}
+use Rattle.tl_monitor.specs.declared.fault.TraceFault.TheVariants as trace
+
+-- The monitor has these levels and this profile, and keeps of each link what was recorded there, the
+-- newest first. It is closed where a beat was refused by a rule.
+pub record Knows {w : ℕ} (m : Monitor w) (levels : List Level) (p : Profile) (t : Trace w) (closed : Bool) : Type 0 where
+  pub levels_are : m.levels.items ≡ levels
+  pub profile_is : m.profile ≡ p
+  pub closed_is : m.closed ≡ closed
+  pub links_are : (n : ℕ) (d : Kept) → n < length levels → Keeps (slice_index_or m.links.items n d) (on_link n t)
+
+-- so many links of which nothing is kept
+pub record AllEmpty (count : ℕ) (links : List Kept) : Type 0 where
+  pub so_many : length links ≡ count
+  pub all_empty : (n : ℕ) (d : Kept) → n < count → IsEmpty (slice_index_or links n d)
+
+-- what a new monitor is, or why there is none
+abbrev pub IsNew : {w : ℕ} → List Level → Profile → Result (Monitor w) MonitorFault → Type 0
+IsNew levels p (Ok m) = IsCount (length levels) × Knows m levels p [] false
+IsNew levels p (Err monitor.Levels) = ¬ IsCount (length levels)
+IsNew levels p (Err monitor.Memory) = IsCount (length levels)
+IsNew levels p (Err _) = ⊥
+
+-- the fault of a beat, want of memory aside: the first rule that it breaks after the earlier beats
+-- of its link, where none was refused before
+abbrev pub broken : Option Rule → Option MonitorFault
+broken None = None
+broken (Some rule) = Some (monitor.Broken rule)
+
+abbrev pub fault_of : {w : ℕ} → List Level → Profile → Trace w → Bool → Link × Beat w → Option MonitorFault
+fault_of levels p t true x = Some monitor.Closed
+fault_of levels p t false x = broken (broken_on_link levels p x t)
+
+-- the answer to a beat that has this fault, or none
+abbrev pub Answers : Option MonitorFault → Result ⊤ MonitorFault → Type 0
+Answers fault (Ok u) = fault ≡ None
+Answers fault (Err monitor.Memory) = fault ≡ None
+Answers fault (Err e) = fault ≡ Some e
+
+-- what is recorded after an answer
+abbrev pub recorded_after : {w : ℕ} → Result ⊤ MonitorFault → Link × Beat w → Trace w → Trace w
+recorded_after (Ok u) x t = x ∷ t
+recorded_after (Err e) x t = t
+
+-- whether the monitor is closed after an answer
+abbrev pub closed_after : Result ⊤ MonitorFault → Bool
+closed_after (Ok u) = false
+closed_after (Err monitor.Memory) = false
+closed_after (Err e) = true
+
+-- the answer to a trace: its first fault, want of memory aside
+abbrev pub AnswersTrace : {w : ℕ} → List Level → Profile → Trace w → Result ⊤ TraceFault → Type 0
+AnswersTrace levels p beats (Ok u) = IsCount (length levels) × (first_fault levels p beats ≡ None)
+AnswersTrace levels p beats (Err (trace.At i rule)) = IsCount (length levels) × (first_fault levels p beats ≡ Some (i, rule))
+AnswersTrace levels p beats (Err trace.Levels) = ¬ IsCount (length levels)
+AnswersTrace levels p beats (Err trace.Memory) = IsCount (length levels)
+
+-- what the refusal of beat i is to a trace
+abbrev pub trace_fault_of : ℕ → MonitorFault → TraceFault
+trace_fault_of i (monitor.Broken rule) = trace.At i rule
+trace_fault_of i _ = trace.Memory

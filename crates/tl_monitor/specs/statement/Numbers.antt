@@ -1,0 +1,42 @@
+-- How many keys are pending on a link, and how many blocks are held.
+use Rattle.std.specs.Prelude.{ℕ, List, [], ◌∷◌, ◌<◌, ◌⊎◌, ◌^◌, if◌then◌else◌, length, nat_lt, Result, Err, ⊤}
+use Rattle.std.specs.List.{sum}
+use Rattle.tl_beat.specs.declared.beat.Beat.{Beat}
+use Rattle.tl_beat.specs.declared.beat.Link.{Link}
+use Rattle.tl_burst.specs.statement.Messages.{History}
+use Rattle.tl_params.specs.declared.key.Key.TheVariants.{RequestSource, ReleaseSource, AcquireOf, ReleaseOf, GrantSink, GrantAckOf, ProbeOf}
+use Rattle.tl_params.specs.declared.level.Level.{Level}
+use Rattle.tl_rules.specs.statement.Conformance.{Trace, on_link}
+use Rattle.tl_rules.specs.statement.History.{pending, held}
+use Rattle.tl_monitor.specs.code.Count.{count_below}
+use Rattle.tl_monitor.specs.code.Blocks.{is_held}
+use Rattle.tl_monitor.specs.declared.fault.MonitorFault.{MonitorFault}
+use Rattle.tl_monitor.specs.declared.fault.MonitorFault.TheVariants as monitor
+
+-- how many keys of each kind are pending, and how many blocks aren't held as None. Sources and sinks
+-- are bytes, and numbers of blocks have 32 bits.
+abbrev pub numbers : {w : ℕ} → History w → List ℕ
+numbers t =
+    count_below 256 (λ s. pending (RequestSource s) t)
+    ∷ count_below 256 (λ s. pending (ReleaseSource s) t)
+    ∷ count_below 256 (λ s. pending (GrantSink s) t)
+    ∷ count_below (2 ^ 32) (λ k. pending (AcquireOf k) t)
+    ∷ count_below (2 ^ 32) (λ k. pending (ReleaseOf k) t)
+    ∷ count_below (2 ^ 32) (λ k. pending (ProbeOf k) t)
+    ∷ count_below (2 ^ 32) (λ k. pending (GrantAckOf k) t)
+    ∷ count_below (2 ^ 32) (λ k. is_held (held k t))
+    ∷ []
+
+-- how many of all of them there are on a link; none on one without a level
+abbrev pub entries_of : {w : ℕ} → List Level → Link → Trace w → ℕ
+entries_of levels link t = if nat_lt link.0 (length levels) then sum (numbers (on_link link.0 t)) else 0
+
+-- one number has become more
+abbrev pub AnyMore : List ℕ → List ℕ → Type 0
+AnyMore (n ∷ before) (m ∷ after) = (n < m) ⊎ AnyMore before after
+AnyMore _ _ = ⊥
+
+-- where a beat is refused for want of memory, one of these numbers was to become more
+abbrev pub IsMoreWhereRefused : {w : ℕ} → History w → Beat w → Result ⊤ MonitorFault → Type 0
+IsMoreWhereRefused t x (Err monitor.Memory) = AnyMore (numbers t) (numbers (x ∷ t))
+IsMoreWhereRefused t x _ = ⊤

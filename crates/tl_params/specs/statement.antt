@@ -1,0 +1,6 @@
+pub mod Config
+pub mod Header
+pub mod Names
+pub mod Param
+pub mod Range
+pub mod Refusal

@@ -1,0 +1,106 @@
+-- What is kept of a history, key by key, and what it becomes with one more beat.
+use Rattle.std.specs.Prelude.{ℕ, Bool, true, false, not, ◌==◌, ◌&&◌, ◌||◌, if◌then◌else◌, Option, Some, None}
+use Rattle.tl_beat.specs.declared.beat.Beat.{Beat}
+use Rattle.tl_beat.specs.declared.beat.Beat.TheVariants as beat
+use Rattle.tl_beat.specs.declared.beat.BeatC.{BeatC}
+use Rattle.tl_burst.specs.statement.Messages.{History}
+use Rattle.tl_params.specs.declared.key.Key.TheVariants.{RequestSource, ReleaseSource, AcquireOf, ReleaseOf, GrantAckOf}
+use Rattle.tl_params.specs.declared.perm.Perm.TheVariants as perm
+use Rattle.tl_rules.specs.declared.past.Request.{Request}
+use Rattle.tl_rules.specs.declared.table.Release.{Release}
+use Rattle.tl_rules.specs.declared.table.Block.{Block}
+use Rattle.tl_rules.specs.statement.History.{block_at, is_acquire, is_probe, is_probe_ack, is_release, is_grant, is_release_ack, asks_for, releases, is_sink}
+use Rattle.tl_rules.specs.statement.History.{request_of, release_of, grant_sink, pending, held, reported, capped}
+use Rattle.tl_rules.specs.code.Open.{request_fields, open_probe}
+
+abbrev pub release_fields : {w : ℕ} → Option (BeatC w) → Option Release
+release_fields None = None
+release_fields (Some x) = Some (record { size = x.size; block = block_at x.address })
+
+-- the request with this source, where it is pending
+abbrev pub kept_request : {w : ℕ} → ℕ → History w → Option Request
+kept_request s t = if pending (RequestSource s) t then request_fields (request_of s t) else None
+
+-- the Release with this source, where it is pending
+abbrev pub kept_release : {w : ℕ} → ℕ → History w → Option Release
+kept_release s t = if pending (ReleaseSource s) t then release_fields (release_of s t) else None
+
+-- the sink of the last Grant of the block, where its GrantAck is pending
+abbrev pub kept_grant : {w : ℕ} → ℕ → History w → Option ℕ
+kept_grant k t = if pending (GrantAckOf k) t then grant_sink k t else None
+
+abbrev pub kept_block : {w : ℕ} → ℕ → History w → Block
+kept_block k t = record {
+  held = held k t;
+  acquire = pending (AcquireOf k) t;
+  release = pending (ReleaseOf k) t;
+  probe = open_probe k t;
+  grant = kept_grant k t;
+}
+
+-- a block of which nothing is open or held
+abbrev pub empty_block : Block
+empty_block = record { held = perm.None; acquire = false; release = false; probe = None; grant = None }
+
+-- ---- with one more beat, which begins a message or doesn't, and completes it or doesn't
+
+abbrev pub request_next : {w : ℕ} → Bool → Bool → Beat w → ℕ → Option Request → Option Request
+request_next first last (beat.A x) s r = if first && (x.source == s) then request_fields (Some x) else r
+request_next first last (beat.D x) s r = if last && (not (is_release_ack x.opcode) && (x.source == s)) then None else r
+request_next first last _ s r = r
+
+abbrev pub release_next : {w : ℕ} → Bool → Bool → Beat w → ℕ → Option Release → Option Release
+release_next first last (beat.C x) s r = if first && (is_release x.opcode && (x.source == s)) then release_fields (Some x) else r
+release_next first last (beat.D x) s r = if last && (is_release_ack x.opcode && (x.source == s)) then None else r
+release_next first last _ s r = r
+
+abbrev pub sink_next : {w : ℕ} → Bool → Bool → Beat w → ℕ → Bool → Bool
+sink_next first last (beat.D x) s b = if first && (is_grant x.opcode && (x.sink == s)) then true else b
+sink_next first last (beat.E x) s b = if last && (x.sink == s) then false else b
+sink_next first last _ s b = b
+
+-- the block that a beat bears on
+abbrev pub block_next : {w : ℕ} → Bool → Bool → Beat w → Block → Block
+block_next first last (beat.A x) b = record {
+  held = b.held;
+  acquire = if first && is_acquire x.opcode then true else b.acquire;
+  release = b.release;
+  probe = b.probe;
+  grant = b.grant;
+}
+block_next first last (beat.B x) b = record {
+  held = b.held;
+  acquire = b.acquire;
+  release = b.release;
+  probe = if first && is_probe x.opcode then Some (record { opcode = x.opcode; param = x.param }) else b.probe;
+  grant = b.grant;
+}
+block_next first last (beat.C x) b = record {
+  held = if last && (is_probe_ack x.opcode || is_release x.opcode) then reported x.param else b.held;
+  acquire = b.acquire;
+  release = if first && is_release x.opcode then true else b.release;
+  probe = if last && is_probe_ack x.opcode then None else b.probe;
+  grant = b.grant;
+}
+block_next first last (beat.D x) b = record {
+  held = if last && is_grant x.opcode then capped x.param else b.held;
+  acquire = if last && is_grant x.opcode then false else b.acquire;
+  release = if last && is_release_ack x.opcode then false else b.release;
+  probe = b.probe;
+  grant = if first && is_grant x.opcode then Some x.sink else b.grant;
+}
+block_next first last (beat.E x) b = record {
+  held = b.held;
+  acquire = b.acquire;
+  release = b.release;
+  probe = b.probe;
+  grant = if last && is_sink x.sink b.grant then None else b.grant;
+}
+
+-- the beat bears on the block, by its own fields or by those of the message that it answers
+abbrev pub bears_on : {w : ℕ} → ℕ → Beat w → History w → Bool
+bears_on k (beat.A x) t = block_at x.address == k
+bears_on k (beat.B x) t = block_at x.address == k
+bears_on k (beat.C x) t = block_at x.address == k
+bears_on k (beat.D x) t = if is_release_ack x.opcode then releases k (release_of x.source t) else asks_for k (request_of x.source t)
+bears_on k (beat.E x) t = is_sink x.sink (grant_sink k t)

@@ -1,0 +1,5 @@
+pub mod Agent
+pub mod Conformance
+pub mod Effect
+pub mod History
+pub mod Legality

@@ -1,0 +1,5 @@
+pub mod EventReading
+pub mod FieldReading
+pub mod HeaderReading
+pub mod NameReading
+pub mod Then

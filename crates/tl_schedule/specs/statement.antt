@@ -1,0 +1,3 @@
+pub mod EventLine
+pub mod OutcomeLine
+pub mod Schedule

@@ -1,0 +1,10 @@
+pub mod Cuts
+pub mod Judging
+pub mod Lines
+pub mod Parts
+pub mod Playing
+pub mod Progress
+pub mod Run
+pub mod Stage
+pub mod TraceReading
+pub mod Watching

@@ -1,0 +1,5 @@
+pub mod Agents
+pub mod Called
+pub mod Carrying
+pub mod Holds
+pub mod Opened

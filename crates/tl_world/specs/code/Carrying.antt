@@ -1,0 +1,74 @@
+-- What the channels of a world hold, and for how many beats they are made.
+use Rattle.std.specs.Prelude.{ℕ, List, [], not, ◌≡◌, ◌==◌, ◌<◌, ◌≤◌, ◌+◌, ◌*◌, ◌/◌, ◌%◌, if◌then◌else◌, length, max, slice_index_or}
+use Rattle.std.specs.Int.{bit_at}
+use Rattle.circular_buffer.specs.Buffer.{buffer}
+use Rattle.tl_beat.specs.declared.channel.Channel.{Channel}
+use Rattle.tl_beat.specs.declared.channel.Channel.TheVariants as channel
+use Rattle.tl_burst.specs.statement.Part.{is_empty}
+use Rattle.tl_manager.specs.code.Bit.{bit_if}
+use Rattle.tl_params.specs.declared.config.Config.{Config}
+use Rattle.tl_world.specs.declared.occupied.Occupied.{Occupied}
+use Rattle.tl_world.specs.declared.ring.Ring.{Ring}
+use Rattle.tl_world.specs.declared.rings.Rings.{Rings}
+use Rattle.tl_coherence.specs.statement.Delivery.{capacity, sources_of}
+use Rattle.tl_coherence.specs.statement.System.{System, terms_at}
+
+abbrev pub number : Channel → ℕ
+number channel.A = 0
+number channel.B = 1
+number channel.C = 2
+number channel.D = 3
+number channel.E = 4
+
+-- the place of a channel of a link among the channels of all links
+abbrev pub place : ℕ → Channel → ℕ
+place link ch = 5 * link + number ch
+
+-- the word of a channel, with a bit for each link
+abbrev pub word_of : Occupied → Channel → ℕ
+word_of occupied ch = slice_index_or occupied.words (number ch) 0
+
+-- The channels of the first n links hold the beats of those of the whole, and the bit of each is set exactly while
+-- it holds a beat.
+pub record Carries {w : ℕ} (n : ℕ) (rings : Rings w) (s : System w) : Type 0 where
+  pub five_each : length rings.all.items ≡ 5 * n
+  pub beats : (k : ℕ) (ch : Channel) (d : Ring w) → k < n → (slice_index_or rings.all.items (place k ch) d).beats.items ≡ s.channels k ch
+  pub occupied : (k : ℕ) (ch : Channel) → k < n → bit_at (word_of rings.occupied ch) k ≡ bit_if (not (is_empty (s.channels k ch)))
+
+-- those of the whole hold no more beats than they are made for
+abbrev pub Fit : {w : ℕ} → ℕ → Rings w → System w → Type 0
+Fit {w} n rings s = (k : ℕ) (ch : Channel) (d : Ring w) → k < n → length (s.channels k ch) ≤ (slice_index_or rings.all.items (place k ch) d).beats.capacity
+
+-- they are made for as many beats as before
+pub record AreKept {w : ℕ} (old new : Rings w) : Type 0 where
+  pub same_number : length new.all.items ≡ length old.all.items
+  pub same_capacity : (i : ℕ) (d : Ring w) → (slice_index_or new.all.items i d).beats.capacity ≡ (slice_index_or old.all.items i d).beats.capacity
+
+-- the greatest number of beats that ever stood in each is that of before, or that of now
+abbrev pub Deepen : {w : ℕ} → ℕ → Rings w → Rings w → Type 0
+Deepen {w} n old new = (k : ℕ) (ch : Channel) (d : Ring w) → k < n →
+    (slice_index_or new.all.items (place k ch) d).deepest ≡ max (slice_index_or old.all.items (place k ch) d).deepest (length (slice_index_or new.all.items (place k ch) d).beats.items)
+
+-- They held what one whole holds, and hold what another does that fits them.
+pub record AreMoved {w : ℕ} (n : ℕ) (old new : Rings w) (s : System w) : Type 0 where
+  pub carries : Carries n new s
+  pub deepen : Deepen n old new
+
+-- ---- how they are made
+
+abbrev pub channel_at : ℕ → Channel
+channel_at n = if n == 0 then channel.A else if n == 1 then channel.B else if n == 2 then channel.C else if n == 3 then channel.D else channel.E
+
+-- for how many beats the channel at this place is made
+abbrev pub capacity_at : ℕ → Config → ℕ → ℕ
+capacity_at w config i = capacity (64 / w) (sources_of (terms_at config (i / 5))) config.trackers (channel_at (i % 5))
+
+-- no bit is set
+abbrev pub AreClear : Occupied → Type 0
+AreClear occupied = (k : ℕ) (ch : Channel) → bit_at (word_of occupied ch) k ≡ 0
+
+-- so many channels are made, and hold nothing
+pub record AreFresh {w : ℕ} (config : Config) (count : ℕ) (rings : List (Ring w)) : Type 0 where
+  pub so_many : length rings ≡ count
+  pub beats : (i : ℕ) (d : Ring w) → i < count → (slice_index_or rings i d).beats ≡ buffer [] (capacity_at w config i)
+  pub deepest : (i : ℕ) (d : Ring w) → i < count → (slice_index_or rings i d).deepest ≡ 0

@@ -8,7 +8,7 @@ pub mod links
 pub mod manager
 pub mod memory
 pub mod outstanding
-pub mod potential
+pub mod rank
 pub mod protocol
 pub mod queues
 pub mod simulation

@@ -3,8 +3,8 @@ pub mod AskedAfter
 pub mod AskedWell
 pub mod CarriedReports
 pub mod CarriedRequests
-pub mod HeardAfter
-pub mod HeardAll
+pub mod DeliverDAfter
+pub mod DeliverDWhole
 pub mod InvariantKept
 pub mod ManagerDelivered
 pub mod ManagerFollowed

@@ -1,3 +1,7 @@
+pub mod ChannelA
+pub mod ChannelB
+pub mod ChannelCE
+pub mod ChannelD
 pub mod FlowAccess
 pub mod FlowAcquired
 pub mod FlowAlone
@@ -8,7 +12,6 @@ pub mod FlowAsked
 pub mod FlowAsking
 pub mod FlowBeats
 pub mod FlowComing
-pub mod FlowGiven
 pub mod FlowGranted
 pub mod FlowKinds
 pub mod FlowLawful
@@ -16,16 +19,13 @@ pub mod FlowOrders
 pub mod FlowOthers
 pub mod FlowOwn
 pub mod FlowProbe
-pub mod FlowProbed
 pub mod FlowReleased
 pub mod FlowReport
 pub mod FlowReported
-pub mod FlowRequested
 pub mod FlowRequests
 pub mod FlowResponses
 pub mod FlowSame
 pub mod FlowSinks
 pub mod FlowStep
 pub mod FlowSunk
-pub mod FlowTold
 pub mod Flows

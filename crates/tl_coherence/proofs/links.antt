@@ -1,7 +1,7 @@
-pub mod Conveyed
 pub mod Ending
-pub mod Firsts
-pub mod Given
+pub mod FifoOfChannels
+pub mod FifoSteps
+pub mod FromInvariant
 pub mod Granting
-pub mod Passing
+pub mod HeadsOfLinks
 pub mod Stalling

@@ -18,7 +18,7 @@ pub mod Memories
 pub mod Orders
 pub mod Performing
 pub mod Probing
-pub mod Quieted
+pub mod QuiescentManager
 pub mod Reporting
 pub mod Requests
 pub mod RequestsHanded

@@ -14,10 +14,10 @@ pub mod Passes
 pub mod Perms
 pub mod PhaseSteps
 pub mod Phases
+pub mod QuiescentQueues
 pub mod Rendered
 pub mod Showing
 pub mod Shown
-pub mod Standing
 pub mod Steps
 pub mod Sums
 pub mod Tokens

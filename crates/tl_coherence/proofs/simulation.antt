@@ -1,9 +1,9 @@
+pub mod BeatsInFlight
 pub mod Bounded
 pub mod CarriedEvents
 pub mod CarriedProbes
 pub mod FollowCases
 pub mod Fresh
-pub mod Goods
 pub mod InvariantAtClients
 pub mod Moved
 pub mod Owned

@@ -1,7 +1,7 @@
 pub mod AccessEnds
 pub mod Allowing
-pub mod Brought
 pub mod Continuing
-pub mod Lone
+pub mod LoneAcquireEnds
+pub mod LoneAcquireSteps
 pub mod Machined
 pub mod Soundness

@@ -1,1 +1,1 @@
-pub mod Potential
+pub mod Rank

@@ -1,6 +1,6 @@
 pub mod Facts
 pub mod Invariant
+pub mod Packet
 pub mod Phase
 pub mod PhaseSteps
 pub mod Protocol
-pub mod Token

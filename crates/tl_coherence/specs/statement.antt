@@ -7,8 +7,8 @@ pub mod Load
 pub mod Log
 pub mod Machine
 pub mod Movable
+pub mod OneMemory
 pub mod Ranged
-pub mod Remembered
 pub mod Step
 pub mod System
 pub mod Theorem

@@ -2,17 +2,17 @@
 
 ghost use Rattle.std.specs.Prelude.{◌≡◌, true};
 ghost use Rattle.tl_beat.specs.statement.Width.{IsWidth};
-ghost use Rattle.tl_coherence.specs.protocol.Phase.{Pair, View, ok};
-ghost use Rattle.tl_coherence.specs.statement.Delivery.{Carries, Channels, Flows, Stalls};
-ghost use Rattle.tl_coherence.specs.statement.Draining.{Alone, Bound, Drain, Grants};
-ghost use Rattle.tl_coherence.specs.statement.Headline.{Headline, OneMemory, Unrefused, Coherent, Moving};
+ghost use Rattle.tl_coherence.specs.protocol.Phase.{ClientBlock, View, ok};
+ghost use Rattle.tl_coherence.specs.statement.Delivery.{Fifo, CapacityBound, Flows, Stalls};
+ghost use Rattle.tl_coherence.specs.statement.Draining.{LoneAcquire, DeliveryBound, DrainsWithinLoad, GrantedIsHeld};
+ghost use Rattle.tl_coherence.specs.statement.Headline.{Headline, OneMemory, Unrefused, Coherent, NoDeadlock};
 ghost use Rattle.tl_coherence.specs.statement.Ranged.{AreInRange, HaveRoom};
 ghost use Rattle.tl_coherence.specs.statement.Theorem.{Theorem};
 ghost use Rattle.tl_coherence.specs.protocol.Facts.{IsBelow};
 
 /// In no phase does a client hold more than is recorded.
 pub fn holds_at_most_what_is_recorded<const W: usize>()
-    ensures { (p : Pair) (v : View) → ok p v ≡ true → IsBelow p v }
+    ensures { (p : ClientBlock) (v : View) → ok p v ≡ true → IsBelow p v }
 {}
 
 /// Whatever happens to a manager and its clients, no beat between them is refused.
@@ -24,7 +24,7 @@ pub fn refuses_no_beat<const W: usize>()
 /// No channel ever holds more beats than it is made for.
 pub fn fills_no_channel<const W: usize>()
     requires { IsWidth W }
-    ensures { Channels W }
+    ensures { CapacityBound W }
 {}
 
 /// Where one client may write a block, no other has a copy; each copy has the bytes of the one memory.
@@ -42,19 +42,19 @@ pub fn stalls_exactly<const W: usize>()
 /// Channels lose nothing and keep order.
 pub fn loses_nothing<const W: usize>()
     requires { IsWidth W }
-    ensures { Carries W }
+    ensures { Fifo W }
 {}
 
 /// At a Grant the client holds what it is granted.
 pub fn holds_what_it_is_granted<const W: usize>()
     requires { IsWidth W }
-    ensures { Grants W }
+    ensures { GrantedIsHeld W }
 {}
 
 /// A delivery can move exactly while something is outstanding: nothing gets stuck.
 pub fn moves_while_outstanding<const W: usize>()
     requires { IsWidth W }
-    ensures { Moving W }
+    ensures { NoDeadlock W }
 {}
 
 /// The outcomes are a run of the one-memory machine, with which each event that comes next goes on.
@@ -72,19 +72,19 @@ pub fn stays_sound<const W: usize>()
 /// An Acquire that is started alone, and drained, brings what it asks for.
 pub fn brings_what_is_asked_alone<const W: usize>()
     requires { IsWidth W }
-    ensures { Alone W }
+    ensures { LoneAcquire W }
 {}
 
 /// Deliveries move no more beats than the load before them.
 pub fn moves_at_most_the_load<const W: usize>()
     requires { IsWidth W }
-    ensures { Bound W }
+    ensures { DeliveryBound W }
 {}
 
 /// What is outstanding ends after as many deliveries as the load at most, each the next one, and then no delivery is left.
 pub fn drains_within_the_load<const W: usize>()
     requires { IsWidth W }
-    ensures { Drain W }
+    ensures { DrainsWithinLoad W }
 {}
 
 /// What is delivered on each link breaks no rule: a monitor finds no fault in it.

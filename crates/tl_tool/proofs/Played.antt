@@ -12,7 +12,7 @@ use Rattle.tl_coherence.specs.declared.event.Outcome.{Outcome}
 use Rattle.tl_coherence.specs.statement.Draining.{IsDrained}
 use Rattle.tl_coherence.specs.statement.Headline.{IsGiven}
 use Rattle.tl_coherence.specs.statement.Load.{load}
-use Rattle.tl_coherence.specs.statement.Log.{Log, after}
+use Rattle.tl_coherence.specs.statement.Log.{Log, system_after}
 use Rattle.tl_coherence.specs.statement.Movable.{drained, next_delivery, with_delivery}
 use Rattle.tl_world.proofs.Drained.{drained-more}
 use Rattle.tl_coherence.proofs.bound.Settling.{drain}
@@ -27,7 +27,7 @@ use Rattle.tl_tool.specs.code.Stage.{Contained, Reaches}
 
 module _ {w : ℕ} (config : Config) where
   abbrev next : Log w → Option (Link × Channel)
-  next log = next_delivery config (after config log)
+  next log = next_delivery config (system_after config log)
 
   -- more deliveries, and what is written of them
   drained-add : (n k t : ℕ) (log : Log w) → t ≡ n + k → drained config t log ≡ drained config k (drained config n log)
@@ -92,7 +92,7 @@ delivered-none trace config log world was r = record { reached = r; count = omeg
 
 pub delivered-more : {w : ℕ} (trace : Bool) (config : Config) (log : Log w) (old new : Contained w) (was mid is : List ℕ) (n : ℕ) (link : Link) (ch : Channel)
     → Delivered trace config log old was mid n
-    → Some (link, ch) ≡ next_delivery config (after config (drained config n log)) → Happens trace old new (Deliver link ch) mid is → Delivered trace config log new was is (n + 1)
+    → Some (link, ch) ≡ next_delivery config (system_after config (drained config n log)) → Happens trace old new (Deliver link ch) mid is → Delivered trace config log new was is (n + 1)
 delivered-more {w} trace config log old new was mid is n link ch d found happens =
     let log_so_far = drained config n log in
     let h = happens config log_so_far d.reached in
@@ -112,7 +112,7 @@ delivered-more {w} trace config log old new was mid is n link ch d found happens
     }
 
 pub drains-all : {w : ℕ} (trace : Bool) (config : Config) (log : Log w) (world : Contained w) (was is : List ℕ) (n : ℕ) → IsGiven config log
-    → Delivered trace config log world was is n → (next_delivery config (after config (drained config n log)) ≡ None) ⊎ (load log ≤ n)
+    → Delivered trace config log world was is n → (next_delivery config (system_after config (drained config n log)) ≡ None) ⊎ (load log ≤ n)
     → IsDrained config log n × (is ≡ was ++ deliveries_text trace config n log) × Reaches config world (drained config n log)
 drains-all trace config log world was is n given d (inl none) = (ended config n log given d.count none, d.says, d.reached)
 drains-all trace config log world was is n given d (inr enough) = (ended-at-load config n log given d.count enough, d.says, d.reached)

@@ -20,7 +20,7 @@ use Rattle.tl_schedule.specs.code.HeaderReading.{Named, header_at}
 use Rattle.tl_schedule.specs.statement.Schedule.{SpellsSchedule}
 use Rattle.tl_schedule.proofs.Headers.{read_spelled, spelled_read}
 use Rattle.tl_coherence.specs.statement.Headline.{IsGiven, AreTyped}
-use Rattle.tl_coherence.specs.statement.Log.{Log, IsLog, after}
+use Rattle.tl_coherence.specs.statement.Log.{Log, IsLog, system_after}
 use Rattle.tl_coherence.specs.statement.Movable.{drained, next_delivery, with_delivery}
 use Rattle.tl_world.proofs.Happened.{given-more}
 use Rattle.tl_coherence.proofs.bound.Settling.{drain, given-delivering}
@@ -155,7 +155,7 @@ all-played {n} (Sixteen m) read count was = λ lines before k counted. lines-end
 given-drained : {w : ℕ} (config : Config) (n : ℕ) (log : Log w) → IsGiven config log → IsGiven config (drained config n log)
 unfolding drained
 given-drained config zero log given = given
-given-drained {w} config (suc n) log given = given-drained config n (with_delivery config (next_delivery config (after config log)) log) (go (next_delivery config (after config log)))
+given-drained {w} config (suc n) log given = given-drained config n (with_delivery config (next_delivery config (system_after config log)) log) (go (next_delivery config (system_after config log)))
   where
     go : (o : Option (Link × Channel)) → IsGiven config (with_delivery config o log)
     go None = given

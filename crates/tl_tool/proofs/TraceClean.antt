@@ -33,13 +33,13 @@ use Rattle.tl_coherence.specs.declared.event.Outcome.TheVariants as outcome
 use Rattle.tl_coherence.specs.statement.Draining.{is_moving}
 use Rattle.tl_coherence.specs.statement.Flow.{flow, taken_on}
 use Rattle.tl_coherence.specs.statement.Headline.{IsGiven, IsTyped}
-use Rattle.tl_coherence.specs.statement.Log.{Log, IsLog, after}
+use Rattle.tl_coherence.specs.statement.Log.{Log, IsLog, system_after}
 use Rattle.tl_coherence.specs.statement.Movable.{drained, next_delivery, with_delivery}
 use Rattle.tl_coherence.specs.statement.Ranged.{AreRanged, IsRanged}
 use Rattle.tl_coherence.specs.statement.System.{terms_at}
 use Rattle.tl_coherence.proofs.lines.Delivered.{are-in_range}
 use Rattle.tl_coherence.proofs.flow.Flows.{asked-still, flows}
-use Rattle.tl_coherence.proofs.simulation.Goods.{level-terms}
+use Rattle.tl_coherence.proofs.simulation.BeatsInFlight.{level-terms}
 use Rattle.tl_world.proofs.Happened.{given-more}
 use Rattle.tl_coherence.proofs.outstanding.Outstanding.{first-moved}
 use Rattle.tl_tool.specs.declared.fault.Fault.TheVariants.{Event as NoEvent}
@@ -126,8 +126,8 @@ good-beat {w} config log link ch o x given ranged moving flowing = record {
     whole : Log w
     whole = (Deliver link ch, o) ∷ log
 
-    first : (y : Beat w) × (queue : List (Beat w)) × (terms : Terms) × (((after config log).channels link.0 ch ≡ y ∷ queue) × (terms_at config link.0 ≡ Some terms))
-    first = first-moved config link ch (after config log) (ap is_moving (sym given.is_log.0) ∙ moving)
+    first : (y : Beat w) × (queue : List (Beat w)) × (terms : Terms) × (((system_after config log).channels link.0 ch ≡ y ∷ queue) × (terms_at config link.0 ≡ Some terms))
+    first = first-moved config link ch (system_after config log) (ap is_moving (sym given.is_log.0) ∙ moving)
 
     level_is : level_of config link.0 ≡ Some first.2.level
     level_is = (level-terms config link.0 first.2 first.3.1).0
@@ -228,7 +228,7 @@ deliveries-extend : {w : ℕ} (config : Config) (n : ℕ) (log : Log w) → IsGi
 unfolding deliveries_text drained
 deliveries-extend config zero log given ranged = nothing-more config log given ranged
 deliveries-extend config (suc n) log given ranged =
-    let next = next_delivery config (after config log) in
+    let next = next_delivery config (system_after config log) in
     let one = delivery-extends config log next given ranged in
     and-then config log (with_delivery config next log) (drained config n (with_delivery config next log)) (delivery_text true config log next)
     (deliveries_text true config n (with_delivery config next log)) one

@@ -16,13 +16,13 @@ use Rattle.tl_world.specs.code.Carrying.{AreClear, AreFresh}
 use Rattle.tl_coherence.specs.statement.Headline.{IsTyped, AreTyped, IsGiven}
 use Rattle.tl_world.specs.code.Holds.{clients_of, Holds, HasRoom, IsStepped}
 use Rattle.tl_coherence.specs.statement.Load.{starts_request, starts_release, ends_request, ends_release, requests, releases}
-use Rattle.tl_coherence.specs.statement.Log.{Log, IsLog, after, logged}
+use Rattle.tl_coherence.specs.statement.Log.{Log, IsLog, system_after, logged}
 use Rattle.tl_world.specs.code.Opened.{counted}
 use Rattle.tl_coherence.specs.statement.Step.{stepped}
 use Rattle.tl_coherence.specs.statement.System.{System}
 use Rattle.tl_world.specs.statement.World.{deepest, IsReached, AreReady}
 use Rattle.std.proofs.Math.Nat.{max-le}
-use Rattle.tl_coherence.proofs.links.Given.{channels, carries}
+use Rattle.tl_coherence.proofs.links.FromInvariant.{channels, carries}
 use Rattle.tl_coherence.proofs.theorem.Soundness.{headline}
 use Rattle.tl_world.proofs.Loads.{requests-next, releases-next}
 use Rattle.tl_world.proofs.Made.{made-room, made-empty, made-flat}
@@ -31,15 +31,15 @@ use Rattle.tl_world.proofs.Made.{made-room, made-empty, made-flat}
 
 -- a log that is longer by an event and what comes of it
 pub given-more : {w : ℕ} (config : Config) (log : Log w) (event : Event w) (o : Outcome w) → IsGiven config log → IsTyped event
-    → o ≡ (stepped config event (after config log)).outcome → IsGiven config ((event, o) ∷ log)
+    → o ≡ (stepped config event (system_after config log)).outcome → IsGiven config ((event, o) ∷ log)
 unfolding AreTyped IsLog
 given-more config log event o given typed is = record { width = given.width; fits = given.fits; typed = (typed, given.typed); is_log = (is, given.is_log) }
 
 -- no channel overflows
-pub room-next : {w : ℕ} (config : Config) (log : Log w) (event : Event w) → IsGiven config log → IsTyped event → HasRoom config (stepped config event (after config log)).after
-unfolding after
+pub room-next : {w : ℕ} (config : Config) (log : Log w) (event : Event w) → IsGiven config log → IsTyped event → HasRoom config (stepped config event (system_after config log)).after
+unfolding system_after
 room-next config log event given typed k ch =
-    let o = (stepped config event (after config log)).outcome in
+    let o = (stepped config event (system_after config log)).outcome in
     channels config ((event, o) ∷ log) (given-more config log event o given typed refl) k ch
 
 pub reached-step : {w : ℕ} {A M : Type 0} (knows : A → End w → Type 0) (terms : A → Terms) (perm_of : M → ℕ → ℕ → Perm) (config : Config)
@@ -48,10 +48,10 @@ pub reached-step : {w : ℕ} {A M : Type 0} (knows : A → End w → Type 0) (te
     → ((s : System w) → Holds knows terms perm_of config old.parts s → HasRoom config (stepped config event s).after → IsStepped knows terms perm_of config old.parts new.parts event o s)
     → new.outstanding.requests ≡ counted (starts_request event o) (ends_request o) old.outstanding.requests
     → new.outstanding.releases ≡ counted (starts_release event o) (ends_release o) old.outstanding.releases
-    → IsReached knows terms perm_of config new ((event, o) ∷ log) × (o ≡ (stepped config event (after config log)).outcome)
-unfolding after deepest
+    → IsReached knows terms perm_of config new ((event, o) ∷ log) × (o ≡ (stepped config event (system_after config log)).outcome)
+unfolding system_after deepest
 reached-step {w} knows terms perm_of config old new log event o r typed happens same_requests same_releases =
-    let is = happens (after config log) r.holds (room-next config log event r.given typed) in
+    let is = happens (system_after config log) r.holds (room-next config log event r.given typed) in
     let given = given-more config log event o r.given typed is.outcome_is in (
       record {
         given = given;
@@ -84,7 +84,7 @@ pub reached-new : {w : ℕ} {A M : Type 0} (knows : A → End w → Type 0) (ter
     (contents : Contents w A M) → IsWidth w → AreReady knows terms config contents.parts.clients.items
     → Knows perm_of contents.parts.manager config manager_end.fresh → AreFresh config (5 * clients_of config) contents.parts.rings.all.items → AreClear contents.parts.rings.occupied
     → contents.outstanding.requests ≡ 0 → contents.outstanding.releases ≡ 0 → IsReached knows terms perm_of config contents []
-unfolding after AreTyped IsLog deepest requests releases
+unfolding system_after AreTyped IsLog deepest requests releases
 reached-new {w} knows terms perm_of config contents width ready known are clear no_request no_release = record {
   given = new;
   holds = record {

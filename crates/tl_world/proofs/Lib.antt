@@ -1,13 +1,13 @@
+mod Marks
+pub mod AgentsOfConfig
 pub mod Drained
 pub mod Happened
-pub mod Hired
 pub mod Loads
 pub mod Made
-mod Marks
 pub mod Movables
 pub mod Queues
-pub mod Seen
 pub mod Sending
 pub mod SentProbes
 pub mod Stepping
 pub mod Unmoved
+pub mod WorldObservers

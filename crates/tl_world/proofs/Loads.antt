@@ -18,14 +18,14 @@ use Rattle.tl_world.specs.code.Holds.{clients_of}
 use Rattle.tl_coherence.specs.statement.Load.{starts_request, starts_release, ends_request, ends_release, requests, releases}
 use Rattle.tl_coherence.specs.statement.Log.{Log}
 use Rattle.tl_world.specs.code.Opened.{counted}
-use Rattle.tl_coherence.specs.bound.Potential.{total, is_used, is_let, open_requests, open_releases}
+use Rattle.tl_coherence.specs.bound.Rank.{total, is_used, is_let, open_requests, open_releases}
 use Rattle.tl_coherence.specs.statement.System.{terms_at}
-use Rattle.tl_coherence.specs.protocol.Token.{one_if}
-use Rattle.tl_coherence.specs.refinement.Whole.{is_caching}
+use Rattle.tl_coherence.specs.protocol.Packet.{one_if}
+use Rattle.tl_coherence.specs.refinement.SimulationRelation.{is_caching}
 use Rattle.tl_coherence.proofs.simulation.Bounded.{matched-bounded}
 use Rattle.tl_coherence.proofs.protocol.Capacities.{few_on_e}
 use Rattle.tl_coherence.proofs.outstanding.Counted.{number-next, requests-open, releases-open}
-use Rattle.tl_coherence.proofs.links.Given.{matched-given}
+use Rattle.tl_coherence.proofs.links.FromInvariant.{matched-given}
 use Rattle.tl_coherence.proofs.queues.Limits.{limits-fit, all-fit}
 use Rattle.tl_world.proofs.Made.{sources-at}
 use Rattle.tl_coherence.proofs.deliveries.Matching.{shadow}

@@ -23,7 +23,7 @@ use Rattle.tl_coherence.specs.statement.Step.{is_to_client}
 use Rattle.tl_coherence.specs.statement.System.{System, terms_at}
 use Rattle.tl_world.specs.declared.parts.Parts.{Parts}
 use Rattle.tl_world.specs.declared.rings.Rings.{Rings}
-use Rattle.tl_coherence.proofs.queues.Standing.{empty-still}
+use Rattle.tl_coherence.proofs.queues.QuiescentQueues.{empty-still}
 use Rattle.tl_world.proofs.Stepping.{member, first-is, none-left}
 
 -- ---- of several links

@@ -4,7 +4,7 @@ ghost use Rattle.std.specs.Prelude.{ℕ, [], ◌∷◌, ◌≡◌, ◌≤◌, �
 ghost use Rattle.tl_beat.specs.statement.Width.{IsWidth};
 ghost use Rattle.tl_params.specs.declared.config.Config.{Config};
 ghost use Rattle.tl_coherence.specs.statement.Load;
-ghost use Rattle.tl_coherence.specs.statement.Log.{Log, after, logged};
+ghost use Rattle.tl_coherence.specs.statement.Log.{Log, system_after, logged};
 ghost use Rattle.tl_coherence.specs.statement.Step.{stepped};
 ghost use Rattle.tl_world.specs.statement.World.{IsReached, IsNewWorld, IsReplayed, AreReady, IsEmpty, held_by, copy_by, deepest_by};
 ghost use Rattle.tl_coherence.specs.statement.Movable;
@@ -89,7 +89,7 @@ impl<const W: usize, A: Agent<W>, D: Directory> World<W, A, D> {
         ensures reached { (config : Config) (log : Log W) → IsReached A.knows A.terms D.perm_of config self.old log →
             IsReached A.knows A.terms D.perm_of config self.new ((event.entry, result) ∷ log) }
         ensures outcome { (config : Config) (log : Log W) → IsReached A.knows A.terms D.perm_of config self.old log →
-            result ≡ (stepped config event.entry (after config log)).outcome }
+            result ≡ (stepped config event.entry (system_after config log)).outcome }
     {
         typed(&event);
         let mut outcome = Outcome::Empty;
@@ -135,7 +135,7 @@ impl<const W: usize, A: Agent<W>, D: Directory> World<W, A, D> {
     /// order E, D, C, B, A of the channels, and of the links within one.
     pub fn next_delivery(&self) -> Option<(Link, Channel)>
         ensures { (config : Config) (log : Log W) → IsReached A.knows A.terms D.perm_of config self.now log →
-            result ≡ Movable.next_delivery config (after config log) }
+            result ≡ Movable.next_delivery config (system_after config log) }
     {
         self.contents.parts.next_delivery()
     }
@@ -164,7 +164,7 @@ impl<const W: usize, A: Agent<W>, D: Directory> World<W, A, D> {
     /// What a client holds of a block: None where there is no such client.
     pub fn held(&self, client: u8, block: u16) -> Perm
         ensures { (config : Config) (log : Log W) → IsReached A.knows A.terms D.perm_of config self.now log →
-            result ≡ held_by config client block (after config log) }
+            result ≡ held_by config client block (system_after config log) }
     {
         held_at(&self.contents.parts.clients, usize::from(client), block)
     }
@@ -172,7 +172,7 @@ impl<const W: usize, A: Agent<W>, D: Directory> World<W, A, D> {
     /// The bytes of a client's copy of a block: None where it has none, or there is no such client.
     pub fn copy(&self, client: u8, block: u16) -> Option<[u8; 64]>
         ensures { (config : Config) (log : Log W) → IsReached A.knows A.terms D.perm_of config self.now log →
-            result ≡ copy_by config client block (after config log) }
+            result ≡ copy_by config client block (system_after config log) }
     {
         copy_at(&self.contents.parts.clients, usize::from(client), block)
     }

@@ -8,19 +8,19 @@ use Rattle.tl_burst.specs.statement.Burst.{beats_of}
 use Rattle.tl_params.specs.declared.config.Config.{Config}
 use Rattle.tl_coherence.specs.protocol.Invariant.{IsInvariant, is_asked, is_replied}
 use Rattle.tl_coherence.specs.refinement.Move.{channel_for}
-use Rattle.tl_coherence.specs.protocol.Phase.{Pair, View, Idle, Own, Other, Granting, Acknowledging, GrantedOther, Probing, Quiet, Sent, Answered, Letting, Kept, Releasing, Acked, is_quiet}
-use Rattle.tl_coherence.specs.bound.Potential.{Left, probing_weight, pair_weight, probes_weight, acquire_weight, letting_weight, let_weight, potential}
-use Rattle.tl_coherence.specs.protocol.Protocol.{Waits, State, Closed, Asked, InService, Replied, Acquires, token, view, is_unserved, is_wanting, is_granting, is_answered, is_releasing, tokens_on, shown}
-use Rattle.tl_coherence.specs.refinement.Render.{Mail, message_of_kind}
+use Rattle.tl_coherence.specs.protocol.Phase.{ClientBlock, View, Idle, Own, Other, Granting, Acknowledging, GrantedOther, ProbePhase, NoProbe, ProbeSent, ProbeAnswered, ReleasePhase, NoRelease, ReleaseSent, ReleaseAcked, is_unprobed}
+use Rattle.tl_coherence.specs.bound.Rank.{Left, probing_weight, pair_weight, probes_weight, acquire_weight, letting_weight, let_weight, rank}
+use Rattle.tl_coherence.specs.protocol.Protocol.{Waits, State, SourceFree, Asked, InService, Replied, Acquires, packet, view, is_unserved, is_wanting, is_granting, is_answered, is_releasing, packets_on, shown}
+use Rattle.tl_coherence.specs.refinement.PacketMessages.{AccessMessages, message_of_kind}
 use Rattle.tl_coherence.specs.statement.System.{System}
-use Rattle.tl_coherence.specs.protocol.Token.{Kind, Request, Acquire, Probe, ProbeAck, Release, Answer, Grant, ReleaseAck, GrantAck}
+use Rattle.tl_coherence.specs.protocol.Packet.{Kind, Request, Acquire, Probe, ProbeAck, Release, Answer, Grant, ReleaseAck, GrantAck}
 use Rattle.tl_coherence.proofs.protocol.Capacities.{shown_there, shows_it, request_named, answer_named, acquire_named, grant_named, release_named}
 use Rattle.tl_coherence.proofs.queues.Distinct.{first-there}
-use Rattle.tl_coherence.proofs.potential.Falls.{IsNoMore, owed_use, owed_use', use-falls, let-falls, use-no-more, probes-no-more, acquire-no-more, total-falls}
+use Rattle.tl_coherence.proofs.rank.RankDecreases.{IsNoMore, owed_use, owed_use', use-falls, let-falls, use-no-more, probes-no-more, acquire-no-more, total-falls}
 use Rattle.tl_coherence.proofs.queues.FirstToken.{IsFirst}
-use Rattle.tl_coherence.proofs.potential.Frames.{unserved-weight}
-use Rattle.tl_coherence.proofs.protocol.Leftover.{beats_left, taken_of, is_front, same_channels}
-use Rattle.tl_coherence.proofs.potential.Owing.{AreClients, IsAsking, asking, IsWaited, waited-probing, open_use}
+use Rattle.tl_coherence.proofs.rank.Frames.{unserved-weight}
+use Rattle.tl_coherence.proofs.protocol.BeatsRemaining.{beats_left, taken_of, is_front, same_channels}
+use Rattle.tl_coherence.proofs.rank.RankParts.{AreClients, IsAsking, asking, IsWaited, waited-probing, open_use}
 use Rattle.tl_coherence.proofs.queues.Phases.{and_right}
 use Rattle.tl_coherence.proofs.simulation.Popped.{unfinished_at, first-left, kind_channel}
 use Rattle.tl_coherence.proofs.protocol.Room.{is_light, light-one}
@@ -39,13 +39,13 @@ module _ {X : Type 0} (config : Config) (size : ℕ) (left left' : Left) (answer
   abbrev number : ℕ
   number = length config.clients.items
 
-  probing_less : (l l' : ℕ) (p : Pair) → l' ≤ l → probing_weight size l' p.recorded p.probing ≤ probing_weight size l p.recorded p.probing
+  probing_less : (l l' : ℕ) (p : ClientBlock) → l' ≤ l → probing_weight size l' p.recorded p.probing ≤ probing_weight size l p.recorded p.probing
   probing_less l l' p less = go p.probing
     where
-      go : (x : Probing) → probing_weight size l' p.recorded x ≤ probing_weight size l p.recorded x
-      go Quiet = omega arith
-      go (Sent k) = omega arith
-      go (Answered r) = less
+      go : (x : ProbePhase) → probing_weight size l' p.recorded x ≤ probing_weight size l p.recorded x
+      go NoProbe = omega arith
+      go (ProbeSent k) = omega arith
+      go (ProbeAnswered r) = less
 
   pair_less : (m d : ℕ) → pair_weight size left' m d ((s.block m).pair d) ≤ pair_weight size left m d ((s.block m).pair d)
   pair_less m d = probing_less (left d ProbeAck m) (left' d ProbeAck m) ((s.block m).pair d) (le d ProbeAck m)
@@ -53,10 +53,10 @@ module _ {X : Type 0} (config : Config) (size : ℕ) (left left' : Left) (answer
   probes_less : (m : ℕ) → probes_weight number size left' m (s.block m) ≤ probes_weight number size left m (s.block m)
   probes_less m = probes-no-more config size left left' answer answer s s m (λ d lt. pair_less m d)
 
-  letting_less : (l l' : ℕ) (x : Letting) → l' ≤ l → letting_weight l' x ≤ letting_weight l x
-  letting_less l l' Kept less = omega arith
-  letting_less l l' (Releasing r) less = omega (arith, less)
-  letting_less l l' Acked less = omega arith
+  letting_less : (l l' : ℕ) (x : ReleasePhase) → l' ≤ l → letting_weight l' x ≤ letting_weight l x
+  letting_less l l' NoRelease less = omega arith
+  letting_less l l' (ReleaseSent r) less = omega (arith, less)
+  letting_less l l' ReleaseAcked less = omega arith
 
   pub none-more : IsNoMore config size left left' answer answer s s
   none-more = record {
@@ -76,26 +76,26 @@ module _ {X : Type 0} (config : Config) (size : ℕ) (left left' : Left) (answer
 
   module _ (caching : ℕ → Bool) (inv : IsInvariant caching s) (all : AreClients config s) (c : ℕ) (lt : c < number) where
     abbrev Falls : Type 0
-    Falls = potential config size left' answer s + 1 ≤ potential config size left answer s
+    Falls = rank config size left' answer s + 1 ≤ rank config size left answer s
 
-    use_owes : (d i : ℕ) → (s.uses d i ≡ Closed → ⊥) → owed_use' config size left left' answer answer s s d i + 1 ≤ owed_use config size left left' answer answer s s d i → Falls
+    use_owes : (d i : ℕ) → (s.uses d i ≡ SourceFree → ⊥) → owed_use' config size left left' answer answer s s d i + 1 ≤ owed_use config size left left' answer answer s s d i → Falls
     use_owes d i used less = use-falls config size left left' answer answer s s d i (all.clients d i used) (all.sources d i used) none-more less
 
     request_less : (i : ℕ) → left' c Request i + 1 ≤ left c Request i → is_asked (s.uses c i) ≡ true → Falls
     request_less i less e =
         let used = request_named caching s c i inv e in
-        use_owes c i (λ closed. absurd (let both : Asked ≡ Closed = sym used ∙ closed in cc)) (rw used (omega (arith, less)))
+        use_owes c i (λ closed. absurd (let both : Asked ≡ SourceFree = sym used ∙ closed in cc)) (rw used (omega (arith, less)))
 
     answer_less : (i : ℕ) → left' c Answer i + 1 ≤ left c Answer i → is_replied (s.uses c i) ≡ true → Falls
     answer_less i less e =
         let used = answer_named caching s c i inv e in
-        use_owes c i (λ closed. absurd (let both : Replied ≡ Closed = sym used ∙ closed in cc)) (rw used less)
+        use_owes c i (λ closed. absurd (let both : Replied ≡ SourceFree = sym used ∙ closed in cc)) (rw used less)
 
     acquire_owes : (m : ℕ) → s.uses c ((s.block m).source c) ≡ Acquires m
         → acquire_weight size (left' c Acquire m) (left' c Grant m) (probes_weight number size left' m (s.block m)) (view (s.block m).service c) + 1
         ≤ acquire_weight size (left c Acquire m) (left c Grant m) (probes_weight number size left m (s.block m)) (view (s.block m).service c)
         → Falls
-    acquire_owes m used less = use_owes c ((s.block m).source c) (λ closed. absurd (let both : Acquires m ≡ Closed = sym used ∙ closed in cc)) (rw used less)
+    acquire_owes m used less = use_owes c ((s.block m).source c) (λ closed. absurd (let both : Acquires m ≡ SourceFree = sym used ∙ closed in cc)) (rw used less)
 
     acquire_less : (m : ℕ) → left' c Acquire m + 1 ≤ left c Acquire m → shown Acquire c (s.block m) ≡ true → Falls
     acquire_less m less e =
@@ -125,15 +125,15 @@ module _ {X : Type 0} (config : Config) (size : ℕ) (left left' : Left) (answer
         let source = (s.block m).release_source c in
         let-falls config size left left' answer answer s s c source (all.letters c source m named) (all.releases c source m named) none-more (rw named (go ((s.block m).pair c).letting e))
       where
-        go : (x : Letting) → is_releasing x ≡ true → letting_weight (left' c Release m) x + 1 ≤ letting_weight (left c Release m) x
-        go (Releasing r) f = omega (arith, less)
-        go Kept f = absurd cc
-        go Acked f = absurd cc
+        go : (x : ReleasePhase) → is_releasing x ≡ true → letting_weight (left' c Release m) x + 1 ≤ letting_weight (left c Release m) x
+        go (ReleaseSent r) f = omega (arith, less)
+        go NoRelease f = absurd cc
+        go ReleaseAcked f = absurd cc
 
     report_less : (m : ℕ) → left' c ProbeAck m + 1 ≤ left c ProbeAck m → shown ProbeAck c (s.block m) ≡ true → Falls
     report_less m less e = falls who.own who.is asker.used
       where
-        probed : is_quiet ((s.block m).pair c).probing ≡ false
+        probed : is_unprobed ((s.block m).pair c).probing ≡ false
         probed = not-answered ((s.block m).pair c).probing e
 
         who : IsWaited (s.block m).service
@@ -145,11 +145,11 @@ module _ {X : Type 0} (config : Config) (size : ℕ) (left left' : Left) (answer
         here : pair_weight size left' m c ((s.block m).pair c) + 1 ≤ pair_weight size left m c ((s.block m).pair c)
         here = go ((s.block m).pair c).probing e
           where
-            go : (x : Probing) → is_answered x ≡ true → probing_weight size (left' c ProbeAck m) ((s.block m).pair c).recorded x + 1 ≤ probing_weight size
+            go : (x : ProbePhase) → is_answered x ≡ true → probing_weight size (left' c ProbeAck m) ((s.block m).pair c).recorded x + 1 ≤ probing_weight size
                 (left c ProbeAck m) ((s.block m).pair c).recorded x
-            go (Answered r) f = less
-            go (Sent k) f = absurd cc
-            go Quiet f = absurd cc
+            go (ProbeAnswered r) f = less
+            go (ProbeSent k) f = absurd cc
+            go NoProbe f = absurd cc
 
         probes : probes_weight number size left' m (s.block m) + 1 ≤ probes_weight number size left m (s.block m)
         probes = total-falls number c 1 (λ d. pair_weight size left m d ((s.block m).pair d)) (λ d. pair_weight size left' m d ((s.block m).pair d)) lt (λ d h. pair_less m d) here
@@ -178,11 +178,11 @@ taken_more : {w : ℕ} (b : Bool) (rest rest' : List (Beat w)) → length rest �
 taken_more true rest rest' le = le
 taken_more false rest rest' le = omega arith
 
-pub beat-falls : {w : ℕ} (config : Config) (caching : ℕ → Bool) (ch : Channel) (c : ℕ) (mail : Mail w) (s : State (List ℕ)) (sys sys' : System w) (x : Beat w)
+pub beat-falls : {w : ℕ} (config : Config) (caching : ℕ → Bool) (ch : Channel) (c : ℕ) (mail : AccessMessages w) (s : State (List ℕ)) (sys sys' : System w) (x : Beat w)
     (queue : List (Beat w)) (size : ℕ) (answer : ℕ → ℕ → ℕ)
     → (first : IsFirst ch c mail s sys x queue) → first.next.k + 1 < beats_of (message_of_kind first.kind mail s c first.number) → IsBegun c ch x (unfinished_at sys) (unfinished_at sys')
     → IsInvariant caching s → AreClients config s → c < length config.clients.items
-    → potential config size (beats_left mail s (unfinished_at sys')) answer s + 1 ≤ potential config size (beats_left mail s (unfinished_at sys)) answer s
+    → rank config size (beats_left mail s (unfinished_at sys')) answer s + 1 ≤ rank config size (beats_left mail s (unfinished_at sys)) answer s
 beat-falls {w} config caching ch c mail s sys sys' x queue size answer first more begun inv all lt =
     message-less config size (beats_left mail s (unfinished_at sys))
     (beats_left mail s (unfinished_at sys')) answer s less caching inv all c lt first.kind first.number shown_it one_less (heavy (is_light first.kind) refl)
@@ -194,18 +194,18 @@ beat-falls {w} config caching ch c mail s sys sys' x queue size answer first mor
 
     less : (d : ℕ) (k : Kind) (m : ℕ) → beats_left mail s (unfinished_at sys') d k m ≤ beats_left mail s (unfinished_at sys) d k m
     less d k m =
-        let more = taken_more (is_front k m (tokens_on (channel_for k) (s.link d))) (unfinished_at sys d (channel_for k)) (unfinished_at sys' d (channel_for k))
+        let more = taken_more (is_front k m (packets_on (channel_for k) (s.link d))) (unfinished_at sys d (channel_for k)) (unfinished_at sys' d (channel_for k))
         (longer d (channel_for k) (cases_eq d c) (same_channels (channel_for k) ch)) in
         omega (arith, more)
 
     shown_it : shows_it s c first.kind first.number ≡ true
-    shown_it = shown_there caching s c ch first.kind first.number inv first.own (rw first.tokens (first-there (token first.kind first.number) first.rest))
+    shown_it = shown_there caching s c ch first.kind first.number inv first.own (rw first.tokens (first-there (packet first.kind first.number) first.rest))
 
     heavy : (b : Bool) → is_light first.kind ≡ b → b ≡ false
     heavy false e = refl
     heavy true e = absurd (let one = light-one mail s c first.kind first.number e in omega (arith, one, more))
 
-    front : is_front first.kind first.number (tokens_on (channel_for first.kind) (s.link c)) ≡ true
+    front : is_front first.kind first.number (packets_on (channel_for first.kind) (s.link c)) ≡ true
     front = rw (kind_channel ch first.kind first.own, first.tokens, same_kind_again first.kind, same_number first.number) refl
 
     one_more : length (unfinished_at sys' c (channel_for first.kind)) ≡ length (unfinished_at sys c (channel_for first.kind)) + 1
@@ -219,5 +219,5 @@ beat-falls {w} config caching ch c mail s sys sys' x queue size answer first mor
     one_less : beats_left mail s (unfinished_at sys') c first.kind first.number + 1 ≤ beats_left mail s (unfinished_at sys) c first.kind first.number
     one_less =
         let all = first-left ch c mail s sys x queue first in
-        let t = taken (is_front first.kind first.number (tokens_on (channel_for first.kind) (s.link c))) front in
+        let t = taken (is_front first.kind first.number (packets_on (channel_for first.kind) (s.link c))) front in
         omega (arith, all, t, more)

@@ -12,24 +12,24 @@ use Rattle.tl_coherence.specs.declared.event.Outcome.{Outcome}
 use Rattle.tl_coherence.specs.statement.Draining.{is_delivery, is_moving, beats_moved, IsDrained}
 use Rattle.tl_coherence.specs.statement.Headline.{AreTyped, IsGiven}
 use Rattle.tl_coherence.specs.statement.Load.{load}
-use Rattle.tl_coherence.specs.statement.Log.{Log, IsLog, after}
+use Rattle.tl_coherence.specs.statement.Log.{Log, IsLog, system_after}
 use Rattle.tl_coherence.specs.statement.Movable.{next_delivery, drained, with_delivery}
 use Rattle.tl_coherence.specs.statement.Step.{stepped}
-use Rattle.tl_coherence.specs.protocol.Token.{one_if}
+use Rattle.tl_coherence.specs.protocol.Packet.{one_if}
 use Rattle.tl_coherence.proofs.outstanding.Counted.{load-open}
-use Rattle.tl_coherence.proofs.links.Given.{matched-given, stalls}
-use Rattle.tl_coherence.proofs.bound.Lessening.{moving-owed, still-owed}
+use Rattle.tl_coherence.proofs.links.FromInvariant.{matched-given, stalls}
+use Rattle.tl_coherence.proofs.bound.DeliveriesDecrease.{moving-owed, still-owed}
 use Rattle.tl_coherence.proofs.deliveries.Matching.{shadow}
 use Rattle.tl_coherence.proofs.outstanding.Movement.{none-outstanding}
-use Rattle.tl_coherence.proofs.bound.Owed.{owed, owed-few}
+use Rattle.tl_coherence.proofs.bound.RankOfLog.{owed, owed-few}
 use Rattle.tl_coherence.proofs.outstanding.Progress.{counted, moving}
 use Rattle.tl_coherence.proofs.links.Stalling.{movable-moves}
-use Rattle.tl_coherence.proofs.queues.Standing.{next-movable}
+use Rattle.tl_coherence.proofs.queues.QuiescentQueues.{next-movable}
 
 -- ---- what is owed after a log
 
 abbrev pub owed_after : {w : ℕ} → Config → Log w → ℕ
-owed_after config log = owed config (shadow config log).mail (shadow config log).state (after config log)
+owed_after config log = owed config (shadow config log).mail (shadow config log).state (system_after config log)
 
 sixteen : {w : ℕ} (config : Config) (log : Log w) → IsGiven config log → length config.clients.items ≤ 16
 sixteen config log given = (limits config given.fits).0
@@ -37,7 +37,7 @@ sixteen config log given = (limits config given.fits).0
 -- it is at most the load
 owed-load : {w : ℕ} (config : Config) (log : Log w) → IsGiven config log → owed_after config log ≤ load log
 owed-load {w} config log given =
-    let few = owed-few config log (shadow config log).mail (shadow config log).request (shadow config log).state (after config log) given.width
+    let few = owed-few config log (shadow config log).mail (shadow config log).request (shadow config log).state (system_after config log) given.width
     (matched-given config log given) (sixteen config log given) in
     subst (λ (n : ℕ). owed_after config log ≤ n) (sym (load-open config log (shadow config log).state (counted config log given.width given.typed given.is_log))) few
 
@@ -53,7 +53,7 @@ given-older config (x ∷ more) log given = given-older config more log (given-b
 
 -- with one delivery more
 abbrev delivering : {w : ℕ} → Config → Link → Channel → Log w → Log w
-delivering config link ch log = (Deliver link ch, (stepped config (Deliver link ch) (after config log)).outcome) ∷ log
+delivering config link ch log = (Deliver link ch, (stepped config (Deliver link ch) (system_after config log)).outcome) ∷ log
 
 pub given-delivering : {w : ℕ} (config : Config) (link : Link) (ch : Channel) (log : Log w) → IsGiven config log → IsGiven config (delivering config link ch log)
 unfolding AreTyped IsLog
@@ -62,14 +62,14 @@ given-delivering config link ch log given = record { width = given.width; fits =
 -- ---- one delivery
 
 owed-moved : {w : ℕ} (config : Config) (link : Link) (ch : Channel) (o : Outcome w) (log : Log w) → IsGiven config log
-    → is_moving (stepped config (Deliver link ch) (after config log)).outcome ≡ true
+    → is_moving (stepped config (Deliver link ch) (system_after config log)).outcome ≡ true
     → owed_after config ((Deliver link ch, o) ∷ log) + 1 ≤ owed_after config log
-unfolding shadow after
+unfolding shadow system_after
 owed-moved config link ch o log given moves = moving-owed config log (shadow config log) given.width (matched-given config log given) link ch (sixteen config log given) moves
 
 owed-unmoved : {w : ℕ} (config : Config) (link : Link) (ch : Channel) (o : Outcome w) (log : Log w) → IsGiven config log
-    → is_moving (stepped config (Deliver link ch) (after config log)).outcome ≡ false → owed_after config ((Deliver link ch, o) ∷ log) ≤ owed_after config log
-unfolding shadow after
+    → is_moving (stepped config (Deliver link ch) (system_after config log)).outcome ≡ false → owed_after config ((Deliver link ch, o) ∷ log) ≤ owed_after config log
+unfolding shadow system_after
 owed-unmoved config link ch o log given still = still-owed config log (shadow config log) given.width (matched-given config log given) link ch still
 
 -- it takes one off what is owed, where it moves a beat
@@ -81,12 +81,12 @@ owed-delivered {w} config x log given is = go x.0 x.1 refl given.is_log.0 is
     before : IsGiven config log
     before = given-before config x log given
 
-    at : (link : Link) (ch : Channel) (o : Outcome w) (b : Bool) → o ≡ (stepped config (Deliver link ch) (after config log)).outcome → is_moving o ≡ b
+    at : (link : Link) (ch : Channel) (o : Outcome w) (b : Bool) → o ≡ (stepped config (Deliver link ch) (system_after config log)).outcome → is_moving o ≡ b
         → one_if b + owed_after config ((Deliver link ch, o) ∷ log) ≤ owed_after config log
     at link ch o true e f = let less = owed-moved config link ch o log before (sym (ap is_moving e) ∙ f) in omega (arith, less)
     at link ch o false e f = let less = owed-unmoved config link ch o log before (sym (ap is_moving e) ∙ f) in omega (arith, less)
 
-    go : (event : Event w) (o : Outcome w) → x ≡ (event, o) → o ≡ (stepped config event (after config log)).outcome → is_delivery event ≡ true
+    go : (event : Event w) (o : Outcome w) → x ≡ (event, o) → o ≡ (stepped config event (system_after config log)).outcome → is_delivery event ≡ true
         → one_if (is_moving o) + owed_after config ((event, o) ∷ log) ≤ owed_after config log
     go (Ask c op) o e f g = absurd cc
     go (Deliver link ch) o e f g = at link ch o (is_moving o) f refl
@@ -121,44 +121,44 @@ bound config more log given all =
 record IsStanding {w : ℕ} (config : Config) (log : Log w) (n : ℕ) : Type 0 where
   so_many : length (drained config n log) ≡ n + length log
   few : n ≤ owed_after config log
-  stands : next_delivery config (after config (drained config n log)) ≡ None
+  stands : next_delivery config (system_after config (drained config n log)) ≡ None
   given : IsGiven config (drained config n log)
 
 -- the next delivery moves a beat
-next-moves : {w : ℕ} (config : Config) (log : Log w) (d : Link × Channel) → IsGiven config log → next_delivery config (after config log) ≡ Some d
-    → is_moving (stepped config (Deliver d.0 d.1) (after config log)).outcome ≡ true
-next-moves config log d given is = movable-moves config log d.0.0 d.1 (λ client. stalls config log given d.0.0 d.1 client) (next-movable config (after config log) d is)
+next-moves : {w : ℕ} (config : Config) (log : Log w) (d : Link × Channel) → IsGiven config log → next_delivery config (system_after config log) ≡ Some d
+    → is_moving (stepped config (Deliver d.0 d.1) (system_after config log)).outcome ≡ true
+next-moves config log d given is = movable-moves config log d.0.0 d.1 (λ client. stalls config log given d.0.0 d.1 client) (next-movable config (system_after config log) d is)
 
-standing : {w : ℕ} (config : Config) (log : Log w) (o : Option (Link × Channel)) → IsGiven config log → next_delivery config (after config log) ≡ o
-    → ((d : Link × Channel) → next_delivery config (after config log) ≡ Some d → (n : ℕ) × IsStanding config (delivering config d.0 d.1 log) n) → (n : ℕ) × IsStanding config log n
+standing : {w : ℕ} (config : Config) (log : Log w) (o : Option (Link × Channel)) → IsGiven config log → next_delivery config (system_after config log) ≡ o
+    → ((d : Link × Channel) → next_delivery config (system_after config log) ≡ Some d → (n : ℕ) × IsStanding config (delivering config d.0 d.1 log) n) → (n : ℕ) × IsStanding config log n
 unfolding drained
 standing config log None given none rest = (0, record { so_many = omega arith; few = omega arith; stands = none; given = given })
 standing {w} config log (Some d) given next rest =
     let later = rest d next in
-    let less = owed-moved config d.0 d.1 (stepped config (Deliver d.0 d.1) (after config log)).outcome log given (next-moves config log d given next) in
+    let less = owed-moved config d.0 d.1 (stepped config (Deliver d.0 d.1) (system_after config log)).outcome log given (next-moves config log d given next) in
     let few = later.1.few in
     let count = later.1.so_many in (
       suc later.0,
       record {
         so_many = ap length (same later.0) ∙ omega (arith, count);
         few = omega (arith, few, less);
-        stands = ap (λ (l : Log w). next_delivery config (after config l)) (same later.0) ∙ later.1.stands;
+        stands = ap (λ (l : Log w). next_delivery config (system_after config l)) (same later.0) ∙ later.1.stands;
         given = subst (IsGiven config) (sym (same later.0)) later.1.given;
       },
     )
   where
-    same : (n : ℕ) → drained config n (with_delivery config (next_delivery config (after config log)) log) ≡ drained config n (delivering config d.0 d.1 log)
+    same : (n : ℕ) → drained config n (with_delivery config (next_delivery config (system_after config log)) log) ≡ drained config n (delivering config d.0 d.1 log)
     same n = ap (λ (o : Option (Link × Channel)). drained config n (with_delivery config o log)) next
 
 -- it comes to that after as many deliveries as are owed at most
 coming-to-stand : {w : ℕ} (config : Config) (fuel : ℕ) (log : Log w) → IsGiven config log → owed_after config log ≤ fuel → (n : ℕ) × IsStanding config log n
 coming-to-stand config zero log given le =
-    standing config log (next_delivery config (after config log)) given refl
-    (λ d next. let less = owed-moved config d.0 d.1 (stepped config (Deliver d.0 d.1) (after config log)).outcome log given (next-moves config log d given next) in absurd (omega (arith, le, less)))
+    standing config log (next_delivery config (system_after config log)) given refl
+    (λ d next. let less = owed-moved config d.0 d.1 (stepped config (Deliver d.0 d.1) (system_after config log)).outcome log given (next-moves config log d given next) in absurd (omega (arith, le, less)))
 coming-to-stand config (suc fuel) log given le =
-    standing config log (next_delivery config (after config log)) given refl
+    standing config log (next_delivery config (system_after config log)) given refl
     (λ d next.
-    let less = owed-moved config d.0 d.1 (stepped config (Deliver d.0 d.1) (after config log)).outcome log given (next-moves config log d given next) in
+    let less = owed-moved config d.0 d.1 (stepped config (Deliver d.0 d.1) (system_after config log)).outcome log given (next-moves config log d given next) in
     coming-to-stand config fuel (delivering config d.0 d.1 log) (given-delivering config d.0 d.1 log given) (omega (arith, le, less)))
 
 pub drain : {w : ℕ} (config : Config) (log : Log w) → IsGiven config log → (n : ℕ) × IsDrained config log n

@@ -26,25 +26,25 @@ use Rattle.tl_client.specs.statement.Send.{access}
 use Rattle.tl_manager.specs.statement.Handing.{access_answer, no_payload}
 use Rattle.tl_manager.specs.statement.Holders.{cap_probed}
 use Rattle.tl_manager.specs.statement.Service.{is_access_answer}
-use Rattle.tl_coherence.specs.refinement.Follow as follow
-use Rattle.tl_coherence.specs.refinement.Follow.{Shadow, with_state, bytes_at, asked, probes_some, some_below, access_taken, request_taken, is_unheld, gift, acquire_taken}
-use Rattle.tl_coherence.specs.refinement.Follow.{granted_after, last_taken, ack_taken, taken_by_client, kind_taken}
+use Rattle.tl_coherence.specs.refinement.AbstractStep as follow
+use Rattle.tl_coherence.specs.refinement.AbstractStep.{AbstractState, with_state, bytes_at, asked, probes_some, some_below, access_taken, request_taken, is_unheld, gift, acquire_taken}
+use Rattle.tl_coherence.specs.refinement.AbstractStep.{granted_after, last_taken, ack_taken, taken_by_client, kind_taken}
 use Rattle.tl_coherence.specs.protocol.Invariant.{cap_asked}
 use Rattle.tl_coherence.specs.statement.Log.{Log}
-use Rattle.tl_coherence.specs.protocol.Phase.{Acquiring, Calm, Wants, is_quiet}
+use Rattle.tl_coherence.specs.protocol.Phase.{AcquirePhase, NoAcquire, AcquireOpen, is_unprobed}
 use Rattle.tl_coherence.specs.protocol.PhaseSteps.{is_granted_data}
-use Rattle.tl_coherence.specs.protocol.Protocol.{Service, Free, Waits, GrantSent, GrantTaken, Block, State, Use, Closed, Asked, InService, Replied, Acquires, token, on}
+use Rattle.tl_coherence.specs.protocol.Protocol.{Service, Free, Waits, GrantSent, GrantTaken, Block, State, SourceState, SourceFree, Asked, InService, Replied, Acquires, packet, on}
 use Rattle.tl_coherence.specs.protocol.Protocol.{is_probed, acquire_served, acquire_granted, report_taken, written}
-use Rattle.tl_coherence.specs.refinement.Render.{Mail, report_told}
-use Rattle.tl_coherence.specs.refinement.Sources.{IsFor}
+use Rattle.tl_coherence.specs.refinement.PacketMessages.{AccessMessages, report_told}
+use Rattle.tl_coherence.specs.refinement.SourceRelation.{IsFor}
 use Rattle.tl_coherence.specs.statement.System.{System}
-use Rattle.tl_coherence.specs.protocol.Token.{Kind, Request, Acquire, Probe, ProbeAck, Release, Answer, Grant, ReleaseAck, GrantAck, Token, set_at}
-use Rattle.tl_coherence.specs.refinement.Whole.{IsMatched, IsAnswer, IsAnswered, IsServedWith}
+use Rattle.tl_coherence.specs.protocol.Packet.{Kind, Request, Acquire, Probe, ProbeAck, Release, Answer, Grant, ReleaseAck, GrantAck, Packet, set_at}
+use Rattle.tl_coherence.specs.refinement.SimulationRelation.{SimulationRelation, IsAnswer, IsAnswered, IsServedWith}
 use Rattle.tl_coherence.proofs.client.Aside.{set_at-else, set_at-other}
-use Rattle.tl_coherence.proofs.protocol.Fronts.{asked-first}
+use Rattle.tl_coherence.proofs.protocol.Heads.{asked-first}
 use Rattle.tl_coherence.proofs.queues.Tokens.{set_at-same}
 
-abbrev pub AreAnswered : {w : ℕ} → Mail w → State (List ℕ) → Type 0
+abbrev pub AreAnswered : {w : ℕ} → AccessMessages w → State (List ℕ) → Type 0
 AreAnswered mail s = (c source : ℕ) → IsAnswered source (mail.request c source) (mail.answer c source) (s.uses c source)
 
 -- ---- the answer to an access
@@ -77,7 +77,7 @@ answers-access {w} source m bytes access from =
 -- ---- one source
 
 -- an event that changes one source of a client alone
-answered-at : {w : ℕ} (c source : ℕ) (mail mail' : Mail w) (s s' : State (List ℕ))
+answered-at : {w : ℕ} (c source : ℕ) (mail mail' : AccessMessages w) (s s' : State (List ℕ))
     → ((d i : ℕ) → ((d ≡ c) × (i ≡ source) → ⊥) → (mail'.request d i ≡ mail.request d i) × (mail'.answer d i ≡ mail.answer d i) × (s'.uses d i ≡ s.uses d i))
     → IsAnswered source (mail'.request c source) (mail'.answer c source) (s'.uses c source) → AreAnswered mail s → AreAnswered mail' s'
 answered-at {w} c source mail mail' s s' same new h d i = go (cases_eq d c) (cases_eq i source)
@@ -100,38 +100,38 @@ set_at-apart c source x f d i other = elim (cases_eq i source) [
 ]
 
 -- a use that isn't an answer's
-abbrev is_unanswered : Use → Bool
+abbrev is_unanswered : SourceState → Bool
 is_unanswered Replied = false
 is_unanswered _ = true
 
-unanswered : {w : ℕ} (source : ℕ) (request answer : Message w) (u : Use) → is_unanswered u ≡ true → IsAnswered source request answer u
-unanswered source request answer Closed e = tt
+unanswered : {w : ℕ} (source : ℕ) (request answer : Message w) (u : SourceState) → is_unanswered u ≡ true → IsAnswered source request answer u
+unanswered source request answer SourceFree e = tt
 unanswered source request answer Asked e = tt
 unanswered source request answer (InService n) e = tt
 unanswered source request answer (Acquires n) e = tt
 unanswered source request answer Replied e = absurd cc
 
 -- a source whose use is now another that is no answer's, whatever its request
-answered-used : {w : ℕ} (c source : ℕ) (u : Use) (mail : Mail w) (s s' : State (List ℕ)) → is_unanswered u ≡ true → s'.uses ≡ set_at c source u s.uses → AreAnswered mail s → AreAnswered mail s'
+answered-used : {w : ℕ} (c source : ℕ) (u : SourceState) (mail : AccessMessages w) (s s' : State (List ℕ)) → is_unanswered u ≡ true → s'.uses ≡ set_at c source u s.uses → AreAnswered mail s → AreAnswered mail s'
 answered-used c source u mail s s' none uses h =
-    answered-at c source mail mail s s' (λ d i other. (refl, refl, ap (λ (f : ℕ → ℕ → Use). f d i) uses ∙ set_at-apart c source u s.uses d i other))
-    (unanswered source (mail.request c source) (mail.answer c source) (s'.uses c source) (ap is_unanswered (ap (λ (f : ℕ → ℕ → Use). f c source) uses ∙ set_at-same c source u s.uses) ∙ none)) h
+    answered-at c source mail mail s s' (λ d i other. (refl, refl, ap (λ (f : ℕ → ℕ → SourceState). f d i) uses ∙ set_at-apart c source u s.uses d i other))
+    (unanswered source (mail.request c source) (mail.answer c source) (s'.uses c source) (ap is_unanswered (ap (λ (f : ℕ → ℕ → SourceState). f c source) uses ∙ set_at-same c source u s.uses) ∙ none)) h
 
 -- an access that is answered
-answered-now : {w : ℕ} (c source : ℕ) (x : Message w) (mail : Mail w) (s s' : State (List ℕ)) → s'.uses ≡ set_at c source Replied s.uses
+answered-now : {w : ℕ} (c source : ℕ) (x : Message w) (mail : AccessMessages w) (s s' : State (List ℕ)) → s'.uses ≡ set_at c source Replied s.uses
     → IsAnswer source (mail.request c source) x → AreAnswered mail s
     → AreAnswered (record { request = mail.request; answer = set_at c source x mail.answer }) s'
 answered-now {w} c source x mail s s' uses new h =
     answered-at c source mail (record { request = mail.request; answer = set_at c source x mail.answer }) s s'
-    (λ d i other. (refl, set_at-apart c source x mail.answer d i other, ap (λ (f : ℕ → ℕ → Use). f d i) uses ∙ set_at-apart c source Replied s.uses d i other))
-    (rw (ap (λ (f : ℕ → ℕ → Use). f c source) uses ∙ set_at-same c source Replied s.uses, set_at-same c source x mail.answer) new) h
+    (λ d i other. (refl, set_at-apart c source x mail.answer d i other, ap (λ (f : ℕ → ℕ → SourceState). f d i) uses ∙ set_at-apart c source Replied s.uses d i other))
+    (rw (ap (λ (f : ℕ → ℕ → SourceState). f c source) uses ∙ set_at-same c source Replied s.uses, set_at-same c source x mail.answer) new) h
 
 -- ---- operations
 
-abbrev AreAnsweredIn : {w : ℕ} → Shadow w → Type 0
+abbrev AreAnsweredIn : {w : ℕ} → AbstractState w → Type 0
 AreAnsweredIn h = AreAnswered h.mail h.state
 
-pub answered-asked : {w : ℕ} (c : ℕ) (o : Op w) (r : Reply) (h : Shadow w) → AreAnswered h.mail h.state → AreAnswered (asked c o r h).mail (asked c o r h).state
+pub answered-asked : {w : ℕ} (c : ℕ) (o : Op w) (r : Reply) (h : AbstractState w) → AreAnswered h.mail h.state → AreAnswered (asked c o r h).mail (asked c o r h).state
 answered-asked c (op.Load address size) r h all = all
 answered-asked c (op.Store address size value) reply.Stored h all = all
 answered-asked c (op.Store address size value) (reply.Value v) h all = all
@@ -155,7 +155,7 @@ answered-asked c (op.Release n r) reply.Stored h all = all
 answered-asked c (op.Release n r) reply.Miss h all = all
 answered-asked c (op.Release n r) (reply.Busy why) h all = all
 answered-asked {w} c (op.Access (message.A m)) (reply.Started source) h all =
-    let h' : Shadow w = asked c (op.Access (message.A m)) (reply.Started source) h in
+    let h' : AbstractState w = asked c (op.Access (message.A m)) (reply.Started source) h in
     answered-at c source h.mail h'.mail h.state h'.state (λ d i other. (set_at-apart c source (access source m) h.mail.request d i other, refl, set_at-apart c source Asked h.state.uses d i other))
     (unanswered source (h'.mail.request c source) (h'.mail.answer c source) (h'.state.uses c source) (ap is_unanswered (set_at-same c source Asked h.state.uses))) all
 answered-asked c (op.Access (message.A m)) (reply.Value v) h all = all
@@ -169,7 +169,7 @@ answered-asked c (op.Access (message.E m)) r h all = all
 
 -- ---- messages that are taken
 
-answered_request : {w : ℕ} (clients c source tracker : ℕ) (m : MessageA w) (rest : List Token) (h : Shadow w) → h.mail.request c source ≡ message.A m
+answered_request : {w : ℕ} (clients c source tracker : ℕ) (m : MessageA w) (rest : List Packet) (h : AbstractState w) → h.mail.request c source ≡ message.A m
     → is_acquire m.opcode ≡ false → m.source ≡ source → AreAnsweredIn h
     → AreAnsweredIn (request_taken clients c source (message.A m) tracker rest h)
 answered_request {w} clients c source tracker m rest h is access from all = go (probes_some clients c false (cap_probed m.opcode m.param) (h.state.block n).pair) (cap_probed m.opcode m.param)
@@ -189,26 +189,26 @@ answered_request {w} clients c source tracker m rest h is access from all = go (
     go false None = now
     go false (Some k) = now
 
-answered_acquire : {w : ℕ} (clients : ℕ) (p : Profile) (c n tracker : ℕ) (x : Acquiring) (rest : List Token) (h : Shadow w) → AreAnsweredIn h
+answered_acquire : {w : ℕ} (clients : ℕ) (p : Profile) (c n tracker : ℕ) (x : AcquirePhase) (rest : List Packet) (h : AbstractState w) → AreAnsweredIn h
     → AreAnsweredIn (acquire_taken clients p c n x tracker rest h)
-answered_acquire clients p c n tracker Calm rest h all = all
-answered_acquire {w} clients p c n tracker (Wants whole g) rest h all = go (some_below clients (λ i. is_probed c true (cap_asked (Wants whole g)) (b.pair i).recorded i))
+answered_acquire clients p c n tracker NoAcquire rest h all = all
+answered_acquire {w} clients p c n tracker (AcquireOpen whole g) rest h all = go (some_below clients (λ i. is_probed c true (cap_asked (AcquireOpen whole g)) (b.pair i).recorded i))
   where
     b : Block (List ℕ)
     b = h.state.block n
 
     go : (x : Bool)
-        → AreAnswered h.mail (if x then acquire_served c n (b.source c) tracker (cap_asked (Wants whole g)) rest h.state else acquire_granted c n tracker
+        → AreAnswered h.mail (if x then acquire_served c n (b.source c) tracker (cap_asked (AcquireOpen whole g)) rest h.state else acquire_granted c n tracker
         (is_granted_data whole g (b.pair c).recorded) (gift p whole g (is_unheld clients b.pair)) rest h.state)
     go true = all
     go false = all
 
-answered_granted : {w : ℕ} (clients : ℕ) (p : Profile) (c q n : ℕ) (r : Report) (x : Acquiring) (rest : List Token) (h : Shadow w) → AreAnsweredIn h
+answered_granted : {w : ℕ} (clients : ℕ) (p : Profile) (c q n : ℕ) (r : Report) (x : AcquirePhase) (rest : List Packet) (h : AbstractState w) → AreAnsweredIn h
     → AreAnsweredIn (granted_after clients p c q n r x rest h)
-answered_granted clients p c q n r Calm rest h all = all
-answered_granted clients p c q n r (Wants whole g) rest h all = all
+answered_granted clients p c q n r NoAcquire rest h all = all
+answered_granted clients p c q n r (AcquireOpen whole g) rest h all = all
 
-answered_last : {w : ℕ} (clients : ℕ) (p : Profile) (c n : ℕ) (r : Report) (service : Service) (rest : List Token) (h : Shadow w)
+answered_last : {w : ℕ} (clients : ℕ) (p : Profile) (c n : ℕ) (r : Report) (service : Service) (rest : List Packet) (h : AbstractState w)
     → IsServedWith h.mail service (h.request n) → IsFor service n (h.request n) → AreAnsweredIn h
     → AreAnsweredIn (last_taken clients p c n r service rest h)
 answered_last clients p c n r Free rest h with for all = all
@@ -220,23 +220,23 @@ answered_last {w} clients p c n r (Waits q false source k) rest h with for all =
     (last_taken clients p c n r (Waits q false source k) rest h).state refl
     (rw with (answers-access source (h.request n) (written r (h.state.block n).truth (h.state.block n).memory) for.0 for.1)) all
 
-answered_ack : {w : ℕ} (clients : ℕ) (p : Profile) (c n : ℕ) (r : Report) (rest : List Token) (h : Shadow w)
+answered_ack : {w : ℕ} (clients : ℕ) (p : Profile) (c n : ℕ) (r : Report) (rest : List Packet) (h : AbstractState w)
     → IsServedWith h.mail (h.state.block n).service (h.request n) → IsFor (h.state.block n).service n (h.request n) → AreAnsweredIn h
     → AreAnsweredIn (ack_taken clients p c n r rest h)
-answered_ack {w} clients p c n r rest h with for all = go (some_below clients (λ i. not (i == c) && not (is_quiet ((h.state.block n).pair i).probing)))
+answered_ack {w} clients p c n r rest h with for all = go (some_below clients (λ i. not (i == c) && not (is_unprobed ((h.state.block n).pair i).probing)))
   where
     go : (x : Bool) → AreAnsweredIn (if x then with_state (report_taken c n r rest h.state) h else last_taken clients p c n r (h.state.block n).service rest h)
     go true = all
     go false = answered_last clients p c n r (h.state.block n).service rest h with for all
 
-answered_grant : {w : ℕ} (c n : ℕ) (service : Service) (rest : List Token) (h : Shadow w) → AreAnsweredIn h → AreAnsweredIn (taken_by_client c n service rest h)
+answered_grant : {w : ℕ} (c n : ℕ) (service : Service) (rest : List Packet) (h : AbstractState w) → AreAnsweredIn h → AreAnsweredIn (taken_by_client c n service rest h)
 answered_grant c n Free rest h all = all
 answered_grant c n (Waits q own source k) rest h all = all
 answered_grant c n (GrantTaken q) rest h all = all
-answered_grant c n (GrantSent q d k) rest h all = answered-used c ((h.state.block n).source c) Closed h.mail h.state (taken_by_client c n (GrantSent q d k) rest h).state refl refl all
+answered_grant c n (GrantSent q d k) rest h all = answered-used c ((h.state.block n).source c) SourceFree h.mail h.state (taken_by_client c n (GrantSent q d k) rest h).state refl refl all
 
-pub answered-kind_taken : {w : ℕ} (config : Config) (log : Log w) (tracker c : ℕ) (k : Kind) (i : ℕ) (rest : List Token) (h : Shadow w) (sys : System w)
-    → IsMatched config log h.mail h.request h.state sys → on k (h.state.link c) ≡ token k i ∷ rest
+pub answered-kind_taken : {w : ℕ} (config : Config) (log : Log w) (tracker c : ℕ) (k : Kind) (i : ℕ) (rest : List Packet) (h : AbstractState w) (sys : System w)
+    → SimulationRelation config log h.mail h.request h.state sys → on k (h.state.link c) ≡ packet k i ∷ rest
     → AreAnswered (kind_taken config tracker c k i rest h).mail (kind_taken config tracker c k i rest h).state
 answered-kind_taken {w} config log tracker c Request i rest h sys is first =
     let asked = asked-first config log h.mail h.request h.state sys c i rest is first in
@@ -248,7 +248,7 @@ answered-kind_taken config log tracker c Probe n rest h sys is first = is.answer
 answered-kind_taken config log tracker c ProbeAck n rest h sys is first =
     answered_ack (length config.clients.items) config.profile c n (report_told ((h.state.block n).pair c).probing) rest h (is.served_with n) (is.served.requests n) is.answered
 answered-kind_taken config log tracker c Release n rest h sys is first = is.answered
-answered-kind_taken config log tracker c Answer i rest h sys is first = answered-used c i Closed h.mail h.state (kind_taken config tracker c Answer i rest h).state refl refl is.answered
+answered-kind_taken config log tracker c Answer i rest h sys is first = answered-used c i SourceFree h.mail h.state (kind_taken config tracker c Answer i rest h).state refl refl is.answered
 answered-kind_taken config log tracker c Grant n rest h sys is first = answered_grant c n (h.state.block n).service rest h is.answered
 answered-kind_taken config log tracker c ReleaseAck n rest h sys is first = is.answered
 answered-kind_taken config log tracker c GrantAck n rest h sys is first = is.answered

@@ -25,14 +25,14 @@ use Rattle.tl_client.specs.statement.End.{Terms, End, held_at}
 use Rattle.tl_client.proofs.Cases.{NotBusy, asked-cases}
 use Rattle.tl_client.proofs.Free.{least_free-some}
 use Rattle.tl_manager.specs.statement.Offer.{level_of}
-use Rattle.tl_coherence.specs.refinement.Follow.{Shadow}
+use Rattle.tl_coherence.specs.refinement.AbstractStep.{AbstractState}
 use Rattle.tl_coherence.specs.statement.Log.{Log}
-use Rattle.tl_coherence.specs.protocol.Phase.{Acquiring, Calm, Wants}
-use Rattle.tl_coherence.specs.protocol.Protocol.{State, Use, Closed, Asked, InService, Replied, Acquires}
-use Rattle.tl_coherence.specs.refinement.Render.{Mail, acquire_of, rendered}
+use Rattle.tl_coherence.specs.protocol.Phase.{AcquirePhase, NoAcquire, AcquireOpen}
+use Rattle.tl_coherence.specs.protocol.Protocol.{State, SourceState, SourceFree, Asked, InService, Replied, Acquires}
+use Rattle.tl_coherence.specs.refinement.PacketMessages.{AccessMessages, acquire_of, block_message}
 use Rattle.tl_coherence.specs.statement.System.{System, terms_at}
-use Rattle.tl_coherence.specs.protocol.Token.{Acquire}
-use Rattle.tl_coherence.specs.refinement.Whole.{IsMatched, IsSourced, IsAnswered, IsAnswer, is_c, is_caching, asked_by, asked_for, block_used, first_of, request_source}
+use Rattle.tl_coherence.specs.protocol.Packet.{Acquire}
+use Rattle.tl_coherence.specs.refinement.SimulationRelation.{SimulationRelation, IsSourced, IsAnswered, IsAnswer, is_c, is_caching, asked_by, asked_for, block_used, first_of, request_source}
 use Rattle.tl_coherence.proofs.client.ClientDelivered.{shadow_of}
 use Rattle.tl_coherence.proofs.client.ClientEnd.{IsEnd, end-matched}
 use Rattle.tl_coherence.proofs.client.ClientTakes.{terms-are}
@@ -73,20 +73,20 @@ asks_something (message.C m) e = absurd cc
 asks_something (message.D m) e = absurd cc
 asks_something (message.E m) e = absurd cc
 
-pub acquires_something : (w : ℕ) (a : Acquiring) (source n : ℕ) → is_some (first_of (acquire_of {w = w} a source n)) ≡ true
-acquires_something w Calm source n = refl
-acquires_something w (Wants true g) source n = refl
-acquires_something w (Wants false g) source n = refl
+pub acquires_something : (w : ℕ) (a : AcquirePhase) (source n : ℕ) → is_some (first_of (acquire_of {w = w} a source n)) ≡ true
+acquires_something w NoAcquire source n = refl
+acquires_something w (AcquireOpen true g) source n = refl
+acquires_something w (AcquireOpen false g) source n = refl
 
 -- a source that asks for nothing is closed
-pub closed-source : {w : ℕ} (config : Config) (c source : ℕ) (mail : Mail w) (s : State (List ℕ)) → IsSourced config c source (mail.request c source) (s.uses c source)
-    → IsAnswered source (mail.request c source) (mail.answer c source) (s.uses c source) → is_some (asked_by mail s c source) ≡ false → s.uses c source ≡ Closed
-unfolding rendered
+pub closed-source : {w : ℕ} (config : Config) (c source : ℕ) (mail : AccessMessages w) (s : State (List ℕ)) → IsSourced config c source (mail.request c source) (s.uses c source)
+    → IsAnswered source (mail.request c source) (mail.answer c source) (s.uses c source) → is_some (asked_by mail s c source) ≡ false → s.uses c source ≡ SourceFree
+unfolding block_message
 closed-source {w} config c source mail s sourced answered none = go (s.uses c source) refl sourced answered none
   where
-    go : (u : Use) → s.uses c source ≡ u → IsSourced config c source (mail.request c source) u → IsAnswered source (mail.request c source) (mail.answer c source) u
-        → is_some (asked_for u (mail.request c source) (rendered Acquire c (block_used u) (s.block (block_used u)))) ≡ false → u ≡ Closed
-    go Closed e a b f = refl
+    go : (u : SourceState) → s.uses c source ≡ u → IsSourced config c source (mail.request c source) u → IsAnswered source (mail.request c source) (mail.answer c source) u
+        → is_some (asked_for u (mail.request c source) (block_message Acquire c (block_used u) (s.block (block_used u)))) ≡ false → u ≡ SourceFree
+    go SourceFree e a b f = refl
     go Asked e a b f = absurd (let no : true ≡ false = sym (asks_something (mail.request c source) (sourced_request (mail.request c source) source a.0)) ∙ f in cc)
     go (InService n) e a b f = absurd (let no : true ≡ false = sym (asks_something (mail.request c source) (sourced_request (mail.request c source) source a.0)) ∙ f in cc)
     go Replied e a b f = absurd (let no : true ≡ false = sym (asks_something (mail.request c source) (answered_request source (mail.request c source) (mail.answer c source) b)) ∙ f in cc)
@@ -116,7 +116,7 @@ swap_perms perm.Trunk perm.Trunk = refl
 
 -- ---- what is started
 
-busy_may : {w : ℕ} (caching : ℕ → Bool) (c : ℕ) (o : Op w) (b : Busy) (h : Shadow w) → IsAskable caching c o (reply.Busy b) h
+busy_may : {w : ℕ} (caching : ℕ → Bool) (c : ℕ) (o : Op w) (b : Busy) (h : AbstractState w) → IsAskable caching c o (reply.Busy b) h
 busy_may caching c (op.Load address size) b h = tt
 busy_may caching c (op.Store address size value) b h = tt
 busy_may caching c (op.Acquire n g) b h = tt
@@ -124,23 +124,23 @@ busy_may caching c (op.AcquireWhole n bytes) b h = tt
 busy_may caching c (op.Release n r) b h = tt
 busy_may caching c (op.Access m) b h = tt
 
-store_may : {w : ℕ} (caching : ℕ → Bool) (c address size value : ℕ) (p : Perm) (e : End w) (h : Shadow w) → p ≡ ((h.state.block (block_at address)).pair c).held
+store_may : {w : ℕ} (caching : ℕ → Bool) (c address size value : ℕ) (p : Perm) (e : End w) (h : AbstractState w) → p ≡ ((h.state.block (block_at address)).pair c).held
     → IsAskable caching c (op.Store address size value) (store address size value p e).reply h
 store_may caching c address size value perm.None e h is = tt
 store_may caching c address size value perm.Branch e h is = tt
 store_may caching c address size value perm.Trunk e h is = rw (sym is) refl
 
 -- what is given of a client that is asked
-record IsAt {w : ℕ} (config : Config) (c : ℕ) (terms : Terms) (h : Shadow w) (e : End w) : Type 0 where
+record IsAt {w : ℕ} (config : Config) (c : ℕ) (terms : Terms) (h : AbstractState w) (e : End w) : Type 0 where
   end : IsEnd (asked_by h.mail h.state c) c h.state e
   level_is : level_of config c ≡ Some terms.level
-  closes : (source : ℕ) → is_some (asked_by h.mail h.state c source) ≡ false → h.state.uses c source ≡ Closed
+  closes : (source : ℕ) → is_some (asked_by h.mail h.state c source) ≡ false → h.state.uses c source ≡ SourceFree
 
-free_use : {w : ℕ} (config : Config) (c source : ℕ) (terms : Terms) (h : Shadow w) (e : End w) → IsAt config c terms h e
-    → pending (RequestSource source) e.past ≡ false → h.state.uses c source ≡ Closed
+free_use : {w : ℕ} (config : Config) (c source : ℕ) (terms : Terms) (h : AbstractState w) (e : End w) → IsAt config c terms h e
+    → pending (RequestSource source) e.past ≡ false → h.state.uses c source ≡ SourceFree
 free_use config c source terms h e at free = at.closes source (sym (at.end.opened.requests source) ∙ free)
 
-done_may : {w : ℕ} (config : Config) (c : ℕ) (terms : Terms) (o : Op w) (h : Shadow w) (e : End w) → IsAt config c terms h e → NotBusy terms o e
+done_may : {w : ℕ} (config : Config) (c : ℕ) (terms : Terms) (o : Op w) (h : AbstractState w) (e : End w) → IsAt config c terms h e → NotBusy terms o e
     → IsAskable (is_caching config) c o (done terms o e).reply h
 done_may config c terms (op.Load address size) h e at free = tt
 done_may config c terms (op.Store address size value) h e at free = store_may (is_caching config) c address size value (held_at e (block_at address)) e h (at.end.known.held_is (block_at address))
@@ -178,8 +178,8 @@ done_may config c terms (op.Access (message.D m)) h e at free = tt
 done_may config c terms (op.Access (message.E m)) h e at free = tt
 
 -- What a client answers to an operation, the protocol allows.
-pub askable : {w : ℕ} (config : Config) (log : Log w) (mail : Mail w) (request : ℕ → MessageA w) (s : State (List ℕ)) (sys : System w) (terms : Terms) (c : ℕ)
-    (o : Op w) → IsMatched config log mail request s sys
+pub askable : {w : ℕ} (config : Config) (log : Log w) (mail : AccessMessages w) (request : ℕ → MessageA w) (s : State (List ℕ)) (sys : System w) (terms : Terms) (c : ℕ)
+    (o : Op w) → SimulationRelation config log mail request s sys
     → terms_at config c ≡ Some terms
     → IsAskable (is_caching config) c o (ask.asked terms o (sys.clients c)).reply (shadow_of mail request s)
 askable {w} config log mail request s sys terms c o h at =

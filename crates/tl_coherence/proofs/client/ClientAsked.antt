@@ -37,15 +37,15 @@ use Rattle.tl_client.proofs.AfterAsked.{kept_copies, kept_closed}
 use Rattle.tl_client.proofs.KeptAsked.{kept_waiting, no_acquire, falls_to, kept-asked}
 use Rattle.tl_client.proofs.Cases.{NotBusy, asked-cases}
 use Rattle.tl_client.proofs.HeldAfter.{same_block, swapped, held-release, kept_past}
-use Rattle.tl_coherence.specs.refinement.Follow as world
-use Rattle.tl_coherence.specs.refinement.Follow.{Shadow, acquire_opcode}
+use Rattle.tl_coherence.specs.refinement.AbstractStep as world
+use Rattle.tl_coherence.specs.refinement.AbstractStep.{AbstractState, acquire_opcode}
 use Rattle.tl_coherence.specs.protocol.Invariant.{acquires_of, AreNamed}
-use Rattle.tl_coherence.specs.protocol.Phase.{Pair, Wants, is_kept}
+use Rattle.tl_coherence.specs.protocol.Phase.{ClientBlock, AcquireOpen, is_unreleased}
 use Rattle.tl_coherence.specs.protocol.PhaseSteps.{after_acquire, after_release}
 use Rattle.tl_coherence.specs.protocol.Protocol.{Block, State, Asked, Acquires, is_wanting, access_asked, acquiring_block, acquire_asked, releasing_block, release_asked, stored_block, block_stored}
-use Rattle.tl_coherence.specs.refinement.Render.{Mail}
-use Rattle.tl_coherence.specs.protocol.Token.{set_at}
-use Rattle.tl_coherence.specs.refinement.Whole.{asked_by, is_storing}
+use Rattle.tl_coherence.specs.refinement.PacketMessages.{AccessMessages}
+use Rattle.tl_coherence.specs.protocol.Packet.{set_at}
+use Rattle.tl_coherence.specs.refinement.SimulationRelation.{asked_by, is_storing}
 use Rattle.tl_coherence.proofs.client.Aside.{set_at-else}
 use Rattle.tl_coherence.proofs.client.ClientEnd.{is_access, IsWellKept, IsEnd, IsSame, known-same, opened-same, asks-same, asks-access, asks-acquire, column}
 use Rattle.tl_coherence.proofs.client.ClientSent.{IsRequested, known-requested, opened-requested, IsReleased, known-released, opened-released}
@@ -63,7 +63,7 @@ passed b x y e = rw e refl
 -- ---- an access
 
 -- what each source asks for after an access is asked for
-asks_access : {w : ℕ} (c i : ℕ) (m : MessageA w) (mail : Mail w) (s : State (List ℕ))
+asks_access : {w : ℕ} (c i : ℕ) (m : MessageA w) (mail : AccessMessages w) (s : State (List ℕ))
     → asked_by (record { request = set_at c m.source (message.A m) mail.request; answer = mail.answer }) (access_asked c m.source s) c i ≡ cond (m.source == i)
     (Some (a_beat_of m 0)) (asked_by mail s c i)
 asks_access {w} c i m mail s = elim (cases_eq i m.source) [
@@ -73,13 +73,13 @@ asks_access {w} c i m mail s = elim (cases_eq i m.source) [
       ∙ sym (passed (m.source == i) (Some (a_beat_of m 0)) (asked_by mail s c i) (ne_eqb m.source i (λ e. other (sym e))))
 ]
   where
-    mail' : Mail w
+    mail' : AccessMessages w
     mail' = record { request = set_at c m.source (message.A m) mail.request; answer = mail.answer }
 
     s' : State (List ℕ)
     s' = access_asked c m.source s
 
-pub end-access_asked : {w : ℕ} (c : ℕ) (m : MessageA w) (mail : Mail w) (s : State (List ℕ)) (e : End w) → IsWidth w → is_acquire m.opcode ≡ false
+pub end-access_asked : {w : ℕ} (c : ℕ) (m : MessageA w) (mail : AccessMessages w) (s : State (List ℕ)) (e : End w) → IsWidth w → is_acquire m.opcode ≡ false
     → IsWellKept (sending (message.A m) e) → IsEnd (asked_by mail s c) c s e
     → IsEnd (asked_by (record { request = set_at c m.source (message.A m) mail.request; answer = mail.answer }) (access_asked c m.source s) c) c (access_asked c m.source s) (sending (message.A m) e)
 end-access_asked {w} c m mail s e width plain kept end =
@@ -114,13 +114,13 @@ unused c n i s named calm used =
     let no : false ≡ true = rw calm at both in
     cc
 
-pub asks_acquire : {w : ℕ} (c n source i : ℕ) (whole : Bool) (g : Grow) (bytes : List ℕ) (mail : Mail w) (s : State (List ℕ)) → AreNamed s → is_wanting ((s.block n).pair c).acquiring ≡ false
+pub asks_acquire : {w : ℕ} (c n source i : ℕ) (whole : Bool) (g : Grow) (bytes : List ℕ) (mail : AccessMessages w) (s : State (List ℕ)) → AreNamed s → is_wanting ((s.block n).pair c).acquiring ≡ false
     → asked_by mail (acquire_asked c n source whole g bytes s) c i ≡ cond (source == i) (Some (a_beat_of (acquisition (acquire_opcode whole) g source n) 0)) (asked_by mail s c i)
 asks_acquire {w} c n source i whole g bytes mail s named calm = elim (cases_eq i source) [
   | inl same ↦ ap (asked_by mail s' c) same
       ∙ asks-acquire c source n source whole g mail s' (set_at-same c source (Acquires n) s.uses)
       (ap (λ (b : Block (List ℕ)). (b.pair c).acquiring) (set-same n new s.block)
-      ∙ ap (λ (p : Pair). p.acquiring) (set-same c (after_acquire whole g ((s.block n).pair c)) (s.block n).pair))
+      ∙ ap (λ (p : ClientBlock). p.acquiring) (set-same c (after_acquire whole g ((s.block n).pair c)) (s.block n).pair))
       (ap (λ (b : Block (List ℕ)). b.source c) (set-same n new s.block) ∙ set-same c source (s.block n).source)
       ∙ sym (chosen (source == i) (Some (a_beat_of (acquisition (acquire_opcode whole) g source n) 0)) (asked_by mail s c i) (rw same (same_number source)))
   | inr other ↦ asks-same c i mail mail s s' refl (inl (set_at-else c source i (Acquires n) s.uses other c))
@@ -138,18 +138,18 @@ asks_acquire {w} c n source i whole g bytes mail s named calm = elim (cases_eq i
     apart : (j : ℕ) → s.uses c i ≡ Acquires j → j ≡ n → ⊥
     apart j used same = unused c n i s named calm (used ∙ ap Acquires same)
 
-pub end-acquire_asked : {w : ℕ} (c n source : ℕ) (whole : Bool) (g : Grow) (bytes : List ℕ) (mail : Mail w) (s : State (List ℕ)) (e f : End w) → IsWidth w → AreNamed s
+pub end-acquire_asked : {w : ℕ} (c n source : ℕ) (whole : Bool) (g : Grow) (bytes : List ℕ) (mail : AccessMessages w) (s : State (List ℕ)) (e f : End w) → IsWidth w → AreNamed s
     → pending (AcquireOf n) e.past ≡ false
     → f.past ≡ (sending (message.A (acquisition (acquire_opcode whole) g source n)) e).past → f.copies ≡ e.copies → f.closed ≡ e.closed
     → ((i : ℕ) → (i ≡ n → ⊥) → f.waiting i ≡ e.waiting i) → (whole ≡ true → f.waiting n ≡ Some bytes) → IsWellKept f → IsEnd (asked_by mail s c) c s e
     → IsEnd (asked_by mail (acquire_asked c n source whole g bytes s) c) c (acquire_asked c n source whole g bytes s) f
 end-acquire_asked {w} c n source whole g bytes mail s e f width named idle past copies closed others here kept end =
     let event : IsRequested c m (asked_by mail s c) asked' s s' = record {
-      held = λ i. set-part (λ (b : Block (List ℕ)). (b.pair c).held) n new s.block (ap (λ (p : Pair). p.held) pair_is) i;
-      letting = λ i. set-part (λ (b : Block (List ℕ)). is_kept (b.pair c).letting) n new s.block (ap (λ (p : Pair). is_kept p.letting) pair_is) i;
+      held = λ i. set-part (λ (b : Block (List ℕ)). (b.pair c).held) n new s.block (ap (λ (p : ClientBlock). p.held) pair_is) i;
+      letting = λ i. set-part (λ (b : Block (List ℕ)). is_unreleased (b.pair c).letting) n new s.block (ap (λ (p : ClientBlock). is_unreleased p.letting) pair_is) i;
       lets = λ i. refl;
       acquiring = λ i. column (λ (b : Block (List ℕ)). is_wanting (b.pair c).acquiring) n new s.block i
-          ∙ ap (λ (x : Bool). cond (i == n) x (is_wanting ((s.block i).pair c).acquiring)) (ap (λ (p : Pair). is_wanting p.acquiring) pair_is)
+          ∙ ap (λ (x : Bool). cond (i == n) x (is_wanting ((s.block i).pair c).acquiring)) (ap (λ (p : ClientBlock). is_wanting p.acquiring) pair_is)
           ∙ ap (λ (b : Bool). cond b true (is_wanting ((s.block i).pair c).acquiring)) (sym (of_block i));
       asks = λ i. asks_acquire c n source i whole g bytes mail s named calm;
     } in
@@ -187,8 +187,8 @@ end-acquire_asked {w} c n source whole g bytes mail s e f width named idle past 
 
     go : (i : ℕ) → is_storing (((s'.block i).pair c).acquiring) ≡ true → (i ≡ n) ⊎ (i ≡ n → ⊥) → f.waiting i ≡ Some ((s'.block i).waiting c)
     go i storing (inl same) =
-        let now : is_storing (Wants whole g) ≡ true = sym (ap (λ (b : Block (List ℕ)). is_storing (b.pair c).acquiring)
-        (ap s'.block same ∙ set-same n new s.block) ∙ ap (λ (p : Pair). is_storing p.acquiring) pair_is) ∙ storing in
+        let now : is_storing (AcquireOpen whole g) ≡ true = sym (ap (λ (b : Block (List ℕ)). is_storing (b.pair c).acquiring)
+        (ap s'.block same ∙ set-same n new s.block) ∙ ap (λ (p : ClientBlock). is_storing p.acquiring) pair_is) ∙ storing in
         ap f.waiting same ∙ here now ∙ ap Some (sym (ap (λ (b : Block (List ℕ)). b.waiting c) (ap s'.block same ∙ set-same n new s.block) ∙ set-same c bytes (s.block n).waiting))
     go i storing (inr other) =
         let old : s'.block i ≡ s.block i = set-other n i new s.block other in
@@ -208,7 +208,7 @@ release_message prune.TtoB source n copy = (about opc.ReleaseData (prune_code pr
 release_message prune.TtoN source n copy = (about opc.ReleaseData (prune_code prune.TtoN) source n copy, refl, record { releases = refl; of_block = same_block n; whole = refl; from = refl })
 release_message prune.BtoN source n copy = (about opc.Release (prune_code prune.BtoN) source n zeros, refl, record { releases = refl; of_block = same_block n; whole = refl; from = refl })
 
-pub end-release_asked : {w : ℕ} (c n source : ℕ) (r : Prune) (copy : List ℕ) (mail : Mail w) (s : State (List ℕ)) (e : End w) → IsWidth w
+pub end-release_asked : {w : ℕ} (c n source : ℕ) (r : Prune) (copy : List ℕ) (mail : AccessMessages w) (s : State (List ℕ)) (e : End w) → IsWidth w
     → same_perm (prune_left r) (held n e.past) ≡ true → IsWellKept (kept_for n (prune_right r) (sending (release r source n copy) e)) → IsEnd (asked_by mail s c) c s e
     → IsEnd (asked_by mail (release_asked c n source r s) c) c (release_asked c n source r s) (kept_for n (prune_right r) (sending (release r source n copy) e))
 end-release_asked {w} c n source r copy mail s e width begins kept end =
@@ -225,7 +225,7 @@ end-release_asked {w} c n source r copy mail s e width begins kept end =
       copies = λ i some. kept_copies n (prune_right r) (sending (release r source n copy) e) i
           ∙ copy_of i (i == n) refl (sym (ap (λ (q : Perm). same_perm q perm.None) (event.held i)) ∙ some) ∙ ap Some (sym (set-part (λ (b : Block (List ℕ)). b.copy c) n new s.block refl i));
       waiting = λ i storing. kept_waiting n (prune_right r) (sending (release r source n copy) e) i
-          ∙ end.waiting i (sym (set-part (λ (b : Block (List ℕ)). is_storing (b.pair c).acquiring) n new s.block (ap (λ (q : Pair). is_storing q.acquiring) pair_is) i) ∙ storing)
+          ∙ end.waiting i (sym (set-part (λ (b : Block (List ℕ)). is_storing (b.pair c).acquiring) n new s.block (ap (λ (q : ClientBlock). is_storing q.acquiring) pair_is) i) ∙ storing)
           ∙ ap Some (sym (set-part (λ (b : Block (List ℕ)). b.waiting c) n new s.block refl i));
       live = kept_closed n (prune_right r) (sending (release r source n copy) e) ∙ end.live;
     }
@@ -250,14 +250,14 @@ end-release_asked {w} c n source r copy mail s e width begins kept end =
       releases = is.releases;
       of_block = is.of_block;
       whole = is.whole;
-      held = λ i. column (λ (b : Block (List ℕ)). (b.pair c).held) n new s.block i ∙ ap (λ (q : Perm). cond (i == n) q ((s.block i).pair c).held) (ap (λ (q : Pair). q.held) pair_is);
-      letting = λ i. column (λ (b : Block (List ℕ)). not (is_kept (b.pair c).letting)) n new s.block i
-          ∙ ap (λ (x : Bool). cond (i == n) x (not (is_kept ((s.block i).pair c).letting))) (ap (λ (q : Pair). not (is_kept q.letting)) pair_is)
-          ∙ ap (λ (b : Bool). cond b true (not (is_kept ((s.block i).pair c).letting))) (swapped i n);
+      held = λ i. column (λ (b : Block (List ℕ)). (b.pair c).held) n new s.block i ∙ ap (λ (q : Perm). cond (i == n) q ((s.block i).pair c).held) (ap (λ (q : ClientBlock). q.held) pair_is);
+      letting = λ i. column (λ (b : Block (List ℕ)). not (is_unreleased (b.pair c).letting)) n new s.block i
+          ∙ ap (λ (x : Bool). cond (i == n) x (not (is_unreleased ((s.block i).pair c).letting))) (ap (λ (q : ClientBlock). not (is_unreleased q.letting)) pair_is)
+          ∙ ap (λ (b : Bool). cond b true (not (is_unreleased ((s.block i).pair c).letting))) (swapped i n);
       lets = λ i. lets_now i is.from (cases_eq i source);
-      acquiring = λ i. set-part (λ (b : Block (List ℕ)). is_wanting (b.pair c).acquiring) n new s.block (ap (λ (q : Pair). is_wanting q.acquiring) pair_is) i;
+      acquiring = λ i. set-part (λ (b : Block (List ℕ)). is_wanting (b.pair c).acquiring) n new s.block (ap (λ (q : ClientBlock). is_wanting q.acquiring) pair_is) i;
       asks = λ i. asks-same c i mail mail s s' refl (inl refl)
-          (λ j used. set-part (λ (b : Block (List ℕ)). (b.pair c).acquiring) n new s.block (ap (λ (q : Pair). q.acquiring) pair_is) j)
+          (λ j used. set-part (λ (b : Block (List ℕ)). (b.pair c).acquiring) n new s.block (ap (λ (q : ClientBlock). q.acquiring) pair_is) j)
           (λ j used. set-part (λ (b : Block (List ℕ)). b.source c) n new s.block refl j);
     }
       where
@@ -280,7 +280,7 @@ end-release_asked {w} c n source r copy mail s e width begins kept end =
 
 -- ---- a store
 
-pub end-stored : {w : ℕ} (c n : ℕ) (bytes : List ℕ) (mail : Mail w) (s : State (List ℕ)) (e : End w) → IsWellKept (with_copy n (Some bytes) e) → IsEnd (asked_by mail s c) c s e
+pub end-stored : {w : ℕ} (c n : ℕ) (bytes : List ℕ) (mail : AccessMessages w) (s : State (List ℕ)) (e : End w) → IsWellKept (with_copy n (Some bytes) e) → IsEnd (asked_by mail s c) c s e
     → IsEnd (asked_by mail (block_stored c n bytes s) c) c (block_stored c n bytes s) (with_copy n (Some bytes) e)
 end-stored {w} c n bytes mail s e kept end = record {
   known = known-same c (asked_by mail s c) (asked_by mail s' c) (unfinished channel.D e.past) s s' e.past same end.known;
@@ -302,7 +302,7 @@ end-stored {w} c n bytes mail s e kept end = record {
     same = record {
       held = λ i. set-part (λ (b : Block (List ℕ)). (b.pair c).held) n new s.block refl i;
       acquiring = λ i. set-part (λ (b : Block (List ℕ)). (b.pair c).acquiring) n new s.block refl i;
-      letting = λ i. set-part (λ (b : Block (List ℕ)). is_kept (b.pair c).letting) n new s.block refl i;
+      letting = λ i. set-part (λ (b : Block (List ℕ)). is_unreleased (b.pair c).letting) n new s.block refl i;
       lets = λ i. refl;
       asks = λ i. asks-same c i mail mail s s' refl (inl refl) (λ j used. set-part (λ (b : Block (List ℕ)). (b.pair c).acquiring) n new s.block refl j)
           (λ j used. set-part (λ (b : Block (List ℕ)). b.source c) n new s.block refl j);
@@ -317,13 +317,13 @@ end-stored {w} c n bytes mail s e kept end = record {
 -- ---- all operations
 
 -- the client's end beside the protocol
-abbrev pub IsEndOf : {w : ℕ} → ℕ → Shadow w → End w → Type 0
+abbrev pub IsEndOf : {w : ℕ} → ℕ → AbstractState w → End w → Type 0
 IsEndOf c h e = IsEnd (asked_by h.mail h.state c) c h.state e
 
-abbrev IsAfter : {w : ℕ} → ℕ → Op w → Shadow w → ask.Asked w → Type 0
+abbrev IsAfter : {w : ℕ} → ℕ → Op w → AbstractState w → ask.Asked w → Type 0
 IsAfter c o h x = IsWellKept x.after → IsEndOf c (world.asked c o x.reply h) x.after
 
-end_busy : {w : ℕ} (c : ℕ) (o : Op w) (b : Busy) (h : Shadow w) (e : End w) → IsEndOf c h e → IsEndOf c (world.asked c o (reply.Busy b) h) e
+end_busy : {w : ℕ} (c : ℕ) (o : Op w) (b : Busy) (h : AbstractState w) (e : End w) → IsEndOf c h e → IsEndOf c (world.asked c o (reply.Busy b) h) e
 end_busy c (op.Load address size) b h e end = end
 end_busy c (op.Store address size value) b h e end = end
 end_busy c (op.Acquire n g) b h e end = end
@@ -335,12 +335,12 @@ end_busy c (op.Access (message.C m)) b h e end = end
 end_busy c (op.Access (message.D m)) b h e end = end
 end_busy c (op.Access (message.E m)) b h e end = end
 
-end_load : {w : ℕ} (c address size : ℕ) (p : Perm) (h : Shadow w) (e : End w) → IsEndOf c h e → IsAfter c (op.Load address size) h (load address size p e)
+end_load : {w : ℕ} (c address size : ℕ) (p : Perm) (h : AbstractState w) (e : End w) → IsEndOf c h e → IsAfter c (op.Load address size) h (load address size p e)
 end_load c address size perm.None h e end kept = end
 end_load c address size perm.Branch h e end kept = end
 end_load c address size perm.Trunk h e end kept = end
 
-end_store : {w : ℕ} (c address size value : ℕ) (p : Perm) (h : Shadow w) (e : End w) → ((h.state.block (block_at address)).pair c).held ≡ p → IsEndOf c h e
+end_store : {w : ℕ} (c address size value : ℕ) (p : Perm) (h : AbstractState w) (e : End w) → ((h.state.block (block_at address)).pair c).held ≡ p → IsEndOf c h e
     → IsAfter c (op.Store address size value) h (store address size value p e)
 end_store c address size value perm.None h e is end kept = end
 end_store c address size value perm.Branch h e is end kept = end
@@ -353,7 +353,7 @@ end_store {w} c address size value perm.Trunk h e is end kept =
     (block_stored c n (copy_stored address size value ((h.state.block n).copy c)) h.state) (with_copy n (Some x) e))
     (sym bytes) (λ k. end-stored c n (copy_stored address size value ((h.state.block n).copy c)) h.mail h.state e k end) kept
 
-end_done : {w : ℕ} (terms : Terms) (c : ℕ) (o : Op w) (h : Shadow w) (e : End w) → IsWidth w → AreNamed h.state → IsEndOf c h e → NotBusy terms o e → IsAfter c o h (done terms o e)
+end_done : {w : ℕ} (terms : Terms) (c : ℕ) (o : Op w) (h : AbstractState w) (e : End w) → IsWidth w → AreNamed h.state → IsEndOf c h e → NotBusy terms o e → IsAfter c o h (done terms o e)
 end_done terms c (op.Load address size) h e width named end free kept = end_load c address size (held_at e (block_at address)) h e end kept
 end_done terms c (op.Store address size value) h e width named end free kept = end_store c address size value (held_at e (block_at address)) h e (sym (end.known.held_is (block_at address))) end kept
 end_done terms c (op.Acquire n g) h e width named end free kept =
@@ -381,7 +381,7 @@ end_done terms c (op.Access (message.D m)) h e width named end free kept = end
 end_done terms c (op.Access (message.E m)) h e width named end free kept = end
 
 -- a client's end is that of the protocol after it was asked, whatever it answers
-pub end-asked : {w : ℕ} (terms : Terms) (c : ℕ) (o : Op w) (h : Shadow w) (e : End w) → IsWidth w → AreNamed h.state → IsEndOf c h e
+pub end-asked : {w : ℕ} (terms : Terms) (c : ℕ) (o : Op w) (h : AbstractState w) (e : End w) → IsWidth w → AreNamed h.state → IsEndOf c h e
     → IsEndOf c (world.asked c o (ask.asked terms o e).reply h) (ask.asked terms o e).after
 end-asked terms c o h e width named end =
     asked-cases terms o e (IsAfter c o h) (λ b kept. end_busy c o b h e end) (end_done terms c o h e width named end)

@@ -33,20 +33,20 @@ use Rattle.tl_client.specs.statement.Offer.{Offered, offered, taken, ended, gran
 use Rattle.tl_client.specs.declared.verdict.Verdict.TheVariants as verdict
 use Rattle.tl_client.proofs.Accounted.{accounted-offered}
 use Rattle.tl_client.proofs.KeptOffered.{kept-offered}
-use Rattle.tl_coherence.specs.refinement.Follow.{Shadow, is_whole, taken_by_client, kind_taken, token_taken}
+use Rattle.tl_coherence.specs.refinement.AbstractStep.{AbstractState, is_whole, taken_by_client, kind_taken, packet_taken}
 use Rattle.tl_coherence.specs.statement.Log.{Log}
-use Rattle.tl_coherence.specs.protocol.Phase.{Acquiring, Wants}
-use Rattle.tl_coherence.specs.protocol.Protocol.{Service, GrantSent, State, token, is_on, grant_taken}
-use Rattle.tl_coherence.specs.refinement.Render.{Mail, rendered, message_of, message_of_kind}
+use Rattle.tl_coherence.specs.protocol.Phase.{AcquirePhase, AcquireOpen}
+use Rattle.tl_coherence.specs.protocol.Protocol.{Service, GrantSent, State, packet, is_on, grant_taken}
+use Rattle.tl_coherence.specs.refinement.PacketMessages.{AccessMessages, block_message, message_of, message_of_kind}
 use Rattle.tl_coherence.specs.statement.System.{System, terms_at}
-use Rattle.tl_coherence.specs.protocol.Token.{Kind, Request, Acquire, Probe, ProbeAck, Release, Answer, Grant, ReleaseAck, GrantAck, Token}
-use Rattle.tl_coherence.specs.refinement.Whole.{IsMatched, IsGivenAsked, gives_asked, asked_by, is_caching}
+use Rattle.tl_coherence.specs.protocol.Packet.{Kind, Request, Acquire, Probe, ProbeAck, Release, Answer, Grant, ReleaseAck, GrantAck, Packet}
+use Rattle.tl_coherence.specs.refinement.SimulationRelation.{SimulationRelation, IsGivenAsked, gives_asked, asked_by, is_caching}
 use Rattle.tl_coherence.proofs.queues.Carried.{IsNext}
 use Rattle.tl_coherence.proofs.client.ClientAsked.{IsEndOf}
 use Rattle.tl_coherence.proofs.client.ClientEnd.{IsWellKept, IsEnd, end-matched}
 use Rattle.tl_coherence.proofs.client.ClientTaken.{end-part, end-answer_taken, end-release_ack_taken, end-grant_taken}
 use Rattle.tl_coherence.proofs.client.ClientTakes.{answer-first, IsFitting, fitting, grant-first, ack-first, taken-d}
-use Rattle.tl_coherence.proofs.protocol.Due.{answer-due, IsGrantDue, grant-due, grant_message, grant-rendered, ack-due, ack_message}
+use Rattle.tl_coherence.proofs.protocol.HeadOfD.{answer-due, IsGrantDue, grant-due, grant_message, grant-rendered, ack-due, ack_message}
 use Rattle.tl_coherence.proofs.queues.FirstToken.{IsFirst, first-token}
 use Rattle.tl_coherence.proofs.queues.Codes.{access_kind}
 use Rattle.tl_rules.proofs.Widths.{whole_block}
@@ -76,10 +76,10 @@ plain_end {w} y e last plain = last_end y e last ∙ ended_plain y.opcode y _ (r
 -- ---- the end afterwards
 
 -- the beat is taken; the end is that of the protocol as it was, or after its event where the beat is the last of its message
-pub record IsTakenBy {w : ℕ} (config : Config) (terms : Terms) (tracker c : ℕ) (h : Shadow w) (x : Beat w) (e : End w) : Type 0 where
+pub record IsTakenBy {w : ℕ} (config : Config) (terms : Terms) (tracker c : ℕ) (h : AbstractState w) (x : Beat w) (e : End w) : Type 0 where
   pub takes : offered terms channel.D x e ≡ taken x e
   pub more : completes x (unfinished channel.D e.past) ≡ false → IsEndOf c h (taken x e).after
-  pub last : completes x (unfinished channel.D e.past) ≡ true → IsEndOf c (token_taken config tracker c (h.state.link c).d h) (taken x e).after
+  pub last : completes x (unfinished channel.D e.past) ≡ true → IsEndOf c (packet_taken config tracker c (h.state.link c).d h) (taken x e).after
 
 well-taken : {w : ℕ} (terms : Terms) (x : Beat w) (e f : End w) → IsWidth w → offered terms channel.D x e ≡ taken x e → f ≡ (taken x e).after → IsWellKept e → IsWellKept f
 well-taken {w} terms x e f width takes is well =
@@ -87,16 +87,16 @@ well-taken {w} terms x e f width takes is well =
     subst (λ (g : End w). IsWellKept g) same (record { kept = kept-offered terms channel.D x e width well.kept; accounted = accounted-offered terms channel.D x e width well.kept well.accounted })
 
 -- the end before, as the protocol has it
-well-of : {w : ℕ} (c : ℕ) (h : Shadow w) (e : End w) → IsEndOf c h e → IsWellKept e
+well-of : {w : ℕ} (c : ℕ) (h : AbstractState w) (e : End w) → IsEndOf c h e → IsWellKept e
 well-of c h e end = record { kept = end.kept; accounted = end.accounted }
 
 -- what its message tells of a beat
-taken-by : {w : ℕ} (config : Config) (terms : Terms) (tracker c : ℕ) (h : Shadow w) (m : MessageD w) (ms : List (Message w)) (x : Beat w)
+taken-by : {w : ℕ} (config : Config) (terms : Terms) (tracker c : ℕ) (h : AbstractState w) (m : MessageD w) (ms : List (Message w)) (x : Beat w)
     (queue : List (Beat w)) (e : End w) → IsWidth w → IsEndOf c h e
     → IsNext x (unfinished channel.D e.past) (message.D m) ms queue → offered terms channel.D x e ≡ taken x e
     → ((y : BeatD w) → x ≡ beat.D y → y.opcode ≡ m.opcode → y.source ≡ m.source → y.param ≡ m.param → ends (beat.D y) e.past ≡ true
     → x ∷ unfinished channel.D e.past ≡ burst_of (message.D m) → IsWellKept (taken (beat.D y) e).after
-    → IsEndOf c (token_taken config tracker c (h.state.link c).d h) (taken (beat.D y) e).after)
+    → IsEndOf c (packet_taken config tracker c (h.state.link c).d h) (taken (beat.D y) e).after)
     → IsTakenBy config terms tracker c h x e
 taken-by {w} config terms tracker c h m ms x queue e width end next takes lasts =
     let well = well-taken terms x e (taken x e).after width takes refl (well-of c h e end) in
@@ -105,7 +105,7 @@ taken-by {w} config terms tracker c h m ms x queue e width end next takes lasts 
       more = λ goes. subst (λ (z : Beat w). IsEndOf c h (taken z e).after) (sym x_is)
           (end-part (asked_by h.mail h.state c) c y h.state e (taken (beat.D y) e).after (part_end y e (sym (ends_at x_is) ∙ goes)) (sym (ends_at x_is) ∙ goes)
           (well_y well) end);
-      last = λ done. subst (λ (z : Beat w). IsEndOf c (token_taken config tracker c (h.state.link c).d h) (taken z e).after) (sym x_is)
+      last = λ done. subst (λ (z : Beat w). IsEndOf c (packet_taken config tracker c (h.state.link c).d h) (taken z e).after) (sym x_is)
           (lasts y x_is refl refl refl (sym (ends_at x_is) ∙ done) (next.last (eqb-true (next.k + 1) (beats_of (message.D m)) (sym next.completes_is ∙ done))).1
           (well_y well));
     }
@@ -125,18 +125,18 @@ taken-by {w} config terms tracker c h m ms x queue e width end next takes lasts 
 -- ---- an answer, a Grant, a ReleaseAck
 
 -- the shadow of a world, and what follows of it
-abbrev pub shadow_of : {w : ℕ} → Mail w → (ℕ → MessageA w) → State (List ℕ) → Shadow w
+abbrev pub shadow_of : {w : ℕ} → AccessMessages w → (ℕ → MessageA w) → State (List ℕ) → AbstractState w
 shadow_of mail request s = record { state = s; mail = mail; request = request }
 
 -- with the first token of channel D
-taken_token : {w : ℕ} (config : Config) (tracker c : ℕ) (k : Kind) (n : ℕ) (rest : List Token) (h : Shadow w) (e : End w)
-    → (h.state.link c).d ≡ token k n ∷ rest → IsEndOf c (kind_taken config tracker c k n rest h) e
-    → IsEndOf c (token_taken config tracker c (h.state.link c).d h) e
-taken_token config tracker c k n rest h e first end = subst (λ (xs : List Token). IsEndOf c (token_taken config tracker c xs h) e) (sym first) end
+taken_token : {w : ℕ} (config : Config) (tracker c : ℕ) (k : Kind) (n : ℕ) (rest : List Packet) (h : AbstractState w) (e : End w)
+    → (h.state.link c).d ≡ packet k n ∷ rest → IsEndOf c (kind_taken config tracker c k n rest h) e
+    → IsEndOf c (packet_taken config tracker c (h.state.link c).d h) e
+taken_token config tracker c k n rest h e first end = subst (λ (xs : List Packet). IsEndOf c (packet_taken config tracker c xs h) e) (sym first) end
 
-pub answer-delivered : {w : ℕ} (config : Config) (log : Log w) (mail : Mail w) (request : ℕ → MessageA w) (s : State (List ℕ)) (sys : System w) (terms : Terms)
-    (tracker c source : ℕ) (rest : List Token) (ms : List (Message w)) (x : Beat w) (queue : List (Beat w))
-    → IsWidth w → IsMatched config log mail request s sys → terms_at config c ≡ Some terms → sys.channels c channel.D ≡ x ∷ queue → (s.link c).d ≡ token Answer source ∷ rest
+pub answer-delivered : {w : ℕ} (config : Config) (log : Log w) (mail : AccessMessages w) (request : ℕ → MessageA w) (s : State (List ℕ)) (sys : System w) (terms : Terms)
+    (tracker c source : ℕ) (rest : List Packet) (ms : List (Message w)) (x : Beat w) (queue : List (Beat w))
+    → IsWidth w → SimulationRelation config log mail request s sys → terms_at config c ≡ Some terms → sys.channels c channel.D ≡ x ∷ queue → (s.link c).d ≡ packet Answer source ∷ rest
     → IsNext x (unfinished channel.D (sys.clients c).past) (mail.answer c source) ms queue
     → IsTakenBy config terms tracker c (shadow_of mail request s) x (sys.clients c)
 answer-delivered {w} config log mail request s sys terms tracker c source rest ms x queue width h at beats first next =
@@ -153,9 +153,9 @@ answer-delivered {w} config log mail request s sys terms tracker c source rest m
     e : End w
     e = sys.clients c
 
-pub ack-delivered : {w : ℕ} (config : Config) (log : Log w) (mail : Mail w) (request : ℕ → MessageA w) (s : State (List ℕ)) (sys : System w) (terms : Terms)
-    (tracker c n : ℕ) (rest : List Token) (ms : List (Message w)) (x : Beat w) (queue : List (Beat w))
-    → IsWidth w → IsMatched config log mail request s sys → terms_at config c ≡ Some terms → sys.channels c channel.D ≡ x ∷ queue → (s.link c).d ≡ token ReleaseAck n ∷ rest
+pub ack-delivered : {w : ℕ} (config : Config) (log : Log w) (mail : AccessMessages w) (request : ℕ → MessageA w) (s : State (List ℕ)) (sys : System w) (terms : Terms)
+    (tracker c n : ℕ) (rest : List Packet) (ms : List (Message w)) (x : Beat w) (queue : List (Beat w))
+    → IsWidth w → SimulationRelation config log mail request s sys → terms_at config c ≡ Some terms → sys.channels c channel.D ≡ x ∷ queue → (s.link c).d ≡ packet ReleaseAck n ∷ rest
     → IsNext x (unfinished channel.D (sys.clients c).past) (message.D (ack_message ((s.block n).release_source c))) ms queue
     → IsTakenBy config terms tracker c (shadow_of mail request s) x (sys.clients c)
 ack-delivered {w} config log mail request s sys terms tracker c n rest ms x queue width h at beats first next =
@@ -188,10 +188,10 @@ grant_bytes {w} true k source sink payload beats width long burst carries =
     payload-d (grant_message true k source sink payload) beats width long (burst, grant_blank {w = w} true k source sink payload width long)
 grant_bytes false k source sink payload beats width long burst carries = absurd cc
 
-pub grant-delivered : {w : ℕ} (config : Config) (log : Log w) (mail : Mail w) (request : ℕ → MessageA w) (s : State (List ℕ)) (sys : System w) (terms : Terms)
-    (tracker c n : ℕ) (rest : List Token) (ms : List (Message w)) (x : Beat w) (queue : List (Beat w))
-    → IsWidth w → IsMatched config log mail request s sys → terms_at config c ≡ Some terms → sys.channels c channel.D ≡ x ∷ queue → (s.link c).d ≡ token Grant n ∷ rest
-    → IsNext x (unfinished channel.D (sys.clients c).past) (rendered Grant c n (s.block n)) ms queue
+pub grant-delivered : {w : ℕ} (config : Config) (log : Log w) (mail : AccessMessages w) (request : ℕ → MessageA w) (s : State (List ℕ)) (sys : System w) (terms : Terms)
+    (tracker c n : ℕ) (rest : List Packet) (ms : List (Message w)) (x : Beat w) (queue : List (Beat w))
+    → IsWidth w → SimulationRelation config log mail request s sys → terms_at config c ≡ Some terms → sys.channels c channel.D ≡ x ∷ queue → (s.link c).d ≡ packet Grant n ∷ rest
+    → IsNext x (unfinished channel.D (sys.clients c).past) (block_message Grant c n (s.block n)) ms queue
     → IsTakenBy config terms tracker c (shadow_of mail request s) x (sys.clients c)
 grant-delivered {w} config log mail request s sys terms tracker c n rest ms x queue width h at beats first next =
     let here : IsNext x (unfinished channel.D e.past) (message.D m) ms queue = subst (λ (i : Message w). IsNext x (unfinished channel.D e.past) i ms queue) (grant-rendered c n s due) next in
@@ -225,10 +225,10 @@ grant-delivered {w} config log mail request s sys terms tracker c n rest ms x qu
     fits : IsFitting ((s.block n).pair c).held due.data_too due.k due.whole due.g
     fits = fitting ((s.block n).pair c).recorded ((s.block n).pair c).held due.data_too due.k due.whole due.g due.fits
 
-    given : gives_asked config.profile (Wants due.whole due.g) due.k ≡ true
+    given : gives_asked config.profile (AcquireOpen due.whole due.g) due.k ≡ true
     given =
         let all : IsGivenAsked config.profile (GrantSent c due.data_too due.k) (s.block n).pair = subst (λ (i : Service). IsGivenAsked config.profile i (s.block n).pair) due.service (h.given n) in
-        sym (ap (λ (i : Acquiring). gives_asked config.profile i due.k) due.wants) ∙ all
+        sym (ap (λ (i : AcquirePhase). gives_asked config.profile i due.k) due.wants) ∙ all
 
     holds_copy : (whole data_too : Bool) (q : Perm) → whole ≡ false → data_too ≡ false → (whole || (data_too || same_perm q perm.Branch)) ≡ true → same_perm q perm.None ≡ false
     holds_copy false false perm.Branch a b f = refl
@@ -241,26 +241,26 @@ grant-delivered {w} config log mail request s sys terms tracker c n rest ms x qu
         → IsEndOf c (kind_taken config tracker c Grant n rest (shadow_of mail request s)) (taken (beat.D y) e).after
     served y is =
         subst (λ (i : Service). IsEndOf c (taken_by_client c n i rest (shadow_of mail request s)) (taken (beat.D y) e).after) (sym due.service)
-        (subst (λ (i : Acquiring). IsEnd (asked_by mail (grant_taken c n (is_whole i) due.data_too due.k rest s) c) c
+        (subst (λ (i : AcquirePhase). IsEnd (asked_by mail (grant_taken c n (is_whole i) due.data_too due.k rest s) c) c
         (grant_taken c n (is_whole i) due.data_too due.k rest s) (taken (beat.D y) e).after) (sym due.wants) is)
 
 -- ---- all of channel D
 
-pub ack_next : {w : ℕ} (c n : ℕ) (s : State (List ℕ)) (x : Beat w) (rest : List (Beat w)) (ms : List (Message w)) (queue : List (Beat w)) → IsNext x rest (rendered ReleaseAck c n (s.block n)) ms queue
+pub ack_next : {w : ℕ} (c n : ℕ) (s : State (List ℕ)) (x : Beat w) (rest : List (Beat w)) (ms : List (Message w)) (queue : List (Beat w)) → IsNext x rest (block_message ReleaseAck c n (s.block n)) ms queue
     → IsNext x rest (message.D (ack_message ((s.block n).release_source c))) ms queue
-unfolding rendered
+unfolding block_message
 ack_next c n s x rest ms queue is = is
 
-pub delivered-d : {w : ℕ} (config : Config) (log : Log w) (mail : Mail w) (request : ℕ → MessageA w) (s : State (List ℕ)) (sys : System w) (terms : Terms)
+pub delivered-d : {w : ℕ} (config : Config) (log : Log w) (mail : AccessMessages w) (request : ℕ → MessageA w) (s : State (List ℕ)) (sys : System w) (terms : Terms)
     (tracker c : ℕ) (x : Beat w) (queue : List (Beat w)) → IsWidth w
-    → IsMatched config log mail request s sys → terms_at config c ≡ Some terms → sys.channels c channel.D ≡ x ∷ queue
+    → SimulationRelation config log mail request s sys → terms_at config c ≡ Some terms → sys.channels c channel.D ≡ x ∷ queue
     → IsTakenBy config terms tracker c (shadow_of mail request s) x (sys.clients c)
 delivered-d {w} config log mail request s sys terms tracker c x queue width h at beats = go first.kind first.number first.tokens first.own first.next
   where
     first : IsFirst channel.D c mail s sys x queue
     first = first-token (λ i. is_caching config i) channel.D c mail s sys x queue width h.invariant h.carried beats
 
-    go : (k : Kind) (i : ℕ) → (s.link c).d ≡ token k i ∷ first.rest → is_on channel.D k ≡ true
+    go : (k : Kind) (i : ℕ) → (s.link c).d ≡ packet k i ∷ first.rest → is_on channel.D k ≡ true
         → IsNext x (unfinished channel.D (sys.clients c).past) (message_of_kind k mail s c i) (map (message_of mail s c) first.rest) queue
         → IsTakenBy config terms tracker c (shadow_of mail request s) x (sys.clients c)
     go Answer i tokens own next = answer-delivered config log mail request s sys terms tracker c i first.rest (map (message_of mail s c) first.rest) x queue width h at beats tokens next

@@ -20,24 +20,24 @@ use Rattle.tl_client.specs.statement.Send.{probe_ack}
 use Rattle.tl_client.proofs.AfterAsked.{kept_copies, kept_closed}
 use Rattle.tl_client.proofs.KeptAsked.{kept_waiting}
 use Rattle.tl_client.proofs.KeptOffered.{reports_held}
-use Rattle.tl_coherence.specs.refinement.Known.{IsKnown}
-use Rattle.tl_coherence.specs.protocol.Phase.{Pair}
+use Rattle.tl_coherence.specs.refinement.ClientRelation.{ClientRelation}
+use Rattle.tl_coherence.specs.protocol.Phase.{ClientBlock}
 use Rattle.tl_coherence.specs.protocol.PhaseSteps.{after_probe}
 use Rattle.tl_coherence.specs.protocol.Protocol.{Block, State, probed_block, probe_taken}
-use Rattle.tl_coherence.specs.refinement.Render.{Mail, probe_beat}
-use Rattle.tl_coherence.specs.protocol.Token.{Token}
-use Rattle.tl_coherence.specs.refinement.Whole.{asked_by, is_storing}
+use Rattle.tl_coherence.specs.refinement.PacketMessages.{AccessMessages, probe_beat}
+use Rattle.tl_coherence.specs.protocol.Packet.{Packet}
+use Rattle.tl_coherence.specs.refinement.SimulationRelation.{asked_by, is_storing}
 use Rattle.tl_coherence.proofs.client.ClientEnd.{IsWellKept, IsEnd, IsSame, known-same, opened-same, asks-same, column}
 use Rattle.tl_coherence.proofs.client.KnownProbed.{report_is, known-probed, opened-probed}
 use Rattle.tl_coherence.proofs.queues.Tokens.{set-same, set-part}
 use Rattle.tl_coherence.proofs.queues.Perms.{held-some}
 
-pub end-probe_taken : {w : ℕ} (c n : ℕ) (k : Cap) (rest : List Token) (mail : Mail w) (s : State (List ℕ)) (e : End w) → IsWidth w
+pub end-probe_taken : {w : ℕ} (c n : ℕ) (k : Cap) (rest : List Packet) (mail : AccessMessages w) (s : State (List ℕ)) (e : End w) → IsWidth w
     → IsWellKept (probed (probe_beat n k) n (held_at e n) e).after → IsEnd (asked_by mail s c) c s e
     → IsEnd (asked_by mail (probe_taken c n k rest s) c) c (probe_taken c n k rest s) (probed (probe_beat n k) n (held_at e n) e).after
 end-probe_taken {w} c n k rest mail s e width well end =
     let known = known-probed (asked_by mail s c) (unfinished channel.D e.past) c n k rest s e width end.kept.c_whole end.known in
-    let here : IsKnown (asked_by mail s c) (unfinished channel.D f.past) c s' f.past = subst (λ (b : List (Beat w)). IsKnown (asked_by mail s c) b c s' f.past) (sym known.rest_is) known in
+    let here : ClientRelation (asked_by mail s c) (unfinished channel.D f.past) c s' f.past = subst (λ (b : List (Beat w)). ClientRelation (asked_by mail s c) b c s' f.past) (sym known.rest_is) known in
     record {
       known = known-same c (asked_by mail s c) (asked_by mail s' c) (unfinished channel.D f.past) s' s' f.past same here;
       opened = opened-same c (asked_by mail s c) (asked_by mail s' c) s' s' f.past same (opened-probed (asked_by mail s c) c n k rest s e width end.kept.c_whole end.opened);
@@ -46,7 +46,7 @@ end-probe_taken {w} c n k rest mail s e width well end =
       copies = λ i some. kept_copies n left g i ∙ copy_of i (i == n) refl (sym (column (λ (b : Block (List ℕ)). same_perm (b.pair c).held perm.None) n new s.block i) ∙ some)
           ∙ ap Some (sym (set-part (λ (b : Block (List ℕ)). b.copy c) n new s.block refl i));
       waiting = λ i storing. kept_waiting n left g i ∙ end.waiting i
-          (sym (set-part (λ (b : Block (List ℕ)). is_storing (b.pair c).acquiring) n new s.block (ap (λ (q : Pair). is_storing q.acquiring) pair_is) i)
+          (sym (set-part (λ (b : Block (List ℕ)). is_storing (b.pair c).acquiring) n new s.block (ap (λ (q : ClientBlock). is_storing q.acquiring) pair_is) i)
           ∙ storing)
           ∙ ap Some (sym (set-part (λ (b : Block (List ℕ)). b.waiting c) n new s.block refl i));
       live = kept_closed n left g ∙ end.live;
@@ -80,12 +80,12 @@ end-probe_taken {w} c n k rest mail s e width well end =
       letting = λ i. refl;
       lets = λ i. refl;
       asks = λ i. asks-same c i mail mail s s' refl (inl refl)
-          (λ j used. set-part (λ (b : Block (List ℕ)). (b.pair c).acquiring) n new s.block (ap (λ (q : Pair). q.acquiring) pair_is) j)
+          (λ j used. set-part (λ (b : Block (List ℕ)). (b.pair c).acquiring) n new s.block (ap (λ (q : ClientBlock). q.acquiring) pair_is) j)
           (λ j used. set-part (λ (b : Block (List ℕ)). b.source c) n new s.block refl j);
     }
 
     left_is : left ≡ (new.pair c).held
-    left_is = ap report_right (report_is w n k p) ∙ ap (λ (q : Perm). report_right (report_at k q)) (end.known.held_is n) ∙ sym (ap (λ (q : Pair). q.held) pair_is)
+    left_is = ap report_right (report_is w n k p) ∙ ap (λ (q : Perm). report_right (report_at k q)) (end.known.held_is n) ∙ sym (ap (λ (q : ClientBlock). q.held) pair_is)
 
     some_held : (q : Perm) → same_perm q perm.None ≡ false → holds q ≡ true
     some_held perm.None e = absurd cc

@@ -19,10 +19,10 @@ use Rattle.tl_rules.proofs.Handed.{held-whole, pending-whole, release_of-whole}
 use Rattle.tl_client.specs.statement.End.{End}
 use Rattle.tl_client.specs.statement.Requests.{open_beat}
 use Rattle.tl_client.proofs.Opens.{open_beat-a, open_beat-c}
-use Rattle.tl_coherence.specs.refinement.Known.{IsKnown}
-use Rattle.tl_coherence.specs.protocol.Phase.{is_kept}
+use Rattle.tl_coherence.specs.refinement.ClientRelation.{ClientRelation}
+use Rattle.tl_coherence.specs.protocol.Phase.{is_unreleased}
 use Rattle.tl_coherence.specs.protocol.Protocol.{State, is_wanting}
-use Rattle.tl_coherence.specs.refinement.Sources.{AreOpen}
+use Rattle.tl_coherence.specs.refinement.SourceRelation.{OpenSourceRelation}
 use Rattle.tl_coherence.proofs.client.ClientEnd.{IsWellKept, known-kept}
 
 -- ---- a request
@@ -30,14 +30,14 @@ use Rattle.tl_coherence.proofs.client.ClientEnd.{IsWellKept, known-kept}
 -- what the protocol says of client c's end after this request was handed out
 pub record IsRequested {w : ℕ} (c : ℕ) (m : MessageA w) (asked asked' : ℕ → Option (BeatA w)) (s s' : State (List ℕ)) : Type 0 where
   pub held : (n : ℕ) → ((s'.block n).pair c).held ≡ ((s.block n).pair c).held
-  pub letting : (n : ℕ) → is_kept ((s'.block n).pair c).letting ≡ is_kept ((s.block n).pair c).letting
+  pub letting : (n : ℕ) → is_unreleased ((s'.block n).pair c).letting ≡ is_unreleased ((s.block n).pair c).letting
   pub lets : (source : ℕ) → s'.lets c source ≡ s.lets c source
   pub acquiring : (n : ℕ) → is_wanting ((s'.block n).pair c).acquiring ≡ cond (is_acquire m.opcode && (block_at m.address == n)) true (is_wanting ((s.block n).pair c).acquiring)
   pub asks : (source : ℕ) → asked' source ≡ cond (m.source == source) (Some (a_beat_of m 0)) (asked source)
 
 pub known-requested : {w : ℕ} (c : ℕ) (m : MessageA w) (asked asked' : ℕ → Option (BeatA w)) (s s' : State (List ℕ)) (t : History w) (f : End w) → IsWidth w
     → f.past ≡ sent (A m) t → unfinished channel.A t ≡ []
-    → IsWellKept f → IsRequested c m asked asked' s s' → IsKnown asked (unfinished channel.D t) c s t → IsKnown asked' (unfinished channel.D f.past) c s' f.past
+    → IsWellKept f → IsRequested c m asked asked' s s' → ClientRelation asked (unfinished channel.D t) c s t → ClientRelation asked' (unfinished channel.D f.past) c s' f.past
 known-requested {w} c m asked asked' s s' t f width past none well event known =
     let some = beats-positive (A m) width in
     known-kept asked' c s' f well
@@ -53,7 +53,7 @@ some_cond true x o = refl
 some_cond false x o = refl
 
 pub opened-requested : {w : ℕ} (c : ℕ) (m : MessageA w) (asked asked' : ℕ → Option (BeatA w)) (s s' : State (List ℕ)) (t : History w) → IsWidth w → unfinished channel.A t ≡ []
-    → IsRequested c m asked asked' s s' → AreOpen asked c s t → AreOpen asked' c s' (sent (A m) t)
+    → IsRequested c m asked asked' s s' → OpenSourceRelation asked c s t → OpenSourceRelation asked' c s' (sent (A m) t)
 opened-requested {w} c m asked asked' s s' t width none event open_ =
     let some = beats-positive (A m) width in
     record {
@@ -72,14 +72,14 @@ pub record IsReleased {w : ℕ} (c i : ℕ) (m : MessageC w) (p : Perm) (asked a
   pub of_block : block_at m.address ≡ i
   pub whole : m.size ≡ 6
   pub held : (n : ℕ) → ((s'.block n).pair c).held ≡ cond (n == i) p ((s.block n).pair c).held
-  pub letting : (n : ℕ) → not (is_kept ((s'.block n).pair c).letting) ≡ cond (i == n) true (not (is_kept ((s.block n).pair c).letting))
+  pub letting : (n : ℕ) → not (is_unreleased ((s'.block n).pair c).letting) ≡ cond (i == n) true (not (is_unreleased ((s.block n).pair c).letting))
   pub lets : (source : ℕ) → s'.lets c source ≡ cond (m.source == source) (Some i) (s.lets c source)
   pub acquiring : (n : ℕ) → is_wanting ((s'.block n).pair c).acquiring ≡ is_wanting ((s.block n).pair c).acquiring
   pub asks : (source : ℕ) → asked' source ≡ asked source
 
 pub known-released : {w : ℕ} (c i : ℕ) (m : MessageC w) (p : Perm) (asked asked' : ℕ → Option (BeatA w)) (s s' : State (List ℕ)) (t : History w) (f : End w) → IsWidth w → f.past ≡ sent (C m) t
     → unfinished channel.C t ≡ [] → ((n : ℕ) → held n (sent (C m) t) ≡ cond (n == i) p (held n t))
-    → IsWellKept f → IsReleased c i m p asked asked' s s' → IsKnown asked (unfinished channel.D t) c s t → IsKnown asked' (unfinished channel.D f.past) c s' f.past
+    → IsWellKept f → IsReleased c i m p asked asked' s s' → ClientRelation asked (unfinished channel.D t) c s t → ClientRelation asked' (unfinished channel.D f.past) c s' f.past
 known-released {w} c i m p asked asked' s s' t f width past none left well event known =
     let some = beats-positive (C m) width in
     known-kept asked' c s' f well
@@ -92,7 +92,7 @@ known-released {w} c i m p asked asked' s s' t f width past none left well event
     opens n = rw (event.releases, event.of_block) refl
 
 pub opened-released : {w : ℕ} (c i : ℕ) (m : MessageC w) (p : Perm) (asked asked' : ℕ → Option (BeatA w)) (s s' : State (List ℕ)) (t : History w) → IsWidth w → unfinished channel.C t ≡ []
-    → IsReleased c i m p asked asked' s s' → AreOpen asked c s t → AreOpen asked' c s' (sent (C m) t)
+    → IsReleased c i m p asked asked' s s' → OpenSourceRelation asked c s t → OpenSourceRelation asked' c s' (sent (C m) t)
 opened-released {w} c i m p asked asked' s s' t width none event open_ =
     let some = beats-positive (C m) width in
     record {

@@ -32,19 +32,19 @@ use Rattle.tl_manager.specs.statement.Offer as manager
 use Rattle.tl_coherence.specs.declared.event.Event.{Event}
 use Rattle.tl_coherence.specs.declared.event.Event.TheVariants.{Ask, Deliver}
 use Rattle.tl_coherence.specs.statement.Draining.{is_moving}
-use Rattle.tl_coherence.specs.refinement.Follow.{Shadow, asked, followed_by, followed, is_last, token_taken}
+use Rattle.tl_coherence.specs.refinement.AbstractStep.{AbstractState, asked, abstract_step_by, abstract_step, is_last, packet_taken}
 use Rattle.tl_coherence.specs.protocol.Invariant.{IsInvariant}
 use Rattle.tl_coherence.specs.statement.Log.{Log}
-use Rattle.tl_coherence.specs.refinement.Matched.{receiver}
-use Rattle.tl_coherence.specs.protocol.Phase.{is_kept}
+use Rattle.tl_coherence.specs.refinement.ChannelRelation.{receiver}
+use Rattle.tl_coherence.specs.protocol.Phase.{is_unreleased}
 use Rattle.tl_coherence.specs.protocol.Protocol as world
-use Rattle.tl_coherence.specs.protocol.Protocol.{State, token, on, is_on, tokens_on}
-use Rattle.tl_coherence.specs.refinement.Render.{Mail}
+use Rattle.tl_coherence.specs.protocol.Protocol.{State, packet, on, is_on, packets_on}
+use Rattle.tl_coherence.specs.refinement.PacketMessages.{AccessMessages}
 use Rattle.tl_coherence.specs.statement.Step as step
 use Rattle.tl_coherence.specs.statement.Step.{Step, stepped, stepped_at, only, replied, handed_by, judged, client_took, manager_took, outcome_of, is_to_client, client_of}
 use Rattle.tl_coherence.specs.statement.System.{System, terms_at, with_client, with_channel, with_manager, with_messages}
-use Rattle.tl_coherence.specs.protocol.Token.{Kind, Request, Acquire, Probe, ProbeAck, Release, Answer, Grant, ReleaseAck, GrantAck, Token}
-use Rattle.tl_coherence.specs.refinement.Whole.{IsMatched, is_caching}
+use Rattle.tl_coherence.specs.protocol.Packet.{Kind, Request, Acquire, Probe, ProbeAck, Release, Answer, Grant, ReleaseAck, GrantAck, Packet}
+use Rattle.tl_coherence.specs.refinement.SimulationRelation.{SimulationRelation, is_caching}
 use Rattle.tl_coherence.proofs.client.AsideAll.{Leaves, leaves-none, leaves-asked, is_for_manager, leaves-at_manager, leaves-at_client}
 use Rattle.tl_coherence.proofs.client.ClientAsked.{IsEndOf, end-asked}
 use Rattle.tl_coherence.proofs.client.ClientDelivered.{shadow_of, delivered-d}
@@ -56,11 +56,11 @@ use Rattle.tl_coherence.proofs.queues.Tokens.{same_number}
 use Rattle.tl_client.proofs.Calls.{kept_up}
 
 -- all ends are those of the protocol after this step
-abbrev AreEnds : {w : ℕ} → Config → Event w → System w → Shadow w → ℕ → Step w → Type 0
-AreEnds config event sys h c step = IsEndOf c (followed_by config event step.outcome sys h) (step.after.clients c)
+abbrev AreEnds : {w : ℕ} → Config → Event w → System w → AbstractState w → ℕ → Step w → Type 0
+AreEnds config event sys h c step = IsEndOf c (abstract_step_by config event step.outcome sys h) (step.after.clients c)
 
 -- an end that is left alone
-left_alone : {w : ℕ} (c : ℕ) (h h' : Shadow w) (e f : End w) → Leaves c h h' → f ≡ e → IsEndOf c h e → IsEndOf c h' f
+left_alone : {w : ℕ} (c : ℕ) (h h' : AbstractState w) (e f : End w) → Leaves c h h' → f ≡ e → IsEndOf c h e → IsEndOf c h' f
 left_alone {w} c h h' e f leaves same end = subst (λ (x : End w). IsEndOf c h' x) (sym same) (end-aside c h.mail h'.mail h.state h'.state e leaves end)
 
 -- ---- a client is asked
@@ -77,8 +77,8 @@ other_client {w} k c e s ne = there (k == c) (ne_eqb k c ne)
     there : (b : Bool) → b ≡ false → cond b e (s.clients k) ≡ s.clients k
     there b f = rw f refl
 
-asked_ends : {w : ℕ} (config : Config) (log : Log w) (mail : Mail w) (request : ℕ → MessageA w) (s : State (List ℕ)) (sys : System w) (terms : Terms) (c k : ℕ)
-    (o : Op w) → IsWidth w → IsMatched config log mail request s sys
+asked_ends : {w : ℕ} (config : Config) (log : Log w) (mail : AccessMessages w) (request : ℕ → MessageA w) (s : State (List ℕ)) (sys : System w) (terms : Terms) (c k : ℕ)
+    (o : Op w) → IsWidth w → SimulationRelation config log mail request s sys
     → AreEnds config (Ask c o) sys (shadow_of mail request s) k (replied c (ask.asked terms o (sys.clients c)) sys)
 asked_ends {w} config log mail request s sys terms c k o width h = elim (cases_eq k c) [
   | inl same ↦ subst (λ (i : ℕ). AreEnds config (Ask c o) sys (shadow_of mail request s) i (replied c a sys)) (sym same)
@@ -152,7 +152,7 @@ client_kind channel.C k up on_ = absurd cc
 client_kind channel.E k up on_ = absurd cc
 
 -- a kind's channel is the one it is on
-pub on_same : (ch : Channel) (k : Kind) (l : world.Link) → is_on ch k ≡ true → on k l ≡ tokens_on ch l
+pub on_same : (ch : Channel) (k : Kind) (l : world.Link) → is_on ch k ≡ true → on k l ≡ packets_on ch l
 on_same channel.A Request l is = refl
 on_same channel.A Acquire l is = refl
 on_same channel.B Probe l is = refl
@@ -200,23 +200,23 @@ on_same channel.E Grant l is = absurd cc
 on_same channel.E ReleaseAck l is = absurd cc
 
 -- a message that the manager takes leaves all ends alone
-manager_leaves : {w : ℕ} (caching : ℕ → Bool) (config : Config) (tracker c : ℕ) (ch : Channel) (h : Shadow w) (d : ℕ) (sys : System w) (x : Beat w)
+manager_leaves : {w : ℕ} (caching : ℕ → Bool) (config : Config) (tracker c : ℕ) (ch : Channel) (h : AbstractState w) (d : ℕ) (sys : System w) (x : Beat w)
     (queue : List (Beat w)) → is_to_client ch ≡ false → IsInvariant caching h.state
-    → IsFirst ch c h.mail h.state sys x queue → Leaves d h (token_taken config tracker c (tokens_on ch (h.state.link c)) h)
+    → IsFirst ch c h.mail h.state sys x queue → Leaves d h (packet_taken config tracker c (packets_on ch (h.state.link c)) h)
 manager_leaves {w} caching config tracker c ch h d sys x queue down inv first =
-    subst (λ (xs : List Token). Leaves d h (token_taken config tracker c xs h)) (sym first.tokens)
+    subst (λ (xs : List Packet). Leaves d h (packet_taken config tracker c xs h)) (sym first.tokens)
     (leaves-at_manager caching config tracker c first.kind first.number first.rest h d (manager_kind ch first.kind down first.own) inv
     (on_same ch first.kind (h.state.link c) first.own ∙ first.tokens))
 
-manager_ends : {w : ℕ} (config : Config) (log : Log w) (mail : Mail w) (request : ℕ → MessageA w) (s : State (List ℕ)) (sys : System w) (link : Link)
+manager_ends : {w : ℕ} (config : Config) (log : Log w) (mail : AccessMessages w) (request : ℕ → MessageA w) (s : State (List ℕ)) (sys : System w) (link : Link)
     (ch : Channel) (k : ℕ) (x : Beat w) (queue : List (Beat w)) (a : manager.Reception w × manager_end.End w) → IsWidth w
-    → IsMatched config log mail request s sys → sys.channels link.0 ch ≡ x ∷ queue → is_to_client ch ≡ false
+    → SimulationRelation config log mail request s sys → sys.channels link.0 ch ≡ x ∷ queue → is_to_client ch ≡ false
     → AreEnds config (Deliver link ch) sys (shadow_of mail request s) k (manager_took link.0 ch x queue a sys)
 manager_ends config log mail request s sys link ch k x queue (manager.Refused rule, e) width h beats down = end-matched config log mail request s sys h k
 manager_ends config log mail request s sys link ch k x queue (manager.Stalled, e) width h beats down = end-matched config log mail request s sys h k
 manager_ends {w} config log mail request s sys link ch k x queue (manager.Sent handed, e) width h beats down = go (is_last (sys.channels link.0 ch) (unfinished ch (receiver ch link.0 sys)))
   where
-    before : Shadow w
+    before : AbstractState w
     before = shadow_of mail request s
 
     tracker : ℕ
@@ -225,10 +225,10 @@ manager_ends {w} config log mail request s sys link ch k x queue (manager.Sent h
     same : (with_messages handed (with_manager e (with_channel link.0 ch queue sys))).clients k ≡ sys.clients k
     same = ap (λ (f : ℕ → End w). f k) (clients-with_messages handed (with_manager e (with_channel link.0 ch queue sys)))
 
-    go : (b : Bool) → IsEndOf k (if b then token_taken config tracker link.0 (tokens_on ch (s.link link.0)) before else before)
+    go : (b : Bool) → IsEndOf k (if b then packet_taken config tracker link.0 (packets_on ch (s.link link.0)) before else before)
         ((with_messages handed (with_manager e (with_channel link.0 ch queue sys))).clients k)
     go true =
-        left_alone k before (token_taken config tracker link.0 (tokens_on ch (s.link link.0)) before) (sys.clients k)
+        left_alone k before (packet_taken config tracker link.0 (packets_on ch (s.link link.0)) before) (sys.clients k)
         ((with_messages handed (with_manager e (with_channel link.0 ch queue sys))).clients k)
         (manager_leaves (is_caching config) config tracker link.0 ch before k sys x queue down h.invariant
         (first-token (is_caching config) ch link.0 mail s sys x queue width h.invariant h.carried beats)) same
@@ -255,20 +255,20 @@ moved (Ok (verdict.Taken, m)) c ch x queue e s unrefused moves = (refl, clients-
 moved (Ok (verdict.Done source f, m)) c ch x queue e s unrefused moves = (refl, clients-with_messages (handed_by c m) (with_client c e (with_channel c ch queue s)))
 
 -- a message that one client takes leaves the others' ends alone
-client_leaves : {w : ℕ} (config : Config) (tracker c : ℕ) (ch : Channel) (h : Shadow w) (d : ℕ) (sys : System w) (x : Beat w) (queue : List (Beat w))
+client_leaves : {w : ℕ} (config : Config) (tracker c : ℕ) (ch : Channel) (h : AbstractState w) (d : ℕ) (sys : System w) (x : Beat w) (queue : List (Beat w))
     → is_to_client ch ≡ true → (d ≡ c → ⊥) → IsFirst ch c h.mail h.state sys x queue
-    → Leaves d h (token_taken config tracker c (tokens_on ch (h.state.link c)) h)
+    → Leaves d h (packet_taken config tracker c (packets_on ch (h.state.link c)) h)
 client_leaves {w} config tracker c ch h d sys x queue up other first =
-    subst (λ (xs : List Token). Leaves d h (token_taken config tracker c xs h)) (sym first.tokens)
+    subst (λ (xs : List Packet). Leaves d h (packet_taken config tracker c xs h)) (sym first.tokens)
     (leaves-at_client config tracker c first.kind first.number first.rest h d (client_kind ch first.kind up first.own) other)
 
 -- the beat was taken: the ends after its step, given the client's own
-taken_ends : {w : ℕ} (config : Config) (log : Log w) (mail : Mail w) (request : ℕ → MessageA w) (s : State (List ℕ)) (sys : System w) (link : Link)
+taken_ends : {w : ℕ} (config : Config) (log : Log w) (mail : AccessMessages w) (request : ℕ → MessageA w) (s : State (List ℕ)) (sys : System w) (link : Link)
     (ch : Channel) (k : ℕ) (x : Beat w) (queue : List (Beat w)) (o : Offered w) → IsWidth w
-    → IsMatched config log mail request s sys → sys.channels link.0 ch ≡ x ∷ queue → is_to_client ch ≡ true → o ≡ taken x (sys.clients link.0)
+    → SimulationRelation config log mail request s sys → sys.channels link.0 ch ≡ x ∷ queue → is_to_client ch ≡ true → o ≡ taken x (sys.clients link.0)
     → (completes x (unfinished ch (receiver ch link.0 sys)) ≡ false → IsEndOf link.0 (shadow_of mail request s) (taken x (sys.clients link.0)).after)
     → (completes x (unfinished ch (receiver ch link.0 sys)) ≡ true
-    → IsEndOf link.0 (token_taken config (least_untaken (trackers_of (services sys.manager.trace))) link.0 (tokens_on ch (s.link link.0))
+    → IsEndOf link.0 (packet_taken config (least_untaken (trackers_of (services sys.manager.trace))) link.0 (packets_on ch (s.link link.0))
     (shadow_of mail request s)) (taken x (sys.clients link.0)).after)
     → AreEnds config (Deliver link ch) sys (shadow_of mail request s) k (client_took link.0 ch x queue o sys)
 taken_ends {w} config log mail request s sys link ch k x queue o width h beats up takes more last =
@@ -278,14 +278,14 @@ taken_ends {w} config log mail request s sys link ch k x queue o width h beats u
     (subst (λ (b : Bool). IsEndOf k (if b then event else before) ((with_client link.0 t.after (with_channel link.0 ch queue sys)).clients k))
     (sym (ap (λ (beats_ : List (Beat w)). is_last beats_ rest_now) beats)) (go (completes x rest_now) refl (cases_eq k link.0)))))
   where
-    before : Shadow w
+    before : AbstractState w
     before = shadow_of mail request s
 
     rest_now : List (Beat w)
     rest_now = unfinished ch (receiver ch link.0 sys)
 
-    event : Shadow w
-    event = token_taken config (least_untaken (trackers_of (services sys.manager.trace))) link.0 (tokens_on ch (s.link link.0)) before
+    event : AbstractState w
+    event = packet_taken config (least_untaken (trackers_of (services sys.manager.trace))) link.0 (packets_on ch (s.link link.0)) before
 
     t : Offered w
     t = taken x (sys.clients link.0)
@@ -313,24 +313,24 @@ taken_ends {w} config log mail request s sys link ch k x queue o width h beats u
         (end-matched config log mail request s sys h k)
     go false goes (inr ne) = left_alone k before before (sys.clients k) (after.clients k) (leaves-none k before) (others ne) (end-matched config log mail request s sys h k)
 
-d_ends : {w : ℕ} (config : Config) (log : Log w) (mail : Mail w) (request : ℕ → MessageA w) (s : State (List ℕ)) (sys : System w) (terms : Terms) (link : Link)
+d_ends : {w : ℕ} (config : Config) (log : Log w) (mail : AccessMessages w) (request : ℕ → MessageA w) (s : State (List ℕ)) (sys : System w) (terms : Terms) (link : Link)
     (k : ℕ) (x : Beat w) (queue : List (Beat w)) → IsWidth w
-    → IsMatched config log mail request s sys → terms_at config link.0 ≡ Some terms → sys.channels link.0 channel.D ≡ x ∷ queue
+    → SimulationRelation config log mail request s sys → terms_at config link.0 ≡ Some terms → sys.channels link.0 channel.D ≡ x ∷ queue
     → AreEnds config (Deliver link channel.D) sys (shadow_of mail request s) k (client_took link.0 channel.D x queue (offered terms channel.D x (sys.clients link.0)) sys)
 d_ends {w} config log mail request s sys terms link k x queue width h at beats =
     let is = delivered-d config log mail request s sys terms (least_untaken (trackers_of (services sys.manager.trace))) link.0 x queue width h at beats in
     taken_ends config log mail request s sys link channel.D k x queue (offered terms channel.D x (sys.clients link.0)) width h beats refl is.takes is.more is.last
 
-b_ends : {w : ℕ} (config : Config) (log : Log w) (mail : Mail w) (request : ℕ → MessageA w) (s : State (List ℕ)) (sys : System w) (terms : Terms) (link : Link)
+b_ends : {w : ℕ} (config : Config) (log : Log w) (mail : AccessMessages w) (request : ℕ → MessageA w) (s : State (List ℕ)) (sys : System w) (terms : Terms) (link : Link)
     (k : ℕ) (x : Beat w) (queue : List (Beat w)) → IsWidth w
-    → IsMatched config log mail request s sys → terms_at config link.0 ≡ Some terms → sys.channels link.0 channel.B ≡ x ∷ queue
+    → SimulationRelation config log mail request s sys → terms_at config link.0 ≡ Some terms → sys.channels link.0 channel.B ≡ x ∷ queue
     → AreEnds config (Deliver link channel.B) sys (shadow_of mail request s) k (client_took link.0 channel.B x queue (offered terms channel.B x (sys.clients link.0)) sys)
-b_ends {w} config log mail request s sys terms link k x queue width h at beats = go (is_kept ((s.block comes.0).pair link.0).letting) refl
+b_ends {w} config log mail request s sys terms link k x queue width h at beats = go (is_unreleased ((s.block comes.0).pair link.0).letting) refl
   where
     comes : (n : ℕ) × IsProbed config terms (least_untaken (trackers_of (services sys.manager.trace))) link.0 n (shadow_of mail request s) x (sys.clients link.0)
     comes = delivered-b config log mail request s sys terms (least_untaken (trackers_of (services sys.manager.trace))) link.0 x queue width h at beats
 
-    go : (b : Bool) → is_kept ((s.block comes.0).pair link.0).letting ≡ b
+    go : (b : Bool) → is_unreleased ((s.block comes.0).pair link.0).letting ≡ b
         → AreEnds config (Deliver link channel.B) sys (shadow_of mail request s) k (client_took link.0 channel.B x queue (offered terms channel.B x (sys.clients link.0)) sys)
     go true kept =
         taken_ends config log mail request s sys link channel.B k x queue (offered terms channel.B x (sys.clients link.0)) width h beats refl (comes.1.takes kept)
@@ -341,9 +341,9 @@ b_ends {w} config log mail request s sys terms link k x queue width h at beats =
 
 -- ---- every event
 
-delivered_ends : {w : ℕ} (config : Config) (log : Log w) (mail : Mail w) (request : ℕ → MessageA w) (s : State (List ℕ)) (sys : System w) (terms : Terms)
+delivered_ends : {w : ℕ} (config : Config) (log : Log w) (mail : AccessMessages w) (request : ℕ → MessageA w) (s : State (List ℕ)) (sys : System w) (terms : Terms)
     (link : Link) (ch : Channel) (k : ℕ) (beats : List (Beat w)) → IsWidth w
-    → IsMatched config log mail request s sys → terms_at config link.0 ≡ Some terms → sys.channels link.0 ch ≡ beats
+    → SimulationRelation config log mail request s sys → terms_at config link.0 ≡ Some terms → sys.channels link.0 ch ≡ beats
     → AreEnds config (Deliver link ch) sys (shadow_of mail request s) k (step.delivered config terms link.0 ch beats sys)
 delivered_ends config log mail request s sys terms link ch k [] width h at beats = end-matched config log mail request s sys h k
 delivered_ends config log mail request s sys terms link channel.B k (x ∷ queue) width h at beats = b_ends config log mail request s sys terms link k x queue width h at beats
@@ -355,8 +355,8 @@ delivered_ends config log mail request s sys terms link channel.C k (x ∷ queue
 delivered_ends config log mail request s sys terms link channel.E k (x ∷ queue) width h at beats =
     manager_ends config log mail request s sys link channel.E k x queue (manager.offered config (record { 0 = link.0 }) channel.E x sys.manager) width h beats refl
 
-event_ends : {w : ℕ} (config : Config) (log : Log w) (mail : Mail w) (request : ℕ → MessageA w) (s : State (List ℕ)) (sys : System w) (event : Event w)
-    (o : Option Terms) (k : ℕ) → IsWidth w → IsMatched config log mail request s sys
+event_ends : {w : ℕ} (config : Config) (log : Log w) (mail : AccessMessages w) (request : ℕ → MessageA w) (s : State (List ℕ)) (sys : System w) (event : Event w)
+    (o : Option Terms) (k : ℕ) → IsWidth w → SimulationRelation config log mail request s sys
     → terms_at config (client_of event) ≡ o → AreEnds config event sys (shadow_of mail request s) k (stepped_at config o event sys)
 event_ends config log mail request s sys (Ask c o) None k width h at = end-matched config log mail request s sys h k
 event_ends config log mail request s sys (Deliver link ch) None k width h at = end-matched config log mail request s sys h k
@@ -364,8 +364,8 @@ event_ends config log mail request s sys (Ask c o) (Some terms) k width h at = a
 event_ends config log mail request s sys (Deliver link ch) (Some terms) k width h at = delivered_ends config log mail request s sys terms link ch k (sys.channels link.0 ch) width h at refl
 
 -- Every client's end is that of the protocol after an event of the world.
-pub clients-kept : {w : ℕ} (config : Config) (log : Log w) (mail : Mail w) (request : ℕ → MessageA w) (s : State (List ℕ)) (sys : System w) (event : Event w)
-    → IsWidth w → IsMatched config log mail request s sys → (k : ℕ)
-    → IsEndOf k (followed config event sys (shadow_of mail request s)) ((stepped config event sys).after.clients k)
+pub clients-kept : {w : ℕ} (config : Config) (log : Log w) (mail : AccessMessages w) (request : ℕ → MessageA w) (s : State (List ℕ)) (sys : System w) (event : Event w)
+    → IsWidth w → SimulationRelation config log mail request s sys → (k : ℕ)
+    → IsEndOf k (abstract_step config event sys (shadow_of mail request s)) ((stepped config event sys).after.clients k)
 unfolding stepped
 clients-kept config log mail request s sys event width h k = event_ends config log mail request s sys event (terms_at config (client_of event)) k width h refl

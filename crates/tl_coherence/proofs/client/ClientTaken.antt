@@ -30,18 +30,18 @@ use Rattle.tl_client.proofs.AfterOffered.{granted_is}
 use Rattle.tl_client.proofs.HeldAfter.{same_block, swapped}
 use Rattle.tl_manager.specs.statement.Handing.{grant_opcode}
 use Rattle.tl_manager.proofs.Recording.{cap-gives}
-use Rattle.tl_coherence.specs.refinement.Follow.{acquire_opcode}
-use Rattle.tl_coherence.specs.protocol.Phase.{Pair, Wants, is_kept}
+use Rattle.tl_coherence.specs.refinement.AbstractStep.{acquire_opcode}
+use Rattle.tl_coherence.specs.protocol.Phase.{ClientBlock, AcquireOpen, is_unreleased}
 use Rattle.tl_coherence.specs.protocol.PhaseSteps.{after_grant, after_release_ack}
-use Rattle.tl_coherence.specs.protocol.Protocol.{Block, State, Closed, Acquires, is_wanting, answer_taken, granted_copy, taken_block, grant_taken, let_go_block, release_ack_taken}
-use Rattle.tl_coherence.specs.refinement.Render.{Mail}
-use Rattle.tl_coherence.specs.protocol.Token.{Token}
-use Rattle.tl_coherence.specs.refinement.Whole.{asked_by, is_storing}
+use Rattle.tl_coherence.specs.protocol.Protocol.{Block, State, SourceFree, Acquires, is_wanting, answer_taken, granted_copy, taken_block, grant_taken, let_go_block, release_ack_taken}
+use Rattle.tl_coherence.specs.refinement.PacketMessages.{AccessMessages}
+use Rattle.tl_coherence.specs.protocol.Packet.{Packet}
+use Rattle.tl_coherence.specs.refinement.SimulationRelation.{asked_by, is_storing}
 use Rattle.tl_coherence.specs.protocol.Invariant.{acquires_of, AreNamed}
 use Rattle.tl_coherence.proofs.client.Aside.{set_at-else}
 use Rattle.tl_coherence.proofs.client.ClientAsked.{chosen, passed}
 use Rattle.tl_coherence.proofs.client.ClientEnd.{IsWellKept, IsEnd, asks-same, asks-closed, asks-acquire, open-is, column}
-use Rattle.tl_coherence.proofs.client.ClientHeard.{IsHeard, IsEcho, echo-none, echo-e, known-heard, opened-heard, heard-part, answer_closes, ack_closes, grant_closes}
+use Rattle.tl_coherence.proofs.client.ClientDeliverD.{IsHeard, IsEcho, echo-none, echo-e, known-heard, opened-heard, heard-part, answer_closes, ack_closes, grant_closes}
 use Rattle.tl_coherence.proofs.queues.Phases.{and_right}
 use Rattle.tl_coherence.proofs.queues.Tokens.{same_number, set-same, set-other, set-part, set_at-same}
 use Rattle.tl_coherence.proofs.queues.Codes.{acquires-so}
@@ -66,7 +66,7 @@ end-part {w} asked c x s e f is more well end =
 
 -- ---- the answer to an access
 
-pub end-answer_taken : {w : ℕ} (c source : ℕ) (x : BeatD w) (rest : List Token) (mail : Mail w) (s : State (List ℕ)) (e f : End w) → f ≡ with_past (beat.D x ∷ e.past) e → ends (beat.D x) e.past ≡ true
+pub end-answer_taken : {w : ℕ} (c source : ℕ) (x : BeatD w) (rest : List Packet) (mail : AccessMessages w) (s : State (List ℕ)) (e f : End w) → f ≡ with_past (beat.D x ∷ e.past) e → ends (beat.D x) e.past ≡ true
     → is_grant x.opcode ≡ false → is_release_ack x.opcode ≡ false → x.source ≡ source → IsWellKept f → IsEnd (asked_by mail s c) c s e
     → IsEnd (asked_by mail (answer_taken c source rest s) c) c (answer_taken c source rest s) f
 end-answer_taken {w} c source x rest mail s e f is last plain other from well end =
@@ -98,14 +98,14 @@ end-answer_taken {w} c source x rest mail s e f is last plain other from well en
     s' = answer_taken c source rest s
 
     asks_now : (i : ℕ) → (i ≡ source) ⊎ (i ≡ source → ⊥) → asked_by mail s' c i ≡ cond (x.source == i) None (asked_by mail s c i)
-    asks_now i (inl same) = asks-closed c i mail s' (ap (s'.uses c) same ∙ set_at-same c source Closed s.uses)
+    asks_now i (inl same) = asks-closed c i mail s' (ap (s'.uses c) same ∙ set_at-same c source SourceFree s.uses)
         ∙ sym (chosen (x.source == i) None (asked_by mail s c i) (rw (from, same) (same_number source)))
-    asks_now i (inr ne) = asks-same c i mail mail s s' refl (inl (set_at-else c source i Closed s.uses ne c)) (λ n used. refl) (λ n used. refl)
+    asks_now i (inr ne) = asks-same c i mail mail s s' refl (inl (set_at-else c source i SourceFree s.uses ne c)) (λ n used. refl) (λ n used. refl)
         ∙ sym (passed (x.source == i) None (asked_by mail s c i) (rw from (ne_eqb source i (λ g. ne (sym g)))))
 
 -- ---- a ReleaseAck
 
-pub end-release_ack_taken : {w : ℕ} (c n : ℕ) (x : BeatD w) (rest : List Token) (mail : Mail w) (s : State (List ℕ)) (e f : End w) → f ≡ with_past (beat.D x ∷ e.past) e → ends (beat.D x) e.past ≡ true
+pub end-release_ack_taken : {w : ℕ} (c n : ℕ) (x : BeatD w) (rest : List Packet) (mail : AccessMessages w) (s : State (List ℕ)) (e f : End w) → f ≡ with_past (beat.D x ∷ e.past) e → ends (beat.D x) e.past ≡ true
     → is_grant x.opcode ≡ false → is_release_ack x.opcode ≡ true → x.source ≡ (s.block n).release_source c → s.lets c x.source ≡ Some n → IsWellKept f → IsEnd (asked_by mail s c) c s e
     → IsEnd (asked_by mail (release_ack_taken c n rest s) c) c (release_ack_taken c n rest s) f
 end-release_ack_taken {w} c n x rest mail s e f is last plain acks from let_ well end =
@@ -116,14 +116,14 @@ end-release_ack_taken {w} c n x rest mail s e f is last plain acks from let_ wel
       releases_is = closes.1;
       source_is = closes.2;
       let_is = closes.3;
-      held = λ k. set-part (λ (b : Block (List ℕ)). (b.pair c).held) n new s.block (ap (λ (q : Pair). q.held) pair_is) k;
-      acquiring = λ k. set-part (λ (b : Block (List ℕ)). is_wanting (b.pair c).acquiring) n new s.block (ap (λ (q : Pair). is_wanting q.acquiring) pair_is) k;
-      letting = λ k. column (λ (b : Block (List ℕ)). not (is_kept (b.pair c).letting)) n new s.block k
-          ∙ ap (λ (z : Bool). cond (k == n) z (not (is_kept ((s.block k).pair c).letting))) (ap (λ (q : Pair). not (is_kept q.letting)) pair_is)
-          ∙ ap (λ (z : Bool). cond z false (not (is_kept ((s.block k).pair c).letting))) (swapped k n);
+      held = λ k. set-part (λ (b : Block (List ℕ)). (b.pair c).held) n new s.block (ap (λ (q : ClientBlock). q.held) pair_is) k;
+      acquiring = λ k. set-part (λ (b : Block (List ℕ)). is_wanting (b.pair c).acquiring) n new s.block (ap (λ (q : ClientBlock). is_wanting q.acquiring) pair_is) k;
+      letting = λ k. column (λ (b : Block (List ℕ)). not (is_unreleased (b.pair c).letting)) n new s.block k
+          ∙ ap (λ (z : Bool). cond (k == n) z (not (is_unreleased ((s.block k).pair c).letting))) (ap (λ (q : ClientBlock). not (is_unreleased q.letting)) pair_is)
+          ∙ ap (λ (z : Bool). cond z false (not (is_unreleased ((s.block k).pair c).letting))) (swapped k n);
       lets = λ i. lets_now i (cases_eq i ((s.block n).release_source c));
       asks = λ i. asks-same c i mail mail s s' refl (inl refl)
-          (λ j used. set-part (λ (b : Block (List ℕ)). (b.pair c).acquiring) n new s.block (ap (λ (q : Pair). q.acquiring) pair_is) j)
+          (λ j used. set-part (λ (b : Block (List ℕ)). (b.pair c).acquiring) n new s.block (ap (λ (q : ClientBlock). q.acquiring) pair_is) j)
           (λ j used. set-part (λ (b : Block (List ℕ)). b.source c) n new s.block refl j);
     } in
     let echo : IsEcho x e.past f.past = subst (IsEcho x e.past) (sym (ap (λ (g : End w). g.past) is)) (echo-none x e.past) in
@@ -133,10 +133,10 @@ end-release_ack_taken {w} c n x rest mail s e f is last plain acks from let_ wel
       kept = well.kept;
       accounted = well.accounted;
       copies = λ k some. ap (λ (g : End w). g.copies k) is
-          ∙ end.copies k (sym (ap (λ (q : Perm). same_perm q perm.None) (set-part (λ (b : Block (List ℕ)). (b.pair c).held) n new s.block (ap (λ (q : Pair). q.held) pair_is) k)) ∙ some)
+          ∙ end.copies k (sym (ap (λ (q : Perm). same_perm q perm.None) (set-part (λ (b : Block (List ℕ)). (b.pair c).held) n new s.block (ap (λ (q : ClientBlock). q.held) pair_is) k)) ∙ some)
           ∙ ap Some (sym (set-part (λ (b : Block (List ℕ)). b.copy c) n new s.block refl k));
       waiting = λ k storing. ap (λ (g : End w). g.waiting k) is
-          ∙ end.waiting k (sym (set-part (λ (b : Block (List ℕ)). is_storing (b.pair c).acquiring) n new s.block (ap (λ (q : Pair). is_storing q.acquiring) pair_is) k) ∙ storing)
+          ∙ end.waiting k (sym (set-part (λ (b : Block (List ℕ)). is_storing (b.pair c).acquiring) n new s.block (ap (λ (q : ClientBlock). is_storing q.acquiring) pair_is) k) ∙ storing)
           ∙ ap Some (sym (set-part (λ (b : Block (List ℕ)). b.waiting c) n new s.block refl k));
       live = ap (λ (g : End w). g.closed) is ∙ end.live;
     }
@@ -163,7 +163,7 @@ pub record IsGrantOf {w : ℕ} (c n : ℕ) (whole data_too : Bool) (g : Grow) (k
   pub opcode : x.opcode ≡ grant_opcode data_too
   pub from : x.source ≡ (s.block n).source c
   pub param : x.param ≡ cap_code k
-  pub wants : ((s.block n).pair c).acquiring ≡ Wants whole g
+  pub wants : ((s.block n).pair c).acquiring ≡ AcquireOpen whole g
   pub used : s.uses c ((s.block n).source c) ≡ Acquires n
   pub bare : (whole && data_too) ≡ false
   pub has_copy : whole ≡ false → data_too ≡ false → same_perm ((s.block n).pair c).held perm.None ≡ false
@@ -200,7 +200,7 @@ grant_end {w} data_too x r payload e f opcode is =
       new_waiting = λ k. ap (λ (h : End w). h.waiting k) sends ∙ does.new_waiting k ∙ ap (λ (o : OpD). waiting_granted o (Some r) k (e.waiting k)) opcode;
     }
 
-pub end-grant_taken : {w : ℕ} (c n : ℕ) (whole data_too : Bool) (g : Grow) (k : Cap) (x : BeatD w) (payload : List ℕ) (rest : List Token) (mail : Mail w)
+pub end-grant_taken : {w : ℕ} (c n : ℕ) (whole data_too : Bool) (g : Grow) (k : Cap) (x : BeatD w) (payload : List ℕ) (rest : List Packet) (mail : AccessMessages w)
     (s : State (List ℕ)) (e f : End w) → IsWidth w → AreNamed s
     → IsGrantOf c n whole data_too g k x payload s → f ≡ (responded x (request_of x.source e.past) payload e).after → ends (beat.D x) e.past ≡ true → IsWellKept f → IsEnd (asked_by mail s c) c s e
     → IsEnd (asked_by mail (grant_taken c n whole data_too k rest s) c) c (grant_taken c n whole data_too k rest s) f
@@ -217,12 +217,12 @@ end-grant_taken {w} c n whole data_too g k x payload rest mail s e f width named
       releases_is = closes.1;
       source_is = closes.2;
       let_is = closes.3;
-      held = λ i. column (λ (b : Block (List ℕ)). (b.pair c).held) n new s.block i ∙ ap (λ (q : Perm). cond (i == n) q ((s.block i).pair c).held) (ap (λ (q : Pair). q.held) pair_is)
+      held = λ i. column (λ (b : Block (List ℕ)). (b.pair c).held) n new s.block i ∙ ap (λ (q : Perm). cond (i == n) q ((s.block i).pair c).held) (ap (λ (q : ClientBlock). q.held) pair_is)
           ∙ ap (λ (z : Bool). cond z (cap_right k) ((s.block i).pair c).held) (swapped i n);
       acquiring = λ i. column (λ (b : Block (List ℕ)). is_wanting (b.pair c).acquiring) n new s.block i
-          ∙ ap (λ (z : Bool). cond (i == n) z (is_wanting ((s.block i).pair c).acquiring)) (ap (λ (q : Pair). is_wanting q.acquiring) pair_is)
+          ∙ ap (λ (z : Bool). cond (i == n) z (is_wanting ((s.block i).pair c).acquiring)) (ap (λ (q : ClientBlock). is_wanting q.acquiring) pair_is)
           ∙ ap (λ (z : Bool). cond z false (is_wanting ((s.block i).pair c).acquiring)) (swapped i n);
-      letting = λ i. ap not (set-part (λ (b : Block (List ℕ)). is_kept (b.pair c).letting) n new s.block (ap (λ (q : Pair). is_kept q.letting) pair_is) i);
+      letting = λ i. ap not (set-part (λ (b : Block (List ℕ)). is_unreleased (b.pair c).letting) n new s.block (ap (λ (q : ClientBlock). is_unreleased q.letting) pair_is) i);
       lets = λ i. refl;
       asks = λ i. asks_now i (cases_eq i source);
     } in
@@ -260,9 +260,9 @@ end-grant_taken {w} c n whole data_too g k x payload rest mail s e f width named
         ne (eqb-true i source (and_right (is_wanting ((s.block n).pair c).acquiring) (i == source) both))
 
     asks_now : (i : ℕ) → (i ≡ source) ⊎ (i ≡ source → ⊥) → asked_by mail s' c i ≡ cond (x.source == i) None (asked_by mail s c i)
-    asks_now i (inl same) = asks-closed c i mail s' (ap (s'.uses c) same ∙ set_at-same c source Closed s.uses)
+    asks_now i (inl same) = asks-closed c i mail s' (ap (s'.uses c) same ∙ set_at-same c source SourceFree s.uses)
         ∙ sym (chosen (x.source == i) None (asked_by mail s c i) (rw (is.from, same) (same_number source)))
-    asks_now i (inr ne) = asks-same c i mail mail s s' refl (inl (set_at-else c source i Closed s.uses ne c))
+    asks_now i (inr ne) = asks-same c i mail mail s s' refl (inl (set_at-else c source i SourceFree s.uses ne c))
         (λ j used. ap (λ (b : Block (List ℕ)). (b.pair c).acquiring) (set-other n j new s.block (apart i j ne used)))
         (λ j used. ap (λ (b : Block (List ℕ)). b.source c) (set-other n j new s.block (apart i j ne used)))
         ∙ sym (passed (x.source == i) None (asked_by mail s c i) (rw is.from (ne_eqb source i (λ h. ne (sym h)))))
@@ -311,7 +311,7 @@ end-grant_taken {w} c n whole data_too g k x payload rest mail s e f width named
     waiting_now : (i : ℕ) → (i ≡ n) ⊎ (i ≡ n → ⊥) → is_storing ((s'.block i).pair c).acquiring ≡ true → waiting_granted (grant_opcode data_too) (Some r) i (e.waiting i) ≡ Some ((s'.block i).waiting c)
     waiting_now i (inl same) storing = absurd (let no : false ≡ true =
         sym (ap (λ (b : Block (List ℕ)). is_storing (b.pair c).acquiring) (block_now i same)
-        ∙ ap (λ (q : Pair). is_storing q.acquiring) pair_is) ∙ storing in cc)
+        ∙ ap (λ (q : ClientBlock). is_storing q.acquiring) pair_is) ∙ storing in cc)
     waiting_now i (inr ne) storing =
         let old : s'.block i ≡ s.block i = set-other n i new s.block ne in
         waiting_else i data_too ne ∙ end.waiting i (sym (ap (λ (b : Block (List ℕ)). is_storing (b.pair c).acquiring) old) ∙ storing) ∙ ap Some (sym (ap (λ (b : Block (List ℕ)). b.waiting c) old))

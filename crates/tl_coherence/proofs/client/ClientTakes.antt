@@ -39,16 +39,16 @@ use Rattle.tl_client.proofs.HeldAfter.{same_block}
 use Rattle.tl_manager.specs.statement.Handing.{grant_opcode, release_ack}
 use Rattle.tl_manager.specs.code.Kept as manager
 use Rattle.tl_manager.specs.statement.Offer.{level_of}
-use Rattle.tl_coherence.specs.refinement.Follow.{acquire_opcode}
+use Rattle.tl_coherence.specs.refinement.AbstractStep.{acquire_opcode}
 use Rattle.tl_coherence.specs.statement.Log.{Log}
-use Rattle.tl_coherence.specs.protocol.Phase.{Wants, cap_fits, grant_fits}
+use Rattle.tl_coherence.specs.protocol.Phase.{AcquireOpen, cap_fits, grant_fits}
 use Rattle.tl_coherence.specs.protocol.Protocol.{State}
-use Rattle.tl_coherence.specs.refinement.Render.{Mail}
+use Rattle.tl_coherence.specs.refinement.PacketMessages.{AccessMessages}
 use Rattle.tl_coherence.specs.statement.System.{System, terms_at}
-use Rattle.tl_coherence.specs.refinement.Whole.{IsMatched, gives_asked, asked_by}
+use Rattle.tl_coherence.specs.refinement.SimulationRelation.{SimulationRelation, gives_asked, asked_by}
 use Rattle.tl_coherence.proofs.queues.Carried.{IsNext}
 use Rattle.tl_coherence.proofs.client.ClientEnd.{is_access, IsEnd, asks-access, asks-acquire}
-use Rattle.tl_coherence.proofs.protocol.Due.{IsAnswerDue, IsGrantDue, grant_message, ack_message}
+use Rattle.tl_coherence.proofs.protocol.HeadOfD.{IsAnswerDue, IsGrantDue, grant_message, ack_message}
 use Rattle.tl_coherence.proofs.queues.Passes.{client-takes}
 use Rattle.tl_coherence.proofs.queues.Phases.{and_left, and_right}
 use Rattle.tl_coherence.proofs.client.ResponseOrder.{answer-legal, grant-legal, ack-legal}
@@ -95,8 +95,8 @@ first_of_all : {X : Type 0} (P : X → Type 0) (xs rest : List X) (x : X) → xs
 first_of_all P xs rest x e h = let all : All P (x ∷ rest) = subst (All P) e h in all 0 x (omega arith)
 
 -- what each beat of a channel is
-pub sound-beat : {w : ℕ} (config : Config) (log : Log w) (mail : Mail w) (request : ℕ → MessageA w) (s : State (List ℕ)) (sys : System w) (c : ℕ) (ch : Channel)
-    (x : Beat w) (queue : List (Beat w)) → IsMatched config log mail request s sys
+pub sound-beat : {w : ℕ} (config : Config) (log : Log w) (mail : AccessMessages w) (request : ℕ → MessageA w) (s : State (List ℕ)) (sys : System w) (c : ℕ) (ch : Channel)
+    (x : Beat w) (queue : List (Beat w)) → SimulationRelation config log mail request s sys
     → sys.channels c ch ≡ x ∷ queue → manager.IsSound config (record { 0 = c }, x)
 sound-beat config log mail request s sys c ch x queue h beats = first_of_all (λ y. manager.IsSound config (record { 0 = c }, y)) (sys.channels c ch) queue x beats (h.sound c ch)
 
@@ -107,9 +107,9 @@ pub next-legal : {w : ℕ} (p : Profile) (m : MessageD w) (k : ℕ) (t : History
 next-legal p m zero t rest first = first rest
 next-legal p m (suc i) t rest first = later-legal p (message.D m) i t rest
 
-pub taken-d : {w : ℕ} (config : Config) (log : Log w) (mail : Mail w) (request : ℕ → MessageA w) (s : State (List ℕ)) (sys : System w) (terms : Terms) (c : ℕ)
+pub taken-d : {w : ℕ} (config : Config) (log : Log w) (mail : AccessMessages w) (request : ℕ → MessageA w) (s : State (List ℕ)) (sys : System w) (terms : Terms) (c : ℕ)
     (m : MessageD w) (ms : List (Message w)) (x : Beat w) (queue : List (Beat w))
-    → IsMatched config log mail request s sys → terms_at config c ≡ Some terms → sys.channels c channel.D ≡ x ∷ queue → IsNext x (unfinished channel.D (sys.clients c).past) (message.D m) ms queue
+    → SimulationRelation config log mail request s sys → terms_at config c ≡ Some terms → sys.channels c channel.D ≡ x ∷ queue → IsNext x (unfinished channel.D (sys.clients c).past) (message.D m) ms queue
     → (unfinished channel.D (sys.clients c).past ≡ [] → broken_in_order config.profile (beat_of (message.D m) 0) (sys.clients c).past ≡ None)
     → offered terms channel.D x (sys.clients c) ≡ taken x (sys.clients c)
 taken-d {w} config log mail request s sys terms c m ms x queue h at beats next first =
@@ -141,7 +141,7 @@ live_request {w} source r t e = go (pending (RequestSource source) t) refl e
     go true f g = (refl, g)
     go false f g = absurd cc
 
-pub answer-first : {w : ℕ} (p : Profile) (c source : ℕ) (mail : Mail w) (s : State (List ℕ)) (e : End w) → IsEnd (asked_by mail s c) c s e
+pub answer-first : {w : ℕ} (p : Profile) (c source : ℕ) (mail : AccessMessages w) (s : State (List ℕ)) (e : End w) → IsEnd (asked_by mail s c) c s e
     → (due : IsAnswerDue c source mail s) → unfinished channel.D e.past ≡ []
     → broken_in_order p (beat_of (message.D due.answer) 0) e.past ≡ None
 answer-first {w} p c source mail s e end due whole =
@@ -166,7 +166,7 @@ answers_acquire true false e = refl
 answers_acquire false true e = refl
 answers_acquire false false e = refl
 
-pub fits_asked : (p : Profile) (whole : Bool) (g : Grow) (k : Cap) → cap_fits whole g k ≡ true → gives_asked p (Wants whole g) k ≡ true
+pub fits_asked : (p : Profile) (whole : Bool) (g : Grow) (k : Cap) → cap_fits whole g k ≡ true → gives_asked p (AcquireOpen whole g) k ≡ true
     → fits_grow p (acquire_opcode whole) (grow_code g) (cap_code k) ≡ true
 fits_asked profile.One false grow.NtoB cap.ToB e f = refl
 fits_asked profile.Two false grow.NtoB cap.ToB e f = refl
@@ -199,7 +199,7 @@ pub record IsFitting (held : Perm) (data_too : Bool) (k : Cap) (whole : Bool) (g
   pub bare : (whole && data_too) ≡ false
   pub carried : (whole || (data_too || same_perm held perm.Branch)) ≡ true
 
-pub fitting : (recorded held : Perm) (data_too : Bool) (k : Cap) (whole : Bool) (g : Grow) → grant_fits recorded held data_too k (Wants whole g) ≡ true → IsFitting held data_too k whole g
+pub fitting : (recorded held : Perm) (data_too : Bool) (k : Cap) (whole : Bool) (g : Grow) → grant_fits recorded held data_too k (AcquireOpen whole g) ≡ true → IsFitting held data_too k whole g
 fitting recorded held data_too k whole g fits =
     let more = and_right _ _ fits in
     let rest = and_right _ _ more in
@@ -214,8 +214,8 @@ has_data false false perm.Branch e = refl
 has_data false false perm.None e = absurd cc
 has_data false false perm.Trunk e = absurd cc
 
-pub grant-first : {w : ℕ} (p : Profile) (c n : ℕ) (mail : Mail w) (s : State (List ℕ)) (e : End w) → IsEnd (asked_by mail s c) c s e → (due : IsGrantDue c n s)
-    → gives_asked p (Wants due.whole due.g) due.k ≡ true
+pub grant-first : {w : ℕ} (p : Profile) (c n : ℕ) (mail : AccessMessages w) (s : State (List ℕ)) (e : End w) → IsEnd (asked_by mail s c) c s e → (due : IsGrantDue c n s)
+    → gives_asked p (AcquireOpen due.whole due.g) due.k ≡ true
     → unfinished channel.D e.past ≡ []
     → broken_in_order p (beat_of (message.D (grant_message due.data_too due.k ((s.block n).source c) (s.block n).tracker (s.block n).truth)) 0) e.past ≡ None
 grant-first {w} p c n mail s e end due given whole =
@@ -239,7 +239,7 @@ grant-first {w} p c n mail s e end due given whole =
 
 -- ---- a ReleaseAck
 
-pub ack-first : {w : ℕ} (p : Profile) (c n : ℕ) (mail : Mail w) (s : State (List ℕ)) (e : End w) → IsEnd (asked_by mail s c) c s e
+pub ack-first : {w : ℕ} (p : Profile) (c n : ℕ) (mail : AccessMessages w) (s : State (List ℕ)) (e : End w) → IsEnd (asked_by mail s c) c s e
     → s.lets c ((s.block n).release_source c) ≡ Some n → unfinished channel.D e.past ≡ []
     → broken_in_order p (beat_of (release_ack ((s.block n).release_source c)) 0) e.past ≡ None
 ack-first {w} p c n mail s e end let_ whole =

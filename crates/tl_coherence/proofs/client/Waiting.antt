@@ -18,17 +18,17 @@ use Rattle.tl_client.specs.declared.reply.Reply.TheVariants as reply
 use Rattle.tl_client.specs.statement.Ask.{copy_stored, whole_grow}
 use Rattle.tl_client.specs.statement.Send.{acquisition}
 use Rattle.tl_manager.specs.statement.Holders.{cap_probed}
-use Rattle.tl_coherence.specs.refinement.Follow.{Shadow, access_taken, acquire_opcode, acquire_taken, ack_taken, asked, gift, granted_after, is_unheld, is_whole, kind_taken}
-use Rattle.tl_coherence.specs.refinement.Follow.{last_taken, performs, probes_some, request_taken, some_below, taken_by_client, with_state}
+use Rattle.tl_coherence.specs.refinement.AbstractStep.{AbstractState, access_taken, acquire_opcode, acquire_taken, ack_taken, asked, gift, granted_after, is_unheld, is_whole, kind_taken}
+use Rattle.tl_coherence.specs.refinement.AbstractStep.{last_taken, performs, probes_some, request_taken, some_below, taken_by_client, with_state}
 use Rattle.tl_coherence.specs.protocol.Invariant.{IsInvariant, cap_asked}
-use Rattle.tl_coherence.specs.protocol.Phase.{Pair, Acquiring, Calm, Wants, is_calm, is_quiet}
+use Rattle.tl_coherence.specs.protocol.Phase.{ClientBlock, AcquirePhase, NoAcquire, AcquireOpen, is_unacquired, is_unprobed}
 use Rattle.tl_coherence.specs.protocol.PhaseSteps.{after_acquire, after_probe, after_release, after_release_ack, after_release_taken, after_report, after_served, is_granted_data}
 use Rattle.tl_coherence.specs.protocol.Protocol.{Service, Free, Waits, GrantSent, GrantTaken, Block, acquiring_block, freed_block, granted_at_once, granted_block}
 use Rattle.tl_coherence.specs.protocol.Protocol.{ended_block, acquire_granted, acquire_served, is_probed, let_block, report_taken, let_go_block, performed_block}
 use Rattle.tl_coherence.specs.protocol.Protocol.{probed_block, releasing_block, reported_block, served_block, stored_block, taken_block, view}
-use Rattle.tl_coherence.specs.refinement.Render.{acquire_of, cap_sent, prune_told, rendered, report_told}
-use Rattle.tl_coherence.specs.protocol.Token.{Kind, Request, Acquire, Probe, ProbeAck, Release, Answer, Grant, ReleaseAck, GrantAck, Token, set}
-use Rattle.tl_coherence.specs.refinement.Whole.{IsAcquireOf}
+use Rattle.tl_coherence.specs.refinement.PacketMessages.{acquire_of, cap_sent, prune_told, block_message, report_told}
+use Rattle.tl_coherence.specs.protocol.Packet.{Kind, Request, Acquire, Probe, ProbeAck, Release, Answer, Grant, ReleaseAck, GrantAck, Packet, set}
+use Rattle.tl_coherence.specs.refinement.SimulationRelation.{IsAcquireOf}
 use Rattle.tl_coherence.proofs.queues.Facts.{own_wants}
 use Rattle.tl_coherence.proofs.protocol.FollowKept.{IsAskable}
 use Rattle.tl_coherence.proofs.queues.Tokens.{same_number, set-same, set-other, set-part}
@@ -44,7 +44,7 @@ abbrev KeepsOpen : Block (List ℕ) → Block (List ℕ) → Type 0
 KeepsOpen b new = (r source : ℕ) (k : Cap) → b.service ≡ Waits r true source k → ((new.pair r).acquiring ≡ (b.pair r).acquiring) × (new.source r ≡ b.source r)
 
 still : {w : ℕ} (n : ℕ) (b new : Block (List ℕ)) (m : MessageA w) → new.service ≡ b.service → KeepsOpen b new → IsAcquireOf n b b.service m → IsAcquireOf n new new.service m
-unfolding rendered
+unfolding block_message
 still {w} n b new m same keeps is = subst (λ (v : Service). IsAcquireOf n new v m) (sym same) (go b.service refl is)
   where
     go : (v : Service) → b.service ≡ v → IsAcquireOf n b v m → IsAcquireOf n new v m
@@ -75,25 +75,25 @@ unmoved : {w : ℕ} (n : ℕ) (new : Block (List ℕ)) (block : ℕ → Block (L
 unmoved n new block request same keeps is = kept n new block request (still n (block n) new (request n) same keeps (is n)) is
 
 -- one client's pair changes, and not what it wants
-unwanting : (c : ℕ) (p : Pair) (b new : Block (List ℕ)) → ((d : ℕ) → new.pair d ≡ set c p b.pair d) → p.acquiring ≡ (b.pair c).acquiring → ((d : ℕ) → new.source d ≡ b.source d) → KeepsOpen b new
-unwanting c p b new pairs same sources r source k e = (ap (λ (q : Pair). q.acquiring) (pairs r) ∙ set-part (λ (q : Pair). q.acquiring) c p b.pair same r, sources r)
+unwanting : (c : ℕ) (p : ClientBlock) (b new : Block (List ℕ)) → ((d : ℕ) → new.pair d ≡ set c p b.pair d) → p.acquiring ≡ (b.pair c).acquiring → ((d : ℕ) → new.source d ≡ b.source d) → KeepsOpen b new
+unwanting c p b new pairs same sources r source k e = (ap (λ (q : ClientBlock). q.acquiring) (pairs r) ∙ set-part (λ (q : ClientBlock). q.acquiring) c p b.pair same r, sources r)
 
 -- ---- requests
 
-waiting_for : {w : ℕ} (c n tracker : ℕ) (k : Cap) (whole : Bool) (g : Grow) (b : Block (List ℕ)) → (b.pair c).acquiring ≡ Wants whole g
-    → rendered {w = w} Acquire c n (served_block c true (b.source c) tracker k b) ≡ message.A (acquisition (acquire_opcode whole) g (b.source c) n)
-unfolding rendered
+waiting_for : {w : ℕ} (c n tracker : ℕ) (k : Cap) (whole : Bool) (g : Grow) (b : Block (List ℕ)) → (b.pair c).acquiring ≡ AcquireOpen whole g
+    → block_message {w = w} Acquire c n (served_block c true (b.source c) tracker k b) ≡ message.A (acquisition (acquire_opcode whole) g (b.source c) n)
+unfolding block_message
 waiting_for {w} c n tracker k whole g b wants = rw (spared (c == c), wants) (go whole)
   where
     spared : (x : Bool) → (if true && x then b.pair c else after_served k (b.pair c)).acquiring ≡ (b.pair c).acquiring
     spared true = refl
     spared false = refl
 
-    go : (x : Bool) → acquire_of {w = w} (Wants x g) (b.source c) n ≡ message.A (acquisition (acquire_opcode x) g (b.source c) n)
+    go : (x : Bool) → acquire_of {w = w} (AcquireOpen x g) (b.source c) n ≡ message.A (acquisition (acquire_opcode x) g (b.source c) n)
     go true = refl
     go false = refl
 
-access_taken-acquired : {w : ℕ} (c source tracker : ℕ) (m : MessageA w) (p : Bool) (o : Option Cap) (rest : List Token) (h : Shadow w) → AreAcquired h.request h.state.block
+access_taken-acquired : {w : ℕ} (c source tracker : ℕ) (m : MessageA w) (p : Bool) (o : Option Cap) (rest : List Packet) (h : AbstractState w) → AreAcquired h.request h.state.block
     → AreAcquired (access_taken c source m tracker p o rest h).request (access_taken c source m tracker p o rest h).state.block
 access_taken-acquired c source tracker m true (Some k) rest h is =
     replaced (block_at m.address) (served_block c false source tracker k (h.state.block (block_at m.address))) h.state.block m h.request tt is
@@ -104,7 +104,7 @@ access_taken-acquired c source tracker m false o rest h is =
     unmoved (block_at m.address) (performed_block (performs m) (h.state.block (block_at m.address))) h.state.block h.request refl
     (λ r from k e. (refl, refl)) is
 
-request_taken-acquired : {w : ℕ} (clients c source tracker : ℕ) (v : Message w) (rest : List Token) (h : Shadow w) → AreAcquired h.request h.state.block
+request_taken-acquired : {w : ℕ} (clients c source tracker : ℕ) (v : Message w) (rest : List Packet) (h : AbstractState w) → AreAcquired h.request h.state.block
     → AreAcquired (request_taken clients c source v tracker rest h).request (request_taken clients c source v tracker rest h).state.block
 request_taken-acquired clients c source tracker (message.A m) rest h is =
     access_taken-acquired c source tracker m (probes_some clients c false (cap_probed m.opcode m.param) (h.state.block (block_at m.address)).pair) (cap_probed m.opcode m.param) rest h is
@@ -113,11 +113,11 @@ request_taken-acquired clients c source tracker (message.C m) rest h is = is
 request_taken-acquired clients c source tracker (message.D m) rest h is = is
 request_taken-acquired clients c source tracker (message.E m) rest h is = is
 
-acquire_taken-acquired : {w : ℕ} (clients : ℕ) (p : Profile) (c n tracker : ℕ) (x : Acquiring) (rest : List Token) (h : Shadow w)
+acquire_taken-acquired : {w : ℕ} (clients : ℕ) (p : Profile) (c n tracker : ℕ) (x : AcquirePhase) (rest : List Packet) (h : AbstractState w)
     → ((h.state.block n).pair c).acquiring ≡ x → AreAcquired h.request h.state.block
     → AreAcquired (acquire_taken clients p c n x tracker rest h).request (acquire_taken clients p c n x tracker rest h).state.block
-acquire_taken-acquired clients p c n tracker Calm rest h wants is = is
-acquire_taken-acquired {w} clients p c n tracker (Wants whole g) rest h wants is = go (some_below clients (λ d. is_probed c true (cap_asked (Wants whole g)) (b.pair d).recorded d))
+acquire_taken-acquired clients p c n tracker NoAcquire rest h wants is = is
+acquire_taken-acquired {w} clients p c n tracker (AcquireOpen whole g) rest h wants is = go (some_below clients (λ d. is_probed c true (cap_asked (AcquireOpen whole g)) (b.pair d).recorded d))
   where
     b : Block (List ℕ)
     b = h.state.block n
@@ -130,21 +130,21 @@ acquire_taken-acquired {w} clients p c n tracker (Wants whole g) rest h wants is
 
     go : (x : Bool)
         → AreAcquired (set n m h.request) (if x then acquire_served c n (b.source c) tracker
-        (cap_asked (Wants whole g)) rest h.state else acquire_granted c n tracker (is_granted_data whole g (b.pair c).recorded) given rest h.state).block
-    go true = replaced n (served_block c true (b.source c) tracker (cap_asked (Wants whole g)) b) h.state.block m h.request (waiting_for c n tracker (cap_asked (Wants whole g)) whole g b wants) is
+        (cap_asked (AcquireOpen whole g)) rest h.state else acquire_granted c n tracker (is_granted_data whole g (b.pair c).recorded) given rest h.state).block
+    go true = replaced n (served_block c true (b.source c) tracker (cap_asked (AcquireOpen whole g)) b) h.state.block m h.request (waiting_for c n tracker (cap_asked (AcquireOpen whole g)) whole g b wants) is
     go false = replaced n (granted_at_once c tracker (is_granted_data whole g (b.pair c).recorded) given b) h.state.block m h.request tt is
 
 -- ---- ProbeAcks
 
-granted_after-acquired : {w : ℕ} (clients : ℕ) (p : Profile) (c q n : ℕ) (r : Report) (x : Acquiring) (rest : List Token) (h : Shadow w) → AreAcquired h.request h.state.block
+granted_after-acquired : {w : ℕ} (clients : ℕ) (p : Profile) (c q n : ℕ) (r : Report) (x : AcquirePhase) (rest : List Packet) (h : AbstractState w) → AreAcquired h.request h.state.block
     → AreAcquired (granted_after clients p c q n r x rest h).request (granted_after clients p c q n r x rest h).state.block
-granted_after-acquired clients p c q n r Calm rest h is = is
-granted_after-acquired clients p c q n r (Wants whole g) rest h is =
+granted_after-acquired clients p c q n r NoAcquire rest h is = is
+granted_after-acquired clients p c q n r (AcquireOpen whole g) rest h is =
     kept n (granted_block c q r (is_granted_data whole g ((h.state.block n).pair q).recorded)
     (gift p whole g (is_unheld clients (set c (after_report r ((h.state.block n).pair c)) (h.state.block n).pair))) (h.state.block n)) h.state.block
     h.request tt is
 
-last_taken-acquired : {w : ℕ} (clients : ℕ) (p : Profile) (c n : ℕ) (r : Report) (v : Service) (rest : List Token) (h : Shadow w) → AreAcquired h.request h.state.block
+last_taken-acquired : {w : ℕ} (clients : ℕ) (p : Profile) (c n : ℕ) (r : Report) (v : Service) (rest : List Packet) (h : AbstractState w) → AreAcquired h.request h.state.block
     → AreAcquired (last_taken clients p c n r v rest h).request (last_taken clients p c n r v rest h).state.block
 last_taken-acquired clients p c n r Free rest h is = is
 last_taken-acquired clients p c n r (Waits q true source k) rest h is = granted_after-acquired clients p c q n r ((h.state.block n).pair q).acquiring rest h is
@@ -152,9 +152,9 @@ last_taken-acquired clients p c n r (Waits q false source k) rest h is = kept n 
 last_taken-acquired clients p c n r (GrantSent q d k) rest h is = is
 last_taken-acquired clients p c n r (GrantTaken q) rest h is = is
 
-ack_taken-acquired : {w : ℕ} (clients : ℕ) (p : Profile) (c n : ℕ) (r : Report) (rest : List Token) (h : Shadow w) → AreAcquired h.request h.state.block
+ack_taken-acquired : {w : ℕ} (clients : ℕ) (p : Profile) (c n : ℕ) (r : Report) (rest : List Packet) (h : AbstractState w) → AreAcquired h.request h.state.block
     → AreAcquired (ack_taken clients p c n r rest h).request (ack_taken clients p c n r rest h).state.block
-ack_taken-acquired {w} clients p c n r rest h is = go (some_below clients (λ d. not (d == c) && not (is_quiet ((h.state.block n).pair d).probing)))
+ack_taken-acquired {w} clients p c n r rest h is = go (some_below clients (λ d. not (d == c) && not (is_unprobed ((h.state.block n).pair d).probing)))
   where
     go : (x : Bool)
         → AreAcquired (if x then with_state (report_taken c n r rest h.state) h else last_taken clients p c n r (h.state.block n).service rest h).request
@@ -165,7 +165,7 @@ ack_taken-acquired {w} clients p c n r rest h is = go (some_below clients (λ d.
 
 -- ---- Grants
 
-taken_by_client-acquired : {w : ℕ} (c n : ℕ) (v : Service) (rest : List Token) (h : Shadow w) → AreAcquired h.request h.state.block
+taken_by_client-acquired : {w : ℕ} (c n : ℕ) (v : Service) (rest : List Packet) (h : AbstractState w) → AreAcquired h.request h.state.block
     → AreAcquired (taken_by_client c n v rest h).request (taken_by_client c n v rest h).state.block
 taken_by_client-acquired c n Free rest h is = is
 taken_by_client-acquired c n (Waits q own source k) rest h is = is
@@ -174,7 +174,7 @@ taken_by_client-acquired c n (GrantTaken q) rest h is = is
 
 -- ---- all messages that are taken
 
-pub kind_taken-acquired : {w : ℕ} (config : Config) (tracker c : ℕ) (k : Kind) (i : ℕ) (rest : List Token) (h : Shadow w) → AreAcquired h.request h.state.block
+pub kind_taken-acquired : {w : ℕ} (config : Config) (tracker c : ℕ) (k : Kind) (i : ℕ) (rest : List Packet) (h : AbstractState w) → AreAcquired h.request h.state.block
     → AreAcquired (kind_taken config tracker c k i rest h).request (kind_taken config tracker c k i rest h).state.block
 kind_taken-acquired config tracker c Request source rest h is = request_taken-acquired (length config.clients.items) c source tracker (h.mail.request c source) rest h is
 kind_taken-acquired config tracker c Acquire n rest h is = acquire_taken-acquired (length config.clients.items) config.profile c n tracker ((h.state.block n).pair c).acquiring rest h refl is
@@ -197,8 +197,8 @@ kind_taken-acquired config tracker c GrantAck n rest h is = kept n (freed_block 
 -- ---- operations that are asked
 
 -- a client that has none open asks for another Acquire
-acquiring-acquired : {w : ℕ} (caching : ℕ → Bool) (c n source : ℕ) (whole : Bool) (g : Grow) (bytes : List ℕ) (h : Shadow w) → IsInvariant caching h.state
-    → ((h.state.block n).pair c).acquiring ≡ Calm → AreAcquired h.request h.state.block
+acquiring-acquired : {w : ℕ} (caching : ℕ → Bool) (c n source : ℕ) (whole : Bool) (g : Grow) (bytes : List ℕ) (h : AbstractState w) → IsInvariant caching h.state
+    → ((h.state.block n).pair c).acquiring ≡ NoAcquire → AreAcquired h.request h.state.block
     → AreAcquired h.request (set n (acquiring_block c source whole g bytes (h.state.block n)) h.state.block)
 acquiring-acquired {w} caching c n source whole g bytes h inv calm is = unmoved n (acquiring_block c source whole g bytes b) h.state.block h.request refl keeps is
   where
@@ -208,14 +208,14 @@ acquiring-acquired {w} caching c n source whole g bytes h inv calm is = unmoved 
     apart : (r from : ℕ) (k : Cap) → b.service ≡ Waits r true from k → r ≡ c → ⊥
     apart r from k e same =
         let wants = own_wants (b.pair r) (view b.service r) ((inv.blocks n).phases r) (rw (e, same_number r) refl) in
-        let here : not (is_calm (b.pair c).acquiring) ≡ true = rw same at wants in
+        let here : not (is_unacquired (b.pair c).acquiring) ≡ true = rw same at wants in
         let no : false ≡ true = rw calm at here in
         cc
 
     keeps : KeepsOpen b (acquiring_block c source whole g bytes b)
-    keeps r from k e = (ap (λ (p : Pair). p.acquiring) (set-other c r (after_acquire whole g (b.pair c)) b.pair (apart r from k e)), set-other c r source b.source (apart r from k e))
+    keeps r from k e = (ap (λ (p : ClientBlock). p.acquiring) (set-other c r (after_acquire whole g (b.pair c)) b.pair (apart r from k e)), set-other c r source b.source (apart r from k e))
 
-pub asked-acquired : {w : ℕ} (caching : ℕ → Bool) (c : ℕ) (o : Op w) (r : Reply) (h : Shadow w) → IsInvariant caching h.state → IsAskable caching c o r h
+pub asked-acquired : {w : ℕ} (caching : ℕ → Bool) (c : ℕ) (o : Op w) (r : Reply) (h : AbstractState w) → IsInvariant caching h.state → IsAskable caching c o r h
     → AreAcquired h.request h.state.block → AreAcquired (asked c o r h).request (asked c o r h).state.block
 asked-acquired caching c (op.Store address size value) reply.Stored h inv may is =
     unmoved (block_at address) (stored_block c (copy_stored address size value ((h.state.block (block_at address)).copy c)) (h.state.block (block_at address)))

@@ -24,22 +24,22 @@ use Rattle.tl_client.specs.statement.Send.{access, sourced, acquisition, release
 use Rattle.tl_client.proofs.Outstanding.{unfinished-asked}
 use Rattle.tl_coherence.specs.declared.event.Event.TheVariants.{Ask}
 use Rattle.tl_coherence.specs.declared.event.Outcome.TheVariants as outcome
-use Rattle.tl_coherence.specs.refinement.Beside.{IsBeside}
-use Rattle.tl_coherence.specs.refinement.Follow.{Shadow, asked, acquire_opcode}
+use Rattle.tl_coherence.specs.refinement.MemoryRelation.{MemoryRelation}
+use Rattle.tl_coherence.specs.refinement.AbstractStep.{AbstractState, asked, acquire_opcode}
 use Rattle.tl_coherence.specs.statement.Headline.{Continues}
 use Rattle.tl_coherence.specs.protocol.Invariant.{IsInvariant}
-use Rattle.tl_coherence.specs.statement.Log.{Log, after}
+use Rattle.tl_coherence.specs.statement.Log.{Log, system_after}
 use Rattle.tl_coherence.specs.statement.Machine.{Performs, after_reply}
-use Rattle.tl_coherence.specs.refinement.Matched.{AreCarried}
-use Rattle.tl_coherence.specs.protocol.Phase.{Pair}
+use Rattle.tl_coherence.specs.refinement.ChannelRelation.{ChannelRelation}
+use Rattle.tl_coherence.specs.protocol.Phase.{ClientBlock}
 use Rattle.tl_coherence.specs.protocol.PhaseSteps.{after_acquire, after_release}
 use Rattle.tl_coherence.specs.protocol.Protocol.{Block, State, view, acquiring_block, releasing_block}
-use Rattle.tl_coherence.specs.statement.Remembered.{remembered, performing, accesses_answered}
-use Rattle.tl_coherence.specs.refinement.Render.{Mail, rendered}
+use Rattle.tl_coherence.specs.statement.OneMemory.{one_memory_after, performing, accesses_answered}
+use Rattle.tl_coherence.specs.refinement.PacketMessages.{AccessMessages, block_message}
 use Rattle.tl_coherence.specs.statement.Step.{Step, stepped, handed_by}
 use Rattle.tl_coherence.specs.statement.System.{System, terms_at, with_client, with_messages}
-use Rattle.tl_coherence.specs.protocol.Token.{Acquire, Release}
-use Rattle.tl_coherence.specs.refinement.Whole.{IsMatched, is_caching}
+use Rattle.tl_coherence.specs.protocol.Packet.{Acquire, Release}
+use Rattle.tl_coherence.specs.refinement.SimulationRelation.{SimulationRelation, is_caching}
 use Rattle.tl_coherence.proofs.deliveries.AskedWell.{IsHandedOut, asked-well}
 use Rattle.tl_coherence.proofs.memory.BesideAsked.{IsReply, beside-asked}
 use Rattle.tl_coherence.proofs.simulation.CarriedEvents.{access_asked-carried, acquire_asked-carried, release_asked-carried, nothing_asked-carried, block_stored-carried}
@@ -47,7 +47,7 @@ use Rattle.tl_coherence.proofs.queues.Channels.{IsHanded, pushes_at}
 use Rattle.tl_coherence.proofs.queues.Facts.{trunk_held}
 use Rattle.tl_coherence.proofs.protocol.FollowKept.{IsAskable, asked-kept}
 use Rattle.tl_coherence.proofs.queues.Phases.{and_left}
-use Rattle.tl_coherence.proofs.protocol.Fronts.{rendered-acquire}
+use Rattle.tl_coherence.proofs.protocol.Heads.{rendered-acquire}
 use Rattle.tl_coherence.proofs.queues.Landed.{pushes_of, handed-client}
 use Rattle.tl_coherence.proofs.queues.Showing.{none-carried}
 use Rattle.tl_coherence.proofs.queues.Steps.{stepped-asked}
@@ -58,7 +58,7 @@ use Rattle.tl_coherence.proofs.deliveries.ManagersAfter.{release_channel}
 
 -- nothing is started or stored: neither the protocol nor a channel changes
 abbrev pub IsPlain : {w : ℕ} → Op w → Reply → Type 0
-IsPlain {w} o r = (c : ℕ) (h : Shadow w) → (asked c o r h ≡ h) × ((m : Option (Message w)) → IsHandedOut c o r h m → m ≡ None)
+IsPlain {w} o r = (c : ℕ) (h : AbstractState w) → (asked c o r h ≡ h) × ((m : Option (Message w)) → IsHandedOut c o r h m → m ≡ None)
 
 pub reply-cases : {w : ℕ} (P : Op w → Reply → Type 0) (o : Op w) (r : Reply) → IsReply o r
     → ((address size value : ℕ) → P (op.Store address size value) reply.Stored)
@@ -119,23 +119,23 @@ reply-cases P (op.Access (message.E x)) (reply.Busy why) is stored acquires stor
 -- ---- channels
 
 rendered_acquiring : {w : ℕ} (c n source : ℕ) (whole : Bool) (g : Grow) (bytes : List ℕ) (b : Block (List ℕ))
-    → rendered {w = w} Acquire c n (acquiring_block c source whole g bytes b) ≡ message.A (acquisition (acquire_opcode whole) g source n)
+    → block_message {w = w} Acquire c n (acquiring_block c source whole g bytes b) ≡ message.A (acquisition (acquire_opcode whole) g source n)
 rendered_acquiring {w} c n source whole g bytes b =
-    rendered-acquire c n (acquiring_block c source whole g bytes b) whole g (ap (λ (p : Pair). p.acquiring) (set-same c (after_acquire whole g (b.pair c)) b.pair))
+    rendered-acquire c n (acquiring_block c source whole g bytes b) whole g (ap (λ (p : ClientBlock). p.acquiring) (set-same c (after_acquire whole g (b.pair c)) b.pair))
     ∙ ap (λ (i : ℕ). message.A (acquisition {w = w} (acquire_opcode whole) g i n)) (set-same c source b.source)
 
-rendered_releasing : {w : ℕ} (c n source : ℕ) (p : Prune) (b : Block (List ℕ)) → rendered {w = w} Release c n (releasing_block c source p b) ≡ release p source n b.truth
-unfolding rendered
+rendered_releasing : {w : ℕ} (c n source : ℕ) (p : Prune) (b : Block (List ℕ)) → block_message {w = w} Release c n (releasing_block c source p b) ≡ release p source n b.truth
+unfolding block_message
 rendered_releasing {w} c n source p b = rw (set-same c (after_release p (b.pair c)) b.pair, set-same c source b.release_source) refl
 
-abbrev CarriesAsked : {w : ℕ} → Config → ℕ → Shadow w → System w → Op w → Reply → Type 0
+abbrev CarriesAsked : {w : ℕ} → Config → ℕ → AbstractState w → System w → Op w → Reply → Type 0
 CarriesAsked {w} config c h sys o r = (m : Option (Message w)) (e : client.End w) → IsAskable (is_caching config) c o r h
     → IsInvariant (is_caching config) (asked c o r h).state → IsHandedOut c o r h m
     → IsHanded (pushes_at c (pushes_of m)) sys (with_messages (handed_by c m) (with_client c e sys))
-    → AreCarried (asked c o r h).mail (asked c o r h).state (with_messages (handed_by c m) (with_client c e sys))
+    → ChannelRelation (asked c o r h).mail (asked c o r h).state (with_messages (handed_by c m) (with_client c e sys))
 
-carried_asked : {w : ℕ} (config : Config) (log : Log w) (h : Shadow w) (sys : System w) (c : ℕ) (o : Op w) (r : Reply) → IsWidth w
-    → IsMatched config log h.mail h.request h.state sys → IsReply o r → CarriesAsked config c h sys o r
+carried_asked : {w : ℕ} (config : Config) (log : Log w) (h : AbstractState w) (sys : System w) (c : ℕ) (o : Op w) (r : Reply) → IsWidth w
+    → SimulationRelation config log h.mail h.request h.state sys → IsReply o r → CarriesAsked config c h sys o r
 carried_asked {w} config log h sys c o r width is may_be = reply-cases (CarriesAsked config c h sys) o r may_be stored acquires stores releases accesses others
   where
     s : State (List ℕ)
@@ -146,9 +146,9 @@ carried_asked {w} config log h sys c o r width is may_be = reply-cases (CarriesA
         → IsHanded (pushes_at c (pushes_of n)) sys (with_messages (handed_by c n) (with_client c e sys))
     handed_as m n e f i = subst (λ (x : Option (Message w)). IsHanded (pushes_at c (pushes_of x)) sys (with_messages (handed_by c x) (with_client c e sys))) f i
 
-    carried_as : (m n : Option (Message w)) (mail : Mail w) (z : State (List ℕ)) (e : client.End w) → m ≡ n
-        → AreCarried mail z (with_messages (handed_by c n) (with_client c e sys)) → AreCarried mail z (with_messages (handed_by c m) (with_client c e sys))
-    carried_as m n mail z e f i = subst (λ (x : Option (Message w)). AreCarried mail z (with_messages (handed_by c x) (with_client c e sys))) (sym f) i
+    carried_as : (m n : Option (Message w)) (mail : AccessMessages w) (z : State (List ℕ)) (e : client.End w) → m ≡ n
+        → ChannelRelation mail z (with_messages (handed_by c n) (with_client c e sys)) → ChannelRelation mail z (with_messages (handed_by c m) (with_client c e sys))
+    carried_as m n mail z e f i = subst (λ (x : Option (Message w)). ChannelRelation mail z (with_messages (handed_by c x) (with_client c e sys))) (sym f) i
 
     low : (n : ℕ) → same_perm ((s.block n).pair c).held perm.Trunk ≡ true → (d : ℕ) → (same_perm ((s.block n).pair d).held perm.Trunk || same_perm ((s.block n).pair d).recorded perm.None) ≡ true
     low n trunk d = elim (cases_eq d c) [
@@ -193,23 +193,23 @@ carried_asked {w} config log h sys c o r width is may_be = reply-cases (CarriesA
     others : (i : Op w) (j : Reply) → IsPlain i j → CarriesAsked config c h sys i j
     others i j plain m e may inv handed queued =
         let none : m ≡ None = (plain c h).1 m handed in
-        subst (λ (x : Shadow w). AreCarried x.mail x.state (with_messages (handed_by c m) (with_client c e sys))) (sym (plain c h).0)
+        subst (λ (x : AbstractState w). ChannelRelation x.mail x.state (with_messages (handed_by c m) (with_client c e sys))) (sym (plain c h).0)
         (carried_as m None _ _ e none (nothing_asked-carried (is_caching config) c h.mail s sys _ width is.invariant (handed_as m None e none queued) is.carried))
 
-pub carried-ask : {w : ℕ} (config : Config) (log : Log w) (h : Shadow w) (sys : System w) (c : ℕ) (terms : client.Terms) (o : Op w) → IsWidth w
-    → IsMatched config log h.mail h.request h.state sys → terms_at config c ≡ Some terms
-    → AreCarried (asked c o (ask.asked terms o (sys.clients c)).reply h).mail (asked c o (ask.asked terms o (sys.clients c)).reply h).state (stepped config (Ask c o) sys).after
+pub carried-ask : {w : ℕ} (config : Config) (log : Log w) (h : AbstractState w) (sys : System w) (c : ℕ) (terms : client.Terms) (o : Op w) → IsWidth w
+    → SimulationRelation config log h.mail h.request h.state sys → terms_at config c ≡ Some terms
+    → ChannelRelation (asked c o (ask.asked terms o (sys.clients c)).reply h).mail (asked c o (ask.asked terms o (sys.clients c)).reply h).state (stepped config (Ask c o) sys).after
 carried-ask {w} config log h sys c terms o width is known =
     let x = ask.asked terms o (sys.clients c) in
     let well = asked-well config log h sys c terms o width is known in
     let inv = asked-kept (is_caching config) c o x.reply h is.invariant well.may in
-    subst (λ (y : Step w). AreCarried (asked c o x.reply h).mail (asked c o x.reply h).state y.after) (sym (stepped-asked config c o sys terms known))
+    subst (λ (y : Step w). ChannelRelation (asked c o x.reply h).mail (asked c o x.reply h).state y.after) (sym (stepped-asked config c o sys terms known))
     (carried_asked config log h sys c o x.reply width is well.reply x.message x.after well.may inv well.message
     (handed-client c x.message x.after sys (λ at. unfinished-asked terms o (sys.clients c) at width (is.kept c))))
 
 -- ---- the one memory
 
-none_answered : {w : ℕ} (c : ℕ) (o : Op w) (r : Reply) (h : Shadow w) (m : Option (Message w)) → IsReply o r → IsHandedOut c o r h m → accesses_answered (handed_by c m) ≡ []
+none_answered : {w : ℕ} (c : ℕ) (o : Op w) (r : Reply) (h : AbstractState w) (m : Option (Message w)) → IsReply o r → IsHandedOut c o r h m → accesses_answered (handed_by c m) ≡ []
 unfolding accesses_answered
 none_answered {w} c o r h m may_be = reply-cases (λ i j. IsHandedOut c i j h m → accesses_answered (handed_by c m) ≡ []) o r may_be
     (λ address size value e. none e) (λ n g source e. one_a (acquisition a.AcquireBlock g source n) e)
@@ -227,30 +227,30 @@ none_answered {w} c o r h m may_be = reply-cases (λ i j. IsHandedOut c i j h m 
     released prune.TtoN source n bytes e = rw e refl
     released prune.BtoN source n bytes e = rw e refl
 
-pub beside-ask : {w : ℕ} (config : Config) (log : Log w) (h : Shadow w) (c : ℕ) (terms : client.Terms) (o : Op w) → IsWidth w
-    → IsMatched config log h.mail h.request h.state (after config log) → terms_at config c ≡ Some terms
-    → IsBeside (asked c o (ask.asked terms o ((after config log).clients c)).reply h).mail (asked c o (ask.asked terms o ((after config log).clients c)).reply h).state
-    (remembered config ((Ask c o, outcome.Replied (ask.asked terms o ((after config log).clients c)).reply) ∷ log))
-unfolding remembered performing
+pub beside-ask : {w : ℕ} (config : Config) (log : Log w) (h : AbstractState w) (c : ℕ) (terms : client.Terms) (o : Op w) → IsWidth w
+    → SimulationRelation config log h.mail h.request h.state (system_after config log) → terms_at config c ≡ Some terms
+    → MemoryRelation (asked c o (ask.asked terms o ((system_after config log).clients c)).reply h).mail (asked c o (ask.asked terms o ((system_after config log).clients c)).reply h).state
+    (one_memory_after config ((Ask c o, outcome.Replied (ask.asked terms o ((system_after config log).clients c)).reply) ∷ log))
+unfolding one_memory_after performing
 beside-ask {w} config log h c terms o width is known =
-    let sys = after config log in
+    let sys = system_after config log in
     let x = ask.asked terms o (sys.clients c) in
     let well = asked-well config log h sys c terms o width is known in
     let none : accesses_answered (stepped config (Ask c o) sys).handed ≡ [] =
     ap (λ (y : Step w). accesses_answered y.handed) (stepped-asked config c o sys terms known)
     ∙ none_answered c o x.reply h x.message well.reply well.message in
-    subst (λ (l : List (ℕ × ℕ)). IsBeside (asked c o x.reply h).mail (asked c o x.reply h).state (performing l (after_reply c o x.reply (remembered config log)))) (sym none)
-    (beside-asked (is_caching config) c o x.reply h (remembered config log) is.invariant is.sized well.reply well.may well.word is.beside)
+    subst (λ (l : List (ℕ × ℕ)). MemoryRelation (asked c o x.reply h).mail (asked c o x.reply h).state (performing l (after_reply c o x.reply (one_memory_after config log)))) (sym none)
+    (beside-asked (is_caching config) c o x.reply h (one_memory_after config log) is.invariant is.sized well.reply well.may well.word is.beside)
 
-pub continues-ask : {w : ℕ} (config : Config) (log : Log w) (h : Shadow w) (c : ℕ) (terms : client.Terms) (o : Op w) → IsWidth w
-    → IsMatched config log h.mail h.request h.state (after config log) → terms_at config c ≡ Some terms
-    → Continues config (Ask c o, outcome.Replied (ask.asked terms o ((after config log).clients c)).reply) log
-unfolding remembered performing Performs
+pub continues-ask : {w : ℕ} (config : Config) (log : Log w) (h : AbstractState w) (c : ℕ) (terms : client.Terms) (o : Op w) → IsWidth w
+    → SimulationRelation config log h.mail h.request h.state (system_after config log) → terms_at config c ≡ Some terms
+    → Continues config (Ask c o, outcome.Replied (ask.asked terms o ((system_after config log).clients c)).reply) log
+unfolding one_memory_after performing Performs
 continues-ask {w} config log h c terms o width is known =
-    let sys = after config log in
+    let sys = system_after config log in
     let x = ask.asked terms o (sys.clients c) in
     let well = asked-well config log h sys c terms o width is known in
     let none : accesses_answered (stepped config (Ask c o) sys).handed ≡ [] =
     ap (λ (y : Step w). accesses_answered y.handed) (stepped-asked config c o sys terms known)
     ∙ none_answered c o x.reply h x.message well.reply well.message in
-    (after_reply c o x.reply (remembered config log), [], (rw known refl, well.replies, refl), ap (λ (l : List (ℕ × ℕ)). performing l (after_reply c o x.reply (remembered config log))) none)
+    (after_reply c o x.reply (one_memory_after config log), [], (rw known refl, well.replies, refl), ap (λ (l : List (ℕ × ℕ)). performing l (after_reply c o x.reply (one_memory_after config log))) none)

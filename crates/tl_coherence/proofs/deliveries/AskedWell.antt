@@ -39,35 +39,35 @@ use Rattle.tl_client.proofs.Free.{least_free-some}
 use Rattle.tl_client.proofs.Sound.{formed_access}
 use Rattle.tl_client.proofs.Stores.{word_room}
 use Rattle.tl_manager.specs.statement.Offer.{level_of}
-use Rattle.tl_coherence.specs.refinement.Beside.{IsOpened, IsLet}
-use Rattle.tl_coherence.specs.refinement.Follow.{Shadow}
+use Rattle.tl_coherence.specs.refinement.MemoryRelation.{IsOpened, IsLet}
+use Rattle.tl_coherence.specs.refinement.AbstractStep.{AbstractState}
 use Rattle.tl_coherence.specs.statement.Log.{Log}
 use Rattle.tl_coherence.specs.statement.Machine.{Machine, Requests, Releases, Replies}
-use Rattle.tl_coherence.specs.protocol.Phase.{Acquiring, Calm, Wants, Kept}
-use Rattle.tl_coherence.specs.protocol.Protocol.{Block, State, Use, Closed, Asked as AskedUse, InService, Replied, Acquires}
-use Rattle.tl_coherence.specs.statement.Remembered.{remembered}
-use Rattle.tl_coherence.specs.refinement.Render.{Mail, acquire_of, rendered}
-use Rattle.tl_coherence.specs.protocol.Token.{Acquire}
+use Rattle.tl_coherence.specs.protocol.Phase.{AcquirePhase, NoAcquire, AcquireOpen, NoRelease}
+use Rattle.tl_coherence.specs.protocol.Protocol.{Block, State, SourceState, SourceFree, Asked as AskedUse, InService, Replied, Acquires}
+use Rattle.tl_coherence.specs.statement.OneMemory.{one_memory_after}
+use Rattle.tl_coherence.specs.refinement.PacketMessages.{AccessMessages, acquire_of, block_message}
+use Rattle.tl_coherence.specs.protocol.Packet.{Acquire}
 use Rattle.tl_coherence.specs.statement.System.{System, terms_at}
-use Rattle.tl_coherence.specs.refinement.Whole.{IsMatched, is_caching, first_of, asked_for, block_used, IsRequest, IsSourced, IsAnswered}
+use Rattle.tl_coherence.specs.refinement.SimulationRelation.{SimulationRelation, is_caching, first_of, asked_for, block_used, IsRequest, IsSourced, IsAnswered}
 use Rattle.tl_coherence.proofs.client.Askable.{swap_perms, no_let, caches}
 use Rattle.tl_coherence.proofs.memory.BesideAsked.{IsReply}
 use Rattle.tl_coherence.proofs.protocol.FollowKept.{IsAskable}
-use Rattle.tl_coherence.proofs.simulation.Goods.{level-terms}
+use Rattle.tl_coherence.proofs.simulation.BeatsInFlight.{level-terms}
 use Rattle.tl_coherence.proofs.simulation.SizedAfter.{IsSourcedAsk, IsSizedAsk}
 use Rattle.tl_coherence.proofs.protocol.BothParts.{calm-is, kept-letting}
 
 -- ---- what the protocol has, by what the end has
 
 -- who has no request open with a source doesn't use it
-acquire_some : (w c n : ℕ) (b : Block (List ℕ)) → is_some (asked_for {w = w} (Acquires n) (rendered Acquire c n b) (rendered Acquire c n b)) ≡ true
-unfolding rendered
+acquire_some : (w c n : ℕ) (b : Block (List ℕ)) → is_some (asked_for {w = w} (Acquires n) (block_message Acquire c n b) (block_message Acquire c n b)) ≡ true
+unfolding block_message
 acquire_some w c n b = go (b.pair c).acquiring
   where
-    go : (x : Acquiring) → is_some (first_of {w = w} (acquire_of x (b.source c) n)) ≡ true
-    go Calm = refl
-    go (Wants true g) = refl
-    go (Wants false g) = refl
+    go : (x : AcquirePhase) → is_some (first_of {w = w} (acquire_of x (b.source c) n)) ≡ true
+    go NoAcquire = refl
+    go (AcquireOpen true g) = refl
+    go (AcquireOpen false g) = refl
 
 request_some : {w : ℕ} (config : Config) (c source : ℕ) (m : Message w) → IsRequest config c source m → is_some (first_of m) ≡ true
 request_some config c source (message.A m) h = refl
@@ -83,17 +83,17 @@ answer_some source (message.C m) x h = absurd h
 answer_some source (message.D m) x h = absurd h
 answer_some source (message.E m) x h = absurd h
 
-pub unused : {w : ℕ} (config : Config) (log : Log w) (mail : Mail w) (request : ℕ → MessageA w) (s : State (List ℕ)) (sys : System w) (c source : ℕ)
-    → IsMatched config log mail request s sys → pending (RequestSource source) (sys.clients c).past ≡ false
-    → s.uses c source ≡ Closed
+pub unused : {w : ℕ} (config : Config) (log : Log w) (mail : AccessMessages w) (request : ℕ → MessageA w) (s : State (List ℕ)) (sys : System w) (c source : ℕ)
+    → SimulationRelation config log mail request s sys → pending (RequestSource source) (sys.clients c).past ≡ false
+    → s.uses c source ≡ SourceFree
 unused {w} config log mail request s sys c source h free = go (s.uses c source) refl (h.sourced c source) (h.answered c source) (sym ((h.opened c).requests source) ∙ free)
   where
     differ : (b : Bool) → b ≡ true → b ≡ false → ⊥
     differ b e f = let g : true ≡ false = sym e ∙ f in cc
 
-    go : (u : Use) → s.uses c source ≡ u → IsSourced config c source (mail.request c source) u → IsAnswered source (mail.request c source) (mail.answer c source) u
-        → is_some (asked_for u (mail.request c source) (rendered Acquire c (block_used u) (s.block (block_used u)))) ≡ false → u ≡ Closed
-    go Closed e sourced answered none = refl
+    go : (u : SourceState) → s.uses c source ≡ u → IsSourced config c source (mail.request c source) u → IsAnswered source (mail.request c source) (mail.answer c source) u
+        → is_some (asked_for u (mail.request c source) (block_message Acquire c (block_used u) (s.block (block_used u)))) ≡ false → u ≡ SourceFree
+    go SourceFree e sourced answered none = refl
     go AskedUse e sourced answered none = absurd (differ _ (request_some config c source (mail.request c source) sourced) none)
     go (InService n) e sourced answered none = absurd (differ _ (request_some config c source (mail.request c source) sourced) none)
     go Replied e sourced answered none = absurd (differ _ (answer_some source (mail.request c source) (mail.answer c source) answered) none)
@@ -102,14 +102,14 @@ unused {w} config log mail request s sys c source h free = go (s.uses c source) 
 -- ---- what is answered
 
 -- the message that is handed out
-abbrev pub IsHandedOut : {w : ℕ} → ℕ → Op w → Reply → Shadow w → Option (Message w) → Type 0
+abbrev pub IsHandedOut : {w : ℕ} → ℕ → Op w → Reply → AbstractState w → Option (Message w) → Type 0
 IsHandedOut c (op.Acquire n g) (reply.Started source) h m = m ≡ Some (message.A (acquisition a.AcquireBlock g source n))
 IsHandedOut c (op.AcquireWhole n bytes) (reply.Started source) h m = m ≡ Some (message.A (acquisition a.AcquirePerm (whole_grow ((h.state.block n).pair c).held) source n))
 IsHandedOut {w} c (op.Release n p) (reply.Started source) h m = m ≡ Some (release p source n (h.state.block n).truth)
 IsHandedOut c (op.Access (message.A x)) (reply.Started source) h m = m ≡ Some (access source x)
 IsHandedOut c o r h m = m ≡ None
 
-pub record IsAskedWell {w : ℕ} (config : Config) (c : ℕ) (o : Op w) (h : Shadow w) (m : Machine w) (x : Asked w) : Type 0 where
+pub record IsAskedWell {w : ℕ} (config : Config) (c : ℕ) (o : Op w) (h : AbstractState w) (m : Machine w) (x : Asked w) : Type 0 where
   pub may : IsAskable (is_caching config) c o x.reply h
   pub word : IsSizedAsk c o x.reply h
   pub source : IsSourcedAsk config c o x.reply
@@ -117,7 +117,7 @@ pub record IsAskedWell {w : ℕ} (config : Config) (c : ℕ) (o : Op w) (h : Sha
   pub replies : Replies c o x.reply m
   pub message : IsHandedOut c o x.reply h x.message
 
-busy_well : {w : ℕ} (config : Config) (c : ℕ) (o : Op w) (why : Busy) (h : Shadow w) (m : Machine w) (e : End w) → IsAskedWell config c o h m (only (reply.Busy why) e)
+busy_well : {w : ℕ} (config : Config) (c : ℕ) (o : Op w) (why : Busy) (h : AbstractState w) (m : Machine w) (e : End w) → IsAskedWell config c o h m (only (reply.Busy why) e)
 busy_well config c (op.Load address size) why h m e = record { may = tt; word = tt; source = tt; reply = tt; replies = tt; message = refl }
 busy_well config c (op.Store address size value) why h m e = record { may = tt; word = tt; source = tt; reply = tt; replies = tt; message = refl }
 busy_well config c (op.Acquire n g) why h m e = record { may = tt; word = tt; source = tt; reply = tt; replies = tt; message = refl }
@@ -159,16 +159,16 @@ sourced_beat l x source i = refl
 sourced_legal : {w : ℕ} (l : Level) (x : MessageA w) (source : ℕ) → illegal_message l channel.A (message.A x) ≡ None → illegal_message l channel.A (access source x) ≡ None
 sourced_legal l x source e = legal_from_beats l channel.A (access source x) (λ i lt. sourced_beat l x source i ∙ legal_beat l channel.A (message.A x) i e lt)
 
-pub asked-well : {w : ℕ} (config : Config) (log : Log w) (h : Shadow w) (sys : System w) (c : ℕ) (terms : Terms) (o : Op w) → IsWidth w
-    → IsMatched config log h.mail h.request h.state sys → terms_at config c ≡ Some terms
-    → IsAskedWell config c o h (remembered config log) (asked terms o (sys.clients c))
+pub asked-well : {w : ℕ} (config : Config) (log : Log w) (h : AbstractState w) (sys : System w) (c : ℕ) (terms : Terms) (o : Op w) → IsWidth w
+    → SimulationRelation config log h.mail h.request h.state sys → terms_at config c ≡ Some terms
+    → IsAskedWell config c o h (one_memory_after config log) (asked terms o (sys.clients c))
 asked-well {w} config log h sys c terms o width is known = asked-cases terms o e (IsAskedWell config c o h m) (λ why. busy_well config c o why h m e) (λ free. well o free)
   where
     e : End w
     e = sys.clients c
 
     m : Machine w
-    m = remembered config log
+    m = one_memory_after config log
 
     s : State (List ℕ)
     s = h.state
@@ -186,16 +186,16 @@ asked-well {w} config log h sys c terms o width is known = asked-cases terms o e
     formed : (i : Op w) → NotBusy terms i e → is_formed terms.level i ≡ true
     formed i free = not-false (is_formed terms.level i) (or_parts (nat_le terms.blocks (op_block i)) (not (is_formed terms.level i)) free.b5).1
 
-    free_source : is_none (free_request terms e.past) ≡ false → s.uses c (source_or_0 (free_request terms e.past)) ≡ Closed
+    free_source : is_none (free_request terms e.past) ≡ false → s.uses c (source_or_0 (free_request terms e.past)) ≡ SourceFree
     free_source one = unused config log h.mail h.request s sys c (source_or_0 (free_request terms e.past)) is (least_free-some (λ i. pending (RequestSource i) e.past) 0 terms.sources one).0
 
-    unopened : (source : ℕ) → s.uses c source ≡ Closed → m.opened c Requests source ≡ None
+    unopened : (source : ℕ) → s.uses c source ≡ SourceFree → m.opened c Requests source ≡ None
     unopened source used = go (s.uses c source) used (is.beside.requests c source)
       where
-        go : (u : Use) → u ≡ Closed → IsOpened c source h.mail s u (m.opened c Requests source) → m.opened c Requests source ≡ None
-        go u f i = subst (λ (v : Use). IsOpened c source h.mail s v (m.opened c Requests source)) f i
+        go : (u : SourceState) → u ≡ SourceFree → IsOpened c source h.mail s u (m.opened c Requests source) → m.opened c Requests source ≡ None
+        go u f i = subst (λ (v : SourceState). IsOpened c source h.mail s v (m.opened c Requests source)) f i
 
-    transfers : (n : ℕ) → (pending (AcquireOf n) e.past || pending (ReleaseOf n) e.past) ≡ false → (((s.block n).pair c).acquiring ≡ Calm) × (((s.block n).pair c).letting ≡ Kept)
+    transfers : (n : ℕ) → (pending (AcquireOf n) e.past || pending (ReleaseOf n) e.past) ≡ false → (((s.block n).pair c).acquiring ≡ NoAcquire) × (((s.block n).pair c).letting ≡ NoRelease)
     transfers n none =
         let parts = or_parts (pending (AcquireOf n) e.past) (pending (ReleaseOf n) e.past) none in
         (calm-is ((s.block n).pair c).acquiring (sym ((is.known c).acquires n) ∙ parts.0), kept-letting ((s.block n).pair c).letting (sym ((is.known c).releases n) ∙ parts.1))

@@ -10,7 +10,7 @@ use Rattle.tl_coherence.proofs.queues.FirstToken.{first-token}
 use Rattle.tl_coherence.proofs.manager.ManagerSettles.{gift_after}
 use Rattle.tl_coherence.proofs.manager.RequestsTaken.{invariant-taken, next_tracker}
 use Rattle.tl_coherence.proofs.manager.Reporting.{report-about, release-about}
-use Rattle.tl_coherence.specs.refinement.Sources.{IsFor}
+use Rattle.tl_coherence.specs.refinement.SourceRelation.{IsFor}
 use Rattle.tl_burst.specs.declared.message.Message.TheVariants as message
 use Rattle.tl_burst.specs.declared.message.MessageC.{MessageC}
 use Rattle.tl_burst.specs.statement.Burst.{beat_of}
@@ -24,10 +24,10 @@ use Rattle.tl_manager.specs.statement.End.{End}
 use Rattle.tl_coherence.specs.declared.event.Event.TheVariants.{Deliver}
 use Rattle.tl_coherence.specs.declared.event.Outcome.TheVariants as outcome
 use Rattle.tl_coherence.specs.statement.Log.{Log}
-use Rattle.tl_coherence.specs.refinement.Matched.{AreCarried, receiver}
+use Rattle.tl_coherence.specs.refinement.ChannelRelation.{ChannelRelation, receiver}
 use Rattle.tl_coherence.specs.statement.Step.{Step, handing, is_to_client, stepped}
 use Rattle.tl_coherence.specs.statement.System.{System, terms_at, with_channel, with_manager, with_messages, channel_of_message}
-use Rattle.tl_coherence.specs.refinement.Whole.{IsMatched, is_caching}
+use Rattle.tl_coherence.specs.refinement.SimulationRelation.{SimulationRelation, is_caching}
 use Rattle.tl_coherence.proofs.queues.Channels.{behind, IsTaken, pushes_at}
 use Rattle.tl_coherence.proofs.queues.Landed.{HasTaken, IsLanded, IsOn, landed-manager, channels-handed, pushes_of, taken-landed}
 use Rattle.tl_coherence.proofs.manager.ManagerAfter.{left, others_probed}
@@ -55,20 +55,20 @@ use Rattle.tl_params.specs.declared.perm.Perm.TheVariants as perm
 use Rattle.tl_params.specs.statement.Param.{prune_left, report_right}
 use Rattle.tl_rules.specs.statement.History.{is_acquire}
 use Rattle.tl_manager.specs.statement.Holders.{cap_probed}
-use Rattle.tl_coherence.specs.refinement.Follow.{Shadow, performs, ack_taken, answers, followed, granted_after, last_taken, some_below, token_taken, with_state}
+use Rattle.tl_coherence.specs.refinement.AbstractStep.{AbstractState, performs, ack_taken, answers, abstract_step, granted_after, last_taken, some_below, packet_taken, with_state}
 use Rattle.tl_coherence.specs.protocol.Invariant.{IsWell, IsInvariant}
-use Rattle.tl_coherence.specs.protocol.Phase.{Pair, Answered, is_quiet, perm_le, Acquiring, Calm, Wants}
+use Rattle.tl_coherence.specs.protocol.Phase.{ClientBlock, ProbeAnswered, is_unprobed, perm_le, AcquirePhase, NoAcquire, AcquireOpen}
 use Rattle.tl_coherence.specs.protocol.PhaseSteps.{after_report, is_granted_data}
-use Rattle.tl_coherence.specs.protocol.Protocol.{Service, Waits, Block, ended_block, shown, view, Free, GrantSent, GrantTaken, granted_block, let_block, release_taken, report_taken, token}
-use Rattle.tl_coherence.specs.refinement.Render.{prune_told, message_of, rendered, report_told}
-use Rattle.tl_coherence.specs.protocol.Token.{Kind, Request, Acquire, Probe, ProbeAck, Release, Answer, Grant, ReleaseAck, GrantAck, set, Token}
+use Rattle.tl_coherence.specs.protocol.Protocol.{Service, Waits, Block, ended_block, shown, view, Free, GrantSent, GrantTaken, granted_block, let_block, release_taken, report_taken, packet}
+use Rattle.tl_coherence.specs.refinement.PacketMessages.{prune_told, message_of, block_message, report_told}
+use Rattle.tl_coherence.specs.protocol.Packet.{Kind, Request, Acquire, Probe, ProbeAck, Release, Answer, Grant, ReleaseAck, GrantAck, set, Packet}
 use Rattle.tl_coherence.proofs.queues.Facts.{reported_within, spared_within, answered_other, is_other, own_wants}
 use Rattle.tl_coherence.proofs.protocol.FollowKept.{leaves-bytes, settled_all}
 use Rattle.tl_coherence.proofs.queues.Showing.{carries, none-carried}
 use Rattle.tl_coherence.proofs.queues.Tokens.{same_number, set-same, set-other, set-part, holds-first, set_at-same}
 use Rattle.tl_coherence.proofs.protocol.BothParts.{answered-is, taken-unseen, quiet-is, granted-unseen}
 use Rattle.tl_coherence.proofs.manager.Admitted.{head_all}
-use Rattle.tl_coherence.proofs.potential.Owing.{serving-use}
+use Rattle.tl_coherence.proofs.rank.RankParts.{serving-use}
 
 -- ---- an access that ends leaves the bytes on their way, or there are none
 
@@ -79,8 +79,8 @@ least perm.Trunk e = absurd cc
 
 -- a service that probes toN, with its last ProbeAck: nobody is recorded then
 unrecorded : (caching : ℕ → Bool) (c q source : ℕ) (r : Report) (f : List ℕ → List ℕ) (b : Block (List ℕ)) → IsWell caching b
-    → b.service ≡ Waits q false source cap.ToN → (b.pair c).probing ≡ Answered r
-    → ((d : ℕ) → (d ≡ c → ⊥) → is_quiet (b.pair d).probing ≡ true) → (d : ℕ) → same_perm ((ended_block c r f b).pair d).recorded perm.None ≡ true
+    → b.service ≡ Waits q false source cap.ToN → (b.pair c).probing ≡ ProbeAnswered r
+    → ((d : ℕ) → (d ≡ c → ⊥) → is_unprobed (b.pair d).probing ≡ true) → (d : ℕ) → same_perm ((ended_block c r f b).pair d).recorded perm.None ≡ true
 unrecorded caching c q source r f b well waits answered settled d = elim (cases_eq d c) [
   | inl same ↦
       rw (same, set-same c (after_report r (b.pair c)) b.pair) (least (report_right r) (reported_within cap.ToN r (b.pair c) (view b.service c) (well.phases c) (rw waits refl) answered))
@@ -91,7 +91,7 @@ unrecorded caching c q source r f b well waits answered settled d = elim (cases_
 
 pub ended-bytes : {w : ℕ} (caching : ℕ → Bool) (c q source : ℕ) (r : Report) (k : Cap) (m : MessageA w) (b : Block (List ℕ)) → IsWell caching b
     → IsWell caching (ended_block c r (performs m) b) → b.service ≡ Waits q false source k
-    → (b.pair c).probing ≡ Answered r → ((d : ℕ) → (d ≡ c → ⊥) → is_quiet (b.pair d).probing ≡ true) → is_acquire m.opcode ≡ false → cap_probed m.opcode m.param ≡ Some k → length b.truth ≡ 64
+    → (b.pair c).probing ≡ ProbeAnswered r → ((d : ℕ) → (d ≡ c → ⊥) → is_unprobed (b.pair d).probing ≡ true) → is_acquire m.opcode ≡ false → cap_probed m.opcode m.param ≡ Some k → length b.truth ≡ 64
     → (j : Kind) (i : ℕ) → shown j i b ≡ true → shown j i (ended_block c r (performs m) b) ≡ true → (carries j i b ≡ false) ⊎ (performs m b.truth ≡ b.truth)
 ended-bytes {w} caching c q source r k m b before after waits answered settled access low long j i shown_now shown_after = elim (leaves-bytes m b.truth access long) [
   | inl same ↦ inr same
@@ -109,7 +109,7 @@ ended-bytes {w} caching c q source r k m b before after waits answered settled a
       | inl same ↦ absurd (let quiet : false ≡ true = rw (same, set-same c (after_report r (b.pair c)) b.pair) at e in cc)
       | inr other ↦ rw (set-other c i (after_report r (b.pair c)) b.pair other) refl
     ]
-    kept Release e = sym (set-part (λ (p : Pair). same_perm (prune_left (prune_told p.letting)) perm.Trunk) c (after_report r (b.pair c)) b.pair refl i)
+    kept Release e = sym (set-part (λ (p : ClientBlock). same_perm (prune_left (prune_told p.letting)) perm.Trunk) c (after_report r (b.pair c)) b.pair refl i)
     kept Grant e = rw waits refl
     kept Request e = refl
     kept Acquire e = refl
@@ -159,15 +159,15 @@ on_c m k channel.D = refl
 on_c m k channel.E = refl
 
 -- what holds before a delivery to the manager
-record IsReceived {w : ℕ} (config : Config) (log : Log w) (h : Shadow w) (sys : System w) (c : ℕ) (ch : Channel) (x : Beat w) (queue : List (Beat w)) : Type 0 where
+record IsReceived {w : ℕ} (config : Config) (log : Log w) (h : AbstractState w) (sys : System w) (c : ℕ) (ch : Channel) (x : Beat w) (queue : List (Beat w)) : Type 0 where
   width : IsWidth w
-  is : IsMatched config log h.mail h.request h.state sys
+  is : SimulationRelation config log h.mail h.request h.state sys
   beats : sys.channels c ch ≡ x ∷ queue
   down : is_to_client ch ≡ false
   on_ch : IsOn ch x
   up : IsTakenUp config c ch x sys.manager
 
-landed-received : {w : ℕ} (config : Config) (log : Log w) (h : Shadow w) (sys : System w) (c : ℕ) (ch : Channel) (x : Beat w) (queue : List (Beat w))
+landed-received : {w : ℕ} (config : Config) (log : Log w) (h : AbstractState w) (sys : System w) (c : ℕ) (ch : Channel) (x : Beat w) (queue : List (Beat w))
     (handed : Handed w) (pushes : ℕ → Channel → Option (Message w)) → IsReceived config log h sys c ch x queue
     → (deed config (record { 0 = c }) x sys.manager).handed ≡ handed → ((s : System w) (d : ℕ) (at : Channel) → (with_messages handed s).channels d at ≡ behind (pushes d at) (s.channels d at))
     → IsLanded c ch x queue pushes sys (stepped config (Deliver (record { 0 = c }) ch) sys).after
@@ -178,11 +178,11 @@ landed-received {w} config log h sys c ch x queue handed pushes at is pushed =
     at.beats at.up is pushed
 
 -- the channels then
-abbrev pub CarriesAfter : {w : ℕ} → Config → ℕ → Channel → System w → Shadow w → Type 0
-CarriesAfter config c ch sys h = AreCarried h.mail h.state (stepped config (Deliver (record { 0 = c }) ch) sys).after
+abbrev pub CarriesAfter : {w : ℕ} → Config → ℕ → Channel → System w → AbstractState w → Type 0
+CarriesAfter config c ch sys h = ChannelRelation h.mail h.state (stepped config (Deliver (record { 0 = c }) ch) sys).after
 
 -- a beat that isn't the last of its message
-part-carried : {w : ℕ} (config : Config) (log : Log w) (h : Shadow w) (sys : System w) (c : ℕ) (ch : Channel) (x : Beat w) (queue : List (Beat w))
+part-carried : {w : ℕ} (config : Config) (log : Log w) (h : AbstractState w) (sys : System w) (c : ℕ) (ch : Channel) (x : Beat w) (queue : List (Beat w))
     → IsReceived config log h sys c ch x queue → (deed config (record { 0 = c }) x sys.manager).handed ≡ []
     → completes x (unfinished ch (receiver ch c sys)) ≡ false → CarriesAfter config c ch sys h
 part-carried config log h sys c ch x queue at none part =
@@ -190,13 +190,13 @@ part-carried config log h sys c ch x queue at none part =
     (landed-received config log h sys c ch x queue [] no_pushes at none no-messages) (λ d i. refl) part at.is.carried
 
 -- its last beat, for which one message is handed out, or none
-last-quietly : {w : ℕ} (config : Config) (log : Log w) (h : Shadow w) (sys : System w) (c : ℕ) (ch : Channel) (x : Beat w) (queue : List (Beat w))
+last-quietly : {w : ℕ} (config : Config) (log : Log w) (h : AbstractState w) (sys : System w) (c : ℕ) (ch : Channel) (x : Beat w) (queue : List (Beat w))
     → IsReceived config log h sys c ch x queue → (deed config (record { 0 = c }) x sys.manager).handed ≡ []
     → completes x (unfinished ch (receiver ch c sys)) ≡ true → IsTaken c ch x queue no_pushes sys (stepped config (Deliver (record { 0 = c }) ch) sys).after
 last-quietly config log h sys c ch x queue at none last =
     taken-landed c ch x queue no_pushes sys (stepped config (Deliver (record { 0 = c }) ch) sys).after (landed-received config log h sys c ch x queue [] no_pushes at none no-messages) last
 
-last-handing : {w : ℕ} (config : Config) (log : Log w) (h : Shadow w) (sys : System w) (c q : ℕ) (ch : Channel) (x : Beat w) (queue : List (Beat w))
+last-handing : {w : ℕ} (config : Config) (log : Log w) (h : AbstractState w) (sys : System w) (c q : ℕ) (ch : Channel) (x : Beat w) (queue : List (Beat w))
     (m : Message w) → IsReceived config log h sys c ch x queue
     → (deed config (record { 0 = c }) x sys.manager).handed ≡ (record { 0 = q }, m) ∷ [] → completes x (unfinished ch (receiver ch c sys)) ≡ true
     → IsTaken c ch x queue (pushes_at q (pushes_of (Some m))) sys (stepped config (Deliver (record { 0 = c }) ch) sys).after
@@ -211,19 +211,19 @@ answer_on_d v answer.Ack = refl
 answer_on_d v answer.Hint = refl
 answer_on_d v (answer.Data payload) = refl
 
-grant_on_d : (w : ℕ) (q n : ℕ) (b : Block (List ℕ)) (d : Bool) (k : Cap) → b.service ≡ GrantSent q d k → channel_of_message {w = w} (rendered Grant q n b) ≡ channel.D
-unfolding rendered
+grant_on_d : (w : ℕ) (q n : ℕ) (b : Block (List ℕ)) (d : Bool) (k : Cap) → b.service ≡ GrantSent q d k → channel_of_message {w = w} (block_message Grant q n b) ≡ channel.D
+unfolding block_message
 grant_on_d w q n b d k e = rw e refl
 
-ack_on_d : (w : ℕ) (c n : ℕ) (b : Block (List ℕ)) → channel_of_message {w = w} (rendered ReleaseAck c n b) ≡ channel.D
-unfolding rendered
+ack_on_d : (w : ℕ) (c n : ℕ) (b : Block (List ℕ)) → channel_of_message {w = w} (block_message ReleaseAck c n b) ≡ channel.D
+unfolding block_message
 ack_on_d w c n b = refl
 
 -- ---- a ProbeAck
 
-reports-last : {w : ℕ} (config : Config) (log : Log w) (h : Shadow w) (sys : System w) (c n : ℕ) (rest : List Token) (x : Beat w) (queue : List (Beat w))
+reports-last : {w : ℕ} (config : Config) (log : Log w) (h : AbstractState w) (sys : System w) (c n : ℕ) (rest : List Packet) (x : Beat w) (queue : List (Beat w))
     → IsReceived config log h sys c channel.C x queue
-    → (h.state.link c).c ≡ token ProbeAck n ∷ rest → completes x (unfinished channel.C (receiver channel.C c sys)) ≡ true
+    → (h.state.link c).c ≡ packet ProbeAck n ∷ rest → completes x (unfinished channel.C (receiver channel.C c sys)) ≡ true
     → (deed config (record { 0 = c }) x sys.manager).handed ≡ pushed config c ProbeAck n h
     (ack_taken (length config.clients.items) config.profile c n (report_told ((h.state.block n).pair c).probing) rest h)
     → CarriesAfter config c channel.C sys (ack_taken (length config.clients.items) config.profile c n (report_told ((h.state.block n).pair c).probing) rest h)
@@ -242,8 +242,8 @@ reports-last {w} config log h sys c n rest x queue at tokens whole handed =
     after : System w
     after = (stepped config (Deliver (record { 0 = c }) channel.C) sys).after
 
-    answered : (b.pair c).probing ≡ Answered r
-    answered = answered-is (b.pair c).probing (holds-first ProbeAck (h.state.link c).c rest (token ProbeAck n) (λ i. shown ProbeAck c (h.state.block i)) tokens refl (inv.transfers c ProbeAck refl))
+    answered : (b.pair c).probing ≡ ProbeAnswered r
+    answered = answered-is (b.pair c).probing (holds-first ProbeAck (h.state.link c).c rest (packet ProbeAck n) (λ i. shown ProbeAck c (h.state.block i)) tokens refl (inv.transfers c ProbeAck refl))
 
     seen : is_other (view b.service c) ≡ true
     seen = answered_other r (b.pair c) (view b.service c) ((inv.blocks n).phases c) answered
@@ -277,19 +277,19 @@ reports-last {w} config log h sys c n rest x queue at tokens whole handed =
         for = rw f at (at.is.served.requests n)
     last alone (Waits q true source low) f later one = go (b.pair q).acquiring refl later one
       where
-        go : (y : Acquiring) → (b.pair q).acquiring ≡ y → IsInvariant (is_caching config) (granted_after (length config.clients.items) config.profile c q n r y rest h).state
-            → Hands ((record { 0 = q }, rendered Grant q n ((granted_after (length config.clients.items) config.profile c q n r y rest h).state.block n)) ∷ [])
+        go : (y : AcquirePhase) → (b.pair q).acquiring ≡ y → IsInvariant (is_caching config) (granted_after (length config.clients.items) config.profile c q n r y rest h).state
+            → Hands ((record { 0 = q }, block_message Grant q n ((granted_after (length config.clients.items) config.profile c q n r y rest h).state.block n)) ∷ [])
             → CarriesAfter config c channel.C sys (granted_after (length config.clients.items) config.profile c q n r y rest h)
-        go Calm g then_well one = absurd (let wants = own_wants (b.pair q) (view b.service q) ((inv.blocks n).phases q) (rw (f, same_number q) refl) in let none : false ≡ true = rw g at wants in cc)
-        go (Wants whole_block grow) g then_well one =
+        go NoAcquire g then_well one = absurd (let wants = own_wants (b.pair q) (view b.service q) ((inv.blocks n).phases q) (rw (f, same_number q) refl) in let none : false ≡ true = rw g at wants in cc)
+        go (AcquireOpen whole_block grow) g then_well one =
             let d = is_granted_data whole_block grow (b.pair q).recorded in
             let gift = gift_after config c n r whole_block grow h in
             let new : Block (List ℕ) = granted_block c q r d gift b in
             report_grants-carried (is_caching config) c q n source r d low gift rest
-            (rendered Grant q n new) h.mail h.state sys after x queue at.width inv then_well tokens f (seen_apart q source low c (rw f at seen))
+            (block_message Grant q n new) h.mail h.state sys after x queue at.width inv then_well tokens f (seen_apart q source low c (rw f at seen))
             (grant_on_d w q n new d gift refl) refl
-            (last-handing config log h sys c q channel.C x queue (rendered Grant q n new) at
-            (one ∙ ap (λ (i : Block (List ℕ)). (record { 0 = q }, rendered Grant q n i) ∷ []) (set-same n new h.state.block)) whole) at.is.carried
+            (last-handing config log h sys c q channel.C x queue (block_message Grant q n new) at
+            (one ∙ ap (λ (i : Block (List ℕ)). (record { 0 = q }, block_message Grant q n i) ∷ []) (set-same n new h.state.block)) whole) at.is.carried
 
     others : (y : Bool) → some_below (length config.clients.items) (others_probed c b.pair) ≡ y
         → IsInvariant (is_caching config) (if y then with_state (report_taken c n r rest h.state) h else last_taken (length config.clients.items) config.profile c n r b.service rest h).state
@@ -304,7 +304,7 @@ reports-last {w} config log h sys c n rest x queue at tokens whole handed =
 -- ---- any beat of channel C or E
 
 -- where the beat isn't the last of its message, and where it is
-by-place : {w : ℕ} (config : Config) (log : Log w) (h h' : Shadow w) (pushes : Handed w) (sys : System w) (c : ℕ) (ch : Channel) (x : Beat w)
+by-place : {w : ℕ} (config : Config) (log : Log w) (h h' : AbstractState w) (pushes : Handed w) (sys : System w) (c : ℕ) (ch : Channel) (x : Beat w)
     (queue : List (Beat w)) → IsReceived config log h sys c ch x queue
     → (deed config (record { 0 = c }) x sys.manager).handed ≡ (if completes x (unfinished ch (receiver ch c sys)) then pushes else [])
     → (completes x (unfinished ch (receiver ch c sys)) ≡ true → (deed config (record { 0 = c }) x sys.manager).handed ≡ pushes → CarriesAfter config c ch sys h')
@@ -317,9 +317,9 @@ by-place {w} config log h h' pushes sys c ch x queue at handed last = go (comple
     go false e f = part-carried config log h sys c ch x queue at f e
 
 -- the beat that is first on channel C is one of it
-received_on : {w : ℕ} (config : Config) (log : Log w) (h : Shadow w) (sys : System w) (c : ℕ) (x : Beat w) (queue : List (Beat w)) → IsWidth w
-    → IsMatched config log h.mail h.request h.state sys → sys.channels c channel.C ≡ x ∷ queue → IsOn channel.C x
-unfolding rendered
+received_on : {w : ℕ} (config : Config) (log : Log w) (h : AbstractState w) (sys : System w) (c : ℕ) (x : Beat w) (queue : List (Beat w)) → IsWidth w
+    → SimulationRelation config log h.mail h.request h.state sys → sys.channels c channel.C ≡ x ∷ queue → IsOn channel.C x
+unfolding block_message
 received_on {w} config log h sys c x queue width is beats =
     by-first_c (λ i. IsOn channel.C x) c h.mail h.state sys x queue (first-token (is_caching config) channel.C c h.mail h.state sys x queue width is.invariant is.carried beats)
     (λ n rest tokens next.
@@ -330,12 +330,12 @@ received_on {w} config log h sys c x queue width is beats =
     subst (IsOn channel.C) (sym (next.beat_is ∙ ap (λ (i : Message w). beat_of i next.k) m.1)) (on_c m.0 next.k))
 
 -- the channels after a delivery on C, as the protocol follows it
-pub carried-followed_c : {w : ℕ} (config : Config) (log : Log w) (h : Shadow w) (sys : System w) (c : ℕ) (x : Beat w) (queue : List (Beat w)) → IsWidth w
-    → IsMatched config log h.mail h.request h.state sys → sys.channels c channel.C ≡ x ∷ queue
-    → CarriesAfter config c channel.C sys (followed config (Deliver (record { 0 = c }) channel.C) sys h)
+pub carried-followed_c : {w : ℕ} (config : Config) (log : Log w) (h : AbstractState w) (sys : System w) (c : ℕ) (x : Beat w) (queue : List (Beat w)) → IsWidth w
+    → SimulationRelation config log h.mail h.request h.state sys → sys.channels c channel.C ≡ x ∷ queue
+    → CarriesAfter config c channel.C sys (abstract_step config (Deliver (record { 0 = c }) channel.C) sys h)
 carried-followed_c {w} config log h sys c x queue width is beats =
     subst (CarriesAfter config c channel.C sys) (sym (followed-taken config c channel.C x queue sys h t.0 t.1 beats refl any.up))
-    (by-first_c (λ i. CarriesAfter config c channel.C sys (if completes x before then token_taken config (next_tracker sys) c i h else h)) c h.mail h.state sys x queue
+    (by-first_c (λ i. CarriesAfter config c channel.C sys (if completes x before then packet_taken config (next_tracker sys) c i h else h)) c h.mail h.state sys x queue
     (first-token (is_caching config) channel.C c h.mail h.state sys x queue width is.invariant is.carried beats)
     (λ n rest tokens next.
     let d = reports-delivered config log h sys c n rest x queue (map (message_of h.mail h.state c) rest) width is beats tokens next in
@@ -350,25 +350,25 @@ carried-followed_c {w} config log h sys c x queue width is beats =
     t : (t : Terms) × (terms_at config c ≡ Some t)
     t = client-of config c channel.C x queue sys beats (is.sound c channel.C)
 
-    any : Delivered config c channel.C before h (token_taken config (next_tracker sys) c (h.state.link c).c h)
-        (pushed_by config c (h.state.link c).c h (token_taken config (next_tracker sys) c (h.state.link c).c h)) sys.manager x
+    any : Delivered config c channel.C before h (packet_taken config (next_tracker sys) c (h.state.link c).c h)
+        (pushed_by config c (h.state.link c).c h (packet_taken config (next_tracker sys) c (h.state.link c).c h)) sys.manager x
     any = channel_c-delivered config log (next_tracker sys) h sys c x queue width is beats
 
     at : IsReceived config log h sys c channel.C x queue
     at = record { width = width; is = is; beats = beats; down = refl; on_ch = received_on config log h sys c x queue width is beats; up = any.up }
 
-    releases-last : (n : ℕ) (rest : List Token) → (h.state.link c).c ≡ token Release n ∷ rest → completes x before ≡ true
+    releases-last : (n : ℕ) (rest : List Packet) → (h.state.link c).c ≡ packet Release n ∷ rest → completes x before ≡ true
         → (deed config (record { 0 = c }) x sys.manager).handed
         ≡ (
           record { 0 = c },
-          rendered ReleaseAck c n (set n
+          block_message ReleaseAck c n (set n
               (let_block c (prune_told ((h.state.block n).pair c).letting) (h.state.block n)) h.state.block n),
         ) ∷ []
         → CarriesAfter config c channel.C sys (with_state (release_taken c n (prune_told ((h.state.block n).pair c).letting) rest h.state) h)
     releases-last n rest tokens whole one =
         let new : Block (List ℕ) = let_block c (prune_told ((h.state.block n).pair c).letting) (h.state.block n) in
-        release_taken-carried (is_caching config) c n (prune_told ((h.state.block n).pair c).letting) rest (rendered ReleaseAck c n new) h.mail h.state sys
+        release_taken-carried (is_caching config) c n (prune_told ((h.state.block n).pair c).letting) rest (block_message ReleaseAck c n new) h.mail h.state sys
         (stepped config (Deliver (record { 0 = c }) channel.C) sys).after x queue width is.invariant
         (invariant-taken config log h sys c Release n rest is tokens tt) tokens (ack_on_d w c n new) refl
-        (last-handing config log h sys c c channel.C x queue (rendered ReleaseAck c n new) at
-        (one ∙ ap (λ (i : Block (List ℕ)). (record { 0 = c }, rendered ReleaseAck c n i) ∷ []) (set-same n new h.state.block)) whole) is.carried
+        (last-handing config log h sys c c channel.C x queue (block_message ReleaseAck c n new) at
+        (one ∙ ap (λ (i : Block (List ℕ)). (record { 0 = c }, block_message ReleaseAck c n i) ∷ []) (set-same n new h.state.block)) whole) is.carried

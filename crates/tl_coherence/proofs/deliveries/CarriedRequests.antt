@@ -33,17 +33,17 @@ use Rattle.tl_manager.specs.statement.Offer.{must_wait}
 use Rattle.tl_manager.proofs.Events.{deed-part}
 use Rattle.tl_coherence.specs.declared.event.Outcome.TheVariants as outcome
 use Rattle.tl_coherence.specs.statement.Log.{Log}
-use Rattle.tl_coherence.specs.refinement.Matched.{AreCarried}
-use Rattle.tl_coherence.specs.refinement.Follow.{Shadow, bytes_at, some_below, probes_some, access_taken, request_taken, answers, performs, gift, is_unheld, acquire_taken, kind_taken}
+use Rattle.tl_coherence.specs.refinement.ChannelRelation.{ChannelRelation}
+use Rattle.tl_coherence.specs.refinement.AbstractStep.{AbstractState, bytes_at, some_below, probes_some, access_taken, request_taken, answers, performs, gift, is_unheld, acquire_taken, kind_taken}
 use Rattle.tl_coherence.specs.protocol.Invariant.{IsInvariant, IsWell, cap_asked}
-use Rattle.tl_coherence.specs.protocol.Phase.{Acquiring, Wants}
+use Rattle.tl_coherence.specs.protocol.Phase.{AcquirePhase, AcquireOpen}
 use Rattle.tl_coherence.specs.protocol.PhaseSteps.{is_above, is_granted_data}
-use Rattle.tl_coherence.specs.protocol.Protocol.{Free, Block, State, token, is_probed, granted_at_once, acquire_served, acquire_granted}
-use Rattle.tl_coherence.specs.refinement.Render.{Mail, rendered}
+use Rattle.tl_coherence.specs.protocol.Protocol.{Free, Block, State, packet, is_probed, granted_at_once, acquire_served, acquire_granted}
+use Rattle.tl_coherence.specs.refinement.PacketMessages.{AccessMessages, block_message}
 use Rattle.tl_coherence.specs.statement.Step.{Step, handing}
 use Rattle.tl_coherence.specs.statement.System.{System, channel_of_message, with_manager, with_channel, with_messages}
-use Rattle.tl_coherence.specs.protocol.Token.{Kind, Request, Acquire, Grant, Token}
-use Rattle.tl_coherence.specs.refinement.Whole.{IsMatched, is_caching}
+use Rattle.tl_coherence.specs.protocol.Packet.{Kind, Request, Acquire, Grant, Packet}
+use Rattle.tl_coherence.specs.refinement.SimulationRelation.{SimulationRelation, is_caching}
 use Rattle.tl_coherence.proofs.manager.Admitted.{offered-taken}
 use Rattle.tl_coherence.proofs.manager.Arrivals.{link_of, with_beat, IsComing, ends-coming, service_for}
 use Rattle.tl_coherence.proofs.manager.AtRequests.{end_after, deed-probing}
@@ -51,7 +51,7 @@ use Rattle.tl_coherence.proofs.simulation.CarriedEvents.{access_answered-carried
 use Rattle.tl_coherence.proofs.simulation.CarriedProbes.{probe_pushes, channels-probes, access_served-carried, acquire_served-carried}
 use Rattle.tl_coherence.proofs.protocol.FollowKept.{some-none, leaves-bytes, IsReady}
 use Rattle.tl_coherence.proofs.queues.Showing.{carries, none-carried}
-use Rattle.tl_coherence.proofs.protocol.Fronts.{IsAsked, IsWanted}
+use Rattle.tl_coherence.proofs.protocol.Heads.{IsAsked, IsWanted}
 use Rattle.tl_coherence.proofs.manager.ManagedServed.{same_above}
 use Rattle.tl_coherence.proofs.manager.Requests.{recorded-beat}
 use Rattle.tl_coherence.proofs.manager.RequestsHanded.{handed-answered, handed-granted}
@@ -62,7 +62,7 @@ use Rattle.tl_coherence.proofs.queues.Landed.{pushes_of, IsLanded, taken-landed,
 use Rattle.tl_coherence.proofs.simulation.Moved.{manager-heard, carried-part}
 use Rattle.tl_coherence.proofs.queues.Codes.{acquires-so}
 use Rattle.tl_coherence.proofs.queues.Perms.{none-above}
-use Rattle.tl_coherence.proofs.bound.OwedAfter.{once_on_d}
+use Rattle.tl_coherence.proofs.bound.RankAfter.{once_on_d}
 
 -- ---- the whole after a beat of a request
 
@@ -105,10 +105,10 @@ nothing-handed : {w : ℕ} (s : System w) (d : ℕ) (at : Channel) → (with_mes
 unfolding with_messages
 nothing-handed s d at = refl
 
-pub carried-more : {w : ℕ} (config : Config) (log : Log w) (mail : Mail w) (request : ℕ → MessageA w) (s : State (List ℕ)) (sys : System w) (c k : ℕ)
-    (m : MessageA w) (queue : List (Beat w)) → IsMatched config log mail request s sys
+pub carried-more : {w : ℕ} (config : Config) (log : Log w) (mail : AccessMessages w) (request : ℕ → MessageA w) (s : State (List ℕ)) (sys : System w) (c k : ℕ)
+    (m : MessageA w) (queue : List (Beat w)) → SimulationRelation config log mail request s sys
     → IsComing config c k m sys.manager → sys.channels c channel.A ≡ beat.A (a_beat_of m k) ∷ queue → completes (beat.A (a_beat_of m k)) (unfinished channel.A (on_link c sys.manager.trace)) ≡ false
-    → AreCarried mail s (system_after config c k m queue sys)
+    → ChannelRelation mail s (system_after config c k m queue sys)
 carried-more {w} config log mail request s sys c k m queue is comes beats part =
     let x : Beat w = beat.A (a_beat_of m k) in
     let done : (deed config (link_of c) x sys.manager).handed ≡ [] = ap (λ (d : Deed w). d.handed) (deed-part config (link_of c) x sys.manager part) in
@@ -125,8 +125,8 @@ nothing_above cap.ToB false = refl
 nothing_above cap.ToN true = refl
 nothing_above cap.ToN false = refl
 
-pub taken-probing : {w : ℕ} (config : Config) (log : Log w) (mail : Mail w) (request : ℕ → MessageA w) (s : State (List ℕ)) (sys : System w) (c k n : ℕ)
-    (own : Bool) (j : Cap) (m : MessageA w) (queue : List (Beat w)) → IsMatched config log mail request s sys
+pub taken-probing : {w : ℕ} (config : Config) (log : Log w) (mail : AccessMessages w) (request : ℕ → MessageA w) (s : State (List ℕ)) (sys : System w) (c k n : ℕ)
+    (own : Bool) (j : Cap) (m : MessageA w) (queue : List (Beat w)) → SimulationRelation config log mail request s sys
     → IsComing config c k m sys.manager → sys.channels c channel.A ≡ beat.A (a_beat_of m k) ∷ queue → beats_of (message.A m) ≡ suc k → is_acquire m.opcode ≡ own → block_at m.address ≡ n
     → (deed config (link_of c) (beat.A (a_beat_of m k)) sys.manager).handed ≡ probes n j (probed config (service_for c m sys.manager.trace) j (with_beat c m k sys.manager.trace))
     → IsTaken c channel.A (beat.A (a_beat_of m k)) queue (probe_pushes n j (λ d. is_probed c own j ((s.block n).pair d).recorded d)) sys (system_after config c k m queue sys)
@@ -165,19 +165,19 @@ taken-answering {w} config c k m i queue sys comes beats last done =
 -- ---- an Acquire
 
 -- after an Acquire that was taken
-pub carried-acquire_taken : {w : ℕ} (config : Config) (log : Log w) (h : Shadow w) (sys : System w) (c n k : ℕ) (rest : List Token) (queue : List (Beat w))
-    → IsMatched config log h.mail h.request h.state sys
-    → (h.state.link c).a ≡ token Acquire n ∷ rest → (asked : IsWanted w c n h.state)
+pub carried-acquire_taken : {w : ℕ} (config : Config) (log : Log w) (h : AbstractState w) (sys : System w) (c n k : ℕ) (rest : List Packet) (queue : List (Beat w))
+    → SimulationRelation config log h.mail h.request h.state sys
+    → (h.state.link c).a ≡ packet Acquire n ∷ rest → (asked : IsWanted w c n h.state)
     → IsComing config c k (acquire_wanted c n h.state asked) sys.manager
     → sys.channels c channel.A ≡ beat.A (a_beat_of (acquire_wanted c n h.state asked) k) ∷ queue
     → beats_of (message.A (acquire_wanted c n h.state asked)) ≡ suc k
     → must_wait config (link_of c) (beat.A (a_beat_of (acquire_wanted c n h.state asked) k)) sys.manager.trace ≡ false
-    → AreCarried (kind_taken config (next_tracker sys) c Acquire n rest h).mail (kind_taken config (next_tracker sys) c Acquire n rest h).state
+    → ChannelRelation (kind_taken config (next_tracker sys) c Acquire n rest h).mail (kind_taken config (next_tracker sys) c Acquire n rest h).state
     (system_after config c k (acquire_wanted c n h.state asked) queue sys)
 carried-acquire_taken {w} config log h sys c n k rest queue is first asked comes beats last moves =
-    subst (λ (i : Acquiring). AreCarried (acquire_taken clients config.profile c n i tracker rest h).mail (acquire_taken clients config.profile c n i tracker rest h).state after) (sym asked.wants)
+    subst (λ (i : AcquirePhase). ChannelRelation (acquire_taken clients config.profile c n i tracker rest h).mail (acquire_taken clients config.profile c n i tracker rest h).state after) (sym asked.wants)
     (go (some_below clients (λ d. is_probed c true j (b.pair d).recorded d)) refl
-    (subst (λ (i : Acquiring). IsInvariant (is_caching config) (acquire_taken clients config.profile c n i tracker rest h).state) asked.wants inv))
+    (subst (λ (i : AcquirePhase). IsInvariant (is_caching config) (acquire_taken clients config.profile c n i tracker rest h).state) asked.wants inv))
   where
     b : Block (List ℕ)
     b = h.state.block n
@@ -195,7 +195,7 @@ carried-acquire_taken {w} config log h sys c n k rest queue is first asked comes
     tracker = next_tracker sys
 
     j : Cap
-    j = cap_asked (Wants asked.whole asked.grow)
+    j = cap_asked (AcquireOpen asked.whole asked.grow)
 
     ready : IsReady tracker c Acquire n h
     ready = ready-acquire config log h sys c n k is asked comes last moves
@@ -216,7 +216,7 @@ carried-acquire_taken {w} config log h sys c n k rest queue is first asked comes
     state_of : Bool → State (List ℕ)
     state_of x = if x then acquire_served c n (b.source c) tracker j rest h.state else acquire_granted c n tracker data_too given rest h.state
 
-    go : (x : Bool) → some_below clients (λ d. is_probed c true j (b.pair d).recorded d) ≡ x → IsInvariant (is_caching config) (state_of x) → AreCarried h.mail (state_of x) after
+    go : (x : Bool) → some_below clients (λ d. is_probed c true j (b.pair d).recorded d) ≡ x → IsInvariant (is_caching config) (state_of x) → ChannelRelation h.mail (state_of x) after
     go true f kept =
         let some = somebody-probed config log h.mail h.request h.state sys c k n true m is (acquires-so asked.whole) (same_block n) (rw caps f) in
         acquire_served-carried (is_caching config) c n (b.source c) tracker j rest h.mail h.state sys after (beat.A (a_beat_of m k)) queue comes.width is.invariant kept first ready.0
@@ -227,10 +227,10 @@ carried-acquire_taken {w} config log h sys c n k rest queue is first asked comes
     go false f kept =
         let new = granted_at_once c tracker data_too given b in
         let well : IsWell (is_caching config) new = subst (IsWell (is_caching config)) (set-same n new h.state.block) (kept.blocks n) in
-        acquire_granted-carried (is_caching config) c n tracker data_too given rest (rendered Grant c n new) h.mail h.state sys after
+        acquire_granted-carried (is_caching config) c n tracker data_too given rest (block_message Grant c n new) h.mail h.state sys after
         (beat.A (a_beat_of m k)) queue comes.width is.invariant kept first ready.0
         (once_on_d w c n tracker data_too given b) refl
-        (taken-answering config c k m (rendered Grant c n new) queue sys comes beats last
+        (taken-answering config c k m (block_message Grant c n new) queue sys comes beats last
         (handed-granted config log h.mail h.request h.state sys (is_caching config) c n k is asked comes last (rw caps f) well)) is.carried
 
 -- ---- an access
@@ -241,8 +241,8 @@ answer_on_d m answer.Hint = refl
 answer_on_d m (answer.Data payload) = refl
 
 -- an access that is answered at once changes the bytes only where no message carries them
-pub unread-bytes : {w : ℕ} (config : Config) (log : Log w) (mail : Mail w) (request : ℕ → MessageA w) (s : State (List ℕ)) (sys : System w) (c n : ℕ)
-    (m : MessageA w) → IsMatched config log mail request s sys → is_acquire m.opcode ≡ false
+pub unread-bytes : {w : ℕ} (config : Config) (log : Log w) (mail : AccessMessages w) (request : ℕ → MessageA w) (s : State (List ℕ)) (sys : System w) (c n : ℕ)
+    (m : MessageA w) → SimulationRelation config log mail request s sys → is_acquire m.opcode ≡ false
     → probes_some (length config.clients.items) c false (cap_probed m.opcode m.param) (s.block n).pair ≡ false
     → (k : Kind) (d : ℕ) → (carries k d (s.block n) ≡ false) ⊎ (performs m (s.block n).truth ≡ (s.block n).truth)
 unread-bytes {w} config log mail request s sys c n m is access none k d = elim (leaves-bytes m (s.block n).truth access (is.sized n).truth) [
@@ -261,12 +261,12 @@ unread-bytes {w} config log mail request s sys c n m is access none k d = elim (
     ]
 
 -- after the last beat of an access that was taken
-pub carried-request_taken : {w : ℕ} (config : Config) (log : Log w) (h : Shadow w) (sys : System w) (c source k : ℕ) (rest : List Token) (queue : List (Beat w))
-    → IsMatched config log h.mail h.request h.state sys
-    → (h.state.link c).a ≡ token Request source ∷ rest → (asked : IsAsked config c source h.mail h.state)
+pub carried-request_taken : {w : ℕ} (config : Config) (log : Log w) (h : AbstractState w) (sys : System w) (c source k : ℕ) (rest : List Packet) (queue : List (Beat w))
+    → SimulationRelation config log h.mail h.request h.state sys
+    → (h.state.link c).a ≡ packet Request source ∷ rest → (asked : IsAsked config c source h.mail h.state)
     → IsComing config c k asked.request sys.manager → sys.channels c channel.A ≡ beat.A (a_beat_of asked.request k) ∷ queue → beats_of (message.A asked.request) ≡ suc k
     → must_wait config (link_of c) (beat.A (a_beat_of asked.request k)) sys.manager.trace ≡ false
-    → AreCarried (kind_taken config (next_tracker sys) c Request source rest h).mail (kind_taken config (next_tracker sys) c Request source rest h).state
+    → ChannelRelation (kind_taken config (next_tracker sys) c Request source rest h).mail (kind_taken config (next_tracker sys) c Request source rest h).state
     (system_after config c k asked.request queue sys)
 carried-request_taken {w} config log h sys c source k rest queue is first asked comes beats last moves =
     subst (λ (i : Message w). Carries (request_taken clients c source i tracker rest h)) (sym asked.is_it)
@@ -285,8 +285,8 @@ carried-request_taken {w} config log h sys c source k rest queue is first asked 
     after : System w
     after = system_after config c k m queue sys
 
-    Carries : Shadow w → Type 0
-    Carries i = AreCarried i.mail i.state after
+    Carries : AbstractState w → Type 0
+    Carries i = ChannelRelation i.mail i.state after
 
     clients : ℕ
     clients = length config.clients.items

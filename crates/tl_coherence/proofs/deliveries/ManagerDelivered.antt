@@ -35,20 +35,20 @@ use Rattle.tl_rules.specs.statement.Conformance.{on_link, broken_in_order, same_
 use Rattle.tl_rules.specs.statement.History.{pending}
 use Rattle.tl_params.specs.declared.key.Key.TheVariants.{GrantSink}
 use Rattle.tl_manager.proofs.Links.{whole-e}
-use Rattle.tl_coherence.specs.refinement.Sources.{IsFor}
+use Rattle.tl_coherence.specs.refinement.SourceRelation.{IsFor}
 use Rattle.tl_manager.specs.code.Kept as manager
 use Rattle.tl_manager.specs.statement.Deed.{deed}
 use Rattle.tl_manager.specs.statement.End.{End}
-use Rattle.tl_coherence.specs.refinement.Follow.{Shadow, acquire_opcode, ack_taken, granted_after, last_taken, some_below, token_taken, with_state, answers}
+use Rattle.tl_coherence.specs.refinement.AbstractStep.{AbstractState, acquire_opcode, ack_taken, granted_after, last_taken, some_below, packet_taken, with_state, answers}
 use Rattle.tl_coherence.specs.protocol.Invariant.{IsInvariant, IsOwnSource, IsWell}
 use Rattle.tl_coherence.specs.statement.Log.{Log}
-use Rattle.tl_coherence.specs.protocol.Phase.{View, Own, Other, Granting, Acknowledging, GrantedOther, Answered, Releasing, Acquiring, Calm, Wants}
-use Rattle.tl_coherence.specs.protocol.Protocol.{Service, Free, Waits, GrantSent, GrantTaken, Block, Use, Acquires, is_wanting, report_taken, release_taken, grant_ack_taken}
-use Rattle.tl_coherence.specs.protocol.Protocol.{shown, token, view, granted_block, let_block}
-use Rattle.tl_coherence.specs.refinement.Render.{message_of, prune_told, rendered, report_told}
+use Rattle.tl_coherence.specs.protocol.Phase.{View, Own, Other, Granting, Acknowledging, GrantedOther, ProbeAnswered, ReleaseSent, AcquirePhase, NoAcquire, AcquireOpen}
+use Rattle.tl_coherence.specs.protocol.Protocol.{Service, Free, Waits, GrantSent, GrantTaken, Block, SourceState, Acquires, is_wanting, report_taken, release_taken, grant_ack_taken}
+use Rattle.tl_coherence.specs.protocol.Protocol.{shown, packet, view, granted_block, let_block}
+use Rattle.tl_coherence.specs.refinement.PacketMessages.{message_of, prune_told, block_message, report_told}
 use Rattle.tl_coherence.specs.statement.System.{System}
-use Rattle.tl_coherence.specs.protocol.Token.{Kind, ProbeAck, Release, GrantAck, Acquire, Token, Grant, ReleaseAck, set}
-use Rattle.tl_coherence.specs.refinement.Whole.{IsMatched, IsAcquireOf, is_caching}
+use Rattle.tl_coherence.specs.protocol.Packet.{Kind, ProbeAck, Release, GrantAck, Acquire, Packet, Grant, ReleaseAck, set}
+use Rattle.tl_coherence.specs.refinement.SimulationRelation.{SimulationRelation, IsAcquireOf, is_caching}
 use Rattle.tl_coherence.proofs.queues.Carried.{IsNext}
 use Rattle.tl_coherence.proofs.queues.Facts.{answered_other, is_other, own_wants}
 use Rattle.tl_coherence.proofs.manager.ManagedAcks.{IsAcked}
@@ -63,9 +63,9 @@ use Rattle.tl_coherence.proofs.memory.BesideTaken.{same_message}
 
 -- ---- the Acquire that is granted
 
-wanted_fields : {w : ℕ} (q n : ℕ) (whole : Bool) (g : Grow) (b : Block (List ℕ)) (v : MessageA w) → (b.pair q).acquiring ≡ Wants whole g
-    → rendered Acquire q n b ≡ message.A v → (v.opcode ≡ acquire_opcode whole) × (v.param ≡ grow_code g)
-unfolding rendered
+wanted_fields : {w : ℕ} (q n : ℕ) (whole : Bool) (g : Grow) (b : Block (List ℕ)) (v : MessageA w) → (b.pair q).acquiring ≡ AcquireOpen whole g
+    → block_message Acquire q n b ≡ message.A v → (v.opcode ≡ acquire_opcode whole) × (v.param ≡ grow_code g)
+unfolding block_message
 wanted_fields {w} q n true g b v wants e =
     let same = same_message _ v (rw wants at e) in
     (ap (λ (m : MessageA w). m.opcode) (sym same), ap (λ (m : MessageA w). m.param) (sym same))
@@ -84,27 +84,27 @@ seen_apart q source k c e same = go (c == q) (rw (same, same_number q) refl) e
 -- ---- what is handed out
 
 -- where nobody else's ProbeAck is missing: `h'` is the protocol then
-abbrev pub pushed_last : {w : ℕ} → ℕ → Service → Shadow w → Handed w
-pushed_last n (Waits q true source k) h' = (record { 0 = q }, rendered Grant q n (h'.state.block n)) ∷ []
+abbrev pub pushed_last : {w : ℕ} → ℕ → Service → AbstractState w → Handed w
+pushed_last n (Waits q true source k) h' = (record { 0 = q }, block_message Grant q n (h'.state.block n)) ∷ []
 pushed_last n (Waits q false source k) h' = (record { 0 = q }, h'.mail.answer q source) ∷ []
 pushed_last n _ h' = []
 
 -- at the last beat of the message of client c and block n, before which the protocol was `h`
-abbrev pub pushed : {w : ℕ} → Config → ℕ → Kind → ℕ → Shadow w → Shadow w → Handed w
+abbrev pub pushed : {w : ℕ} → Config → ℕ → Kind → ℕ → AbstractState w → AbstractState w → Handed w
 pushed config c ProbeAck n h h' = if some_below (length config.clients.items) (others_probed c (h.state.block n).pair) then [] else pushed_last n (h.state.block n).service h'
-pushed config c Release n h h' = (record { 0 = c }, rendered ReleaseAck c n (h'.state.block n)) ∷ []
+pushed config c Release n h h' = (record { 0 = c }, block_message ReleaseAck c n (h'.state.block n)) ∷ []
 pushed config c _ n h h' = []
 
 -- what is kept of the manager's end after this beat, and what it hands out
-abbrev pub Does : {w : ℕ} → Config → ℕ → Shadow w → Shadow w → Kind → ℕ → End w → Beat w → Type 0
+abbrev pub Does : {w : ℕ} → Config → ℕ → AbstractState w → AbstractState w → Kind → ℕ → End w → Beat w → Type 0
 Does config c h h' kind n e x =
     IsManagerOf config h' (left c x (deed config (record { 0 = c }) x e) e) × ((deed config (record { 0 = c }) x e).handed ≡ pushed config c kind n h h')
 
 -- ---- a ProbeAck
 
 -- where its last beat is taken
-reported-last : {w : ℕ} (config : Config) (log : Log w) (h : Shadow w) (sys : System w) (c n k : ℕ) (rest : List Token) (m : MessageC w) → IsMatched config log h.mail h.request h.state sys
-    → (h.state.link c).c ≡ token ProbeAck n ∷ rest → ((h.state.block n).pair c).probing ≡ Answered (report_told ((h.state.block n).pair c).probing)
+reported-last : {w : ℕ} (config : Config) (log : Log w) (h : AbstractState w) (sys : System w) (c n k : ℕ) (rest : List Packet) (m : MessageC w) → SimulationRelation config log h.mail h.request h.state sys
+    → (h.state.link c).c ≡ packet ProbeAck n ∷ rest → ((h.state.block n).pair c).probing ≡ ProbeAnswered (report_told ((h.state.block n).pair c).probing)
     → IsTakenUp config c channel.C (beat.C (c_beat_of m k)) sys.manager
     → IsEnd true c n (report_code (report_told ((h.state.block n).pair c).probing))
     (same_perm (report_left (report_told ((h.state.block n).pair c).probing)) perm.Trunk) (h.state.block n).truth k m sys.manager
@@ -125,7 +125,7 @@ reported-last {w} config log h sys c n k rest m is tokens answered up end =
     x = beat.C (c_beat_of m k)
 
     -- what is kept, and what is handed out
-    Result : Shadow w → Handed w → Type 0
+    Result : AbstractState w → Handed w → Type 0
     Result h' pushes = IsManagerOf config h' (left c x (deed config (record { 0 = c }) x e) e) × ((deed config (record { 0 = c }) x e).handed ≡ pushes)
 
     seen : is_other (view b.service c) ≡ true
@@ -167,14 +167,14 @@ reported-last {w} config log h sys c n k rest m is tokens answered up end =
         used : h.state.uses q source ≡ Acquires n
         used = acquires_of-is n (h.state.uses q source) (is.invariant.named.acquires q source n ∙ rw (wants, ← own_source, same_number source) refl)
 
-        acquired : rendered Acquire q n b ≡ message.A (h.request n)
+        acquired : block_message Acquire q n b ≡ message.A (h.request n)
         acquired = subst (λ (v : Service). IsAcquireOf n b v (h.request n)) f (is.acquired n)
 
-        go : (y : Acquiring) → (b.pair q).acquiring ≡ y → IsInvariant (is_caching config) (granted_after (length config.clients.items) config.profile c q n r y rest h).state
+        go : (y : AcquirePhase) → (b.pair q).acquiring ≡ y → IsInvariant (is_caching config) (granted_after (length config.clients.items) config.profile c q n r y rest h).state
             → Result (granted_after (length config.clients.items) config.profile c q n r y rest h)
-            ((record { 0 = q }, rendered Grant q n ((granted_after (length config.clients.items) config.profile c q n r y rest h).state.block n)) ∷ [])
-        go Calm g after = absurd (let none : false ≡ true = rw g at wants in cc)
-        go (Wants whole grow) g after =
+            ((record { 0 = q }, block_message Grant q n ((granted_after (length config.clients.items) config.profile c q n r y rest h).state.block n)) ∷ [])
+        go NoAcquire g after = absurd (let none : false ≡ true = rw g at wants in cc)
+        go (AcquireOpen whole grow) g after =
             let fields = wanted_fields q n whole grow b (h.request n) g acquired in
             let at : IsSettling config c q n source k true low r m h e =
             record {
@@ -193,7 +193,7 @@ reported-last {w} config log h sys c n k rest m is tokens answered up end =
               ap (λ (d : Deed w). d.handed) (deed-conceded config c q n source k low r whole grow m h e at wanted)
                   ∙ ap (λ (i : Message w). (record { 0 = q }, i) ∷ [])
                   (grant-rendered config (is_caching config) c q n source r whole grow h own_source
-                  (subst (IsWell (is_caching config)) here (after.blocks n)) ∙ ap (rendered Grant q n) (sym here)),
+                  (subst (IsWell (is_caching config)) here (after.blocks n)) ∙ ap (block_message Grant q n) (sym here)),
             )
 
     others : (y : Bool) → some_below (length config.clients.items) (others_probed c b.pair) ≡ y
@@ -212,18 +212,18 @@ reported-last {w} config log h sys c n k rest m is tokens answered up end =
 -- ---- any beat of a message of channel C
 
 -- what is handed out at the last beat of the message whose token is first
-abbrev pub pushed_by : {w : ℕ} → Config → ℕ → List Token → Shadow w → Shadow w → Handed w
+abbrev pub pushed_by : {w : ℕ} → Config → ℕ → List Packet → AbstractState w → AbstractState w → Handed w
 pushed_by config c [] h h' = []
 pushed_by config c (x ∷ rest) h h' = pushed config c x.kind x.number h h'
 
 -- The beat is taken, what is kept follows, and this is handed out: `h'` is the protocol where the beat is the last one
 -- of its message, and `pushes` is what is handed out then.
-pub record Delivered {w : ℕ} (config : Config) (c : ℕ) (ch : Channel) (rest : List (Beat w)) (h h' : Shadow w) (pushes : Handed w) (e : End w) (x : Beat w) : Type 0 where
+pub record Delivered {w : ℕ} (config : Config) (c : ℕ) (ch : Channel) (rest : List (Beat w)) (h h' : AbstractState w) (pushes : Handed w) (e : End w) (x : Beat w) : Type 0 where
   pub up : IsTakenUp config c ch x e
   pub manager : IsManagerOf config (if completes x rest then h' else h) (left c x (deed config (record { 0 = c }) x e) e)
   pub handed : (deed config (record { 0 = c }) x e).handed ≡ (if completes x rest then pushes else [])
 
-delivered-c : {w : ℕ} (config : Config) (h h' : Shadow w) (kind : Kind) (c n : ℕ) (x : Beat w) (m : MessageC w) (ms : List (Message w)) (queue : List (Beat w))
+delivered-c : {w : ℕ} (config : Config) (h h' : AbstractState w) (kind : Kind) (c n : ℕ) (x : Beat w) (m : MessageC w) (ms : List (Message w)) (queue : List (Beat w))
     (e : End w) → IsWidth w → IsManagerOf config h e → manager.IsSound config (record { 0 = c }, x)
     → IsNext x (unfinished channel.C (on_link c e.trace)) (message.C m) ms queue
     → ((k : ℕ) → unfinished channel.C (on_link c e.trace) ≡ begun (message.C m) k → broken_in_order config.profile (beat.C (c_beat_of m k)) (on_link c e.trace) ≡ None)
@@ -266,14 +266,14 @@ delivered-c {w} config h h' kind c n x m ms queue e width is sound next order la
           handed = ap (λ (d : Deed w). d.handed) (deed-part config (record { 0 = c }) y e part) ∙ sym (ap (λ (b : Bool). if b then pushes else []) part);
         }
 
-pub reports-delivered : {w : ℕ} (config : Config) (log : Log w) (h : Shadow w) (sys : System w) (c n : ℕ) (rest : List Token) (x : Beat w)
-    (queue : List (Beat w)) (ms : List (Message w)) → IsWidth w → IsMatched config log h.mail h.request h.state sys
-    → sys.channels c channel.C ≡ x ∷ queue → (h.state.link c).c ≡ token ProbeAck n ∷ rest
-    → IsNext x (unfinished channel.C (on_link c sys.manager.trace)) (rendered ProbeAck c n (h.state.block n)) ms queue
+pub reports-delivered : {w : ℕ} (config : Config) (log : Log w) (h : AbstractState w) (sys : System w) (c n : ℕ) (rest : List Packet) (x : Beat w)
+    (queue : List (Beat w)) (ms : List (Message w)) → IsWidth w → SimulationRelation config log h.mail h.request h.state sys
+    → sys.channels c channel.C ≡ x ∷ queue → (h.state.link c).c ≡ packet ProbeAck n ∷ rest
+    → IsNext x (unfinished channel.C (on_link c sys.manager.trace)) (block_message ProbeAck c n (h.state.block n)) ms queue
     → Delivered config c channel.C (unfinished channel.C (on_link c sys.manager.trace)) h
     (ack_taken (length config.clients.items) config.profile c n (report_told ((h.state.block n).pair c).probing) rest h)
     (pushed config c ProbeAck n h (ack_taken (length config.clients.items) config.profile c n (report_told ((h.state.block n).pair c).probing) rest h)) sys.manager x
-unfolding rendered
+unfolding block_message
 reports-delivered {w} config log h sys c n rest x queue ms width is beats tokens next =
     delivered-c config h _ ProbeAck c n x m ms queue sys.manager width (at_manager-matched config log h.mail h.request h.state sys is)
     (head_all (λ y. manager.IsSound config (record { 0 = c }, y)) x queue (sys.channels c channel.C) beats (is.sound c channel.C))
@@ -285,26 +285,26 @@ reports-delivered {w} config log h sys c n rest x queue ms width is beats tokens
     r : Report
     r = report_told ((h.state.block n).pair c).probing
 
-    about : (i : MessageC w) × (rendered ProbeAck c n (h.state.block n) ≡ message.C i) × IsAbout true n (report_code r) (same_perm (report_left r) perm.Trunk) (h.state.block n).truth i
+    about : (i : MessageC w) × (block_message ProbeAck c n (h.state.block n) ≡ message.C i) × IsAbout true n (report_code r) (same_perm (report_left r) perm.Trunk) (h.state.block n).truth i
     about = report-about r n (h.state.block n).truth width (is.sized n).truth
 
     m : MessageC w
     m = about.0
 
-    answered : ((h.state.block n).pair c).probing ≡ Answered r
+    answered : ((h.state.block n).pair c).probing ≡ ProbeAnswered r
     answered = answered-is ((h.state.block n).pair c).probing
-        (holds-first ProbeAck (h.state.link c).c rest (token ProbeAck n) (λ i. shown ProbeAck c (h.state.block i)) tokens refl
+        (holds-first ProbeAck (h.state.link c).c rest (packet ProbeAck n) (λ i. shown ProbeAck c (h.state.block i)) tokens refl
         (is.invariant.transfers c ProbeAck refl))
 
 -- ---- a Release
 
-pub releases-delivered : {w : ℕ} (config : Config) (log : Log w) (h : Shadow w) (sys : System w) (c n : ℕ) (rest : List Token) (x : Beat w)
-    (queue : List (Beat w)) (ms : List (Message w)) → IsWidth w → IsMatched config log h.mail h.request h.state sys
-    → sys.channels c channel.C ≡ x ∷ queue → (h.state.link c).c ≡ token Release n ∷ rest
-    → IsNext x (unfinished channel.C (on_link c sys.manager.trace)) (rendered Release c n (h.state.block n)) ms queue
+pub releases-delivered : {w : ℕ} (config : Config) (log : Log w) (h : AbstractState w) (sys : System w) (c n : ℕ) (rest : List Packet) (x : Beat w)
+    (queue : List (Beat w)) (ms : List (Message w)) → IsWidth w → SimulationRelation config log h.mail h.request h.state sys
+    → sys.channels c channel.C ≡ x ∷ queue → (h.state.link c).c ≡ packet Release n ∷ rest
+    → IsNext x (unfinished channel.C (on_link c sys.manager.trace)) (block_message Release c n (h.state.block n)) ms queue
     → Delivered config c channel.C (unfinished channel.C (on_link c sys.manager.trace)) h (with_state (release_taken c n (prune_told ((h.state.block n).pair c).letting) rest h.state) h)
     (pushed config c Release n h (with_state (release_taken c n (prune_told ((h.state.block n).pair c).letting) rest h.state) h)) sys.manager x
-unfolding rendered
+unfolding block_message
 releases-delivered {w} config log h sys c n rest x queue ms width is beats tokens next =
     delivered-c config h _ Release c n x m ms queue sys.manager width (at_manager-matched config log h.mail h.request h.state sys is)
     (head_all (λ y. manager.IsSound config (record { 0 = c }, y)) x queue (sys.channels c channel.C) beats (is.sound c channel.C))
@@ -317,33 +317,33 @@ releases-delivered {w} config log h sys c n rest x queue ms width is beats token
       released-left config c n k r rest m h sys.manager up end (at_manager-matched config log h.mail h.request h.state sys is),
       ap (λ (d : Deed w). d.handed) (deed-released config c n k r m h sys.manager end)
           ∙ ap (λ (i : ℕ). (record { 0 = c }, release_ack {w = w} i) ∷ []) about.3
-          ∙ sym (ap (λ (b : Block (List ℕ)). (record { 0 = c }, rendered {w = w} ReleaseAck c n b) ∷ [])
+          ∙ sym (ap (λ (b : Block (List ℕ)). (record { 0 = c }, block_message {w = w} ReleaseAck c n b) ∷ [])
           (set-same n (let_block c r (h.state.block n)) h.state.block)),
     ))
   where
     r : Prune
     r = prune_told ((h.state.block n).pair c).letting
 
-    about : (i : MessageC w) × (rendered Release c n (h.state.block n) ≡ message.C i)
+    about : (i : MessageC w) × (block_message Release c n (h.state.block n) ≡ message.C i)
         × IsAbout false n (prune_code r) (same_perm (prune_left r) perm.Trunk) (h.state.block n).truth i × (i.source ≡ (h.state.block n).release_source c)
     about = release-about r ((h.state.block n).release_source c) n (h.state.block n).truth width (is.sized n).truth
 
     m : MessageC w
     m = about.0
 
-    releasing : ((h.state.block n).pair c).letting ≡ Releasing r
+    releasing : ((h.state.block n).pair c).letting ≡ ReleaseSent r
     releasing = releasing-is ((h.state.block n).pair c).letting
-        (holds-first Release (h.state.link c).c rest (token Release n) (λ i. shown Release c (h.state.block i)) tokens refl
+        (holds-first Release (h.state.link c).c rest (packet Release n) (λ i. shown Release c (h.state.block i)) tokens refl
         (is.invariant.transfers c Release refl))
 
 -- ---- a GrantAck
 
-pub acks-delivered : {w : ℕ} (config : Config) (log : Log w) (h : Shadow w) (sys : System w) (c n : ℕ) (rest : List Token) (x : Beat w) (queue : List (Beat w))
-    (ms : List (Message w)) → IsWidth w → IsMatched config log h.mail h.request h.state sys
-    → sys.channels c channel.E ≡ x ∷ queue → (h.state.link c).e ≡ token GrantAck n ∷ rest
-    → IsNext x (unfinished channel.E (on_link c sys.manager.trace)) (rendered GrantAck c n (h.state.block n)) ms queue
+pub acks-delivered : {w : ℕ} (config : Config) (log : Log w) (h : AbstractState w) (sys : System w) (c n : ℕ) (rest : List Packet) (x : Beat w) (queue : List (Beat w))
+    (ms : List (Message w)) → IsWidth w → SimulationRelation config log h.mail h.request h.state sys
+    → sys.channels c channel.E ≡ x ∷ queue → (h.state.link c).e ≡ packet GrantAck n ∷ rest
+    → IsNext x (unfinished channel.E (on_link c sys.manager.trace)) (block_message GrantAck c n (h.state.block n)) ms queue
     → Delivered config c channel.E (unfinished channel.E (on_link c sys.manager.trace)) h (with_state (grant_ack_taken c n rest h.state) h) [] sys.manager x
-unfolding rendered
+unfolding block_message
 acks-delivered {w} config log h sys c n rest x queue ms width is beats tokens next =
     subst (Delivered config c channel.E before h after [] e) (sym next.beat_is) (record {
       up = up;
@@ -359,7 +359,7 @@ acks-delivered {w} config log h sys c n rest x queue ms width is beats tokens ne
     before : List (Beat w)
     before = unfinished channel.E (on_link c e.trace)
 
-    after : Shadow w
+    after : AbstractState w
     after = with_state (grant_ack_taken c n rest h.state) h
 
     y : BeatE
@@ -367,7 +367,7 @@ acks-delivered {w} config log h sys c n rest x queue ms width is beats tokens ne
 
     taken_is : (h.state.block n).service ≡ GrantTaken c
     taken_is = acknowledging-is (h.state.block n).service c
-        (holds-first GrantAck (h.state.link c).e rest (token GrantAck n) (λ i. shown GrantAck c (h.state.block i)) tokens refl
+        (holds-first GrantAck (h.state.link c).e rest (packet GrantAck n) (λ i. shown GrantAck c (h.state.block i)) tokens refl
         (is.invariant.transfers c GrantAck refl))
 
     order : (pending (GrantSink y.sink) (on_link c e.trace) ≡ true) × (broken_in_order {w = w} config.profile (beat.E y) (on_link c e.trace) ≡ None)
@@ -397,23 +397,23 @@ acks-delivered {w} config log h sys c n rest x queue ms width is beats tokens ne
 -- ---- channels C and E
 
 -- the protocol where the last beat of the first message of a channel is taken
-pub channel_c-delivered : {w : ℕ} (config : Config) (log : Log w) (tracker : ℕ) (h : Shadow w) (sys : System w) (c : ℕ) (x : Beat w) (queue : List (Beat w))
-    → IsWidth w → IsMatched config log h.mail h.request h.state sys → sys.channels c channel.C ≡ x ∷ queue
-    → Delivered config c channel.C (unfinished channel.C (on_link c sys.manager.trace)) h (token_taken config tracker c (h.state.link c).c h)
-    (pushed_by config c (h.state.link c).c h (token_taken config tracker c (h.state.link c).c h)) sys.manager x
+pub channel_c-delivered : {w : ℕ} (config : Config) (log : Log w) (tracker : ℕ) (h : AbstractState w) (sys : System w) (c : ℕ) (x : Beat w) (queue : List (Beat w))
+    → IsWidth w → SimulationRelation config log h.mail h.request h.state sys → sys.channels c channel.C ≡ x ∷ queue
+    → Delivered config c channel.C (unfinished channel.C (on_link c sys.manager.trace)) h (packet_taken config tracker c (h.state.link c).c h)
+    (pushed_by config c (h.state.link c).c h (packet_taken config tracker c (h.state.link c).c h)) sys.manager x
 channel_c-delivered {w} config log tracker h sys c x queue width is beats =
-    by-first_c (λ i. Delivered config c channel.C (unfinished channel.C (on_link c sys.manager.trace)) h (token_taken config tracker c i h)
-    (pushed_by config c i h (token_taken config tracker c i h)) sys.manager x) c h.mail h.state sys x queue
+    by-first_c (λ i. Delivered config c channel.C (unfinished channel.C (on_link c sys.manager.trace)) h (packet_taken config tracker c i h)
+    (pushed_by config c i h (packet_taken config tracker c i h)) sys.manager x) c h.mail h.state sys x queue
     (first-token (is_caching config) channel.C c h.mail h.state sys x queue width is.invariant is.carried beats)
     (λ n rest tokens next. reports-delivered config log h sys c n rest x queue (map (message_of h.mail h.state c) rest) width is beats tokens next)
     (λ n rest tokens next. releases-delivered config log h sys c n rest x queue (map (message_of h.mail h.state c) rest) width is beats tokens next)
 
-pub channel_e-delivered : {w : ℕ} (config : Config) (log : Log w) (tracker : ℕ) (h : Shadow w) (sys : System w) (c : ℕ) (x : Beat w) (queue : List (Beat w))
-    → IsWidth w → IsMatched config log h.mail h.request h.state sys → sys.channels c channel.E ≡ x ∷ queue
-    → Delivered config c channel.E (unfinished channel.E (on_link c sys.manager.trace)) h (token_taken config tracker c (h.state.link c).e h)
-    (pushed_by config c (h.state.link c).e h (token_taken config tracker c (h.state.link c).e h)) sys.manager x
+pub channel_e-delivered : {w : ℕ} (config : Config) (log : Log w) (tracker : ℕ) (h : AbstractState w) (sys : System w) (c : ℕ) (x : Beat w) (queue : List (Beat w))
+    → IsWidth w → SimulationRelation config log h.mail h.request h.state sys → sys.channels c channel.E ≡ x ∷ queue
+    → Delivered config c channel.E (unfinished channel.E (on_link c sys.manager.trace)) h (packet_taken config tracker c (h.state.link c).e h)
+    (pushed_by config c (h.state.link c).e h (packet_taken config tracker c (h.state.link c).e h)) sys.manager x
 channel_e-delivered {w} config log tracker h sys c x queue width is beats =
-    by-first_e (λ i. Delivered config c channel.E (unfinished channel.E (on_link c sys.manager.trace)) h (token_taken config tracker c i h)
-    (pushed_by config c i h (token_taken config tracker c i h)) sys.manager x) c h.mail h.state sys x queue
+    by-first_e (λ i. Delivered config c channel.E (unfinished channel.E (on_link c sys.manager.trace)) h (packet_taken config tracker c i h)
+    (pushed_by config c i h (packet_taken config tracker c i h)) sys.manager x) c h.mail h.state sys x queue
     (first-token (is_caching config) channel.E c h.mail h.state sys x queue width is.invariant is.carried beats)
     (λ n rest tokens next. acks-delivered config log h sys c n rest x queue (map (message_of h.mail h.state c) rest) width is beats tokens next)

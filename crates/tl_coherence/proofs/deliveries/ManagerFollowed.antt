@@ -19,13 +19,13 @@ use Rattle.tl_manager.specs.statement.End.{End}
 use Rattle.tl_manager.specs.statement.Offer.{level_of}
 use Rattle.tl_coherence.specs.declared.event.Event.TheVariants.{Deliver}
 use Rattle.tl_coherence.specs.declared.event.Outcome.TheVariants as outcome
-use Rattle.tl_coherence.specs.refinement.Follow.{Shadow, delivered, followed, is_last, token_taken}
+use Rattle.tl_coherence.specs.refinement.AbstractStep.{AbstractState, delivered, abstract_step, is_last, packet_taken}
 use Rattle.tl_coherence.specs.statement.Log.{Log}
-use Rattle.tl_coherence.specs.refinement.Matched.{receiver}
-use Rattle.tl_coherence.specs.protocol.Protocol.{tokens_on}
+use Rattle.tl_coherence.specs.refinement.ChannelRelation.{receiver}
+use Rattle.tl_coherence.specs.protocol.Protocol.{packets_on}
 use Rattle.tl_coherence.specs.statement.Step.{Step, handing, is_to_client, manager_took, stepped}
 use Rattle.tl_coherence.specs.statement.System.{System, terms_at, with_channel, with_manager}
-use Rattle.tl_coherence.specs.refinement.Whole.{IsMatched}
+use Rattle.tl_coherence.specs.refinement.SimulationRelation.{SimulationRelation}
 use Rattle.tl_coherence.proofs.manager.ManagerAfter.{IsManagerOf, left}
 use Rattle.tl_coherence.proofs.deliveries.ManagerDelivered.{channel_c-delivered, channel_e-delivered}
 use Rattle.tl_coherence.proofs.manager.ManagerTakes.{IsTakenUp}
@@ -62,32 +62,32 @@ manager-taken {w} config c ch x queue sys t terms beats down up =
     (with_manager (left c x (deed config (record { 0 = c }) x sys.manager) sys.manager) (with_channel c ch queue sys))
 
 -- and what the protocol does then
-pub followed-taken : {w : ℕ} (config : Config) (c : ℕ) (ch : Channel) (x : Beat w) (queue : List (Beat w)) (sys : System w) (h : Shadow w) (t : Terms)
+pub followed-taken : {w : ℕ} (config : Config) (c : ℕ) (ch : Channel) (x : Beat w) (queue : List (Beat w)) (sys : System w) (h : AbstractState w) (t : Terms)
     → terms_at config c ≡ Some t → sys.channels c ch ≡ x ∷ queue → is_to_client ch ≡ false
     → IsTakenUp config c ch x sys.manager
-    → followed config (Deliver (record { 0 = c }) ch) sys h
-    ≡ (if completes x (unfinished ch (receiver ch c sys)) then token_taken config (least_untaken (trackers_of (services sys.manager.trace))) c (tokens_on ch (h.state.link c)) h else h)
+    → abstract_step config (Deliver (record { 0 = c }) ch) sys h
+    ≡ (if completes x (unfinished ch (receiver ch c sys)) then packet_taken config (least_untaken (trackers_of (services sys.manager.trace))) c (packets_on ch (h.state.link c)) h else h)
 followed-taken {w} config c ch x queue sys h t terms beats down up =
     ap (λ (s : Step w). delivered config c ch s.outcome sys h) (step-taken config c ch x queue sys t terms beats down up)
-    ∙ ap (λ (b : List (Beat w)). if is_last b (unfinished ch (receiver ch c sys)) then token_taken config
-    (least_untaken (trackers_of (services sys.manager.trace))) c (tokens_on ch (h.state.link c)) h else h) beats
+    ∙ ap (λ (b : List (Beat w)). if is_last b (unfinished ch (receiver ch c sys)) then packet_taken config
+    (least_untaken (trackers_of (services sys.manager.trace))) c (packets_on ch (h.state.link c)) h else h) beats
 
-pub manager-followed_c : {w : ℕ} (config : Config) (log : Log w) (h : Shadow w) (sys : System w) (c : ℕ) (x : Beat w) (queue : List (Beat w)) → IsWidth w
-    → IsMatched config log h.mail h.request h.state sys → sys.channels c channel.C ≡ x ∷ queue
-    → IsManagerOf config (followed config (Deliver (record { 0 = c }) channel.C) sys h) (stepped config (Deliver (record { 0 = c }) channel.C) sys).after.manager
+pub manager-followed_c : {w : ℕ} (config : Config) (log : Log w) (h : AbstractState w) (sys : System w) (c : ℕ) (x : Beat w) (queue : List (Beat w)) → IsWidth w
+    → SimulationRelation config log h.mail h.request h.state sys → sys.channels c channel.C ≡ x ∷ queue
+    → IsManagerOf config (abstract_step config (Deliver (record { 0 = c }) channel.C) sys h) (stepped config (Deliver (record { 0 = c }) channel.C) sys).after.manager
 manager-followed_c {w} config log h sys c x queue width is beats =
     let t = client-of config c channel.C x queue sys beats (is.sound c channel.C) in
     let d = channel_c-delivered config log (least_untaken (trackers_of (services sys.manager.trace))) h sys c x queue width is beats in
-    subst (λ (i : End w). IsManagerOf config (followed config (Deliver (record { 0 = c }) channel.C) sys h) i) (sym (manager-taken config c channel.C x queue sys t.0 t.1 beats refl d.up))
-    (subst (λ (i : Shadow w). IsManagerOf config i (left c x (deed config (record { 0 = c }) x sys.manager) sys.manager))
+    subst (λ (i : End w). IsManagerOf config (abstract_step config (Deliver (record { 0 = c }) channel.C) sys h) i) (sym (manager-taken config c channel.C x queue sys t.0 t.1 beats refl d.up))
+    (subst (λ (i : AbstractState w). IsManagerOf config i (left c x (deed config (record { 0 = c }) x sys.manager) sys.manager))
     (sym (followed-taken config c channel.C x queue sys h t.0 t.1 beats refl d.up)) d.manager)
 
-pub manager-followed_e : {w : ℕ} (config : Config) (log : Log w) (h : Shadow w) (sys : System w) (c : ℕ) (x : Beat w) (queue : List (Beat w)) → IsWidth w
-    → IsMatched config log h.mail h.request h.state sys → sys.channels c channel.E ≡ x ∷ queue
-    → IsManagerOf config (followed config (Deliver (record { 0 = c }) channel.E) sys h) (stepped config (Deliver (record { 0 = c }) channel.E) sys).after.manager
+pub manager-followed_e : {w : ℕ} (config : Config) (log : Log w) (h : AbstractState w) (sys : System w) (c : ℕ) (x : Beat w) (queue : List (Beat w)) → IsWidth w
+    → SimulationRelation config log h.mail h.request h.state sys → sys.channels c channel.E ≡ x ∷ queue
+    → IsManagerOf config (abstract_step config (Deliver (record { 0 = c }) channel.E) sys h) (stepped config (Deliver (record { 0 = c }) channel.E) sys).after.manager
 manager-followed_e {w} config log h sys c x queue width is beats =
     let t = client-of config c channel.E x queue sys beats (is.sound c channel.E) in
     let d = channel_e-delivered config log (least_untaken (trackers_of (services sys.manager.trace))) h sys c x queue width is beats in
-    subst (λ (i : End w). IsManagerOf config (followed config (Deliver (record { 0 = c }) channel.E) sys h) i) (sym (manager-taken config c channel.E x queue sys t.0 t.1 beats refl d.up))
-    (subst (λ (i : Shadow w). IsManagerOf config i (left c x (deed config (record { 0 = c }) x sys.manager) sys.manager))
+    subst (λ (i : End w). IsManagerOf config (abstract_step config (Deliver (record { 0 = c }) channel.E) sys h) i) (sym (manager-taken config c channel.E x queue sys t.0 t.1 beats refl d.up))
+    (subst (λ (i : AbstractState w). IsManagerOf config i (left c x (deed config (record { 0 = c }) x sys.manager) sys.manager))
     (sym (followed-taken config c channel.E x queue sys h t.0 t.1 beats refl d.up)) d.manager)

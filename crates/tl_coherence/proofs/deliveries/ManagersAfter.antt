@@ -32,24 +32,24 @@ use Rattle.tl_manager.specs.statement.Deed.{deed}
 use Rattle.tl_manager.proofs.Events.{deed-part}
 use Rattle.tl_coherence.specs.declared.event.Event.TheVariants.{Deliver}
 use Rattle.tl_coherence.specs.declared.event.Outcome.TheVariants as outcome
-use Rattle.tl_coherence.specs.refinement.Beside.{IsBeside}
+use Rattle.tl_coherence.specs.refinement.MemoryRelation.{MemoryRelation}
 use Rattle.tl_coherence.specs.statement.Draining.{is_moving}
-use Rattle.tl_coherence.specs.refinement.Follow.{Shadow, followed, token_taken, kind_taken}
-use Rattle.tl_coherence.specs.statement.Log.{Log, after}
+use Rattle.tl_coherence.specs.refinement.AbstractStep.{AbstractState, abstract_step, packet_taken, kind_taken}
+use Rattle.tl_coherence.specs.statement.Log.{Log, system_after}
 use Rattle.tl_coherence.specs.statement.Machine.{Machine}
-use Rattle.tl_coherence.specs.refinement.Matched.{AreCarried, receiver}
-use Rattle.tl_coherence.specs.protocol.Phase.{Acquiring, Calm, Wants}
-use Rattle.tl_coherence.specs.protocol.Protocol.{Block, Use, token, tokens_on, is_on}
-use Rattle.tl_coherence.specs.statement.Remembered.{remembered, performing, accesses_answered}
-use Rattle.tl_coherence.specs.refinement.Render.{acquire_of, report_told, prune_told, rendered, message_of_kind}
+use Rattle.tl_coherence.specs.refinement.ChannelRelation.{ChannelRelation, receiver}
+use Rattle.tl_coherence.specs.protocol.Phase.{AcquirePhase, NoAcquire, AcquireOpen}
+use Rattle.tl_coherence.specs.protocol.Protocol.{Block, SourceState, packet, packets_on, is_on}
+use Rattle.tl_coherence.specs.statement.OneMemory.{one_memory_after, performing, accesses_answered}
+use Rattle.tl_coherence.specs.refinement.PacketMessages.{acquire_of, report_told, prune_told, block_message, message_of_kind}
 use Rattle.tl_coherence.specs.statement.Step.{Step, stepped, handing, is_to_client}
 use Rattle.tl_coherence.specs.statement.System.{System, terms_at, channel_of_message, with_manager, with_channel, with_messages}
-use Rattle.tl_coherence.specs.protocol.Token.{Kind, Request, Acquire, Probe, ProbeAck, Release, Answer, Grant, ReleaseAck, GrantAck, Token}
-use Rattle.tl_coherence.specs.refinement.Whole.{IsMatched, is_caching, IsRequest, IsSourced}
+use Rattle.tl_coherence.specs.protocol.Packet.{Kind, Request, Acquire, Probe, ProbeAck, Release, Answer, Grant, ReleaseAck, GrantAck, Packet}
+use Rattle.tl_coherence.specs.refinement.SimulationRelation.{SimulationRelation, is_caching, IsRequest, IsSourced}
 use Rattle.tl_coherence.proofs.queues.Channels.{behind, IsTaken}
 use Rattle.tl_coherence.proofs.queues.FirstToken.{IsFirst, first-token}
-use Rattle.tl_coherence.proofs.deliveries.HeardAfter.{followed-moving}
-use Rattle.tl_coherence.proofs.deliveries.HeardAll.{IsDelivered, delivered_as, remembered_after}
+use Rattle.tl_coherence.proofs.deliveries.DeliverDAfter.{followed-moving}
+use Rattle.tl_coherence.proofs.deliveries.DeliverDWhole.{IsDelivered, delivered_as, remembered_after}
 use Rattle.tl_coherence.proofs.queues.Landed.{IsOn, HasTaken, landed-manager, taken-landed}
 use Rattle.tl_coherence.proofs.simulation.Moved.{manager-moves, manager-heard, carried-part}
 use Rattle.tl_coherence.proofs.manager.RequestsTaken.{next_tracker}
@@ -91,10 +91,10 @@ channel_of_beat (message.C m) i = refl
 channel_of_beat (message.D m) i = refl
 channel_of_beat (message.E m) i = refl
 
-acquire_channel : (w : ℕ) (x : Acquiring) (source n : ℕ) → channel_of_message {w = w} (acquire_of x source n) ≡ channel.A
-acquire_channel w Calm source n = refl
-acquire_channel w (Wants true g) source n = refl
-acquire_channel w (Wants false g) source n = refl
+acquire_channel : (w : ℕ) (x : AcquirePhase) (source n : ℕ) → channel_of_message {w = w} (acquire_of x source n) ≡ channel.A
+acquire_channel w NoAcquire source n = refl
+acquire_channel w (AcquireOpen true g) source n = refl
+acquire_channel w (AcquireOpen false g) source n = refl
 
 pub ack_channel : (w : ℕ) (p : Perm) (r : Report) (n : ℕ) (x : List ℕ) → channel_of_message {w = w} (probe_ack opb.ProbeBlock p r n x) ≡ channel.C
 ack_channel w perm.None r n x = refl
@@ -114,8 +114,8 @@ request_channel config c source (message.D m) h = absurd (let e = h.0 in cc)
 request_channel config c source (message.E m) h = absurd (let e = h.0 in cc)
 
 rendered_channel : (w : ℕ) (ch : Channel) (k : Kind) (c n : ℕ) (b : Block (List ℕ)) → is_to_client ch ≡ false → is_on ch k ≡ true → (k ≡ Request → ⊥)
-    → channel_of_message (rendered {w = w} k c n b) ≡ ch
-unfolding rendered
+    → channel_of_message (block_message {w = w} k c n b) ≡ ch
+unfolding block_message
 rendered_channel w channel.A Acquire c n b down own other = acquire_channel w (b.pair c).acquiring (b.source c) n
 rendered_channel w channel.A Request c n b down own other = absurd (other refl)
 rendered_channel w channel.C ProbeAck c n b down own other = ack_channel w (report_left (report_told (b.pair c).probing)) (report_told (b.pair c).probing) n b.truth
@@ -149,26 +149,26 @@ rendered_channel w channel.E ReleaseAck c n b down own other = absurd cc
 -- ---- the beat, and the step
 
 -- a beat that the manager takes: which it is, and what the step is where this is handed out
-pub record IsAtManager {w : ℕ} (config : Config) (log : Log w) (link : Link) (ch : Channel) (h : Shadow w) (x : Beat w) (queue : List (Beat w)) : Type 0 where
-  pub first : IsFirst ch link.0 h.mail h.state (after config log) x queue
+pub record IsAtManager {w : ℕ} (config : Config) (log : Log w) (link : Link) (ch : Channel) (h : AbstractState w) (x : Beat w) (queue : List (Beat w)) : Type 0 where
+  pub first : IsFirst ch link.0 h.mail h.state (system_after config log) x queue
   pub on_it : IsOn ch x
   pub of_it : channel_of x ≡ ch
-  pub beats : (after config log).channels link.0 ch ≡ x ∷ queue
-  pub heard : HasTaken link.0 x (after config log).manager (manager_offer.taken link x (deed config link x (after config log).manager) (after config log).manager)
-  pub step_is : stepped config (Deliver link ch) (after config log)
-      ≡ handing (outcome.Moved x) (deed config link x (after config log).manager).handed
-      (with_manager (manager_offer.taken link x (deed config link x (after config log).manager) (after config log).manager)
-      (with_channel link.0 ch queue (after config log)))
-  pub follows : followed config (Deliver link ch) (after config log) h
-      ≡ (if completes x (unfinished ch (receiver ch link.0 (after config log))) then kind_taken config (next_tracker (after config log)) link.0 first.kind first.number first.rest h else h)
+  pub beats : (system_after config log).channels link.0 ch ≡ x ∷ queue
+  pub heard : HasTaken link.0 x (system_after config log).manager (manager_offer.taken link x (deed config link x (system_after config log).manager) (system_after config log).manager)
+  pub step_is : stepped config (Deliver link ch) (system_after config log)
+      ≡ handing (outcome.Moved x) (deed config link x (system_after config log).manager).handed
+      (with_manager (manager_offer.taken link x (deed config link x (system_after config log).manager) (system_after config log).manager)
+      (with_channel link.0 ch queue (system_after config log)))
+  pub follows : abstract_step config (Deliver link ch) (system_after config log) h
+      ≡ (if completes x (unfinished ch (receiver ch link.0 (system_after config log))) then kind_taken config (next_tracker (system_after config log)) link.0 first.kind first.number first.rest h else h)
 
-pub at-manager : {w : ℕ} (config : Config) (log : Log w) (link : Link) (ch : Channel) (h : Shadow w) (terms : client.Terms) (x : Beat w) (queue : List (Beat w))
-    → IsWidth w → IsMatched config log h.mail h.request h.state (after config log)
-    → terms_at config link.0 ≡ Some terms → is_to_client ch ≡ false → (after config log).channels link.0 ch ≡ x ∷ queue
-    → is_moving (stepped config (Deliver link ch) (after config log)).outcome ≡ true → IsAtManager config log link ch h x queue
+pub at-manager : {w : ℕ} (config : Config) (log : Log w) (link : Link) (ch : Channel) (h : AbstractState w) (terms : client.Terms) (x : Beat w) (queue : List (Beat w))
+    → IsWidth w → SimulationRelation config log h.mail h.request h.state (system_after config log)
+    → terms_at config link.0 ≡ Some terms → is_to_client ch ≡ false → (system_after config log).channels link.0 ch ≡ x ∷ queue
+    → is_moving (stepped config (Deliver link ch) (system_after config log)).outcome ≡ true → IsAtManager config log link ch h x queue
 at-manager {w} config log link ch h terms x queue width is known down beats moving =
-    let first = first-token (is_caching config) ch link.0 h.mail h.state (after config log) x queue width is.invariant is.carried beats in
-    let t = manager-moves config link ch (after config log) terms x queue known beats down moving in
+    let first = first-token (is_caching config) ch link.0 h.mail h.state (system_after config log) x queue width is.invariant is.carried beats in
+    let t = manager-moves config link ch (system_after config log) terms x queue known beats down moving in
     let chan = message_channel first.kind first.number first.tokens first.own in
     record {
       first = first;
@@ -177,28 +177,28 @@ at-manager {w} config log link ch h terms x queue width is known down beats movi
           (on_message (message_of_kind first.kind h.mail h.state link.0 first.number) first.next.k));
       of_it = ap (λ (z : Beat w). channel_of z) first.next.beat_is ∙ channel_of_beat (message_of_kind first.kind h.mail h.state link.0 first.number) first.next.k ∙ chan;
       beats = beats;
-      heard = manager-heard config link ch x queue (after config log) (stepped config (Deliver link ch) (after config log)) width head.typed is.manager_kept t;
+      heard = manager-heard config link ch x queue (system_after config log) (stepped config (Deliver link ch) (system_after config log)) width head.typed is.manager_kept t;
       step_is = t.step_is;
-      follows = followed-moving config link ch (after config log) h x queue moving beats
-          ∙ ap (λ (l : List Token). if completes x (unfinished ch (receiver ch link.0 (after config log))) then token_taken config (next_tracker (after config log)) link.0 l h else h) first.tokens;
+      follows = followed-moving config link ch (system_after config log) h x queue moving beats
+          ∙ ap (λ (l : List Packet). if completes x (unfinished ch (receiver ch link.0 (system_after config log))) then packet_taken config (next_tracker (system_after config log)) link.0 l h else h) first.tokens;
     }
   where
     head : manager.IsSound config (record { 0 = link.0 }, x)
     head = All-head (λ y. manager.IsSound config (record { 0 = link.0 }, y)) x queue (same beats (is.sound link.0 ch))
       where
-        same : (after config log).channels link.0 ch ≡ x ∷ queue
-            → All (λ y. manager.IsSound config (record { 0 = link.0 }, y)) ((after config log).channels link.0 ch)
+        same : (system_after config log).channels link.0 ch ≡ x ∷ queue
+            → All (λ y. manager.IsSound config (record { 0 = link.0 }, y)) ((system_after config log).channels link.0 ch)
             → All (λ y. manager.IsSound config (record { 0 = link.0 }, y)) (x ∷ queue)
         same e f = rw e at f
 
-    message_channel : (k : Kind) (i : ℕ) {rest : List Token} → tokens_on ch (h.state.link link.0) ≡ token k i ∷ rest → is_on ch k ≡ true
+    message_channel : (k : Kind) (i : ℕ) {rest : List Packet} → packets_on ch (h.state.link link.0) ≡ packet k i ∷ rest → is_on ch k ≡ true
         → channel_of_message (message_of_kind k h.mail h.state link.0 i) ≡ ch
     message_channel Request i {rest} tokens own = asked ch tokens own
       where
-        asked : (at : Channel) → tokens_on at (h.state.link link.0) ≡ token Request i ∷ rest → is_on at Request ≡ true → channel_of_message (h.mail.request link.0 i) ≡ at
+        asked : (at : Channel) → packets_on at (h.state.link link.0) ≡ packet Request i ∷ rest → is_on at Request ≡ true → channel_of_message (h.mail.request link.0 i) ≡ at
         asked channel.A e f =
             let used = first-asked (is_caching config) link.0 i rest h is.invariant e in
-            request_channel config link.0 i (h.mail.request link.0 i) (subst (λ (u : Use). IsSourced config link.0 i (h.mail.request link.0 i) u) used (is.sourced link.0 i))
+            request_channel config link.0 i (h.mail.request link.0 i) (subst (λ (u : SourceState). IsSourced config link.0 i (h.mail.request link.0 i) u) used (is.sourced link.0 i))
         asked channel.B e f = absurd cc
         asked channel.C e f = absurd cc
         asked channel.D e f = absurd cc
@@ -225,29 +225,29 @@ after_taken config link ch x queue sys handed = with_messages handed (with_manag
 
 -- What is left to show of the last beat of a message: what the manager hands out, and that the channels and the one
 -- memory are those of the protocol then.
-pub delivered-last : {w : ℕ} (config : Config) (log : Log w) (link : Link) (ch : Channel) (h : Shadow w) (x : Beat w) (queue : List (Beat w))
+pub delivered-last : {w : ℕ} (config : Config) (log : Log w) (link : Link) (ch : Channel) (h : AbstractState w) (x : Beat w) (queue : List (Beat w))
     (handed : Handed w) (pushes : ℕ → Channel → Option (Message w)) → is_to_client ch ≡ false
-    → (is : IsAtManager config log link ch h x queue) → completes x (unfinished ch (receiver ch link.0 (after config log))) ≡ true → (deed config link x (after config log).manager).handed ≡ handed
-    → ((d : ℕ) (at : Channel) → (after_taken config link ch x queue (after config log) handed).channels d at ≡ behind (pushes d at) ((with_channel link.0 ch queue (after config log)).channels d at))
-    → (IsTaken link.0 ch x queue pushes (after config log) (after_taken config link ch x queue (after config log) handed)
-    → AreCarried (kind_taken config (next_tracker (after config log)) link.0 is.first.kind is.first.number is.first.rest h).mail
-    (kind_taken config (next_tracker (after config log)) link.0 is.first.kind is.first.number is.first.rest h).state
-    (after_taken config link ch x queue (after config log) handed))
-    → IsBeside (kind_taken config (next_tracker (after config log)) link.0 is.first.kind is.first.number is.first.rest h).mail
-    (kind_taken config (next_tracker (after config log)) link.0 is.first.kind is.first.number is.first.rest h).state
-    (performing (accesses_answered handed) (remembered config log))
+    → (is : IsAtManager config log link ch h x queue) → completes x (unfinished ch (receiver ch link.0 (system_after config log))) ≡ true → (deed config link x (system_after config log).manager).handed ≡ handed
+    → ((d : ℕ) (at : Channel) → (after_taken config link ch x queue (system_after config log) handed).channels d at ≡ behind (pushes d at) ((with_channel link.0 ch queue (system_after config log)).channels d at))
+    → (IsTaken link.0 ch x queue pushes (system_after config log) (after_taken config link ch x queue (system_after config log) handed)
+    → ChannelRelation (kind_taken config (next_tracker (system_after config log)) link.0 is.first.kind is.first.number is.first.rest h).mail
+    (kind_taken config (next_tracker (system_after config log)) link.0 is.first.kind is.first.number is.first.rest h).state
+    (after_taken config link ch x queue (system_after config log) handed))
+    → MemoryRelation (kind_taken config (next_tracker (system_after config log)) link.0 is.first.kind is.first.number is.first.rest h).mail
+    (kind_taken config (next_tracker (system_after config log)) link.0 is.first.kind is.first.number is.first.rest h).state
+    (performing (accesses_answered handed) (one_memory_after config log))
     → IsDelivered config log link ch h
 delivered-last {w} config log link ch h x queue handed pushes down is last gives pushed carried beside =
     delivered_as config log link ch h h' (is.follows ∙ ap (λ (b : Bool). if b then h' else h) last)
-    (subst (λ (y : Step w). AreCarried h'.mail h'.state y.after) (sym step_is)
+    (subst (λ (y : Step w). ChannelRelation h'.mail h'.state y.after) (sym step_is)
     (carried (taken-landed link.0 ch x queue pushes sys now.after
     (landed-manager link.0 ch x queue pushes handed e sys down is.beats is.on_it is.heard pushed) last)))
-    (subst (λ (m : Machine w). IsBeside h'.mail h'.state m) (sym (remembered_after config log link ch now step_is)) beside)
+    (subst (λ (m : Machine w). MemoryRelation h'.mail h'.state m) (sym (remembered_after config log link ch now step_is)) beside)
   where
     sys : System w
-    sys = after config log
+    sys = system_after config log
 
-    h' : Shadow w
+    h' : AbstractState w
     h' = kind_taken config (next_tracker sys) link.0 is.first.kind is.first.number is.first.rest h
 
     e : manager_end.End w
@@ -268,19 +268,19 @@ receiver_down channel.E c sys e = refl
 receiver_down channel.B c sys e = absurd cc
 receiver_down channel.D c sys e = absurd cc
 
-pub delivered-part : {w : ℕ} (config : Config) (log : Log w) (link : Link) (ch : Channel) (h : Shadow w) (x : Beat w) (queue : List (Beat w)) → IsWidth w
-    → IsMatched config log h.mail h.request h.state (after config log) → is_to_client ch ≡ false
-    → IsAtManager config log link ch h x queue → completes x (unfinished ch (receiver ch link.0 (after config log))) ≡ false → IsDelivered config log link ch h
+pub delivered-part : {w : ℕ} (config : Config) (log : Log w) (link : Link) (ch : Channel) (h : AbstractState w) (x : Beat w) (queue : List (Beat w)) → IsWidth w
+    → SimulationRelation config log h.mail h.request h.state (system_after config log) → is_to_client ch ≡ false
+    → IsAtManager config log link ch h x queue → completes x (unfinished ch (receiver ch link.0 (system_after config log))) ≡ false → IsDelivered config log link ch h
 unfolding with_messages performing accesses_answered
 delivered-part {w} config log link ch h x queue width matched down is part =
     delivered_as config log link ch h h (is.follows ∙ ap (λ (b : Bool). if b then kind_taken config (next_tracker sys) link.0 is.first.kind is.first.number is.first.rest h else h) part)
-    (subst (λ (y : Step w). AreCarried h.mail h.state y.after) (sym step_is)
+    (subst (λ (y : Step w). ChannelRelation h.mail h.state y.after) (sym step_is)
     (carried-part h.mail h.state link.0 ch x queue (λ d at. None) sys now.after width
     (landed-manager link.0 ch x queue (λ d at. None) [] e sys down is.beats is.on_it is.heard (λ d at. refl)) (λ d at. refl) part matched.carried))
-    (subst (λ (m : Machine w). IsBeside h.mail h.state m) (sym (remembered_after config log link ch now step_is)) matched.beside)
+    (subst (λ (m : Machine w). MemoryRelation h.mail h.state m) (sym (remembered_after config log link ch now step_is)) matched.beside)
   where
     sys : System w
-    sys = after config log
+    sys = system_after config log
 
     e : manager_end.End w
     e = manager_offer.taken link x (deed config link x sys.manager) sys.manager

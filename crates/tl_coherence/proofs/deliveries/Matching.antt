@@ -13,17 +13,17 @@ use Rattle.tl_coherence.specs.declared.event.Event.{Event}
 use Rattle.tl_coherence.specs.declared.event.Event.TheVariants.{Ask, Deliver}
 use Rattle.tl_coherence.specs.declared.event.Outcome.{Outcome}
 use Rattle.tl_coherence.specs.declared.event.Outcome.TheVariants as outcome
-use Rattle.tl_coherence.specs.refinement.Beside.{IsBeside}
+use Rattle.tl_coherence.specs.refinement.MemoryRelation.{MemoryRelation}
 use Rattle.tl_coherence.specs.statement.Draining.{is_moving}
-use Rattle.tl_coherence.specs.refinement.Follow.{Shadow, first_shadow, followed, followed_by}
+use Rattle.tl_coherence.specs.refinement.AbstractStep.{AbstractState, first_abstract_state, abstract_step, abstract_step_by}
 use Rattle.tl_coherence.specs.statement.Headline.{IsTyped, AreTyped}
-use Rattle.tl_coherence.specs.statement.Log.{Log, IsLog, after}
+use Rattle.tl_coherence.specs.statement.Log.{Log, IsLog, system_after}
 use Rattle.tl_coherence.specs.statement.Machine.{Machine, moved}
-use Rattle.tl_coherence.specs.refinement.Matched.{AreCarried}
-use Rattle.tl_coherence.specs.statement.Remembered.{remembered, performing, accesses_answered}
+use Rattle.tl_coherence.specs.refinement.ChannelRelation.{ChannelRelation}
+use Rattle.tl_coherence.specs.statement.OneMemory.{one_memory_after, performing, accesses_answered}
 use Rattle.tl_coherence.specs.statement.Step.{Step, stepped, only, client_of}
 use Rattle.tl_coherence.specs.statement.System.{System, terms_at}
-use Rattle.tl_coherence.specs.refinement.Whole.{IsMatched, is_caching}
+use Rattle.tl_coherence.specs.refinement.SimulationRelation.{SimulationRelation, is_caching}
 use Rattle.tl_coherence.proofs.deliveries.AcksAfter.{delivered-e}
 use Rattle.tl_coherence.proofs.client.Askable.{askable}
 use Rattle.tl_coherence.proofs.deliveries.AskedAfter.{carried-ask, beside-ask}
@@ -32,7 +32,7 @@ use Rattle.tl_coherence.proofs.client.ClientAsked.{IsEndOf}
 use Rattle.tl_coherence.proofs.client.ClientStep.{clients-kept}
 use Rattle.tl_coherence.proofs.simulation.FollowCases.{followed-cases, asked-cases, delivered-cases, answered-followed, given-followed, on-first}
 use Rattle.tl_coherence.proofs.simulation.Fresh.{fresh-matched}
-use Rattle.tl_coherence.proofs.deliveries.HeardAll.{IsDelivered, delivered-unmoved, delivered-d}
+use Rattle.tl_coherence.proofs.deliveries.DeliverDWhole.{IsDelivered, delivered-unmoved, delivered-d}
 use Rattle.tl_coherence.proofs.deliveries.InvariantKept.{invariant-followed}
 use Rattle.tl_coherence.proofs.manager.ManagerAfter.{IsManagerOf}
 use Rattle.tl_coherence.proofs.deliveries.ManagerFollowed.{client-of}
@@ -59,27 +59,27 @@ not_moving {w} x y e moving still = let no : true ≡ false = sym moving ∙ ap 
 
 -- ---- the channels and the one memory after any delivery
 
-delivered-a : {w : ℕ} (config : Config) (log : Log w) (c : ℕ) (h : Shadow w) (terms : Terms) → IsWidth w
-    → IsMatched config log h.mail h.request h.state (after config log) → terms_at config c ≡ Some terms
+delivered-a : {w : ℕ} (config : Config) (log : Log w) (c : ℕ) (h : AbstractState w) (terms : Terms) → IsWidth w
+    → SimulationRelation config log h.mail h.request h.state (system_after config log) → terms_at config c ≡ Some terms
     → IsDelivered config log (record { 0 = c }) channel.A h
-unfolding remembered
+unfolding one_memory_after
 delivered-a {w} config log c h terms width is at =
-    let sys : System w = after config log in
-    let m : Machine w = remembered config log in
+    let sys : System w = system_after config log in
+    let m : Machine w = one_memory_after config log in
     let event : Event w = Deliver (record { 0 = c }) channel.A in
     let still : moved event (stepped config event sys).outcome m ≡ m =
     delivery-a config log h sys c terms (λ (step : Step w). moved event step.outcome m ≡ m) width is at (λ e. refl) (λ x queue e waits. refl) (λ x queue e arrives moves. refl) in
     record {
       carried = carried-delivered_a config log h sys c terms width is at;
-      beside = beside-delivered_a config log h sys c terms (moved event (stepped config event sys).outcome m) width is at (subst (IsBeside h.mail h.state) (sym still) is.beside);
+      beside = beside-delivered_a config log h sys c terms (moved event (stepped config event sys).outcome m) width is at (subst (MemoryRelation h.mail h.state) (sym still) is.beside);
     }
 
-delivered-all : {w : ℕ} (config : Config) (log : Log w) (link : Link) (ch : Channel) (h : Shadow w) → IsWidth w
-    → IsMatched config log h.mail h.request h.state (after config log) → IsDelivered config log link ch h
+delivered-all : {w : ℕ} (config : Config) (log : Log w) (link : Link) (ch : Channel) (h : AbstractState w) → IsWidth w
+    → SimulationRelation config log h.mail h.request h.state (system_after config log) → IsDelivered config log link ch h
 delivered-all {w} config log link ch h width is = go (is_moving (stepped config (Deliver link ch) sys).outcome) refl
   where
     sys : System w
-    sys = after config log
+    sys = system_after config log
 
     moves : (at : Channel) (terms : Terms) (beats : List (Beat w)) → terms_at config link.0 ≡ Some terms → sys.channels link.0 at ≡ beats
         → is_moving (stepped config (Deliver link at) sys).outcome ≡ true → IsDelivered config log link at h
@@ -100,82 +100,82 @@ delivered-all {w} config log link ch h width is = go (is_moving (stepped config 
 
 -- ---- and after any event
 
-record IsFollowed {w : ℕ} (config : Config) (log : Log w) (event : Event w) (h : Shadow w) : Type 0 where
-  pub carried : AreCarried (followed config event (after config log) h).mail (followed config event (after config log) h).state (stepped config event (after config log)).after
-  pub beside : IsBeside (followed config event (after config log) h).mail (followed config event (after config log) h).state
-      (remembered config ((event, (stepped config event (after config log)).outcome) ∷ log))
+record IsFollowed {w : ℕ} (config : Config) (log : Log w) (event : Event w) (h : AbstractState w) : Type 0 where
+  pub carried : ChannelRelation (abstract_step config event (system_after config log) h).mail (abstract_step config event (system_after config log) h).state (stepped config event (system_after config log)).after
+  pub beside : MemoryRelation (abstract_step config event (system_after config log) h).mail (abstract_step config event (system_after config log) h).state
+      (one_memory_after config ((event, (stepped config event (system_after config log)).outcome) ∷ log))
 
 -- where this is the step
-abbrev FollowedBy : {w : ℕ} → Config → Log w → Event w → Shadow w → Step w → Type 0
+abbrev FollowedBy : {w : ℕ} → Config → Log w → Event w → AbstractState w → Step w → Type 0
 FollowedBy config log event h x =
-    AreCarried (followed_by config event x.outcome (after config log) h).mail (followed_by config event x.outcome (after config log) h).state x.after
-    × IsBeside (followed_by config event x.outcome (after config log) h).mail (followed_by config event x.outcome (after config log) h).state
-    (performing (accesses_answered x.handed) (moved event x.outcome (remembered config log)))
+    ChannelRelation (abstract_step_by config event x.outcome (system_after config log) h).mail (abstract_step_by config event x.outcome (system_after config log) h).state x.after
+    × MemoryRelation (abstract_step_by config event x.outcome (system_after config log) h).mail (abstract_step_by config event x.outcome (system_after config log) h).state
+    (performing (accesses_answered x.handed) (moved event x.outcome (one_memory_after config log)))
 
-asked-all : {w : ℕ} (config : Config) (log : Log w) (c : ℕ) (o : Op w) (h : Shadow w) → IsWidth w
-    → IsMatched config log h.mail h.request h.state (after config log) → FollowedBy config log (Ask c o) h (stepped config (Ask c o) (after config log))
-unfolding remembered performing accesses_answered
+asked-all : {w : ℕ} (config : Config) (log : Log w) (c : ℕ) (o : Op w) (h : AbstractState w) → IsWidth w
+    → SimulationRelation config log h.mail h.request h.state (system_after config log) → FollowedBy config log (Ask c o) h (stepped config (Ask c o) (system_after config log))
+unfolding one_memory_after performing accesses_answered
 asked-all {w} config log c o h width is = go (terms_at config c) refl
   where
     sys : System w
-    sys = after config log
+    sys = system_after config log
 
     go : (i : Option Terms) → terms_at config c ≡ i → FollowedBy config log (Ask c o) h (stepped config (Ask c o) sys)
     go None none = subst (FollowedBy config log (Ask c o) h) (sym (stepped-nobody config (Ask c o) sys none)) (is.carried, is.beside)
     go (Some terms) known =
         let r = (ask.asked terms o (sys.clients c)).reply in
         let replied : (stepped config (Ask c o) sys).outcome ≡ outcome.Replied r = ap (λ (x : Step w). x.outcome) (stepped-asked config c o sys terms known) in (
-          subst (λ (x : Outcome w). AreCarried (followed_by config (Ask c o) x sys h).mail (followed_by config (Ask c o) x sys h).state
+          subst (λ (x : Outcome w). ChannelRelation (abstract_step_by config (Ask c o) x sys h).mail (abstract_step_by config (Ask c o) x sys h).state
               (stepped config (Ask c o) sys).after) (sym replied) (carried-ask config log h sys c terms o width is known),
           subst
-              (λ (x : Outcome w). IsBeside (followed_by config (Ask c o) x sys h).mail (followed_by config (Ask c o) x sys h).state
-              (performing (accesses_answered (stepped config (Ask c o) sys).handed) (moved (Ask c o) x (remembered config log)))) (sym replied)
+              (λ (x : Outcome w). MemoryRelation (abstract_step_by config (Ask c o) x sys h).mail (abstract_step_by config (Ask c o) x sys h).state
+              (performing (accesses_answered (stepped config (Ask c o) sys).handed) (moved (Ask c o) x (one_memory_after config log)))) (sym replied)
               (beside-ask config log h c terms o width is known),
         )
 
-followed-all : {w : ℕ} (config : Config) (log : Log w) (event : Event w) (h : Shadow w) → IsWidth w → IsMatched config log h.mail h.request h.state (after config log) → IsFollowed config log event h
-unfolding remembered
+followed-all : {w : ℕ} (config : Config) (log : Log w) (event : Event w) (h : AbstractState w) → IsWidth w → SimulationRelation config log h.mail h.request h.state (system_after config log) → IsFollowed config log event h
+unfolding one_memory_after
 followed-all config log (Ask c o) h width is = let all = asked-all config log c o h width is in record { carried = all.0; beside = all.1 }
 followed-all config log (Deliver link ch) h width is = let all = delivered-all config log link ch h width is in record { carried = all.carried; beside = all.beside }
 
 -- ---- all that is kept, after an event
 
-sized-followed : {w : ℕ} (config : Config) (log : Log w) (h : Shadow w) (sys : System w) (event : Event w) → IsWidth w
-    → IsMatched config log h.mail h.request h.state sys → IsTyped event → AllSized (followed config event sys h).state
+sized-followed : {w : ℕ} (config : Config) (log : Log w) (h : AbstractState w) (sys : System w) (event : Event w) → IsWidth w
+    → SimulationRelation config log h.mail h.request h.state sys → IsTyped event → AllSized (abstract_step config event sys h).state
 unfolding stepped
 sized-followed {w} config log h sys (Ask c o) width is typed =
-    asked-cases config log h.mail h.request h.state sys c o (terms_at config c) (λ (i : Shadow w). AllSized i.state) refl is.sized
+    asked-cases config log h.mail h.request h.state sys c o (terms_at config c) (λ (i : AbstractState w). AllSized i.state) refl is.sized
     (λ terms at. sized-asked (is_caching config) c o (ask.asked terms o (sys.clients c)).reply h is.invariant typed (asked-well config log h sys c terms o width is at).word is.sized)
 sized-followed {w} config log h sys (Deliver link ch) width is typed =
-    delivered-cases config log h.mail h.request h.state sys link ch (λ (i : Shadow w). AllSized i.state) width is is.sized
+    delivered-cases config log h.mail h.request h.state sys link ch (λ (i : AbstractState w). AllSized i.state) width is is.sized
     (λ x queue d. sized-kind_taken config (next_tracker sys) link.0 d.first.kind d.first.number d.first.rest h is.sized)
 
-strangers-followed : {w : ℕ} (config : Config) (log : Log w) (h : Shadow w) (sys : System w) (event : Event w) → IsWidth w
-    → IsMatched config log h.mail h.request h.state sys → AreStrange config (followed config event sys h).state.uses
+strangers-followed : {w : ℕ} (config : Config) (log : Log w) (h : AbstractState w) (sys : System w) (event : Event w) → IsWidth w
+    → SimulationRelation config log h.mail h.request h.state sys → AreStrange config (abstract_step config event sys h).state.uses
 strangers-followed {w} config log h sys event width is =
-    followed-cases config log h.mail h.request h.state sys event (λ (i : Shadow w). AreStrange config i.state.uses) width is is.strangers
+    followed-cases config log h.mail h.request h.state sys event (λ (i : AbstractState w). AreStrange config i.state.uses) width is is.strangers
     (λ terms c o at. strangers-asked config c o (ask.asked terms o (sys.clients c)).reply h terms at is.strangers)
     (λ link ch x queue d.
     let t = client-of config link.0 ch x queue sys d.beats (is.sound link.0 ch) in
     strangers-kind_taken (is_caching config) config (next_tracker sys) link.0 d.first.kind d.first.number d.first.rest h t.0 is.invariant t.1 is.strangers)
 
-sourced-followed : {w : ℕ} (config : Config) (log : Log w) (h : Shadow w) (sys : System w) (event : Event w) → IsWidth w → IsMatched config log h.mail h.request h.state sys
-    → AreSourced config (followed config event sys h).mail.request (followed config event sys h).state.uses
+sourced-followed : {w : ℕ} (config : Config) (log : Log w) (h : AbstractState w) (sys : System w) (event : Event w) → IsWidth w → SimulationRelation config log h.mail h.request h.state sys
+    → AreSourced config (abstract_step config event sys h).mail.request (abstract_step config event sys h).state.uses
 sourced-followed {w} config log h sys event width is =
-    followed-cases config log h.mail h.request h.state sys event (λ (i : Shadow w). AreSourced config i.mail.request i.state.uses) width is is.sourced
+    followed-cases config log h.mail h.request h.state sys event (λ (i : AbstractState w). AreSourced config i.mail.request i.state.uses) width is is.sourced
     (λ terms c o at. sourced-asked config c o (ask.asked terms o (sys.clients c)).reply h (asked-well config log h sys c terms o width is at).source is.sourced)
     (λ link ch x queue d.
     sourced-kind_taken (is_caching config) config (next_tracker sys) link.0 d.first.kind d.first.number d.first.rest h is.invariant (on-first config h.mail h.state sys link ch x queue d) is.sourced)
 
-acquired-followed : {w : ℕ} (config : Config) (log : Log w) (h : Shadow w) (sys : System w) (event : Event w) → IsWidth w → IsMatched config log h.mail h.request h.state sys
-    → AreAcquired (followed config event sys h).request (followed config event sys h).state.block
+acquired-followed : {w : ℕ} (config : Config) (log : Log w) (h : AbstractState w) (sys : System w) (event : Event w) → IsWidth w → SimulationRelation config log h.mail h.request h.state sys
+    → AreAcquired (abstract_step config event sys h).request (abstract_step config event sys h).state.block
 acquired-followed {w} config log h sys event width is =
-    followed-cases config log h.mail h.request h.state sys event (λ (i : Shadow w). AreAcquired i.request i.state.block) width is is.acquired
+    followed-cases config log h.mail h.request h.state sys event (λ (i : AbstractState w). AreAcquired i.request i.state.block) width is is.acquired
     (λ terms c o at. asked-acquired (is_caching config) c o (ask.asked terms o (sys.clients c)).reply h is.invariant (askable config log h.mail h.request h.state sys terms c o is at) is.acquired)
     (λ link ch x queue d. kind_taken-acquired config (next_tracker sys) link.0 d.first.kind d.first.number d.first.rest h is.acquired)
 
-allowed : {w : ℕ} (config : Config) (log : Log w) (h : Shadow w) (sys : System w) (event : Event w) → IsWidth w
-    → IsMatched config log h.mail h.request h.state sys → (terms : Terms) → terms_at config (client_of event) ≡ Some terms
+allowed : {w : ℕ} (config : Config) (log : Log w) (h : AbstractState w) (sys : System w) (event : Event w) → IsWidth w
+    → SimulationRelation config log h.mail h.request h.state sys → (terms : Terms) → terms_at config (client_of event) ≡ Some terms
     → IsAllowed config event terms sys h
 allowed config log h sys (Ask c o) width is terms at = askable config log h.mail h.request h.state sys terms c o is at
 allowed config log h sys (Deliver link channel.A) width is terms at = tt
@@ -185,10 +185,10 @@ allowed config log h sys (Deliver link channel.D) width is terms at = invariant-
 allowed config log h sys (Deliver link channel.E) width is terms at = tt
 
 -- what is kept of the whole is kept by an event
-pub matched-event : {w : ℕ} (config : Config) (log : Log w) (h : Shadow w) (event : Event w) → IsWidth w → IsTyped event → IsMatched config log h.mail h.request h.state (after config log)
-    → IsMatched config ((event, (stepped config event (after config log)).outcome) ∷ log) (followed config event (after config log) h).mail
-    (followed config event (after config log) h).request (followed config event (after config log) h).state
-    (stepped config event (after config log)).after
+pub matched-event : {w : ℕ} (config : Config) (log : Log w) (h : AbstractState w) (event : Event w) → IsWidth w → IsTyped event → SimulationRelation config log h.mail h.request h.state (system_after config log)
+    → SimulationRelation config ((event, (stepped config event (system_after config log)).outcome) ∷ log) (abstract_step config event (system_after config log) h).mail
+    (abstract_step config event (system_after config log) h).request (abstract_step config event (system_after config log) h).state
+    (stepped config event (system_after config log)).after
 matched-event {w} config log h event width typed is = record {
   invariant = invariant-followed config log h.mail h.request h.state sys event width is;
   sized = sized-followed config log h sys event width is typed;
@@ -217,32 +217,32 @@ matched-event {w} config log h event width typed is = record {
 }
   where
     sys : System w
-    sys = after config log
+    sys = system_after config log
 
     all : IsFollowed config log event h
     all = followed-all config log event h width is
 
-    end : (c : ℕ) → IsEndOf c (followed config event sys h) ((stepped config event sys).after.clients c)
+    end : (c : ℕ) → IsEndOf c (abstract_step config event sys h) ((stepped config event sys).after.clients c)
     end c = clients-kept config log h.mail h.request h.state sys event width is c
 
-    manager : IsManagerOf config (followed config event sys h) (stepped config event sys).after.manager
+    manager : IsManagerOf config (abstract_step config event sys h) (stepped config event sys).after.manager
     manager = manager-kept config log h sys event width is (allowed config log h sys event width is)
 
 -- ---- after every log
 
 -- the protocol beside the whole after these events
-unfoldable pub shadow : {w : ℕ} → Config → Log w → Shadow w
-shadow config [] = first_shadow
-shadow config (x ∷ log) = followed config x.0 (after config log) (shadow config log)
+unfoldable pub shadow : {w : ℕ} → Config → Log w → AbstractState w
+shadow config [] = first_abstract_state
+shadow config (x ∷ log) = abstract_step config x.0 (system_after config log) (shadow config log)
 
 -- What is kept of the whole holds after every log.
 pub matched : {w : ℕ} (config : Config) (log : Log w) → IsWidth w → AreTyped log → IsLog config log
-    → IsMatched config log (shadow config log).mail (shadow config log).request (shadow config log).state (after config log)
-unfolding shadow after AreTyped IsLog
+    → SimulationRelation config log (shadow config log).mail (shadow config log).request (shadow config log).state (system_after config log)
+unfolding shadow system_after AreTyped IsLog
 matched config [] width typed is = fresh-matched config
 matched {w} config (x ∷ log) width typed is =
-    let sys : System w = after config log in
-    let h : Shadow w = shadow config log in
-    let h' : Shadow w = followed config x.0 sys h in
-    subst (λ (o : Outcome w). IsMatched config ((x.0, o) ∷ log) h'.mail h'.request h'.state (stepped config x.0 sys).after) (sym is.0)
+    let sys : System w = system_after config log in
+    let h : AbstractState w = shadow config log in
+    let h' : AbstractState w = abstract_step config x.0 sys h in
+    subst (λ (o : Outcome w). SimulationRelation config ((x.0, o) ∷ log) h'.mail h'.request h'.state (stepped config x.0 sys).after) (sym is.0)
     (matched-event config log h x.0 width typed.0 (matched config log width typed.1 is.1))

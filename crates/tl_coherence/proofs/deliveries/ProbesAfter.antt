@@ -29,30 +29,30 @@ use Rattle.tl_client.specs.statement.Send.{probe_ack}
 use Rattle.tl_client.proofs.HeldAfter.{same_block}
 use Rattle.tl_coherence.specs.declared.event.Event.TheVariants.{Deliver}
 use Rattle.tl_coherence.specs.declared.event.Outcome.TheVariants as outcome
-use Rattle.tl_coherence.specs.refinement.Beside.{IsBeside}
+use Rattle.tl_coherence.specs.refinement.MemoryRelation.{MemoryRelation}
 use Rattle.tl_coherence.specs.statement.Draining.{is_moving}
-use Rattle.tl_coherence.specs.refinement.Follow.{Shadow, followed, token_taken, kind_taken}
-use Rattle.tl_coherence.specs.statement.Log.{Log, after}
+use Rattle.tl_coherence.specs.refinement.AbstractStep.{AbstractState, abstract_step, packet_taken, kind_taken}
+use Rattle.tl_coherence.specs.statement.Log.{Log, system_after}
 use Rattle.tl_coherence.specs.statement.Machine.{Machine, moved}
-use Rattle.tl_coherence.specs.refinement.Matched.{AreCarried}
-use Rattle.tl_coherence.specs.protocol.Phase.{Pair, Sent, is_kept}
+use Rattle.tl_coherence.specs.refinement.ChannelRelation.{ChannelRelation}
+use Rattle.tl_coherence.specs.protocol.Phase.{ClientBlock, ProbeSent, is_unreleased}
 use Rattle.tl_coherence.specs.protocol.PhaseSteps.{after_probe}
-use Rattle.tl_coherence.specs.protocol.Protocol.{Block, token, is_on, shown, probed_block, probe_taken}
-use Rattle.tl_coherence.specs.statement.Remembered.{remembered, performing, accesses_answered}
-use Rattle.tl_coherence.specs.refinement.Render.{cap_sent, probe_beat, rendered, message_of, message_of_kind}
+use Rattle.tl_coherence.specs.protocol.Protocol.{Block, packet, is_on, shown, probed_block, probe_taken}
+use Rattle.tl_coherence.specs.statement.OneMemory.{one_memory_after, performing, accesses_answered}
+use Rattle.tl_coherence.specs.refinement.PacketMessages.{cap_sent, probe_beat, block_message, message_of, message_of_kind}
 use Rattle.tl_coherence.specs.statement.Step.{Step, stepped, handing, handed_by}
 use Rattle.tl_coherence.specs.statement.Step as step
 use Rattle.tl_coherence.specs.statement.System.{System, terms_at, with_client, with_channel}
-use Rattle.tl_coherence.specs.protocol.Token.{Kind, Request, Acquire, Probe, ProbeAck, Release, Answer, Grant, ReleaseAck, GrantAck, Token}
-use Rattle.tl_coherence.specs.refinement.Whole.{IsMatched, is_caching}
+use Rattle.tl_coherence.specs.protocol.Packet.{Kind, Request, Acquire, Probe, ProbeAck, Release, Answer, Grant, ReleaseAck, GrantAck, Packet}
+use Rattle.tl_coherence.specs.refinement.SimulationRelation.{SimulationRelation, is_caching}
 use Rattle.tl_coherence.proofs.memory.BesideKinds.{beside_block, same_acquiring}
 use Rattle.tl_coherence.proofs.queues.Carried.{IsNext}
 use Rattle.tl_coherence.proofs.simulation.CarriedEvents.{probe_taken-carried}
 use Rattle.tl_coherence.proofs.queues.Channels.{IsTaken, pushes_at}
 use Rattle.tl_coherence.proofs.queues.FirstToken.{IsFirst, first-token}
-use Rattle.tl_coherence.proofs.client.Heard.{same_answers}
-use Rattle.tl_coherence.proofs.deliveries.HeardAfter.{followed-moving}
-use Rattle.tl_coherence.proofs.deliveries.HeardAll.{IsDelivered, delivered_as, remembered_after}
+use Rattle.tl_coherence.proofs.client.DeliverD.{same_answers}
+use Rattle.tl_coherence.proofs.deliveries.DeliverDAfter.{followed-moving}
+use Rattle.tl_coherence.proofs.deliveries.DeliverDWhole.{IsDelivered, delivered_as, remembered_after}
 use Rattle.tl_coherence.proofs.queues.Landed.{pushes_of, IsOn, landed-client, taken-landed}
 use Rattle.tl_coherence.proofs.simulation.Moved.{IsTakenByClient, client-moves, client-heard}
 use Rattle.tl_coherence.proofs.client.ProbeDelivered.{IsProbed, probe-delivered}
@@ -89,8 +89,8 @@ ack_quiet w c perm.Trunk r n x = refl
 
 -- what is rendered after it
 rendered_probed : {w : ℕ} (c n : ℕ) (k : Cap) (b : Block (List ℕ))
-    → rendered {w = w} ProbeAck c n (probed_block c k b) ≡ probe_ack opb.ProbeBlock (b.pair c).held (report_at k (b.pair c).held) n b.truth
-unfolding rendered
+    → block_message {w = w} ProbeAck c n (probed_block c k b) ≡ probe_ack opb.ProbeBlock (b.pair c).held (report_at k (b.pair c).held) n b.truth
+unfolding block_message
 rendered_probed {w} c n k b = rw (set-same c (after_probe k (b.pair c)) b.pair, left_is k (b.pair c).held) refl
 
 -- the message that the client hands out
@@ -110,15 +110,15 @@ on_b y channel.E = refl
 taken_stalls : verdict.Taken ≡ verdict.Stalled → ⊥
 taken_stalls f = absurd cc
 
-pub delivered-b : {w : ℕ} (config : Config) (log : Log w) (link : Link) (h : Shadow w) (terms : client.Terms) (x : Beat w) (queue : List (Beat w)) → IsWidth w
-    → IsMatched config log h.mail h.request h.state (after config log)
-    → terms_at config link.0 ≡ Some terms → (after config log).channels link.0 channel.B ≡ x ∷ queue
-    → is_moving (stepped config (Deliver link channel.B) (after config log)).outcome ≡ true → IsDelivered config log link channel.B h
+pub delivered-b : {w : ℕ} (config : Config) (log : Log w) (link : Link) (h : AbstractState w) (terms : client.Terms) (x : Beat w) (queue : List (Beat w)) → IsWidth w
+    → SimulationRelation config log h.mail h.request h.state (system_after config log)
+    → terms_at config link.0 ≡ Some terms → (system_after config log).channels link.0 channel.B ≡ x ∷ queue
+    → is_moving (stepped config (Deliver link channel.B) (system_after config log)).outcome ≡ true → IsDelivered config log link channel.B h
 unfolding performing
 delivered-b {w} config log link h terms x queue width is known beats moving = kinds first.kind first.number first.tokens first.own first.next
   where
     sys : System w
-    sys = after config log
+    sys = system_after config log
 
     c : ℕ
     c = link.0
@@ -132,12 +132,12 @@ delivered-b {w} config log link h terms x queue width is known beats moving = ki
     t : IsTakenByClient terms c channel.B x queue sys (stepped config (Deliver link channel.B) sys)
     t = client-moves config link channel.B sys terms x queue known beats refl moving
 
-    probe : (n : ℕ) → (h.state.link c).b ≡ token Probe n ∷ first.rest
-        → IsNext x (unfinished channel.B e.past) (rendered Probe c n (h.state.block n)) (map (message_of h.mail h.state c) first.rest) queue
+    probe : (n : ℕ) → (h.state.link c).b ≡ packet Probe n ∷ first.rest
+        → IsNext x (unfinished channel.B e.past) (block_message Probe c n (h.state.block n)) (map (message_of h.mail h.state c) first.rest) queue
         → IsDelivered config log link channel.B h
-    probe n tokens next = by_letting (is_kept b_pair.letting) refl
+    probe n tokens next = by_letting (is_unreleased b_pair.letting) refl
       where
-        b_pair : Pair
+        b_pair : ClientBlock
         b_pair = (h.state.block n).pair c
 
         k : Cap
@@ -180,8 +180,8 @@ delivered-b {w} config log link h terms x queue width is known beats moving = ki
             ∙ ap (λ (v : Verdict). handing (step.outcome_of x v) (handed_by c t.message) (with_client c (offer.taken x e).after (with_channel c channel.B queue sys))) same_parts.0
             ∙ ap (λ (m : Option (Message w)). handing (outcome.Moved x) (handed_by c m) (with_client c (offer.taken x e).after (with_channel c channel.B queue sys))) message_is
 
-        sent : b_pair.probing ≡ Sent k
-        sent = sent-is b_pair.probing (holds-first Probe (h.state.link c).b first.rest (token Probe n) (λ i. shown Probe c (h.state.block i)) tokens refl (is.invariant.transfers c Probe refl))
+        sent : b_pair.probing ≡ ProbeSent k
+        sent = sent-is b_pair.probing (holds-first Probe (h.state.link c).b first.rest (packet Probe n) (λ i. shown Probe c (h.state.block i)) tokens refl (is.invariant.transfers c Probe refl))
 
         taken : IsTaken c channel.B x queue (pushes_at c (pushes_of (Some ack))) sys now.after
         taken =
@@ -191,32 +191,32 @@ delivered-b {w} config log link h terms x queue width is known beats moving = ki
             (client-heard terms c channel.B x queue sys (stepped config (Deliver link channel.B) sys) width (is.kept c) t))
             probed.whole
 
-        follows : followed config (Deliver link channel.B) sys h ≡ kind_taken config (next_tracker sys) c Probe n first.rest h
+        follows : abstract_step config (Deliver link channel.B) sys h ≡ kind_taken config (next_tracker sys) c Probe n first.rest h
         follows =
             followed-moving config link channel.B sys h x queue moving beats
-            ∙ ap (λ (b : Bool). if b then token_taken config (next_tracker sys) c (h.state.link c).b h else h) probed.whole
-            ∙ ap (λ (l : List Token). token_taken config (next_tracker sys) c l h) tokens
+            ∙ ap (λ (b : Bool). if b then packet_taken config (next_tracker sys) c (h.state.link c).b h else h) probed.whole
+            ∙ ap (λ (l : List Packet). packet_taken config (next_tracker sys) c l h) tokens
 
-        by_letting : (b : Bool) → is_kept b_pair.letting ≡ b → IsDelivered config log link channel.B h
+        by_letting : (b : Bool) → is_unreleased b_pair.letting ≡ b → IsDelivered config log link channel.B h
         by_letting true kept =
             let inv = invariant-taken config log h sys c Probe n first.rest is tokens (kept-is b_pair.letting kept) in
             delivered_as config log link channel.B h (kind_taken config (next_tracker sys) c Probe n first.rest h) follows
-            (subst (λ (z : Step w). AreCarried h.mail (probe_taken c n k first.rest h.state) z.after) (sym step_is)
+            (subst (λ (z : Step w). ChannelRelation h.mail (probe_taken c n k first.rest h.state) z.after) (sym step_is)
             (probe_taken-carried (is_caching config) c n k first.rest ack h.mail h.state sys now.after x queue width is.invariant inv tokens sent
             (ack_channel w b_pair.held (report_at k b_pair.held) n (h.state.block n).truth)
             (rendered_probed c n k (h.state.block n)) taken is.carried))
-            (subst (λ (m : Machine w). IsBeside h.mail (probe_taken c n k first.rest h.state) m)
+            (subst (λ (m : Machine w). MemoryRelation h.mail (probe_taken c n k first.rest h.state) m)
             (sym (remembered_after config log link channel.B now step_is
-            ∙ ap (λ (l : List (ℕ × ℕ)). performing l (moved (Deliver link channel.B) now.outcome (remembered config log)))
+            ∙ ap (λ (l : List (ℕ × ℕ)). performing l (moved (Deliver link channel.B) now.outcome (one_memory_after config log)))
             (ack_quiet w c b_pair.held (report_at k b_pair.held) n (h.state.block n).truth)))
-            (beside_block n (probed_block c k (h.state.block n)) h.mail h.state (probe_taken c n k first.rest h.state) (remembered config log) (λ i. refl)
+            (beside_block n (probed_block c k (h.state.block n)) h.mail h.state (probe_taken c n k first.rest h.state) (one_memory_after config log) (λ i. refl)
             (λ d i. refl) (λ d i. refl) refl (λ d. same_acquiring c (after_probe k b_pair) (h.state.block n).pair refl d) (λ d. refl) is.beside))
         by_letting false open_ =
             let stalled : (offer.taken x e).answer ≡ Ok (verdict.Stalled, None) = ap (λ (o : offer.Offered w). o.answer) (sym t.takes ∙ probed.waits_for open_) in
             let differ = (same_answers verdict.Taken verdict.Stalled (Some (handed_for y e)) None (offer.taken x e).answer answers stalled).0 in
             absurd (taken_stalls differ)
 
-    kinds : (k : Kind) (i : ℕ) → (h.state.link c).b ≡ token k i ∷ first.rest → is_on channel.B k ≡ true
+    kinds : (k : Kind) (i : ℕ) → (h.state.link c).b ≡ packet k i ∷ first.rest → is_on channel.B k ≡ true
         → IsNext x (unfinished channel.B e.past) (message_of_kind k h.mail h.state c i) (map (message_of h.mail h.state c) first.rest) queue → IsDelivered config log link channel.B h
     kinds Probe n tokens own next = probe n tokens next
     kinds Answer i tokens own next = absurd cc

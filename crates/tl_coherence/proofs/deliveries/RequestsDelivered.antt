@@ -26,20 +26,20 @@ use Rattle.tl_manager.specs.statement.Offer.{Passes, before_stall, must_wait, ju
 use Rattle.tl_coherence.specs.refinement.Carried.{IsCarried}
 use Rattle.tl_coherence.specs.declared.event.Event.TheVariants.{Deliver}
 use Rattle.tl_coherence.specs.declared.event.Outcome.TheVariants as outcome
-use Rattle.tl_coherence.specs.refinement.Follow as follow
-use Rattle.tl_coherence.specs.refinement.Follow.{Shadow, kind_taken, token_taken, delivered, followed}
+use Rattle.tl_coherence.specs.refinement.AbstractStep as follow
+use Rattle.tl_coherence.specs.refinement.AbstractStep.{AbstractState, kind_taken, packet_taken, delivered, abstract_step}
 use Rattle.tl_coherence.specs.statement.Step.{Step, only, handing, manager_took, stepped}
-use Rattle.tl_coherence.specs.protocol.Protocol.{Free, token, is_on, on}
+use Rattle.tl_coherence.specs.protocol.Protocol.{Free, packet, is_on, on}
 use Rattle.tl_coherence.specs.statement.Log.{Log}
-use Rattle.tl_coherence.specs.refinement.Render.{message_of}
+use Rattle.tl_coherence.specs.refinement.PacketMessages.{message_of}
 use Rattle.tl_coherence.specs.statement.System.{System, terms_at, with_manager, with_channel}
-use Rattle.tl_coherence.specs.protocol.Token.{Kind, Request, Acquire, Probe, ProbeAck, Release, Answer, Grant, ReleaseAck, GrantAck, Token}
-use Rattle.tl_coherence.specs.refinement.Whole.{IsMatched, is_caching}
+use Rattle.tl_coherence.specs.protocol.Packet.{Kind, Request, Acquire, Probe, ProbeAck, Release, Answer, Grant, ReleaseAck, GrantAck, Packet}
+use Rattle.tl_coherence.specs.refinement.SimulationRelation.{SimulationRelation, is_caching}
 use Rattle.tl_coherence.proofs.manager.Admitted.{order-access, order-acquire, early-acquire, unserved-free, first-beat, passes-first, waits-first, offered-taken, offered-stalled, first_counts}
-use Rattle.tl_coherence.specs.refinement.Beside.{IsBeside}
+use Rattle.tl_coherence.specs.refinement.MemoryRelation.{MemoryRelation}
 use Rattle.tl_coherence.specs.statement.Machine.{Machine}
-use Rattle.tl_coherence.specs.refinement.Matched.{AreCarried}
-use Rattle.tl_coherence.specs.statement.Remembered.{accesses_answered, performing}
+use Rattle.tl_coherence.specs.refinement.ChannelRelation.{ChannelRelation}
+use Rattle.tl_coherence.specs.statement.OneMemory.{accesses_answered, performing}
 use Rattle.tl_manager.specs.statement.Handing.{Handed, Deed}
 use Rattle.tl_manager.proofs.Events.{deed-part}
 use Rattle.tl_coherence.proofs.memory.BesideRequests.{IsOnce, acquire-accesses, beside-request_taken, beside-acquire_taken, request-once}
@@ -48,7 +48,7 @@ use Rattle.tl_coherence.proofs.deliveries.CarriedRequests.{system_after, carried
 use Rattle.tl_coherence.proofs.manager.AtRequests.{end_after, at_manager-more}
 use Rattle.tl_coherence.proofs.queues.Carried.{IsNext}
 use Rattle.tl_coherence.proofs.protocol.FollowKept.{IsReady}
-use Rattle.tl_coherence.proofs.protocol.Fronts.{IsAsked, asked-first, IsWanted, wanted-first, acquisition-blank, acquisition_beats, front-of}
+use Rattle.tl_coherence.proofs.protocol.Heads.{IsAsked, asked-first, IsWanted, wanted-first, acquisition-blank, acquisition_beats, front-of}
 use Rattle.tl_coherence.proofs.manager.ManagersEnd.{at_manager-matched}
 use Rattle.tl_coherence.proofs.manager.Requests.{IsUnwaited}
 use Rattle.tl_coherence.proofs.queues.Steps.{manager-with_messages, stepped-empty, stepped-to-manager}
@@ -59,10 +59,10 @@ use Rattle.tl_coherence.proofs.manager.ManagerAfter.{IsManagerOf}
 -- ---- the request that is first
 
 -- The first token of channel A is of this request, and what comes of its beats.
-pub record IsOnLink {w : ℕ} (config : Config) (h : Shadow w) (sys : System w) (c : ℕ) (kind : Kind) (i : ℕ) (rest : List Token) (m : MessageA w) : Type 0 where
-  pub tokens : (h.state.link c).a ≡ token kind i ∷ rest
-  pub on_it : on kind (h.state.link c) ≡ token kind i ∷ rest
-  pub renders : message_of h.mail h.state c (token kind i) ≡ message.A m
+pub record IsOnLink {w : ℕ} (config : Config) (h : AbstractState w) (sys : System w) (c : ℕ) (kind : Kind) (i : ℕ) (rest : List Packet) (m : MessageA w) : Type 0 where
+  pub tokens : (h.state.link c).a ≡ packet kind i ∷ rest
+  pub on_it : on kind (h.state.link c) ≡ packet kind i ∷ rest
+  pub renders : message_of h.mail h.state c (packet kind i) ≡ message.A m
   pub blank : IsBlankAfter (beats_of (message.A m)) (message.A m)
   pub order : (k : ℕ) → k < beats_of (message.A m) → unfinished channel.A (on_link c sys.manager.trace) ≡ begun (message.A m) k
       → must_wait config (link_of c) (beat.A (a_beat_of m k)) sys.manager.trace ≡ false
@@ -76,19 +76,19 @@ pub record IsOnLink {w : ℕ} (config : Config) (h : Shadow w) (sys : System w) 
       → IsManagerOf config (kind_taken config (next_tracker sys) c kind i rest h) (end_after config c k m sys.manager)
   pub carried : (k : ℕ) (queue : List (Beat w)) → IsComing config c k m sys.manager → sys.channels c channel.A ≡ beat.A (a_beat_of m k) ∷ queue → beats_of (message.A m) ≡ suc k
       → must_wait config (link_of c) (beat.A (a_beat_of m k)) sys.manager.trace ≡ false
-      → AreCarried (kind_taken config (next_tracker sys) c kind i rest h).mail (kind_taken config (next_tracker sys) c kind i rest h).state (system_after config c k m queue sys)
-  pub beside : (k : ℕ) (machine : Machine w) → IsComing config c k m sys.manager → beats_of (message.A m) ≡ suc k → IsBeside h.mail h.state machine
-      → IsBeside (kind_taken config (next_tracker sys) c kind i rest h).mail (kind_taken config (next_tracker sys) c kind i rest h).state
+      → ChannelRelation (kind_taken config (next_tracker sys) c kind i rest h).mail (kind_taken config (next_tracker sys) c kind i rest h).state (system_after config c k m queue sys)
+  pub beside : (k : ℕ) (machine : Machine w) → IsComing config c k m sys.manager → beats_of (message.A m) ≡ suc k → MemoryRelation h.mail h.state machine
+      → MemoryRelation (kind_taken config (next_tracker sys) c kind i rest h).mail (kind_taken config (next_tracker sys) c kind i rest h).state
       (performing (accesses_answered (deed config (link_of c) (beat.A (a_beat_of m k)) sys.manager).handed) machine)
-  pub once : (k : ℕ) (machine : Machine w) → IsComing config c k m sys.manager → beats_of (message.A m) ≡ suc k → IsBeside h.mail h.state machine
+  pub once : (k : ℕ) (machine : Machine w) → IsComing config c k m sys.manager → beats_of (message.A m) ≡ suc k → MemoryRelation h.mail h.state machine
       → IsOnce (accesses_answered (deed config (link_of c) (beat.A (a_beat_of m k)) sys.manager).handed) h machine
 
 pub ends-burst : {w : ℕ} (c k : ℕ) (m : MessageA w) (e : End w) → unfinished channel.A (on_link c e.trace) ≡ begun (message.A m) k
     → ends (beat.A (a_beat_of m k)) (on_link c e.trace) ≡ (k + 1 == beats_of (message.A m))
 ends-burst c k m e burst = rw (burst, length-begun (message.A m) k) refl
 
-on_link-access : {w : ℕ} (config : Config) (log : Log w) (h : Shadow w) (sys : System w) (c source : ℕ) (rest : List Token)
-    → IsMatched config log h.mail h.request h.state sys → (h.state.link c).a ≡ token Request source ∷ rest
+on_link-access : {w : ℕ} (config : Config) (log : Log w) (h : AbstractState w) (sys : System w) (c source : ℕ) (rest : List Packet)
+    → SimulationRelation config log h.mail h.request h.state sys → (h.state.link c).a ≡ packet Request source ∷ rest
     → (asked : IsAsked config c source h.mail h.state) → IsOnLink config h sys c Request source rest asked.request
 on_link-access {w} config log h sys c source rest is first asked = record {
   tokens = first;
@@ -105,8 +105,8 @@ on_link-access {w} config log h sys c source rest is first asked = record {
   once = λ k machine comes last beside. request-once config log h sys c source k machine is asked comes last beside;
 }
 
-on_link-acquire : {w : ℕ} (config : Config) (log : Log w) (h : Shadow w) (sys : System w) (c n : ℕ) (rest : List Token) → IsWidth w
-    → IsMatched config log h.mail h.request h.state sys → (h.state.link c).a ≡ token Acquire n ∷ rest
+on_link-acquire : {w : ℕ} (config : Config) (log : Log w) (h : AbstractState w) (sys : System w) (c n : ℕ) (rest : List Packet) → IsWidth w
+    → SimulationRelation config log h.mail h.request h.state sys → (h.state.link c).a ≡ packet Acquire n ∷ rest
     → (asked : IsWanted w c n h.state) → IsOnLink config h sys c Acquire n rest (acquire_wanted c n h.state asked)
 on_link-acquire {w} config log h sys c n rest width is first asked = record {
   tokens = first;
@@ -140,38 +140,38 @@ on_link-acquire {w} config log h sys c n rest width is first asked = record {
 -- ---- what is first on the channel
 
 -- the request whose beat is first, and which of its beats that is
-pub record IsArrival {w : ℕ} (config : Config) (h : Shadow w) (sys : System w) (c : ℕ) (x : Beat w) (queue : List (Beat w)) : Type 0 where
+pub record IsArrival {w : ℕ} (config : Config) (h : AbstractState w) (sys : System w) (c : ℕ) (x : Beat w) (queue : List (Beat w)) : Type 0 where
   pub kind : Kind
   pub number : ℕ
-  pub rest : List Token
+  pub rest : List Packet
   pub request : MessageA w
   pub is_it : IsOnLink config h sys c kind number rest request
   pub next : IsNext x (unfinished channel.A (on_link c sys.manager.trace)) (message.A request) (map (message_of h.mail h.state c) rest) queue
 
-pub arrival-first : {w : ℕ} (config : Config) (log : Log w) (h : Shadow w) (sys : System w) (c : ℕ) (x : Beat w) (queue : List (Beat w)) → IsWidth w → IsMatched config log h.mail h.request h.state sys
+pub arrival-first : {w : ℕ} (config : Config) (log : Log w) (h : AbstractState w) (sys : System w) (c : ℕ) (x : Beat w) (queue : List (Beat w)) → IsWidth w → SimulationRelation config log h.mail h.request h.state sys
     → sys.channels c channel.A ≡ x ∷ queue → IsArrival config h sys c x queue
 arrival-first {w} config log h sys c x queue width is beats = go (h.state.link c).a refl
   where
-    Here : List Token → Type 0
+    Here : List Packet → Type 0
     Here xs = IsCarried (unfinished channel.A (on_link c sys.manager.trace)) (map (message_of h.mail h.state c) xs) (sys.channels c channel.A)
 
     nothing : (y : Beat w) (ys : List (Beat w)) → [] ≡ y ∷ ys → ⊥
     nothing y ys e = cc
 
-    apart : (k : Kind) (i : ℕ) (rest : List Token) → (h.state.link c).a ≡ token k i ∷ rest → is_on channel.A k ≡ false → ⊥
-    apart k i rest e off = first_counts (token k i) rest (rw e at (is.invariant.own_kinds c channel.A k i off))
+    apart : (k : Kind) (i : ℕ) (rest : List Packet) → (h.state.link c).a ≡ packet k i ∷ rest → is_on channel.A k ≡ false → ⊥
+    apart k i rest e off = first_counts (packet k i) rest (rw e at (is.invariant.own_kinds c channel.A k i off))
 
-    arrived : (k : Kind) (i : ℕ) (rest : List Token) (m : MessageA w) → IsOnLink config h sys c k i rest m → IsArrival config h sys c x queue
+    arrived : (k : Kind) (i : ℕ) (rest : List Packet) (m : MessageA w) → IsOnLink config h sys c k i rest m → IsArrival config h sys c x queue
     arrived k i rest m on = record {
       kind = k;
       number = i;
       rest = rest;
       request = m;
       is_it = on;
-      next = front-of config log h.mail h.request h.state sys c (token k i) rest m x queue width is on.tokens on.renders beats;
+      next = front-of config log h.mail h.request h.state sys c (packet k i) rest m x queue width is on.tokens on.renders beats;
     }
 
-    of_kind : (k : Kind) (i : ℕ) (rest : List Token) → (h.state.link c).a ≡ token k i ∷ rest → IsArrival config h sys c x queue
+    of_kind : (k : Kind) (i : ℕ) (rest : List Packet) → (h.state.link c).a ≡ packet k i ∷ rest → IsArrival config h sys c x queue
     of_kind Request i rest e =
         let asked = asked-first config log h.mail h.request h.state sys c i rest is e in
         arrived Request i rest asked.request (on_link-access config log h sys c i rest is e asked)
@@ -186,14 +186,14 @@ arrival-first {w} config log h sys c x queue width is beats = go (h.state.link c
     of_kind ReleaseAck i rest e = absurd (apart ReleaseAck i rest e refl)
     of_kind GrantAck i rest e = absurd (apart GrantAck i rest e refl)
 
-    go : (xs : List Token) → (h.state.link c).a ≡ xs → IsArrival config h sys c x queue
+    go : (xs : List Packet) → (h.state.link c).a ≡ xs → IsArrival config h sys c x queue
     go [] e = let none : Here [] = rw e at (is.carried c channel.A) in absurd (nothing x queue (sym none.1 ∙ beats))
     go (y ∷ ys) e = of_kind y.kind y.number ys e
 
 -- ---- it is taken, or has to wait
 
-pub coming-arrival : {w : ℕ} (config : Config) (log : Log w) (h : Shadow w) (sys : System w) (c : ℕ) (x : Beat w) (queue : List (Beat w)) → IsWidth w
-    → IsMatched config log h.mail h.request h.state sys
+pub coming-arrival : {w : ℕ} (config : Config) (log : Log w) (h : AbstractState w) (sys : System w) (c : ℕ) (x : Beat w) (queue : List (Beat w)) → IsWidth w
+    → SimulationRelation config log h.mail h.request h.state sys
     → sys.channels c channel.A ≡ x ∷ queue → (arrives : IsArrival config h sys c x queue) → must_wait config (link_of c) x sys.manager.trace ≡ false
     → IsComing config c arrives.next.k arrives.request sys.manager
 coming-arrival {w} config log h sys c x queue width is beats arrives moves =
@@ -211,7 +211,7 @@ coming-arrival {w} config log h sys c x queue width is beats arrives moves =
     }
 
 -- a beat that is delivered on channel A and needn't wait is taken
-pub request-taken : {w : ℕ} (config : Config) (log : Log w) (h : Shadow w) (sys : System w) (c : ℕ) (x : Beat w) (queue : List (Beat w)) → IsWidth w → IsMatched config log h.mail h.request h.state sys
+pub request-taken : {w : ℕ} (config : Config) (log : Log w) (h : AbstractState w) (sys : System w) (c : ℕ) (x : Beat w) (queue : List (Beat w)) → IsWidth w → SimulationRelation config log h.mail h.request h.state sys
     → sys.channels c channel.A ≡ x ∷ queue → (arrives : IsArrival config h sys c x queue) → must_wait config (link_of c) x sys.manager.trace ≡ false
     → offered config (link_of c) channel.A x sys.manager ≡ (manager.Sent (deed config (link_of c) x sys.manager).handed, end_after config c arrives.next.k arrives.request sys.manager)
 request-taken {w} config log h sys c x queue width is beats arrives moves =
@@ -219,7 +219,7 @@ request-taken {w} config log h sys c x queue width is beats arrives moves =
     rw arrives.next.beat_is (offered-taken config (link_of c) channel.A (beat.A (a_beat_of arrives.request arrives.next.k)) sys.manager comes.passes)
 
 -- and one that has to wait is stalled, and not refused
-pub request-stalled : {w : ℕ} (config : Config) (log : Log w) (h : Shadow w) (sys : System w) (c : ℕ) (x : Beat w) (queue : List (Beat w)) → IsMatched config log h.mail h.request h.state sys
+pub request-stalled : {w : ℕ} (config : Config) (log : Log w) (h : AbstractState w) (sys : System w) (c : ℕ) (x : Beat w) (queue : List (Beat w)) → SimulationRelation config log h.mail h.request h.state sys
     → sys.channels c channel.A ≡ x ∷ queue → (arrives : IsArrival config h sys c x queue) → must_wait config (link_of c) x sys.manager.trace ≡ true
     → offered config (link_of c) channel.A x sys.manager ≡ (manager.Stalled, sys.manager)
 request-stalled {w} config log h sys c x queue is beats arrives waits =
@@ -231,8 +231,8 @@ request-stalled {w} config log h sys c x queue is beats arrives waits =
 
 -- ---- what a delivery on channel A comes to
 
-token_taken-first : {w : ℕ} (config : Config) (tracker c : ℕ) (kind : Kind) (i : ℕ) (rest xs : List Token) (h : Shadow w) → xs ≡ token kind i ∷ rest
-    → token_taken config tracker c xs h ≡ kind_taken config tracker c kind i rest h
+token_taken-first : {w : ℕ} (config : Config) (tracker c : ℕ) (kind : Kind) (i : ℕ) (rest xs : List Packet) (h : AbstractState w) → xs ≡ packet kind i ∷ rest
+    → packet_taken config tracker c xs h ≡ kind_taken config tracker c kind i rest h
 token_taken-first config tracker c kind i rest xs h e = rw e refl
 
 more_beats : (k n : ℕ) → (k + 1 == n) ≡ false → k < n → k + 1 < n
@@ -242,13 +242,13 @@ more_beats k n e lt = elim (cases_eq (k + 1) n) [
 ]
 
 -- The protocol after a beat that is taken: with the last one the request is, and with any other one nothing changes.
-pub moved-a : {w : ℕ} (config : Config) (h : Shadow w) (sys : System w) (c : ℕ) (x : Beat w) (queue : List (Beat w)) (P : Shadow w → Type 0)
+pub moved-a : {w : ℕ} (config : Config) (h : AbstractState w) (sys : System w) (c : ℕ) (x : Beat w) (queue : List (Beat w)) (P : AbstractState w → Type 0)
     → sys.channels c channel.A ≡ x ∷ queue → (arrives : IsArrival config h sys c x queue)
     → (beats_of (message.A arrives.request) ≡ suc arrives.next.k → P (kind_taken config (next_tracker sys) c arrives.kind arrives.number arrives.rest h))
     → (arrives.next.k + 1 < beats_of (message.A arrives.request) → P h)
     → P (delivered config c channel.A (outcome.Moved x) sys h)
 moved-a {w} config h sys c x queue P beats arrives last more =
-    subst (λ (b : Bool). P (if b then token_taken config (next_tracker sys) c (h.state.link c).a h else h)) (sym last_is) (go (completes x rest) refl)
+    subst (λ (b : Bool). P (if b then packet_taken config (next_tracker sys) c (h.state.link c).a h else h)) (sym last_is) (go (completes x rest) refl)
   where
     k : ℕ
     k = arrives.next.k
@@ -259,7 +259,7 @@ moved-a {w} config h sys c x queue P beats arrives last more =
     last_is : follow.is_last (sys.channels c channel.A) rest ≡ completes x rest
     last_is = rw beats refl
 
-    go : (b : Bool) → completes x rest ≡ b → P (if b then token_taken config (next_tracker sys) c (h.state.link c).a h else h)
+    go : (b : Bool) → completes x rest ≡ b → P (if b then packet_taken config (next_tracker sys) c (h.state.link c).a h else h)
     go true e =
         let all = eqb-true (k + 1) (beats_of (message.A arrives.request)) (sym arrives.next.completes_is ∙ e) in
         subst P (sym (token_taken-first config (next_tracker sys) c arrives.kind arrives.number arrives.rest (h.state.link c).a h arrives.is_it.tokens)) (last (omega (arith, all)))
@@ -271,8 +271,8 @@ step_moved config c k m x queue sys =
     handing (outcome.Moved x) (deed config (link_of c) x sys.manager).handed (with_manager (end_after config c k m sys.manager) (with_channel c channel.A queue sys))
 
 -- A delivery finds no beat, or one that has to wait, or one that is taken.
-pub delivery-a : {w : ℕ} (config : Config) (log : Log w) (h : Shadow w) (sys : System w) (c : ℕ) (terms : Terms) (P : Step w → Type 0) → IsWidth w
-    → IsMatched config log h.mail h.request h.state sys → terms_at config c ≡ Some terms
+pub delivery-a : {w : ℕ} (config : Config) (log : Log w) (h : AbstractState w) (sys : System w) (c : ℕ) (terms : Terms) (P : Step w → Type 0) → IsWidth w
+    → SimulationRelation config log h.mail h.request h.state sys → terms_at config c ≡ Some terms
     → (sys.channels c channel.A ≡ [] → P (only outcome.Empty sys))
     → ((x : Beat w) (queue : List (Beat w)) → sys.channels c channel.A ≡ x ∷ queue → must_wait config (link_of c) x sys.manager.trace ≡ true
     → P (only outcome.Stalled sys))
@@ -302,9 +302,9 @@ delivery-a {w} config log h sys c terms P width is client empty stalled moved = 
     go (x ∷ queue) e = taken_or_not x queue e (arrival-first config log h sys c x queue width is e) (must_wait config (link_of c) x sys.manager.trace) refl
 
 -- and what the manager knows is what the protocol says then
-pub at_manager-delivered_a : {w : ℕ} (config : Config) (log : Log w) (h : Shadow w) (sys : System w) (c : ℕ) (terms : Terms) → IsWidth w
-    → IsMatched config log h.mail h.request h.state sys → terms_at config c ≡ Some terms
-    → IsManagerOf config (followed config (Deliver (link_of c) channel.A) sys h) (stepped config (Deliver (link_of c) channel.A) sys).after.manager
+pub at_manager-delivered_a : {w : ℕ} (config : Config) (log : Log w) (h : AbstractState w) (sys : System w) (c : ℕ) (terms : Terms) → IsWidth w
+    → SimulationRelation config log h.mail h.request h.state sys → terms_at config c ≡ Some terms
+    → IsManagerOf config (abstract_step config (Deliver (link_of c) channel.A) sys h) (stepped config (Deliver (link_of c) channel.A) sys).after.manager
 at_manager-delivered_a {w} config log h sys c terms width is client =
     let known = at_manager-matched config log h.mail h.request h.state sys is in
     delivery-a config log h sys c terms (λ (step : Step w). IsManagerOf config (delivered config c channel.A step.outcome sys h) step.after.manager) width is
@@ -314,41 +314,41 @@ at_manager-delivered_a {w} config log h sys c terms width is client =
     let after : End w = end_after config c k arrives.request sys.manager in
     subst (IsManagerOf config (delivered config c channel.A (outcome.Moved x) sys h))
     (sym (manager-with_messages (deed config (link_of c) x sys.manager).handed (with_manager after (with_channel c channel.A queue sys))))
-    (moved-a config h sys c x queue (λ (i : Shadow w). IsManagerOf config i after) beats arrives (λ last. arrives.is_it.after k comes last (rw arrives.next.beat_is at moves))
+    (moved-a config h sys c x queue (λ (i : AbstractState w). IsManagerOf config i after) beats arrives (λ last. arrives.is_it.after k comes last (rw arrives.next.beat_is at moves))
     (λ more. at_manager-more (is_caching config) config h.mail h.request h.state c k arrives.request sys.manager is.invariant comes more (arrives.is_it.unwaited k more) known)))
 
 -- and the channels carry the messages of the tokens
-pub carried-delivered_a : {w : ℕ} (config : Config) (log : Log w) (h : Shadow w) (sys : System w) (c : ℕ) (terms : Terms) → IsWidth w
-    → IsMatched config log h.mail h.request h.state sys → terms_at config c ≡ Some terms
-    → AreCarried (followed config (Deliver (link_of c) channel.A) sys h).mail (followed config (Deliver (link_of c) channel.A) sys h).state (stepped config (Deliver (link_of c) channel.A) sys).after
+pub carried-delivered_a : {w : ℕ} (config : Config) (log : Log w) (h : AbstractState w) (sys : System w) (c : ℕ) (terms : Terms) → IsWidth w
+    → SimulationRelation config log h.mail h.request h.state sys → terms_at config c ≡ Some terms
+    → ChannelRelation (abstract_step config (Deliver (link_of c) channel.A) sys h).mail (abstract_step config (Deliver (link_of c) channel.A) sys h).state (stepped config (Deliver (link_of c) channel.A) sys).after
 carried-delivered_a {w} config log h sys c terms width is client =
     delivery-a config log h sys c terms (λ (step : Step w).
-    AreCarried (delivered config c channel.A step.outcome sys h).mail (delivered config c channel.A step.outcome sys h).state step.after) width is client
+    ChannelRelation (delivered config c channel.A step.outcome sys h).mail (delivered config c channel.A step.outcome sys h).state step.after) width is client
     (λ e. is.carried) (λ x queue e waits. is.carried) (λ x queue beats arrives moves.
     let comes = coming-arrival config log h sys c x queue width is beats arrives moves in
     let k : ℕ = arrives.next.k in
     let m : MessageA w = arrives.request in
     let first : sys.channels c channel.A ≡ beat.A (a_beat_of m k) ∷ queue = beats ∙ ap (λ (y : Beat w). y ∷ queue) arrives.next.beat_is in
     let same : system_after config c k m queue sys ≡ (step_moved config c k m x queue sys).after = ap (λ (y : Beat w). (step_moved config c k m y queue sys).after) (sym arrives.next.beat_is) in
-    moved-a config h sys c x queue (λ (i : Shadow w). AreCarried i.mail i.state (step_moved config c k m x queue sys).after) beats arrives
+    moved-a config h sys c x queue (λ (i : AbstractState w). ChannelRelation i.mail i.state (step_moved config c k m x queue sys).after) beats arrives
     (λ last.
-    subst (AreCarried (kind_taken config (next_tracker sys) c arrives.kind arrives.number arrives.rest h).mail
+    subst (ChannelRelation (kind_taken config (next_tracker sys) c arrives.kind arrives.number arrives.rest h).mail
     (kind_taken config (next_tracker sys) c arrives.kind arrives.number arrives.rest h).state) same
     (arrives.is_it.carried k queue comes first last (rw arrives.next.beat_is at moves)))
     (λ more.
-    subst (AreCarried h.mail h.state) same
+    subst (ChannelRelation h.mail h.state) same
     (carried-more config log h.mail h.request h.state sys c k m queue is comes first (ends-coming config c k m sys.manager comes ∙ not_last k (beats_of (message.A m)) more))))
 
 -- and the one-memory machine is beside the protocol, once the accesses that are answered are performed
-pub beside-delivered_a : {w : ℕ} (config : Config) (log : Log w) (h : Shadow w) (sys : System w) (c : ℕ) (terms : Terms) (machine : Machine w) → IsWidth w
-    → IsMatched config log h.mail h.request h.state sys → terms_at config c ≡ Some terms
-    → IsBeside h.mail h.state machine
-    → IsBeside (followed config (Deliver (link_of c) channel.A) sys h).mail (followed config (Deliver (link_of c) channel.A) sys h).state
+pub beside-delivered_a : {w : ℕ} (config : Config) (log : Log w) (h : AbstractState w) (sys : System w) (c : ℕ) (terms : Terms) (machine : Machine w) → IsWidth w
+    → SimulationRelation config log h.mail h.request h.state sys → terms_at config c ≡ Some terms
+    → MemoryRelation h.mail h.state machine
+    → MemoryRelation (abstract_step config (Deliver (link_of c) channel.A) sys h).mail (abstract_step config (Deliver (link_of c) channel.A) sys h).state
     (performing (accesses_answered (stepped config (Deliver (link_of c) channel.A) sys).handed) machine)
 unfolding performing accesses_answered
 beside-delivered_a {w} config log h sys c terms machine width is client beside =
     delivery-a config log h sys c terms
-    (λ (step : Step w). IsBeside (delivered config c channel.A step.outcome sys h).mail (delivered config c channel.A step.outcome sys h).state
+    (λ (step : Step w). MemoryRelation (delivered config c channel.A step.outcome sys h).mail (delivered config c channel.A step.outcome sys h).state
     (performing (accesses_answered step.handed) machine)) width is client (λ e. beside)
     (λ x queue e waits. beside) (λ x queue beats arrives moves.
     let comes = coming-arrival config log h sys c x queue width is beats arrives moves in
@@ -356,21 +356,21 @@ beside-delivered_a {w} config log h sys c terms machine width is client beside =
     let m : MessageA w = arrives.request in
     let same : (deed config (link_of c) (beat.A (a_beat_of m k)) sys.manager).handed ≡ (deed config (link_of c) x sys.manager).handed =
     ap (λ (y : Beat w). (deed config (link_of c) y sys.manager).handed) (sym arrives.next.beat_is) in
-    moved-a config h sys c x queue (λ (i : Shadow w). IsBeside i.mail i.state (performing (accesses_answered (deed config (link_of c) x sys.manager).handed) machine)) beats arrives
+    moved-a config h sys c x queue (λ (i : AbstractState w). MemoryRelation i.mail i.state (performing (accesses_answered (deed config (link_of c) x sys.manager).handed) machine)) beats arrives
     (λ last.
     subst
-    (λ (i : Handed w). IsBeside (kind_taken config (next_tracker sys) c arrives.kind arrives.number arrives.rest h).mail
+    (λ (i : Handed w). MemoryRelation (kind_taken config (next_tracker sys) c arrives.kind arrives.number arrives.rest h).mail
     (kind_taken config (next_tracker sys) c arrives.kind arrives.number arrives.rest h).state (performing (accesses_answered i) machine))
     same (arrives.is_it.beside k machine comes last beside))
     (λ more.
     let part : (deed config (link_of c) (beat.A (a_beat_of m k)) sys.manager).handed ≡ [] =
     ap (λ (d : Deed w). d.handed) (deed-part config (link_of c) (beat.A (a_beat_of m k)) sys.manager (ends-coming config c k m sys.manager comes ∙ not_last k (beats_of (message.A m)) more)) in
-    subst (λ (i : Handed w). IsBeside h.mail h.state (performing (accesses_answered i) machine)) (sym part ∙ same) beside))
+    subst (λ (i : Handed w). MemoryRelation h.mail h.state (performing (accesses_answered i) machine)) (sym part ∙ same) beside))
 
 -- at most one access is answered then, and it can be performed
-pub once-delivered_a : {w : ℕ} (config : Config) (log : Log w) (h : Shadow w) (sys : System w) (c : ℕ) (terms : Terms) (machine : Machine w) → IsWidth w
-    → IsMatched config log h.mail h.request h.state sys → terms_at config c ≡ Some terms
-    → IsBeside h.mail h.state machine → IsOnce (accesses_answered (stepped config (Deliver (link_of c) channel.A) sys).handed) h machine
+pub once-delivered_a : {w : ℕ} (config : Config) (log : Log w) (h : AbstractState w) (sys : System w) (c : ℕ) (terms : Terms) (machine : Machine w) → IsWidth w
+    → SimulationRelation config log h.mail h.request h.state sys → terms_at config c ≡ Some terms
+    → MemoryRelation h.mail h.state machine → IsOnce (accesses_answered (stepped config (Deliver (link_of c) channel.A) sys).handed) h machine
 unfolding accesses_answered
 once-delivered_a {w} config log h sys c terms machine width is client beside =
     delivery-a config log h sys c terms (λ (step : Step w). IsOnce (accesses_answered step.handed) h machine) width is client (λ e. inl refl)
@@ -380,7 +380,7 @@ once-delivered_a {w} config log h sys c terms machine width is client beside =
     let m : MessageA w = arrives.request in
     let same : (deed config (link_of c) (beat.A (a_beat_of m k)) sys.manager).handed ≡ (deed config (link_of c) x sys.manager).handed =
     ap (λ (y : Beat w). (deed config (link_of c) y sys.manager).handed) (sym arrives.next.beat_is) in
-    moved-a config h sys c x queue (λ (i : Shadow w). IsOnce (accesses_answered (deed config (link_of c) x sys.manager).handed) h machine) beats arrives
+    moved-a config h sys c x queue (λ (i : AbstractState w). IsOnce (accesses_answered (deed config (link_of c) x sys.manager).handed) h machine) beats arrives
     (λ last. subst (λ (i : Handed w). IsOnce (accesses_answered i) h machine) same (arrives.is_it.once k machine comes last beside))
     (λ more.
     let part : (deed config (link_of c) (beat.A (a_beat_of m k)) sys.manager).handed ≡ [] =

@@ -26,7 +26,7 @@ use Rattle.tl_manager.specs.statement.Offer as manager_offer
 use Rattle.tl_coherence.specs.declared.event.Event.TheVariants.{Ask}
 use Rattle.tl_coherence.specs.declared.event.Outcome.TheVariants.{Replied}
 use Rattle.tl_coherence.specs.statement.Load.{requests, releases, load}
-use Rattle.tl_coherence.specs.statement.Log.{Log, IsLog, after}
+use Rattle.tl_coherence.specs.statement.Log.{Log, IsLog, system_after}
 use Rattle.tl_coherence.specs.statement.Movable.{is_movable, first_movable, next_delivery, drained}
 use Rattle.tl_coherence.specs.statement.Step.{stepped}
 use Rattle.tl_coherence.specs.statement.System.{with_messages}
@@ -39,18 +39,18 @@ abbrev asked_once : Log 8
 asked_once = (Ask 0 (op.Acquire 0 grow.NtoT), Replied (reply.Started 0)) ∷ []
 
 is_a_log : IsLog two_caches asked_once
-unfolding IsLog after stepped with_messages ask.asked ask.busy ask.least_free unfinished request_of release_of probe_of grant_sink pending held
+unfolding IsLog system_after stepped with_messages ask.asked ask.busy ask.least_free unfinished request_of release_of probe_of grant_sink pending held
 is_a_log = (refl, tt)
 
-moves_ten_beats : (length (drained two_caches 12 asked_once) ≡ 11) × (load asked_once ≡ 41) × (next_delivery two_caches (after two_caches (drained two_caches 12 asked_once)) ≡ None)
-unfolding drained after requests releases stepped with_messages is_movable first_movable next_delivery ask.asked ask.busy ask.least_free ask.low_bytes
+moves_ten_beats : (length (drained two_caches 12 asked_once) ≡ 11) × (load asked_once ≡ 41) × (next_delivery two_caches (system_after two_caches (drained two_caches 12 asked_once)) ≡ None)
+unfolding drained system_after requests releases stepped with_messages is_movable first_movable next_delivery ask.asked ask.busy ask.least_free ask.low_bytes
     offer.offered offer.stalls bytes_carried number_from unfinished request_of release_of probe_of grant_sink pending held illegal first_illegal beats_from
     each_below broken_order on_link bytes_from effect with_handed clients_from masks_carried corrupt_carried request_carried service.least_untaken
     service.services manager_offer.judged_at manager_deed.deed manager_offer.offered manager_offer.stalls
 moves_ten_beats = (refl, refl, refl)
 
-brings_what_it_asks_for : held_at ((after two_caches (drained two_caches 10 asked_once)).clients 0) 0 ≡ perm.Trunk
-unfolding drained after requests releases stepped with_messages is_movable first_movable next_delivery ask.asked ask.busy ask.least_free ask.low_bytes
+brings_what_it_asks_for : held_at ((system_after two_caches (drained two_caches 10 asked_once)).clients 0) 0 ≡ perm.Trunk
+unfolding drained system_after requests releases stepped with_messages is_movable first_movable next_delivery ask.asked ask.busy ask.least_free ask.low_bytes
     offer.offered offer.stalls bytes_carried number_from unfinished request_of release_of probe_of grant_sink pending held illegal first_illegal beats_from
     each_below broken_order on_link bytes_from effect with_handed clients_from masks_carried corrupt_carried request_carried service.least_untaken
     service.services manager_offer.judged_at manager_deed.deed manager_offer.offered manager_offer.stalls

@@ -40,7 +40,7 @@ use Rattle.tl_coherence.specs.statement.Load.{outstanding, load}
 use Rattle.tl_coherence.specs.statement.Log.{Log}
 use Rattle.tl_coherence.specs.statement.Machine.{Machine, Open, Requests, Releases, first, is_client, is_word_op, pool_of_op, pool_of, finish_with, cap_named, moved, performed}
 use Rattle.tl_coherence.specs.statement.Movable.{is_movable, next_delivery}
-use Rattle.tl_coherence.specs.statement.Remembered.{accesses_answered, performing}
+use Rattle.tl_coherence.specs.statement.OneMemory.{accesses_answered, performing}
 use Rattle.tl_coherence.specs.statement.Step.{Step, stepped, client_of}
 use Rattle.tl_coherence.specs.statement.System.{System, fresh, terms_at}
 use Rattle.tl_coherence.proofs.examples.Play.{Line, Does, Drains}

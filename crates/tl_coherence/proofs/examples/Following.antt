@@ -44,18 +44,18 @@ use Rattle.tl_coherence.specs.declared.event.Event.{Event}
 use Rattle.tl_coherence.specs.declared.event.Event.TheVariants.{Deliver}
 use Rattle.tl_coherence.specs.refinement.Carried.{spelled}
 use Rattle.tl_coherence.specs.statement.Flow.{flow}
-use Rattle.tl_coherence.specs.refinement.Flowed.{is_requested, is_let, is_let_by, is_sunk}
-use Rattle.tl_coherence.specs.refinement.Follow.{Shadow, first_shadow, followed, some_below}
+use Rattle.tl_coherence.specs.refinement.MonitorRelation.{is_requested, is_let, is_let_by, is_sunk}
+use Rattle.tl_coherence.specs.refinement.AbstractStep.{AbstractState, first_abstract_state, abstract_step, some_below}
 use Rattle.tl_coherence.specs.protocol.Invariant.{is_of, acquires_of, serves_of, acquires_with, serves_with, releases_with, tracks_with}
-use Rattle.tl_coherence.specs.refinement.Known.{comes_granting}
-use Rattle.tl_coherence.specs.refinement.Managed.{is_own, client_in}
-use Rattle.tl_coherence.specs.refinement.Matched.{receiver}
+use Rattle.tl_coherence.specs.refinement.ClientRelation.{comes_granting}
+use Rattle.tl_coherence.specs.refinement.ManagerRelation.{is_own, client_in}
+use Rattle.tl_coherence.specs.refinement.ChannelRelation.{receiver}
 use Rattle.tl_coherence.specs.statement.Movable.{is_movable, first_movable, next_delivery}
-use Rattle.tl_coherence.specs.protocol.Phase.{ok, same_cap, is_quiet, is_kept}
+use Rattle.tl_coherence.specs.protocol.Phase.{ok, same_cap, is_unprobed, is_unreleased}
 use Rattle.tl_coherence.specs.protocol.Protocol.{Service, Free, Waits, GrantSent, GrantTaken, State, view, is_wanting, is_granting, is_acknowledging, is_unserved, is_answered}
-use Rattle.tl_coherence.specs.refinement.Render.{Mail, rendered, messages_on, probe_beat}
-use Rattle.tl_coherence.specs.refinement.Sources.{is_served, is_granted, cap_waited}
-use Rattle.tl_coherence.specs.refinement.Whole.{asked_by, is_storing}
+use Rattle.tl_coherence.specs.refinement.PacketMessages.{AccessMessages, block_message, messages_on, probe_beat}
+use Rattle.tl_coherence.specs.refinement.SourceRelation.{is_served, is_granted, cap_waited}
+use Rattle.tl_coherence.specs.refinement.SimulationRelation.{asked_by, is_storing}
 use Rattle.tl_coherence.specs.statement.Step.{Step, stepped}
 use Rattle.tl_coherence.specs.statement.System.{System, with_messages}
 use Rattle.tl_coherence.proofs.examples.Checks.{Past, begun, next, all_below, failed, same_beats, performs}
@@ -63,7 +63,7 @@ use Rattle.tl_coherence.proofs.examples.Play.{Line, Does, Drains, world, deliver
 use Rattle.tl_coherence.proofs.queues.Phases.{implies}
 use Rattle.tl_coherence.specs.statement.Coherent.{started}
 use Rattle.tl_coherence.specs.statement.Load.{requests, releases}
-use Rattle.tl_coherence.specs.statement.Remembered.{accesses_answered, performing}
+use Rattle.tl_coherence.specs.statement.OneMemory.{accesses_answered, performing}
 
 -- ---- tests of values
 
@@ -83,19 +83,19 @@ is_number n None = false
 
 -- ---- a client's end
 
-abbrev pub known : {w : ℕ} → ℕ → ℕ → Mail w → State (List ℕ) → System w → ℕ → Bool
+abbrev pub known : {w : ℕ} → ℕ → ℕ → AccessMessages w → State (List ℕ) → System w → ℕ → Bool
 known blocks sources mail s sys c =
     all_below blocks (λ n.
     same_perm (held n (sys.clients c).past) ((s.block n).pair c).held
     && (beq (pending (AcquireOf n) (sys.clients c).past) (is_wanting ((s.block n).pair c).acquiring)
-    && (beq (pending (ReleaseOf n) (sys.clients c).past) (not (is_kept ((s.block n).pair c).letting))
+    && (beq (pending (ReleaseOf n) (sys.clients c).past) (not (is_unreleased ((s.block n).pair c).letting))
     && (not (pending (ProbeOf n) (sys.clients c).past)
     && beq (pending (GrantAckOf n) (sys.clients c).past) (comes_granting n (asked_by mail s c) (unfinished channel.D (sys.clients c).past))))))
     && all_below sources (λ i.
     same_a (open_beat i (sys.clients c).past) (asked_by mail s c i)
     && beq (pending (GrantSink i) (sys.clients c).past) (comes_in_grant i (unfinished channel.D (sys.clients c).past)))
 
-abbrev pub opened : {w : ℕ} → ℕ → Mail w → State (List ℕ) → System w → ℕ → Bool
+abbrev pub opened : {w : ℕ} → ℕ → AccessMessages w → State (List ℕ) → System w → ℕ → Bool
 opened sources mail s sys c =
     all_below sources (λ i.
     beq (pending (RequestSource i) (sys.clients c).past) (is_some (asked_by mail s c i))
@@ -122,7 +122,7 @@ abbrev pub managed : {w : ℕ} → ℕ → State (List ℕ) → Trace w → ℕ 
 managed blocks s t c =
     all_below blocks (λ n.
     same_perm (recorded c n t) ((s.block n).pair c).recorded
-    && (beq (pending (ProbeOf n) (on_link c t)) (not (is_quiet ((s.block n).pair c).probing))
+    && (beq (pending (ProbeOf n) (on_link c t)) (not (is_unprobed ((s.block n).pair c).probing))
     && (beq (pending (AcquireOf n) (on_link c t)) (is_own (view (s.block n).service c))
     && beq (pending (GrantAckOf n) (on_link c t)) (is_granting (view (s.block n).service c) || is_acknowledging (view (s.block n).service c)))))
 
@@ -143,7 +143,7 @@ is_for (Waits r own source k) n m t =
 is_for (GrantSent q d k) n m t = is_acquire m.opcode && (block_at m.address == n)
 is_for (GrantTaken q) n m t = is_acquire m.opcode && (block_at m.address == n)
 
-abbrev pub in_service : {w : ℕ} → ℕ → Shadow w → Trace w → Bool
+abbrev pub in_service : {w : ℕ} → ℕ → AbstractState w → Trace w → Bool
 in_service blocks h t =
     all_below blocks (λ n.
     same_service (service_of_block n (services t)) (client_in (h.state.block n).service) (h.state.block n).tracker (h.request n)
@@ -157,11 +157,11 @@ served blocks sources trackers s t c =
     && (all_below trackers (λ i. beq (pending (GrantSink i) (on_link c t)) (is_granted c (s.tracked i) s))
     && all_below blocks (λ n.
     beq (pending (ReleaseOf n) (on_link c t)) (comes_of n (unfinished channel.C (on_link c t)))
-    && implies (not (is_quiet ((s.block n).pair c).probing)) (same_b (probe_of n (on_link c t)) (Some (probe_beat n (cap_waited (s.block n).service))))))
+    && implies (not (is_unprobed ((s.block n).pair c).probing)) (same_b (probe_of n (on_link c t)) (Some (probe_beat n (cap_waited (s.block n).service))))))
 
 -- ---- the flow
 
-abbrev pub flowed : {w : ℕ} → ℕ → ℕ → ℕ → Mail w → State (List ℕ) → System w → List (Beat w) → ℕ → Bool
+abbrev pub flowed : {w : ℕ} → ℕ → ℕ → ℕ → AccessMessages w → State (List ℕ) → System w → List (Beat w) → ℕ → Bool
 flowed {w} blocks sources trackers mail s sys t c =
     all_below blocks (λ n.
     same_perm (held n t) (if is_granting (view (s.block n).service c) then ((s.block n).pair c).held else ((s.block n).pair c).recorded)
@@ -187,10 +187,10 @@ flowed {w} blocks sources trackers mail s sys t c =
 
 -- ---- channels, the memory and the protocol by itself
 
-abbrev pub carries : {w : ℕ} → Mail w → State (List ℕ) → System w → ℕ → Channel → Bool
+abbrev pub carries : {w : ℕ} → AccessMessages w → State (List ℕ) → System w → ℕ → Channel → Bool
 carries mail s sys c ch = same_beats (reverse (unfinished ch (receiver ch c sys)) ++ sys.channels c ch) (spelled (messages_on ch mail s c))
 
-abbrev pub all_carry : {w : ℕ} → Mail w → State (List ℕ) → System w → ℕ → Bool
+abbrev pub all_carry : {w : ℕ} → AccessMessages w → State (List ℕ) → System w → ℕ → Bool
 all_carry mail s sys c =
     carries mail s sys c channel.A && (carries mail s sys c channel.B && (carries mail s sys c channel.C && (carries mail s sys c channel.D && carries mail s sys c channel.E)))
 
@@ -212,10 +212,10 @@ remembers blocks s p =
 -- a whole with its past, and the protocol beside it
 pub record Followed (w : ℕ) : Type 0 where
   pub past : Past w
-  pub shadow : Shadow w
+  pub shadow : AbstractState w
 
 abbrev pub beginning : {w : ℕ} → Followed w
-beginning = record { past = begun; shadow = first_shadow }
+beginning = record { past = begun; shadow = first_abstract_state }
 
 abbrev pub faults_at : {w : ℕ} → ℕ → ℕ → Config → Followed w → List ℕ → List ℕ
 faults_at clients sources config f more =
@@ -231,7 +231,7 @@ faults_at clients sources config f more =
     (failed 10 (remembers config.blocks f.shadow.state f.past) more)))))))))
 
 abbrev pub after_event : {w : ℕ} → Config → Event w → Step w → Followed w → Followed w
-after_event config event step f = record { past = next event step f.past; shadow = followed config event f.past.system f.shadow }
+after_event config event step f = record { past = next event step f.past; shadow = abstract_step config event f.past.system f.shadow }
 
 abbrev pub checked : {w : ℕ} → ℕ → ℕ → Config → Event w → Followed w → (Followed w → List ℕ) → List ℕ
 checked {w} clients sources config event f later =
@@ -261,7 +261,7 @@ plain_accesses_of_what_a_cache_holds : Follows {w = 8} 2 (world profile.One 2 1 
     ++ replicate 8 (deliver 0 channel.C)
     ++ (deliver 1 channel.D ∷ load 0 0 0 ∷ access 1 a.PutFullData 0 0 (lit≤ tt) 0 1 ((107 ∷ []) ++ replicate 63 0) ∷ deliver 1 channel.A ∷ deliver 0 channel.B
     ∷ deliver 0 channel.C ∷ deliver 1 channel.D ∷ load 0 0 0 ∷ []))
-unfolding faults faults_draining rendered some_below spelled ok performs all_below flow started requests releases accesses_answered performing stepped
+unfolding faults faults_draining block_message some_below spelled ok performs all_below flow started requests releases accesses_answered performing stepped
     with_messages is_movable first_movable next_delivery ask.asked ask.busy ask.least_free ask.low_bytes offer.offered offer.stalls bytes_carried number_from
     unfinished request_of release_of probe_of grant_sink pending held illegal first_illegal beats_from each_below broken_order on_link bytes_from effect
     with_handed clients_from masks_carried corrupt_carried request_carried service.least_untaken service.services manager_offer.judged_at manager_deed.deed
@@ -270,7 +270,7 @@ plain_accesses_of_what_a_cache_holds = refl
 
 bytes_of_a_word : Follows {w = 8} 2 (world profile.One 1 1 ((level.UL, 1) ∷ []))
     ((access 0 a.PutPartialData 0 2 (lit≤ tt) 4 80 (replicate 4 0 ++ (17 ∷ 34 ∷ 51 ∷ 68 ∷ []) ++ replicate 56 0) ∷ Drains 220 ∷ access 0 a.Get 0 3 (lit≤ tt) 0 255 (replicate 64 0) ∷ Drains 220 ∷ []))
-unfolding faults faults_draining rendered some_below spelled ok performs all_below flow started requests releases accesses_answered performing stepped
+unfolding faults faults_draining block_message some_below spelled ok performs all_below flow started requests releases accesses_answered performing stepped
     with_messages is_movable first_movable next_delivery ask.asked ask.busy ask.least_free ask.low_bytes offer.offered offer.stalls bytes_carried number_from
     unfinished request_of release_of probe_of grant_sink pending held illegal first_illegal beats_from each_below broken_order on_link bytes_from effect
     with_handed clients_from masks_carried corrupt_carried request_carried service.least_untaken service.services manager_offer.judged_at manager_deed.deed
@@ -281,7 +281,7 @@ a_put_counts_from_its_last_beat : Follows {w = 8} 2 (world profile.One 1 1 ((lev
     ((access 0 a.PutFullData 0 6 (lit≤ tt) 0 18446744073709551615 (replicate 64 255) ∷ [])
     ++ replicate 7 (deliver 0 channel.A)
     ++ (access 1 a.Get 0 3 (lit≤ tt) 0 255 (replicate 64 0) ∷ deliver 1 channel.A ∷ deliver 1 channel.D ∷ []))
-unfolding faults faults_draining rendered some_below spelled ok performs all_below flow started requests releases accesses_answered performing stepped
+unfolding faults faults_draining block_message some_below spelled ok performs all_below flow started requests releases accesses_answered performing stepped
     with_messages is_movable first_movable next_delivery ask.asked ask.busy ask.least_free ask.low_bytes offer.offered offer.stalls bytes_carried number_from
     unfinished request_of release_of probe_of grant_sink pending held illegal first_illegal beats_from each_below broken_order on_link bytes_from effect
     with_handed clients_from masks_carried corrupt_carried request_carried service.least_untaken service.services manager_offer.judged_at manager_deed.deed
@@ -292,7 +292,7 @@ min_by_sign_and_without : Follows {w = 8} 2 (world profile.One 1 1 ((level.UH, 1
     ((access 0 a.PutFullData 0 2 (lit≤ tt) 0 15 (replicate 4 255 ++ replicate 60 0) ∷ Drains 220 ∷ access 0 a.ArithmeticData 0 2 (lit≤ tt) 0 15
     ((1 ∷ []) ++ replicate 63 0) ∷ Drains 220 ∷ access 0 a.ArithmeticData 2 2 (lit≤ tt) 0 15
     ((1 ∷ []) ++ replicate 63 0) ∷ Drains 220 ∷ access 0 a.Get 0 2 (lit≤ tt) 0 15 (replicate 64 0) ∷ Drains 220 ∷ []))
-unfolding faults faults_draining rendered some_below spelled ok performs all_below flow started requests releases accesses_answered performing stepped
+unfolding faults faults_draining block_message some_below spelled ok performs all_below flow started requests releases accesses_answered performing stepped
     with_messages is_movable first_movable next_delivery ask.asked ask.busy ask.least_free ask.low_bytes offer.offered offer.stalls bytes_carried number_from
     unfinished request_of release_of probe_of grant_sink pending held illegal first_illegal beats_from each_below broken_order on_link bytes_from effect
     with_handed clients_from masks_carried corrupt_carried request_carried service.least_untaken service.services manager_offer.judged_at manager_deed.deed
@@ -302,7 +302,7 @@ min_by_sign_and_without = refl
 add_wraps : Follows {w = 8} 2 (world profile.One 1 1 ((level.UH, 1) ∷ []))
     ((access 0 a.PutFullData 0 3 (lit≤ tt) 0 255 (replicate 8 255 ++ replicate 56 0) ∷ Drains 220 ∷ access 0 a.ArithmeticData 4 3 (lit≤ tt) 0 255
     ((1 ∷ []) ++ replicate 63 0) ∷ Drains 220 ∷ access 0 a.Get 0 3 (lit≤ tt) 0 255 (replicate 64 0) ∷ Drains 220 ∷ []))
-unfolding faults faults_draining rendered some_below spelled ok performs all_below flow started requests releases accesses_answered performing stepped
+unfolding faults faults_draining block_message some_below spelled ok performs all_below flow started requests releases accesses_answered performing stepped
     with_messages is_movable first_movable next_delivery ask.asked ask.busy ask.least_free ask.low_bytes offer.offered offer.stalls bytes_carried number_from
     unfinished request_of release_of probe_of grant_sink pending held illegal first_illegal beats_from each_below broken_order on_link bytes_from effect
     with_handed clients_from masks_carried corrupt_carried request_carried service.least_untaken service.services manager_offer.judged_at manager_deed.deed
@@ -311,7 +311,7 @@ add_wraps = refl
 
 a_reader_gets_what_the_writer_stored : Follows {w = 8} 2 (world profile.One 1 1 ((level.C, 1) ∷ (level.C, 1) ∷ []))
     ((acquire 0 0 grow.NtoT ∷ Drains 220 ∷ store 0 0 0 90 ∷ acquire 1 0 grow.NtoB ∷ Drains 220 ∷ load 0 0 0 ∷ load 1 0 0 ∷ []))
-unfolding faults faults_draining rendered some_below spelled ok performs all_below flow started requests releases accesses_answered performing stepped
+unfolding faults faults_draining block_message some_below spelled ok performs all_below flow started requests releases accesses_answered performing stepped
     with_messages is_movable first_movable next_delivery ask.asked ask.busy ask.least_free ask.low_bytes offer.offered offer.stalls bytes_carried number_from
     unfinished request_of release_of probe_of grant_sink pending held illegal first_illegal beats_from each_below broken_order on_link bytes_from effect
     with_handed clients_from masks_carried corrupt_carried request_carried service.least_untaken service.services manager_offer.judged_at manager_deed.deed
@@ -320,7 +320,7 @@ a_reader_gets_what_the_writer_stored = refl
 
 a_release_while_a_probe_waits : Follows {w = 8} 2 (world profile.One 1 1 ((level.C, 1) ∷ (level.C, 1) ∷ []))
     ((acquire 0 0 grow.NtoT ∷ Drains 220 ∷ store 0 0 0 90 ∷ acquire 1 0 grow.NtoT ∷ deliver 1 channel.A ∷ release 0 0 prune.TtoN ∷ deliver 0 channel.B ∷ Drains 220 ∷ load 1 0 0 ∷ []))
-unfolding faults faults_draining rendered some_below spelled ok performs all_below flow started requests releases accesses_answered performing stepped
+unfolding faults faults_draining block_message some_below spelled ok performs all_below flow started requests releases accesses_answered performing stepped
     with_messages is_movable first_movable next_delivery ask.asked ask.busy ask.least_free ask.low_bytes offer.offered offer.stalls bytes_carried number_from
     unfinished request_of release_of probe_of grant_sink pending held illegal first_illegal beats_from each_below broken_order on_link bytes_from effect
     with_handed clients_from masks_carried corrupt_carried request_carried service.least_untaken service.services manager_offer.judged_at manager_deed.deed
@@ -329,7 +329,7 @@ a_release_while_a_probe_waits = refl
 
 the_second_writer_gets_data : Follows {w = 8} 2 (world profile.One 1 2 ((level.C, 1) ∷ (level.C, 1) ∷ []))
     ((acquire 0 0 grow.NtoB ∷ Drains 220 ∷ acquire 1 0 grow.NtoB ∷ Drains 220 ∷ acquire 0 0 grow.BtoT ∷ acquire 1 0 grow.BtoT ∷ Drains 220 ∷ []))
-unfolding faults faults_draining rendered some_below spelled ok performs all_below flow started requests releases accesses_answered performing stepped
+unfolding faults faults_draining block_message some_below spelled ok performs all_below flow started requests releases accesses_answered performing stepped
     with_messages is_movable first_movable next_delivery ask.asked ask.busy ask.least_free ask.low_bytes offer.offered offer.stalls bytes_carried number_from
     unfinished request_of release_of probe_of grant_sink pending held illegal first_illegal beats_from each_below broken_order on_link bytes_from effect
     with_handed clients_from masks_carried corrupt_carried request_carried service.least_untaken service.services manager_offer.judged_at manager_deed.deed
@@ -338,7 +338,7 @@ the_second_writer_gets_data = refl
 
 a_whole_block_store_takes_no_data : Follows {w = 8} 2 (world profile.One 1 2 ((level.C, 1) ∷ (level.C, 1) ∷ []))
     ((acquire 0 0 grow.NtoB ∷ Drains 220 ∷ acquire 1 0 grow.NtoB ∷ Drains 220 ∷ acquire 0 0 grow.BtoT ∷ whole 1 0 (replicate 64 17) ∷ Drains 220 ∷ load 1 0 0 ∷ load 0 0 0 ∷ []))
-unfolding faults faults_draining rendered some_below spelled ok performs all_below flow started requests releases accesses_answered performing stepped
+unfolding faults faults_draining block_message some_below spelled ok performs all_below flow started requests releases accesses_answered performing stepped
     with_messages is_movable first_movable next_delivery ask.asked ask.busy ask.least_free ask.low_bytes offer.offered offer.stalls bytes_carried number_from
     unfinished request_of release_of probe_of grant_sink pending held illegal first_illegal beats_from each_below broken_order on_link bytes_from effect
     with_handed clients_from masks_carried corrupt_carried request_carried service.least_untaken service.services manager_offer.judged_at manager_deed.deed
@@ -349,7 +349,7 @@ a_release_before_its_grant_ack : Follows {w = 8} 2 (world profile.One 1 1 ((leve
     ((acquire 0 0 grow.NtoB ∷ deliver 0 channel.A ∷ [])
     ++ replicate 8 (deliver 0 channel.D)
     ++ (release 0 0 prune.BtoN ∷ deliver 0 channel.C ∷ deliver 0 channel.D ∷ acquire 0 0 grow.NtoB ∷ deliver 0 channel.A ∷ deliver 0 channel.E ∷ deliver 0 channel.A ∷ []))
-unfolding faults faults_draining rendered some_below spelled ok performs all_below flow started requests releases accesses_answered performing stepped
+unfolding faults faults_draining block_message some_below spelled ok performs all_below flow started requests releases accesses_answered performing stepped
     with_messages is_movable first_movable next_delivery ask.asked ask.busy ask.least_free ask.low_bytes offer.offered offer.stalls bytes_carried number_from
     unfinished request_of release_of probe_of grant_sink pending held illegal first_illegal beats_from each_below broken_order on_link bytes_from effect
     with_handed clients_from masks_carried corrupt_carried request_carried service.least_untaken service.services manager_offer.judged_at manager_deed.deed
@@ -360,7 +360,7 @@ busy_in_order : Follows {w = 8} 2 (world profile.One 1 1 ((level.UL, 1) ∷ []))
     ((load 0 0 0 ∷ access 0 a.Get 0 4 (lit≤ tt) 0 255 (replicate 64 0) ∷ access 0 a.Get 0 3 (lit≤ tt) 0 255 (replicate 64 0) ∷ access 0 a.Get 0 3
     (lit≤ tt) 0 255 (replicate 64 0) ∷ access 0 a.PutPartialData 0 1 (lit≤ tt) 7 128
     (replicate 7 0 ++ (17 ∷ []) ++ replicate 56 0) ∷ deliver 0 channel.D ∷ []))
-unfolding faults faults_draining rendered some_below spelled ok performs all_below flow started requests releases accesses_answered performing stepped
+unfolding faults faults_draining block_message some_below spelled ok performs all_below flow started requests releases accesses_answered performing stepped
     with_messages is_movable first_movable next_delivery ask.asked ask.busy ask.least_free ask.low_bytes offer.offered offer.stalls bytes_carried number_from
     unfinished request_of release_of probe_of grant_sink pending held illegal first_illegal beats_from each_below broken_order on_link bytes_from effect
     with_handed clients_from masks_carried corrupt_carried request_carried service.least_untaken service.services manager_offer.judged_at manager_deed.deed
@@ -369,7 +369,7 @@ busy_in_order = refl
 
 beats_of_4_bytes : Follows {w = 4} 2 (world profile.One 1 1 ((level.C, 1) ∷ (level.C, 1) ∷ []))
     ((acquire 0 0 grow.NtoT ∷ Drains 220 ∷ store 0 0 0 90 ∷ acquire 1 0 grow.NtoB ∷ Drains 220 ∷ load 0 0 0 ∷ load 1 0 0 ∷ []))
-unfolding faults faults_draining rendered some_below spelled ok performs all_below flow started requests releases accesses_answered performing stepped
+unfolding faults faults_draining block_message some_below spelled ok performs all_below flow started requests releases accesses_answered performing stepped
     with_messages is_movable first_movable next_delivery ask.asked ask.busy ask.least_free ask.low_bytes offer.offered offer.stalls bytes_carried number_from
     unfinished request_of release_of probe_of grant_sink pending held illegal first_illegal beats_from each_below broken_order on_link bytes_from effect
     with_handed clients_from masks_carried corrupt_carried request_carried service.least_untaken service.services manager_offer.judged_at manager_deed.deed
@@ -378,7 +378,7 @@ beats_of_4_bytes = refl
 
 beats_of_16_bytes : Follows {w = 16} 2 (world profile.One 1 1 ((level.C, 1) ∷ (level.C, 1) ∷ []))
     ((acquire 0 0 grow.NtoT ∷ Drains 220 ∷ store 0 0 0 90 ∷ acquire 1 0 grow.NtoB ∷ Drains 220 ∷ load 0 0 0 ∷ load 1 0 0 ∷ []))
-unfolding faults faults_draining rendered some_below spelled ok performs all_below flow started requests releases accesses_answered performing stepped
+unfolding faults faults_draining block_message some_below spelled ok performs all_below flow started requests releases accesses_answered performing stepped
     with_messages is_movable first_movable next_delivery ask.asked ask.busy ask.least_free ask.low_bytes offer.offered offer.stalls bytes_carried number_from
     unfinished request_of release_of probe_of grant_sink pending held illegal first_illegal beats_from each_below broken_order on_link bytes_from effect
     with_handed clients_from masks_carried corrupt_carried request_carried service.least_untaken service.services manager_offer.judged_at manager_deed.deed
@@ -387,7 +387,7 @@ beats_of_16_bytes = refl
 
 an_atomic_of_two_beats : Follows {w = 4} 2 (world profile.One 1 1 ((level.UH, 1) ∷ []))
     ((access 0 a.PutFullData 0 3 (lit≤ tt) 0 255 (replicate 8 255 ++ replicate 56 0) ∷ Drains 220 ∷ access 0 a.ArithmeticData 4 3 (lit≤ tt) 0 255 ((1 ∷ []) ++ replicate 63 0) ∷ Drains 220 ∷ []))
-unfolding faults faults_draining rendered some_below spelled ok performs all_below flow started requests releases accesses_answered performing stepped
+unfolding faults faults_draining block_message some_below spelled ok performs all_below flow started requests releases accesses_answered performing stepped
     with_messages is_movable first_movable next_delivery ask.asked ask.busy ask.least_free ask.low_bytes offer.offered offer.stalls bytes_carried number_from
     unfinished request_of release_of probe_of grant_sink pending held illegal first_illegal beats_from each_below broken_order on_link bytes_from effect
     with_handed clients_from masks_carried corrupt_carried request_carried service.least_untaken service.services manager_offer.judged_at manager_deed.deed
@@ -396,7 +396,7 @@ an_atomic_of_two_beats = refl
 
 a_lone_reader_may_write : Follows {w = 8} 2 (world profile.Two 1 1 ((level.C, 1) ∷ (level.C, 1) ∷ []))
     ((acquire 0 0 grow.NtoB ∷ Drains 220 ∷ store 0 0 0 90 ∷ acquire 1 0 grow.NtoB ∷ Drains 220 ∷ []))
-unfolding faults faults_draining rendered some_below spelled ok performs all_below flow started requests releases accesses_answered performing stepped
+unfolding faults faults_draining block_message some_below spelled ok performs all_below flow started requests releases accesses_answered performing stepped
     with_messages is_movable first_movable next_delivery ask.asked ask.busy ask.least_free ask.low_bytes offer.offered offer.stalls bytes_carried number_from
     unfinished request_of release_of probe_of grant_sink pending held illegal first_illegal beats_from each_below broken_order on_link bytes_from effect
     with_handed clients_from masks_carried corrupt_carried request_carried service.least_untaken service.services manager_offer.judged_at manager_deed.deed
@@ -405,7 +405,7 @@ a_lone_reader_may_write = refl
 
 nobody_has_it_any_longer_at_the_grant : Follows {w = 8} 2 (world profile.Two 1 1 ((level.C, 1) ∷ (level.C, 1) ∷ []))
     ((acquire 0 0 grow.NtoB ∷ Drains 220 ∷ store 0 0 0 90 ∷ acquire 1 0 grow.NtoB ∷ deliver 1 channel.A ∷ release 0 0 prune.TtoN ∷ Drains 220 ∷ []))
-unfolding faults faults_draining rendered some_below spelled ok performs all_below flow started requests releases accesses_answered performing stepped
+unfolding faults faults_draining block_message some_below spelled ok performs all_below flow started requests releases accesses_answered performing stepped
     with_messages is_movable first_movable next_delivery ask.asked ask.busy ask.least_free ask.low_bytes offer.offered offer.stalls bytes_carried number_from
     unfinished request_of release_of probe_of grant_sink pending held illegal first_illegal beats_from each_below broken_order on_link bytes_from effect
     with_handed clients_from masks_carried corrupt_carried request_carried service.least_untaken service.services manager_offer.judged_at manager_deed.deed
@@ -419,7 +419,7 @@ beside_each_other : Follows {w = 16} 3 (world profile.One 2 2 ((level.C, 2) ∷ 
     ∷ access 2 a.Get 0 6 (lit≤ tt) 0 65535 (replicate 64 0) ∷ deliver 2 channel.A ∷ deliver 0 channel.C ∷ Drains 220 ∷ access 2 a.PutFullData 0 6
     (lit≤ tt) 0 18446744073709551615 (replicate 64 3) ∷ acquire 0 1 grow.NtoB ∷ Drains 220 ∷ release 0 1 prune.BtoN ∷ Drains 220
     ∷ access 0 a.Intent 0 6 (lit≤ tt) 0 65535 (replicate 64 0) ∷ Drains 220 ∷ []))
-unfolding faults faults_draining rendered some_below spelled ok performs all_below flow started requests releases accesses_answered performing stepped
+unfolding faults faults_draining block_message some_below spelled ok performs all_below flow started requests releases accesses_answered performing stepped
     with_messages is_movable first_movable next_delivery ask.asked ask.busy ask.least_free ask.low_bytes offer.offered offer.stalls bytes_carried number_from
     unfinished request_of release_of probe_of grant_sink pending held illegal first_illegal beats_from each_below broken_order on_link bytes_from effect
     with_handed clients_from masks_carried corrupt_carried request_carried service.least_untaken service.services manager_offer.judged_at manager_deed.deed

@@ -29,7 +29,7 @@ use Rattle.tl_coherence.proofs.examples.Checks.{Holds, performs, all_below, faul
 use Rattle.tl_coherence.specs.statement.Coherent.{started}
 use Rattle.tl_coherence.specs.statement.Flow.{flow}
 use Rattle.tl_coherence.specs.statement.Load.{requests, releases}
-use Rattle.tl_coherence.specs.statement.Remembered.{accesses_answered, performing}
+use Rattle.tl_coherence.specs.statement.OneMemory.{accesses_answered, performing}
 use Rattle.tl_rules.specs.statement.Conformance.{broken_after, is_legal}
 use Rattle.tl_burst.specs.statement.Messages.{carried_on}
 

@@ -11,10 +11,10 @@ use Rattle.tl_burst.specs.statement.Messages.{History}
 use Rattle.tl_params.specs.declared.perm.Perm.{Perm}
 use Rattle.tl_rules.specs.statement.Conformance.{comes_in_request, comes_in_grant}
 use Rattle.tl_rules.specs.statement.History.{begins, ends, block_at, is_acquire, request_of, release_of}
-use Rattle.tl_coherence.specs.refinement.Flowed.{IsFlowed, is_requested, is_let_by, is_sunk}
-use Rattle.tl_coherence.specs.protocol.Protocol.{Block, State, Use, Closed, Asked, InService, Replied, Acquires, view, is_granting, is_acknowledging, is_answered, is_unserved}
-use Rattle.tl_coherence.specs.refinement.Render.{probe_beat}
-use Rattle.tl_coherence.specs.refinement.Sources.{cap_waited}
+use Rattle.tl_coherence.specs.refinement.MonitorRelation.{MonitorRelation, is_requested, is_let_by, is_sunk}
+use Rattle.tl_coherence.specs.protocol.Protocol.{Block, State, SourceState, SourceFree, Asked, InService, Replied, Acquires, view, is_granting, is_acknowledging, is_answered, is_unserved}
+use Rattle.tl_coherence.specs.refinement.PacketMessages.{probe_beat}
+use Rattle.tl_coherence.specs.refinement.SourceRelation.{cap_waited}
 use Rattle.tl_coherence.proofs.flow.FlowAlone.{AreRests}
 use Rattle.tl_coherence.proofs.flow.FlowAside.{let_by-same}
 use Rattle.tl_coherence.proofs.flow.FlowGranted.{begun, unbegun}
@@ -58,9 +58,9 @@ pub record IsAccess {w : ℕ} {X : Type 0} (c : ℕ) (y : BeatA w) (first last :
   pub lets : (i : ℕ) → s'.lets c i ≡ s.lets c i
   pub tracked : (i : ℕ) → s'.tracked i ≡ s.tracked i
 
-requested-rest : {w : ℕ} {X : Type 0} (c i : ℕ) (rest rest' : List (Beat w)) (u : Use) (s s' : State X) → ((m : ℕ) → s'.block m ≡ s.block m)
+requested-rest : {w : ℕ} {X : Type 0} (c i : ℕ) (rest rest' : List (Beat w)) (u : SourceState) (s s' : State X) → ((m : ℕ) → s'.block m ≡ s.block m)
     → comes_in_request i rest' ≡ comes_in_request i rest → is_requested c i rest' u s' ≡ is_requested c i rest u s
-requested-rest c i rest rest' Closed s s' same e = refl
+requested-rest c i rest rest' SourceFree s s' same e = refl
 requested-rest c i rest rest' Asked s s' same e = e
 requested-rest c i rest rest' (InService m) s s' same e = refl
 requested-rest c i rest rest' Replied s s' same e = refl
@@ -68,7 +68,7 @@ requested-rest {w} {X} c i rest rest' (Acquires m) s s' same e = ap (λ (z : Blo
 
 pub flowed-access : {w : ℕ} {X : Type 0} (c : ℕ) (y : BeatA w) (first last : Bool) (asked : ℕ → Option (BeatA w)) (rest rest' : Channel → List (Beat w)) (s s' : State X) (t : History w)
     → begins (beat.A y) t ≡ first → ends (beat.A y) t ≡ last → AreRests (beat.A y) rest rest' → IsAccess c y first last asked rest rest' s s'
-    → IsFlowed asked rest c s t → IsFlowed asked rest' c s' (beat.A y ∷ t)
+    → MonitorRelation asked rest c s t → MonitorRelation asked rest' c s' (beat.A y ∷ t)
 flowed-access {w} {X} c y first last asked rest rest' s s' t first_is last_is rests is before =
     flowed-next (beat.A y) first last asked asked rest rest' c s s' t (record {
       first_is = first_is;
@@ -94,22 +94,22 @@ flowed-access {w} {X} c y first last asked rest rest' s s' t first_is last_is re
     }) before
   where
     was : (i : ℕ) → (y.source == i) ≡ true → is_requested c i (rest channel.A) (s.uses c i) s ≡ not first
-    was i e = ap (λ (u : Use). is_requested c i (rest channel.A) u s) (is.use_is i e) ∙ is.came i ∙ with_true (not first) (y.source == i) e
+    was i e = ap (λ (u : SourceState). is_requested c i (rest channel.A) u s) (is.use_is i e) ∙ is.came i ∙ with_true (not first) (y.source == i) e
 
     now : (i : ℕ) (z : Bool) → last ≡ z → (y.source == i) ≡ true → is_requested c i (rest' channel.A) (if z && true then Replied else s.uses c i) s' ≡ true
     now i true e f = refl
-    now i false e f = ap (λ (u : Use). is_requested c i (rest' channel.A) u s') (is.use_is i f) ∙ is.comes i ∙ with_true (not last) (y.source == i) f ∙ ap not e
+    now i false e f = ap (λ (u : SourceState). is_requested c i (rest' channel.A) u s') (is.use_is i f) ∙ is.comes i ∙ with_true (not last) (y.source == i) f ∙ ap not e
 
     use_at : (i : ℕ) (here : Bool) → (y.source == i) ≡ here → is_requested c i (rest' channel.A) (s'.uses c i) s' ≡ is_requested c i (rest' channel.A) (if last && here then Replied else s.uses c i) s'
-    use_at i here e = ap (λ (u : Use). is_requested c i (rest' channel.A) u s') (is.uses i ∙ ap (λ (z : Bool). if last && z then Replied else s.uses c i) e)
+    use_at i here e = ap (λ (u : SourceState). is_requested c i (rest' channel.A) u s') (is.uses i ∙ ap (λ (z : Bool). if last && z then Replied else s.uses c i) e)
 
-    off : (z : Bool) (u v : Use) → (if z && false then v else u) ≡ u
+    off : (z : Bool) (u v : SourceState) → (if z && false then v else u) ≡ u
     off true u v = refl
     off false u v = refl
 
     same : (i : ℕ) → (y.source == i) ≡ false → is_requested c i (rest' channel.A) (s'.uses c i) s' ≡ is_requested c i (rest channel.A) (s.uses c i) s
     same i e =
-        use_at i false e ∙ ap (λ (u : Use). is_requested c i (rest' channel.A) u s') (off last (s.uses c i) Replied)
+        use_at i false e ∙ ap (λ (u : SourceState). is_requested c i (rest' channel.A) u s') (off last (s.uses c i) Replied)
         ∙ requested-rest c i (rest channel.A) (rest' channel.A) (s.uses c i) s s' is.blocks
         (is.comes i ∙ and_right (not last) (y.source == i) e ∙ sym (is.came i ∙ and_right (not first) (y.source == i) e))
 

@@ -10,13 +10,13 @@ use Rattle.tl_beat.specs.declared.channel.Channel.TheVariants as channel
 use Rattle.tl_burst.specs.statement.Messages.{History}
 use Rattle.tl_rules.specs.statement.Conformance.{comes_in_request}
 use Rattle.tl_rules.specs.statement.History.{begins, ends, block_at, is_acquire, request_of, probe_of, grant_sink}
-use Rattle.tl_coherence.specs.refinement.Flowed.{IsFlowed, is_requested, is_let_by, is_sunk}
+use Rattle.tl_coherence.specs.refinement.MonitorRelation.{MonitorRelation, is_requested, is_let_by, is_sunk}
 use Rattle.tl_coherence.specs.protocol.Invariant.{acquires_of}
-use Rattle.tl_coherence.specs.refinement.Known.{comes_granting}
+use Rattle.tl_coherence.specs.refinement.ClientRelation.{comes_granting}
 use Rattle.tl_coherence.specs.protocol.Phase.{Idle}
-use Rattle.tl_coherence.specs.protocol.Protocol.{Block, State, Use, Acquires, view, is_acknowledging, is_answered, is_granting, is_wanting, is_unserved}
-use Rattle.tl_coherence.specs.refinement.Render.{probe_beat}
-use Rattle.tl_coherence.specs.refinement.Sources.{cap_waited}
+use Rattle.tl_coherence.specs.protocol.Protocol.{Block, State, SourceState, Acquires, view, is_acknowledging, is_answered, is_granting, is_wanting, is_unserved}
+use Rattle.tl_coherence.specs.refinement.PacketMessages.{probe_beat}
+use Rattle.tl_coherence.specs.refinement.SourceRelation.{cap_waited}
 use Rattle.tl_coherence.proofs.flow.FlowAccess.{of_source, of_other, released-of}
 use Rattle.tl_manager.proofs.Accepted.{grant_sink-a, probe_of-a}
 use Rattle.tl_coherence.proofs.flow.FlowAlone.{AreRests, no_coming}
@@ -56,7 +56,7 @@ neither p q e f = rw (e, f) refl
 
 pub flowed-acquire : {w : ℕ} {X : Type 0} (c n : ℕ) (y : BeatA w) (asked asked' : ℕ → Option (BeatA w)) (rest rest' : Channel → List (Beat w)) (s s' : State X) (t : History w)
     → begins (beat.A y) t ≡ true → ends (beat.A y) t ≡ true → AreRests (beat.A y) rest rest' → IsAcquired c n y asked asked' rest rest' s s'
-    → IsFlowed asked rest c s t → IsFlowed asked' rest' c s' (beat.A y ∷ t)
+    → MonitorRelation asked rest c s t → MonitorRelation asked' rest' c s' (beat.A y ∷ t)
 flowed-acquire {w} {X} c n y asked asked' rest rest' s s' t first_is last_is rests is before =
     flowed-next (beat.A y) true true asked asked' rest rest' c s s' t (record {
       first_is = first_is;
@@ -88,11 +88,11 @@ flowed-acquire {w} {X} c n y asked asked' rest rest' s s' t first_is last_is res
     new = s'.block n
 
     now : (i : ℕ) → (y.source == i) ≡ true → is_requested c i (rest' channel.A) (s'.uses c i) s' ≡ true
-    now i e = ap (λ (u : Use). is_requested c i (rest' channel.A) u s') (is.uses i ∙ is.use_is i e) ∙ ap not is.served
+    now i e = ap (λ (u : SourceState). is_requested c i (rest' channel.A) u s') (is.uses i ∙ is.use_is i e) ∙ ap not is.served
 
     same : (i : ℕ) → (y.source == i) ≡ false → is_requested c i (rest' channel.A) (s'.uses c i) s' ≡ is_requested c i (rest channel.A) (s.uses c i) s
     same i e =
-        ap (λ (u : Use). is_requested c i (rest' channel.A) u s') (is.uses i)
+        ap (λ (u : SourceState). is_requested c i (rest' channel.A) u s') (is.uses i)
         ∙ requested-apart c i n (rest channel.A) (rest' channel.A) (s.uses c i) s s' is.elsewhere (is.comes i ∙ sym (is.came i)) (is.no_use i e)
 
     requests : (i : ℕ) (here : Bool) → (y.source == i) ≡ here

@@ -12,14 +12,14 @@ use Rattle.tl_burst.specs.statement.Messages.{History, on, grown}
 use Rattle.tl_params.specs.declared.param.Cap.{Cap}
 use Rattle.tl_rules.specs.statement.Conformance.{comes_in_grant}
 use Rattle.tl_rules.specs.statement.History.{begins, ends, block_at, release_of, probe_of, grant_sink, is_sink}
-use Rattle.tl_coherence.specs.refinement.Flowed.{IsFlowed, is_requested, is_let_by, is_sunk}
+use Rattle.tl_coherence.specs.refinement.MonitorRelation.{MonitorRelation, is_requested, is_let_by, is_sunk}
 use Rattle.tl_coherence.specs.protocol.Invariant.{AreNamed, is_of, is_busy}
-use Rattle.tl_coherence.specs.refinement.Known.{comes_granting}
+use Rattle.tl_coherence.specs.refinement.ClientRelation.{comes_granting}
 use Rattle.tl_coherence.specs.protocol.Phase.{View, Own, Acknowledging, Other}
 use Rattle.tl_coherence.specs.protocol.Protocol.{Service, Free, Waits, GrantSent, GrantTaken, Block, State, view, is_granting, is_acknowledging, is_answered, is_wanting, is_unserved, grant_ack_taken, freed_block}
-use Rattle.tl_coherence.specs.refinement.Render.{probe_beat}
-use Rattle.tl_coherence.specs.refinement.Sources.{cap_waited}
-use Rattle.tl_coherence.specs.protocol.Token.{Token, set}
+use Rattle.tl_coherence.specs.refinement.PacketMessages.{probe_beat}
+use Rattle.tl_coherence.specs.refinement.SourceRelation.{cap_waited}
+use Rattle.tl_coherence.specs.protocol.Packet.{Packet, set}
 use Rattle.tl_coherence.proofs.flow.FlowAside.{IsComing, requested-blocks, let_by-same}
 use Rattle.tl_coherence.proofs.flow.FlowStep.{flowed-next, held_by, acquired_by, let_of, granted_by, step}
 use Rattle.tl_coherence.proofs.queues.Tokens.{same_number, set-same, set-other, set-each, set-part}
@@ -46,13 +46,13 @@ no_coming g true e f = let h : g ≡ true = f refl in let i : false ≡ true = s
 other_sink : (i j : ℕ) (o : Option ℕ) → o ≡ Some j → (j ≡ i → ⊥) → is_sink i o ≡ false
 other_sink i j o e ne = rw e (ne_eqb j i ne)
 
-pub flowed-grant_ack : {w : ℕ} {X : Type 0} (c n : ℕ) (toks : List Token) (y : BeatE) (asked asked' : ℕ → Option (BeatA w)) (rest rest' : Channel → List (Beat w)) (s : State X) (t : History w)
+pub flowed-grant_ack : {w : ℕ} {X : Type 0} (c n : ℕ) (toks : List Packet) (y : BeatE) (asked asked' : ℕ → Option (BeatA w)) (rest rest' : Channel → List (Beat w)) (s : State X) (t : History w)
     → begins (beat.E y) t ≡ true → ends (beat.E y) t ≡ true → AreRests (beat.E y) rest rest' → ((i : ℕ) → asked' i ≡ asked i) → y.sink ≡ (s.block n).tracker
     → view (s.block n).service c ≡ Acknowledging
     → AreNamed s → is_busy (s.block n).service ≡ true → ((m : ℕ) → is_acknowledging (view (s.block m).service c) ≡ true → is_busy (s.block m).service ≡ true)
     → ((m : ℕ) → is_granting (view (s.block m).service c) ≡ true → is_busy (s.block m).service ≡ true)
     → IsComing asked (rest channel.D) c s → ((m : ℕ) → comes_granting m asked' (rest channel.D) ≡ comes_granting m asked (rest channel.D))
-    → IsFlowed asked rest c s t → IsFlowed asked' rest' c (grant_ack_taken c n toks s) (beat.E y ∷ t)
+    → MonitorRelation asked rest c s t → MonitorRelation asked' rest' c (grant_ack_taken c n toks s) (beat.E y ∷ t)
 flowed-grant_ack {w} {X} c n toks y asked asked' rest rest' s t first last rests asks sink seen named busy busy_a busy_g coming comes before =
     flowed-next (beat.E y) true true asked asked' rest rest' c s s' t (record {
       first_is = first;

@@ -16,13 +16,13 @@ use Rattle.tl_rules.specs.statement.Conformance.{comes_in_grant}
 use Rattle.tl_rules.specs.statement.History.{begins, ends, block_at, pending, is_grant, is_release_ack, asks_for, request_of, release_of, probe_of, grant_sink, releases, capped}
 use Rattle.tl_client.proofs.Opens.{request_of-d}
 use Rattle.tl_client.proofs.AccountedResponse.{release_of-d}
-use Rattle.tl_coherence.specs.refinement.Flowed.{IsFlowed, is_requested, is_let, is_let_by, is_sunk}
+use Rattle.tl_coherence.specs.refinement.MonitorRelation.{MonitorRelation, is_requested, is_let, is_let_by, is_sunk}
 use Rattle.tl_coherence.specs.protocol.Invariant.{is_of, releases_with}
-use Rattle.tl_coherence.specs.refinement.Known.{comes_granting}
-use Rattle.tl_coherence.specs.protocol.Phase.{Kept, Acked, Acquiring}
-use Rattle.tl_coherence.specs.protocol.Protocol.{Service, Block, State, Use, Closed, view, is_granting, is_acknowledging, is_answered, is_wanting, is_unserved}
-use Rattle.tl_coherence.specs.refinement.Render.{probe_beat}
-use Rattle.tl_coherence.specs.refinement.Sources.{cap_waited}
+use Rattle.tl_coherence.specs.refinement.ClientRelation.{comes_granting}
+use Rattle.tl_coherence.specs.protocol.Phase.{NoRelease, ReleaseAcked, AcquirePhase}
+use Rattle.tl_coherence.specs.protocol.Protocol.{Service, Block, State, SourceState, SourceFree, view, is_granting, is_acknowledging, is_answered, is_wanting, is_unserved}
+use Rattle.tl_coherence.specs.refinement.PacketMessages.{probe_beat}
+use Rattle.tl_coherence.specs.refinement.SourceRelation.{cap_waited}
 use Rattle.tl_coherence.proofs.flow.FlowAlone.{AreRests}
 use Rattle.tl_coherence.proofs.flow.FlowAside.{requested-blocks, let_by-same}
 use Rattle.tl_coherence.proofs.flow.FlowReleased.{AreElsewhere, each-block, part-block}
@@ -67,21 +67,21 @@ pub record IsAnswering {w : ℕ} {X : Type 0} (c : ℕ) (y : BeatD w) (last : Bo
   pub comes : (i : ℕ) → comes_in_grant i (rest' channel.D) ≡ comes_in_grant i (rest channel.D)
   pub grants : (m : ℕ) → comes_granting m asked' (rest' channel.D) ≡ comes_granting m asked (rest channel.D)
   pub blocks : (m : ℕ) → s'.block m ≡ s.block m
-  pub uses : (i : ℕ) → s'.uses c i ≡ (if last && (y.source == i) then Closed else s.uses c i)
+  pub uses : (i : ℕ) → s'.uses c i ≡ (if last && (y.source == i) then SourceFree else s.uses c i)
   pub lets : (i : ℕ) → s'.lets c i ≡ s.lets c i
   pub tracked : (i : ℕ) → s'.tracked i ≡ s.tracked i
   pub asked_is : (i : ℕ) → (last && (y.source == i)) ≡ false → asked' i ≡ asked i
 
 pub flowed-answer : {w : ℕ} {X : Type 0} (c : ℕ) (y : BeatD w) (first last : Bool) (asked asked' : ℕ → Option (BeatA w)) (rest rest' : Channel → List (Beat w)) (s s' : State X) (t : History w)
     → begins (beat.D y) t ≡ first → ends (beat.D y) t ≡ last → AreRests (beat.D y) rest rest' → IsAnswering c y last asked asked' rest rest' s s'
-    → IsFlowed asked rest c s t → IsFlowed asked' rest' c s' (beat.D y ∷ t)
+    → MonitorRelation asked rest c s t → MonitorRelation asked' rest' c s' (beat.D y ∷ t)
 flowed-answer {w} {X} c y first last asked asked' rest rest' s s' t first_is last_is rests is before =
     flowed-next (beat.D y) first last asked asked' rest rest' c s s' t (record {
       first_is = first_is;
       last_is = last_is;
       rests = rests;
       held_is = λ m. ap (held_by c) (is.blocks m) ∙ sym (unsaid last (is_grant y.opcode) (asks_for m (request_of y.source t)) (capped y.param) (held_by c (s.block m)) is.grant);
-      requests = λ i. ap (λ (l : List (Beat w)). is_requested c i l (s'.uses c i) s') (rests channel.A) ∙ ap (λ (u : Use). is_requested c i (rest channel.A) u s') (is.uses i)
+      requests = λ i. ap (λ (l : List (Beat w)). is_requested c i l (s'.uses c i) s') (rests channel.A) ∙ ap (λ (u : SourceState). is_requested c i (rest channel.A) u s') (is.uses i)
           ∙ requests i last (y.source == i)
           ∙ sym (ap (λ (z : Bool). step first last false (not z && (y.source == i)) (is_requested c i (rest channel.A) (s.uses c i) s)) is.ack);
       asked_is = λ i e. asked_still i e (last && (y.source == i)) refl;
@@ -100,25 +100,25 @@ flowed-answer {w} {X} c y first last asked asked' rest rest' s s' t first_is las
       sunk = λ m e. sunk-of m y t is.grant ∙ before.sunk m (before.grants m ∙ sym (grants m) ∙ e) ∙ ap (λ (z : Block X). Some z.tracker) (sym (is.blocks m));
     }) before
   where
-    same_requested : (i : ℕ) (u : Use) → is_requested c i (rest channel.A) u s' ≡ is_requested c i (rest channel.A) u s
+    same_requested : (i : ℕ) (u : SourceState) → is_requested c i (rest channel.A) u s' ≡ is_requested c i (rest channel.A) u s
     same_requested i u = requested-blocks c i (rest channel.A) u s s' (λ m. ap (λ (z : Block X). is_unserved (view z.service c)) (is.blocks m))
 
-    requests : (i : ℕ) (z here : Bool) → is_requested c i (rest channel.A) (if z && here then Closed else s.uses c i) s' ≡ step first z false
+    requests : (i : ℕ) (z here : Bool) → is_requested c i (rest channel.A) (if z && here then SourceFree else s.uses c i) s' ≡ step first z false
         (not false && here) (is_requested c i (rest channel.A) (s.uses c i) s)
     requests i true true = sym (closes_last first true (is_requested c i (rest channel.A) (s.uses c i) s))
     requests i false true = same_requested i (s.uses c i) ∙ sym (closes_last first false (is_requested c i (rest channel.A) (s.uses c i) s))
     requests i true false = same_requested i (s.uses c i) ∙ sym (step_quiet first true (is_requested c i (rest channel.A) (s.uses c i) s))
     requests i false false = same_requested i (s.uses c i) ∙ sym (step_quiet first false (is_requested c i (rest channel.A) (s.uses c i) s))
 
-    use_at : (i : ℕ) → is_requested c i (rest' channel.A) (s'.uses c i) s' ≡ is_requested c i (rest channel.A) (if last && (y.source == i) then Closed else s.uses c i) s'
-    use_at i = ap (λ (l : List (Beat w)). is_requested c i l (s'.uses c i) s') (rests channel.A) ∙ ap (λ (u : Use). is_requested c i (rest channel.A) u s') (is.uses i)
+    use_at : (i : ℕ) → is_requested c i (rest' channel.A) (s'.uses c i) s' ≡ is_requested c i (rest channel.A) (if last && (y.source == i) then SourceFree else s.uses c i) s'
+    use_at i = ap (λ (l : List (Beat w)). is_requested c i l (s'.uses c i) s') (rests channel.A) ∙ ap (λ (u : SourceState). is_requested c i (rest channel.A) u s') (is.uses i)
 
     asked_still : (i : ℕ) → is_requested c i (rest' channel.A) (s'.uses c i) s' ≡ true → (z : Bool) → (last && (y.source == i)) ≡ z → request_of i (beat.D y ∷ t) ≡ asked' i
-    asked_still i e true f = absurd (let g : false ≡ true = sym (use_at i ∙ ap (λ (z : Bool). is_requested c i (rest channel.A) (if z then Closed else s.uses c i) s') f) ∙ e in cc)
+    asked_still i e true f = absurd (let g : false ≡ true = sym (use_at i ∙ ap (λ (z : Bool). is_requested c i (rest channel.A) (if z then SourceFree else s.uses c i) s') f) ∙ e in cc)
     asked_still i e false f =
         request_of-d i y t
         ∙ before.asked_is i (before.requests i ∙ sym (same_requested i (s.uses c i))
-        ∙ sym (use_at i ∙ ap (λ (z : Bool). is_requested c i (rest channel.A) (if z then Closed else s.uses c i) s') f) ∙ e)
+        ∙ sym (use_at i ∙ ap (λ (z : Bool). is_requested c i (rest channel.A) (if z then SourceFree else s.uses c i) s') f) ∙ e)
         ∙ sym (is.asked_is i f)
 
     lets : (i : ℕ) → is_let_by c i (rest' channel.C) (s'.lets c i) s' ≡ is_let_by c i (rest channel.C) (s.lets c i) s
@@ -141,7 +141,7 @@ pub record IsLetGo {w : ℕ} {X : Type 0} (c n : ℕ) (y : BeatD w) (asked asked
   pub grant : is_grant y.opcode ≡ false
   pub ack : is_release_ack y.opcode ≡ true
   pub source : y.source ≡ (s.block n).release_source c
-  pub letting : ((s.block n).pair c).letting ≡ Acked
+  pub letting : ((s.block n).pair c).letting ≡ ReleaseAcked
   pub comes : (i : ℕ) → comes_in_grant i (rest' channel.D) ≡ comes_in_grant i (rest channel.D)
   pub grants : (m : ℕ) → comes_granting m asked' (rest' channel.D) ≡ comes_granting m asked (rest channel.D)
   pub asked_is : (i : ℕ) → asked' i ≡ asked i
@@ -154,7 +154,7 @@ pub record IsLetGo {w : ℕ} {X : Type 0} (c n : ℕ) (y : BeatD w) (asked asked
   pub tracker : (s'.block n).tracker ≡ (s.block n).tracker
   pub acquiring : ((s'.block n).pair c).acquiring ≡ ((s.block n).pair c).acquiring
   pub probing : ((s'.block n).pair c).probing ≡ ((s.block n).pair c).probing
-  pub letting_is : ((s'.block n).pair c).letting ≡ Kept
+  pub letting_is : ((s'.block n).pair c).letting ≡ NoRelease
 
 closed : (a q p : Bool) → a ≡ true → q ≡ true → step true true false (a && q) p ≡ false
 closed a q p e f = rw (e, f) refl
@@ -170,7 +170,7 @@ of_releases n m (Some x) e = let f : block_at x.address ≡ n = cc in ap (λ (z 
 pub flowed-let_go : {w : ℕ} {X : Type 0} (c n : ℕ) (y : BeatD w) (asked asked' : ℕ → Option (BeatA w)) (rest rest' : Channel → List (Beat w)) (s s' : State X) (t : History w)
     → begins (beat.D y) t ≡ true → ends (beat.D y) t ≡ true → AreRests (beat.D y) rest rest'
     → ((i m : ℕ) → is_of m (s.lets c i) ≡ releases_with c i (s.block m)) → IsLetGo c n y asked asked' rest rest' s s'
-    → IsFlowed asked rest c s t → IsFlowed asked' rest' c s' (beat.D y ∷ t)
+    → MonitorRelation asked rest c s t → MonitorRelation asked' rest' c s' (beat.D y ∷ t)
 flowed-let_go {w} {X} c n y asked asked' rest rest' s s' t first_is last_is rests named is before =
     flowed-next (beat.D y) true true asked asked' rest rest' c s s' t (record {
       first_is = first_is;
@@ -215,13 +215,13 @@ flowed-let_go {w} {X} c n y asked asked' rest rest' s s' t first_is last_is rest
 
     requests : (i : ℕ) → is_requested c i (rest' channel.A) (s'.uses c i) s' ≡ is_requested c i (rest channel.A) (s.uses c i) s
     requests i =
-        ap (λ (l : List (Beat w)). is_requested c i l (s'.uses c i) s') (rests channel.A) ∙ ap (λ (u : Use). is_requested c i (rest channel.A) u s') (is.uses i)
+        ap (λ (l : List (Beat w)). is_requested c i l (s'.uses c i) s') (rests channel.A) ∙ ap (λ (u : SourceState). is_requested c i (rest channel.A) u s') (is.uses i)
         ∙ requested-blocks c i (rest channel.A) (s.uses c i) s s'
         (part-block (λ (z : Block X). is_unserved (view z.service c)) n s s' is.elsewhere (ap (λ (q : Service). is_unserved (view q c)) is.service))
 
     acquires : (m : ℕ) → acquired_by c (s'.block m) ≡ acquired_by c (s.block m)
     acquires = part-block (acquired_by c) n s s' is.elsewhere
-        (ap (λ (l : Acquiring). is_wanting l && not (is_unserved (view (s'.block n).service c))) is.acquiring
+        (ap (λ (l : AcquirePhase). is_wanting l && not (is_unserved (view (s'.block n).service c))) is.acquiring
         ∙ ap (λ (q : Service). is_wanting (b.pair c).acquiring && not (is_unserved (view q c))) is.service)
 
     answered : (m : ℕ) → is_answered ((s'.block m).pair c).probing ≡ is_answered ((s.block m).pair c).probing

@@ -12,15 +12,15 @@ use Rattle.tl_params.specs.declared.param.Grow.{Grow}
 use Rattle.tl_params.specs.declared.param.Prune.{Prune}
 use Rattle.tl_params.specs.declared.param.Report.{Report}
 use Rattle.tl_rules.specs.statement.Conformance.{comes_in_grant}
-use Rattle.tl_coherence.specs.refinement.Flowed.{is_sunk}
-use Rattle.tl_coherence.specs.protocol.Phase.{View, Own, Other, Granting, GrantedOther, is_quiet}
+use Rattle.tl_coherence.specs.refinement.MonitorRelation.{is_sunk}
+use Rattle.tl_coherence.specs.protocol.Phase.{View, Own, Other, Granting, GrantedOther, is_unprobed}
 use Rattle.tl_coherence.specs.protocol.PhaseSteps.{after_report}
-use Rattle.tl_coherence.specs.protocol.Protocol.{Service, Free, Waits, GrantSent, GrantTaken, Block, State, Use, InService, Replied, Acquires, view, is_granting}
+use Rattle.tl_coherence.specs.protocol.Protocol.{Service, Free, Waits, GrantSent, GrantTaken, Block, State, SourceState, InService, Replied, Acquires, view, is_granting}
 use Rattle.tl_coherence.specs.protocol.Protocol.{is_acknowledging, is_answered, acquiring_block, acquire_asked, access_asked, releasing_block, release_asked, stored_block}
 use Rattle.tl_coherence.specs.protocol.Protocol.{block_stored, performed_block, access_answered, granted_at_once, acquire_granted, served_block, access_served, probed_block}
 use Rattle.tl_coherence.specs.protocol.Protocol.{probe_taken, reported_block, report_taken, ended_block, report_answers, granted_block, report_grants, let_block}
 use Rattle.tl_coherence.specs.protocol.Protocol.{release_taken, answer_taken, taken_block, grant_taken, let_go_block, release_ack_taken, freed_block, grant_ack_taken}
-use Rattle.tl_coherence.specs.protocol.Token.{Token, set, set_at}
+use Rattle.tl_coherence.specs.protocol.Packet.{Packet, set, set_at}
 use Rattle.tl_coherence.proofs.client.Aside.{set_at-other, set_at-else}
 use Rattle.tl_coherence.proofs.flow.FlowAside.{IsSameBlock, same-block, is_heard, IsSameUse, IsComing, IsAside}
 use Rattle.tl_coherence.proofs.flow.FlowOthers.{is_outside, outside-waits, outside-sent, outside-taken, same-performed, same-served, same-granted_at_once, same-probed}
@@ -33,7 +33,7 @@ use Rattle.tl_coherence.proofs.queues.Tokens.{set-same, set-other, set-each, set
 abbrev pub replied : {X : Type 0} → ℕ → ℕ → State X → State X
 replied c source s = record s { uses = set_at c source Replied s.uses }
 
-uses-heard : (c source : ℕ) (u v : Use) (uses : ℕ → ℕ → Use) → is_heard u ≡ true → is_heard v ≡ true → (d i : ℕ) → IsSameUse (set_at c source u uses d i) (set_at c source v uses d i)
+uses-heard : (c source : ℕ) (u v : SourceState) (uses : ℕ → ℕ → SourceState) → is_heard u ≡ true → is_heard v ≡ true → (d i : ℕ) → IsSameUse (set_at c source u uses d i) (set_at c source v uses d i)
 uses-heard c source u v uses was is d i = elim (cases_eq i source) [
   | inl same ↦ elim (cases_eq d c) [
     | inl here ↦ inr (rw (here, same, set_at-same c source u uses) was, rw (here, same, set_at-same c source v uses) is)
@@ -137,7 +137,7 @@ module _ {w : ℕ} {X : Type 0} (d : ℕ) (asked asked' : ℕ → Option (BeatA 
       apart-at n (performed_block f (s.block n)) s' changed (same-performed d f (s.block n)) uses lets (sinks-same n (performed_block f (s.block n)) s' changed refl tracked)
 
   pub left-served : (r n source tracker : ℕ) (own : Bool) (k : Cap) (s' : State X) → IsChanged n (served_block r own source tracker k (s.block n)) s'
-      → (own && (d == r)) ≡ false → (s.block n).service ≡ Free → is_quiet ((s.block n).pair d).probing ≡ true
+      → (own && (d == r)) ≡ false → (s.block n).service ≡ Free → is_unprobed ((s.block n).pair d).probing ≡ true
       → ((i : ℕ) → IsSameUse (s.uses d i) (s'.uses d i)) → ((i : ℕ) → s'.lets d i ≡ s.lets d i) → s.tracked tracker ≡ None → ((i : ℕ) → s'.tracked i ≡ set tracker (Some n) s.tracked i) → IsLeft s'
   left-served r n source tracker own k s' changed other free quiet uses lets unused tracked =
       apart-at n new s' changed (same-served d r source tracker own k (s.block n) other free quiet) uses lets
@@ -148,7 +148,7 @@ module _ {w : ℕ} {X : Type 0} (d : ℕ) (asked asked' : ℕ → Option (BeatA 
       new : Block X
       new = served_block r own source tracker k (s.block n)
 
-  pub left-acquire_granted : (r n tracker : ℕ) (x : Bool) (k : Cap) (toks : List Token) → (d ≡ r → ⊥) → (s.block n).service ≡ Free
+  pub left-acquire_granted : (r n tracker : ℕ) (x : Bool) (k : Cap) (toks : List Packet) → (d ≡ r → ⊥) → (s.block n).service ≡ Free
       → is_answered ((s.block n).pair d).probing ≡ false → s.tracked tracker ≡ None → IsLeft (acquire_granted r n tracker x k toks s)
   left-acquire_granted r n tracker x k toks ne free quiet unused =
       apart-at n new (acquire_granted r n tracker x k toks s) (λ m. refl) (same-granted_at_once d r tracker x k (s.block n) ne free quiet) (λ i. inl refl) (λ i. refl)
@@ -159,24 +159,24 @@ module _ {w : ℕ} {X : Type 0} (d : ℕ) (asked asked' : ℕ → Option (BeatA 
 
   -- ---- Probes, ProbeAcks and Releases
 
-  pub left-probe_taken : (c n : ℕ) (k : Cap) (toks : List Token) → (d ≡ c → ⊥) → IsLeft (probe_taken c n k toks s)
+  pub left-probe_taken : (c n : ℕ) (k : Cap) (toks : List Packet) → (d ≡ c → ⊥) → IsLeft (probe_taken c n k toks s)
   left-probe_taken c n k toks ne =
       apart-at n (probed_block c k (s.block n)) (probe_taken c n k toks s) (λ m. refl) (same-probed d c k (s.block n) ne) (λ i. inl refl) (λ i. refl)
       (sinks-same n (probed_block c k (s.block n)) (probe_taken c n k toks s) (λ m. refl) refl (λ i. refl))
 
-  pub left-report_taken : (c n : ℕ) (r : Report) (toks : List Token) → (d ≡ c → ⊥) → IsLeft (report_taken c n r toks s)
+  pub left-report_taken : (c n : ℕ) (r : Report) (toks : List Packet) → (d ≡ c → ⊥) → IsLeft (report_taken c n r toks s)
   left-report_taken c n r toks ne =
       apart-at n (reported_block c r (s.block n)) (report_taken c n r toks s) (λ m. refl) (same-reported d c r (s.block n) ne) (λ i. inl refl) (λ i. refl)
       (sinks-same n (reported_block c r (s.block n)) (report_taken c n r toks s) (λ m. refl) refl (λ i. refl))
 
-  pub left-release_taken : (c n : ℕ) (r : Prune) (toks : List Token) → (d ≡ c → ⊥) → IsLeft (release_taken c n r toks s)
+  pub left-release_taken : (c n : ℕ) (r : Prune) (toks : List Packet) → (d ≡ c → ⊥) → IsLeft (release_taken c n r toks s)
   left-release_taken c n r toks ne =
       apart-at n (let_block c r (s.block n)) (release_taken c n r toks s) (λ m. refl) (same-let d c r (s.block n) ne) (λ i. inl refl) (λ i. refl)
       (sinks-same n (let_block c r (s.block n)) (release_taken c n r toks s) (λ m. refl) refl (λ i. refl))
 
   -- ---- responses and GrantAcks
 
-  pub left-answer_taken : (c source : ℕ) (toks : List Token) → (d ≡ c → ⊥) → IsLeft (answer_taken c source toks s)
+  pub left-answer_taken : (c source : ℕ) (toks : List Packet) → (d ≡ c → ⊥) → IsLeft (answer_taken c source toks s)
   left-answer_taken c source toks ne = record {
     blocks = λ m. same-block d (s.block m);
     uses = λ i. inl (set_at-other c d source i _ s.uses ne);
@@ -186,20 +186,20 @@ module _ {w : ℕ} {X : Type 0} (d : ℕ) (asked asked' : ℕ → Option (BeatA 
     coming = coming;
   }
 
-  pub left-grant_taken : (c n : ℕ) (whole x : Bool) (k : Cap) (toks : List Token) → (d ≡ c → ⊥) → (s.block n).service ≡ GrantSent c x k → IsLeft (grant_taken c n whole x k toks s)
+  pub left-grant_taken : (c n : ℕ) (whole x : Bool) (k : Cap) (toks : List Packet) → (d ≡ c → ⊥) → (s.block n).service ≡ GrantSent c x k → IsLeft (grant_taken c n whole x k toks s)
   left-grant_taken c n whole x k toks ne sent =
       apart-at n (taken_block c whole x k (s.block n)) (grant_taken c n whole x k toks s) (λ m. refl) (same-taken d c whole x k (s.block n) ne sent)
       (λ i. inl (set_at-other c d ((s.block n).source c) i _ s.uses ne)) (λ i. refl)
       (sinks-outside n (taken_block c whole x k (s.block n)) (grant_taken c n whole x k toks s) (λ m. refl)
       (ap (λ (q : Service). is_outside (view q d)) sent ∙ outside-sent d c x k ne) (outside-taken d c ne) (λ i. inl refl))
 
-  pub left-release_ack_taken : (c n : ℕ) (toks : List Token) → (d ≡ c → ⊥) → IsLeft (release_ack_taken c n toks s)
+  pub left-release_ack_taken : (c n : ℕ) (toks : List Packet) → (d ≡ c → ⊥) → IsLeft (release_ack_taken c n toks s)
   left-release_ack_taken c n toks ne =
       apart-at n (let_go_block c (s.block n)) (release_ack_taken c n toks s) (λ m. refl) (same-let_go d c (s.block n) ne) (λ i. inl refl)
       (λ i. set_at-other c d ((s.block n).release_source c) i None s.lets ne)
       (sinks-same n (let_go_block c (s.block n)) (release_ack_taken c n toks s) (λ m. refl) refl (λ i. refl))
 
-  pub left-grant_ack_taken : (c n : ℕ) (toks : List Token) → (d ≡ c → ⊥) → (s.block n).service ≡ GrantTaken c → s.tracked (s.block n).tracker ≡ Some n → IsLeft (grant_ack_taken c n toks s)
+  pub left-grant_ack_taken : (c n : ℕ) (toks : List Packet) → (d ≡ c → ⊥) → (s.block n).service ≡ GrantTaken c → s.tracked (s.block n).tracker ≡ Some n → IsLeft (grant_ack_taken c n toks s)
   left-grant_ack_taken c n toks ne taken tracks =
       apart-at n (freed_block (s.block n)) (grant_ack_taken c n toks s) (λ m. refl) (same-freed d c (s.block n) ne taken) (λ i. inl refl) (λ i. refl)
       (sinks-outside n (freed_block (s.block n)) (grant_ack_taken c n toks s) (λ m. refl)
@@ -209,11 +209,11 @@ module _ {w : ℕ} {X : Type 0} (d : ℕ) (asked asked' : ℕ → Option (BeatA 
 
 module _ {w : ℕ} {X : Type 0} (d : ℕ) (asked asked' : ℕ → Option (BeatA w)) (rest : Channel → List (Beat w)) (s : State X) (asks : (i : ℕ) → asked' i ≡ asked i)
     (coming : IsComing asked (rest channel.D) d s) where
-  pub left-access_answered : (c n source : ℕ) (f : X → X) (toks : List Token) → IsAside asked asked' rest d (replied c source s) (access_answered c n source f toks s)
+  pub left-access_answered : (c n source : ℕ) (f : X → X) (toks : List Packet) → IsAside asked asked' rest d (replied c source s) (access_answered c n source f toks s)
   left-access_answered c n source f toks = left-performed d asked asked' rest (replied c source s) asks coming n f (access_answered c n source f toks s)
       (λ m. refl) (λ i. inl refl) (λ i. refl) (λ i. refl)
 
-  pub left-access_served : (c n source tracker : ℕ) (k : Cap) (toks : List Token) → (s.block n).service ≡ Free → is_quiet ((s.block n).pair d).probing ≡ true
+  pub left-access_served : (c n source tracker : ℕ) (k : Cap) (toks : List Packet) → (s.block n).service ≡ Free → is_unprobed ((s.block n).pair d).probing ≡ true
       → s.tracked tracker ≡ None → IsAside asked asked' rest d (replied c source s) (access_served c n source tracker k toks s)
   left-access_served c n source tracker k toks free quiet unused =
       left-served d asked asked' rest (replied c source s) asks coming c n source tracker false k (access_served c n source tracker k toks s)
@@ -221,7 +221,7 @@ module _ {w : ℕ} {X : Type 0} (d : ℕ) (asked asked' : ℕ → Option (BeatA 
 
   -- ---- a ProbeAck that is the last one, after its last beat
 
-  module _ (c n : ℕ) (r : Report) (toks : List Token) where
+  module _ (c n : ℕ) (r : Report) (toks : List Packet) where
     abbrev between : State X
     between = report_taken c n r toks s
 

@@ -7,11 +7,11 @@ use Rattle.tl_beat.specs.declared.channel.Channel.{Channel}
 use Rattle.tl_beat.specs.declared.channel.Channel.TheVariants as channel
 use Rattle.tl_burst.specs.statement.Messages.{History}
 use Rattle.tl_rules.specs.statement.History.{is_grant, asks_for}
-use Rattle.tl_coherence.specs.refinement.Flowed.{IsFlowed, is_requested, is_let, is_let_by, is_sunk}
-use Rattle.tl_coherence.specs.refinement.Known.{comes_granting}
-use Rattle.tl_coherence.specs.protocol.Phase.{Letting}
-use Rattle.tl_coherence.specs.protocol.Protocol.{Block, State, Use, Closed, Asked, InService, Replied, Acquires, view, is_granting, is_acknowledging, is_answered, is_wanting, is_unserved}
-use Rattle.tl_coherence.specs.refinement.Sources.{cap_waited}
+use Rattle.tl_coherence.specs.refinement.MonitorRelation.{MonitorRelation, is_requested, is_let, is_let_by, is_sunk}
+use Rattle.tl_coherence.specs.refinement.ClientRelation.{comes_granting}
+use Rattle.tl_coherence.specs.protocol.Phase.{ReleasePhase}
+use Rattle.tl_coherence.specs.protocol.Protocol.{Block, State, SourceState, SourceFree, Asked, InService, Replied, Acquires, view, is_granting, is_acknowledging, is_answered, is_wanting, is_unserved}
+use Rattle.tl_coherence.specs.refinement.SourceRelation.{cap_waited}
 use Rattle.tl_coherence.proofs.flow.FlowSame.{flowed-untouched}
 use Rattle.tl_coherence.proofs.flow.FlowStep.{held_by, granted_by}
 
@@ -36,25 +36,25 @@ AreSame d s s' = (n : ℕ) → IsSameBlock d (s.block n) (s'.block n)
 -- ---- requests, Releases and sinks
 
 -- the requests of both uses were delivered, and their responses weren't
-abbrev pub is_heard : Use → Bool
+abbrev pub is_heard : SourceState → Bool
 is_heard (InService n) = true
 is_heard Replied = true
 is_heard _ = false
 
-abbrev pub IsSameUse : Use → Use → Type 0
+abbrev pub IsSameUse : SourceState → SourceState → Type 0
 IsSameUse u u' = (u' ≡ u) ⊎ ((is_heard u ≡ true) × (is_heard u' ≡ true))
 
-heard_requested : {w : ℕ} {X : Type 0} (c i : ℕ) (rest : List (Beat w)) (u : Use) (s : State X) → is_heard u ≡ true → is_requested c i rest u s ≡ true
+heard_requested : {w : ℕ} {X : Type 0} (c i : ℕ) (rest : List (Beat w)) (u : SourceState) (s : State X) → is_heard u ≡ true → is_requested c i rest u s ≡ true
 heard_requested c i rest (InService n) s e = refl
 heard_requested c i rest Replied s e = refl
-heard_requested c i rest Closed s e = absurd cc
+heard_requested c i rest SourceFree s e = absurd cc
 heard_requested c i rest Asked s e = absurd cc
 heard_requested c i rest (Acquires n) s e = absurd cc
 
-pub requested-blocks : {w : ℕ} {X : Type 0} (c i : ℕ) (rest : List (Beat w)) (u : Use) (s s' : State X)
+pub requested-blocks : {w : ℕ} {X : Type 0} (c i : ℕ) (rest : List (Beat w)) (u : SourceState) (s s' : State X)
     → ((n : ℕ) → is_unserved (view (s'.block n).service c) ≡ is_unserved (view (s.block n).service c))
     → is_requested c i rest u s' ≡ is_requested c i rest u s
-requested-blocks c i rest Closed s s' h = refl
+requested-blocks c i rest SourceFree s s' h = refl
 requested-blocks c i rest Asked s s' h = refl
 requested-blocks c i rest (InService n) s s' h = refl
 requested-blocks c i rest Replied s s' h = refl
@@ -63,7 +63,7 @@ requested-blocks c i rest (Acquires n) s s' h = ap not (h n)
 requested-same : {w : ℕ} {X : Type 0} (c i : ℕ) (rest : List (Beat w)) (s s' : State X)
     → ((n : ℕ) → is_unserved (view (s'.block n).service c) ≡ is_unserved (view (s.block n).service c)) → IsSameUse (s.uses c i) (s'.uses c i)
     → is_requested c i rest (s'.uses c i) s' ≡ is_requested c i rest (s.uses c i) s
-requested-same c i rest s s' h (inl same) = ap (λ (u : Use). is_requested c i rest u s') same ∙ requested-blocks c i rest (s.uses c i) s s' h
+requested-same c i rest s s' h (inl same) = ap (λ (u : SourceState). is_requested c i rest u s') same ∙ requested-blocks c i rest (s.uses c i) s s' h
 requested-same c i rest s s' h (inr both) = heard_requested c i rest (s'.uses c i) s' both.1 ∙ sym (heard_requested c i rest (s.uses c i) s both.0)
 
 pub let_by-same : {w : ℕ} {X : Type 0} (c i : ℕ) (rest : List (Beat w)) (o : Option ℕ) (s s' : State X)
@@ -99,7 +99,7 @@ either_is false true g e f h = let p : g ≡ true = f refl in let q : true ≡ f
 either_is false false g e f h = absurd cc
 
 pub flowed-aside : {w : ℕ} {X : Type 0} (asked asked' : ℕ → Option (BeatA w)) (rest : Channel → List (Beat w)) (d : ℕ) (s s' : State X) (t : History w)
-    → IsAside asked asked' rest d s s' → IsFlowed asked rest d s t → IsFlowed asked' rest d s' t
+    → IsAside asked asked' rest d s s' → MonitorRelation asked rest d s t → MonitorRelation asked' rest d s' t
 flowed-aside {w} {X} asked asked' rest d s s' t is = flowed-untouched asked asked' rest d s s' t (record {
   held_is = λ n. (is.blocks n).held;
   requests = λ i. requested-same d i (rest channel.A) s s' (λ n. (is.blocks n).unserved) (is.uses i);
@@ -108,7 +108,7 @@ flowed-aside {w} {X} asked asked' rest d s s' t is = flowed-untouched asked aske
   release_sources = λ i. ap (λ (o : Option ℕ). is_let_by d i (rest channel.C) o s') (is.lets i) ∙ let_by-same d i (rest channel.C) (s.lets d i) s s' (λ n. (is.blocks n).letting);
   lets = λ i n e f. sym (is.lets i) ∙ f;
   releases = λ n. ap (λ (i : ℕ). is_let i (rest channel.C) ((s'.block n).pair d).letting) (is.blocks n).source
-      ∙ ap (λ (l : Letting). is_let ((s.block n).release_source d) (rest channel.C) l) (is.blocks n).letting;
+      ∙ ap (λ (l : ReleasePhase). is_let ((s.block n).release_source d) (rest channel.C) l) (is.blocks n).letting;
   sinks = is.sinks;
   grants = λ n. either_same (is.blocks n).acknowledging (comes-same n asked asked' (rest channel.D) is.asked_is);
   probes = λ n. (is.blocks n).answered;
@@ -130,7 +130,7 @@ flowed-aside {w} {X} asked asked' rest d s s' t is = flowed-untouched asked aske
 
 -- where the same requests are given in another way, nothing changes
 pub flowed-asks : {w : ℕ} {X : Type 0} (asked asked' : ℕ → Option (BeatA w)) (rest : Channel → List (Beat w)) (d : ℕ) (s : State X) (t : History w)
-    → ((i : ℕ) → asked' i ≡ asked i) → IsFlowed asked rest d s t → IsFlowed asked' rest d s t
+    → ((i : ℕ) → asked' i ≡ asked i) → MonitorRelation asked rest d s t → MonitorRelation asked' rest d s t
 flowed-asks asked asked' rest d s t asks = flowed-untouched asked asked' rest d s s t (record {
   held_is = λ n. refl;
   requests = λ i. refl;

@@ -9,15 +9,15 @@ use Rattle.tl_beat.specs.declared.channel.Channel.TheVariants as channel
 use Rattle.tl_params.specs.declared.param.Grow.{Grow}
 use Rattle.tl_params.specs.declared.param.Prune.{Prune}
 use Rattle.tl_rules.specs.statement.Conformance.{comes_in_request, comes_in_release}
-use Rattle.tl_coherence.specs.refinement.Flowed.{is_requested, is_let, is_let_by}
+use Rattle.tl_coherence.specs.refinement.MonitorRelation.{is_requested, is_let, is_let_by}
 use Rattle.tl_coherence.specs.protocol.Invariant.{is_of}
-use Rattle.tl_coherence.specs.refinement.Known.{comes_granting}
-use Rattle.tl_coherence.specs.protocol.Phase.{Pair, Calm, Letting, Kept, Releasing}
+use Rattle.tl_coherence.specs.refinement.ClientRelation.{comes_granting}
+use Rattle.tl_coherence.specs.protocol.Phase.{ClientBlock, NoAcquire, ReleasePhase, NoRelease, ReleaseSent}
 use Rattle.tl_coherence.specs.protocol.PhaseSteps.{after_acquire, after_release}
-use Rattle.tl_coherence.specs.protocol.Protocol.{Block, State, Use, Closed, Asked, Acquires, view, is_acknowledging, is_answered, is_granting, is_wanting, is_unserved}
+use Rattle.tl_coherence.specs.protocol.Protocol.{Block, State, SourceState, SourceFree, Asked, Acquires, view, is_acknowledging, is_answered, is_granting, is_wanting, is_unserved}
 use Rattle.tl_coherence.specs.protocol.Protocol.{access_asked, acquire_asked, acquiring_block, release_asked, releasing_block}
-use Rattle.tl_coherence.specs.refinement.Sources.{cap_waited}
-use Rattle.tl_coherence.specs.protocol.Token.{set_at}
+use Rattle.tl_coherence.specs.refinement.SourceRelation.{cap_waited}
+use Rattle.tl_coherence.specs.protocol.Packet.{set_at}
 use Rattle.tl_coherence.proofs.client.Aside.{set_at-else}
 use Rattle.tl_coherence.proofs.flow.FlowAside.{comes-same, requested-blocks, let_by-same}
 use Rattle.tl_coherence.proofs.flow.FlowSame.{IsUntouched}
@@ -28,23 +28,23 @@ use Rattle.tl_coherence.proofs.queues.Tokens.{same_number, set-same, set-each, s
 -- ---- a request
 
 -- a source that was free is used for a request, none of which was delivered: what was requested stays
-requested-now : {w : ℕ} {X : Type 0} (c source : ℕ) (u : Use) (rest : List (Beat w)) (s s' : State X) → s.uses c source ≡ Closed
+requested-now : {w : ℕ} {X : Type 0} (c source : ℕ) (u : SourceState) (rest : List (Beat w)) (s s' : State X) → s.uses c source ≡ SourceFree
     → ((i : ℕ) → s'.uses c i ≡ set_at c source u s.uses c i) → is_requested c source rest u s' ≡ false
     → ((n : ℕ) → is_unserved (view (s'.block n).service c) ≡ is_unserved (view (s.block n).service c)) → (i : ℕ) → is_requested c i rest (s'.uses c i) s' ≡ is_requested c i rest (s.uses c i) s
 requested-now c source u rest s s' closed uses none same i = elim (cases_eq i source) [
-  | inl here ↦ rw here (ap (λ (v : Use). is_requested c source rest v s') (uses source ∙ set_at-same c source u s.uses) ∙ none ∙ sym (ap (λ (v : Use). is_requested c source rest v s) closed))
-  | inr other ↦ ap (λ (v : Use). is_requested c i rest v s') (uses i ∙ set_at-else c source i u s.uses other c) ∙ requested-blocks c i rest (s.uses c i) s s' same
+  | inl here ↦ rw here (ap (λ (v : SourceState). is_requested c source rest v s') (uses source ∙ set_at-same c source u s.uses) ∙ none ∙ sym (ap (λ (v : SourceState). is_requested c source rest v s) closed))
+  | inr other ↦ ap (λ (v : SourceState). is_requested c i rest v s') (uses i ∙ set_at-else c source i u s.uses other c) ∙ requested-blocks c i rest (s.uses c i) s s' same
 ]
 
-asked-now : {w : ℕ} {X : Type 0} (c source : ℕ) (asked asked' : ℕ → Option (BeatA w)) (rest : List (Beat w)) (s : State X) → s.uses c source ≡ Closed
+asked-now : {w : ℕ} {X : Type 0} (c source : ℕ) (asked asked' : ℕ → Option (BeatA w)) (rest : List (Beat w)) (s : State X) → s.uses c source ≡ SourceFree
     → ((i : ℕ) → (i ≡ source → ⊥) → asked' i ≡ asked i) → (i : ℕ) → is_requested c i rest (s.uses c i) s ≡ true → asked' i ≡ asked i
 asked-now c source asked asked' rest s closed asks i e = elim (cases_eq i source) [
-  | inl here ↦ absurd (let no : false ≡ true = sym (ap (λ (j : ℕ). is_requested c j rest (s.uses c j) s) here ∙ ap (λ (v : Use). is_requested c source rest v s) closed) ∙ e in cc)
+  | inl here ↦ absurd (let no : false ≡ true = sym (ap (λ (j : ℕ). is_requested c j rest (s.uses c j) s) here ∙ ap (λ (v : SourceState). is_requested c source rest v s) closed) ∙ e in cc)
   | inr other ↦ asks i other
 ]
 
 pub untouched-access_asked : {w : ℕ} {X : Type 0} (c source : ℕ) (asked asked' : ℕ → Option (BeatA w)) (rest : Channel → List (Beat w)) (s : State X)
-    → s.uses c source ≡ Closed → comes_in_request source (rest channel.A) ≡ false
+    → s.uses c source ≡ SourceFree → comes_in_request source (rest channel.A) ≡ false
     → ((i : ℕ) → (i ≡ source → ⊥) → asked' i ≡ asked i) → ((m : ℕ) → comes_granting m asked' (rest channel.D) ≡ comes_granting m asked (rest channel.D))
     → IsUntouched asked asked' rest c s (access_asked c source s)
 untouched-access_asked c source asked asked' rest s closed none asks grants = record {
@@ -63,12 +63,12 @@ untouched-access_asked c source asked asked' rest s closed none asks grants = re
 }
 
 pub untouched-acquire_asked : {w : ℕ} {X : Type 0} (c n source : ℕ) (whole : Bool) (g : Grow) (bytes : X) (asked asked' : ℕ → Option (BeatA w))
-    (rest : Channel → List (Beat w)) (s : State X) → s.uses c source ≡ Closed
-    → ((s.block n).pair c).acquiring ≡ Calm → is_unserved (view (s.block n).service c) ≡ true
+    (rest : Channel → List (Beat w)) (s : State X) → s.uses c source ≡ SourceFree
+    → ((s.block n).pair c).acquiring ≡ NoAcquire → is_unserved (view (s.block n).service c) ≡ true
     → ((i : ℕ) → (i ≡ source → ⊥) → asked' i ≡ asked i) → ((m : ℕ) → comes_granting m asked' (rest channel.D) ≡ comes_granting m asked (rest channel.D))
     → IsUntouched asked asked' rest c s (acquire_asked c n source whole g bytes s)
 untouched-acquire_asked {w} {X} c n source whole g bytes asked asked' rest s closed calm unserved asks grants = record {
-  held_is = set-part (held_by c) n new s.block (ap (λ (p : Pair). if is_granting (view b.service c) then p.held else p.recorded) pair);
+  held_is = set-part (held_by c) n new s.block (ap (λ (p : ClientBlock). if is_granting (view b.service c) then p.held else p.recorded) pair);
   requests = requested-now c source (Acquires n) (rest channel.A) s s' closed (λ i. refl) (ap not (unserved_same n ∙ unserved)) unserved_same;
   asked_is = asked-now c source asked asked' (rest channel.A) s closed asks;
   acquires = set-part (acquired_by c) n new s.block (served (is_wanting (new.pair c).acquiring) (is_unserved (view b.service c)) unserved
@@ -78,7 +78,7 @@ untouched-acquire_asked {w} {X} c n source whole g bytes asked asked' rest s clo
   releases = set-part (let_of c (rest channel.C)) n new s.block (ap (is_let (b.release_source c) (rest channel.C)) letting_same);
   sinks = λ i. sunk-as c i (rest channel.D) (s.tracked i) s s' (set-part (sunk_in c i (rest channel.D)) n new s.block refl);
   grants = λ m. ap (λ (z : Bool). is_acknowledging (view (s'.block m).service c) || z) (grants m) ∙ set-part (granted_by c m asked (rest channel.D)) n new s.block refl m;
-  probes = set-part (λ (z : Block X). is_answered (z.pair c).probing) n new s.block (ap (λ (p : Pair). is_answered p.probing) pair);
+  probes = set-part (λ (z : Block X). is_answered (z.pair c).probing) n new s.block (ap (λ (p : ClientBlock). is_answered p.probing) pair);
   caps = λ m e. set-part (λ (z : Block X). cap_waited z.service) n new s.block refl m;
   trackers = λ m e. set-part (λ (z : Block X). z.tracker) n new s.block refl m;
 }
@@ -96,7 +96,7 @@ untouched-acquire_asked {w} {X} c n source whole g bytes asked asked' rest s clo
     pair = set-same c (after_acquire whole g (b.pair c)) b.pair
 
     letting_same : (new.pair c).letting ≡ (b.pair c).letting
-    letting_same = ap (λ (p : Pair). p.letting) pair
+    letting_same = ap (λ (p : ClientBlock). p.letting) pair
 
     unserved_same : (m : ℕ) → is_unserved (view (s'.block m).service c) ≡ is_unserved (view (s.block m).service c)
     unserved_same = set-part (λ (z : Block X). is_unserved (view z.service c)) n new s.block refl
@@ -109,24 +109,24 @@ untouched-acquire_asked {w} {X} c n source whole g bytes asked asked' rest s clo
 
 pub untouched-release_asked : {w : ℕ} {X : Type 0} (c n source : ℕ) (r : Prune) (asked asked' : ℕ → Option (BeatA w)) (rest : Channel → List (Beat w))
     (s : State X) → s.lets c source ≡ None → comes_in_release source (rest channel.C) ≡ false
-    → ((s.block n).pair c).letting ≡ Kept → ((i : ℕ) → is_of n (s.lets c i) ≡ false) → is_granting (view (s.block n).service c) ≡ false
+    → ((s.block n).pair c).letting ≡ NoRelease → ((i : ℕ) → is_of n (s.lets c i) ≡ false) → is_granting (view (s.block n).service c) ≡ false
     → ((i : ℕ) → asked' i ≡ asked i) → IsUntouched asked asked' rest c s (release_asked c n source r s)
 untouched-release_asked {w} {X} c n source r asked asked' rest s free none kept unused ungranted asks = record {
   held_is = set-part (held_by c) n new s.block (ap (λ (z : Bool). if z then (new.pair c).held else (new.pair c).recorded) ungranted
-      ∙ ap (λ (p : Pair). p.recorded) pair ∙ sym (ap (λ (z : Bool). if z then (b.pair c).held else (b.pair c).recorded) ungranted));
+      ∙ ap (λ (p : ClientBlock). p.recorded) pair ∙ sym (ap (λ (z : Bool). if z then (b.pair c).held else (b.pair c).recorded) ungranted));
   requests = λ i. requested-blocks c i (rest channel.A) (s.uses c i) s s' (set-part (λ (z : Block X). is_unserved (view z.service c)) n new s.block refl);
   asked_is = λ i e. asks i;
-  acquires = set-part (acquired_by c) n new s.block (ap (λ (p : Pair). is_wanting p.acquiring && not (is_unserved (view b.service c))) pair);
+  acquires = set-part (acquired_by c) n new s.block (ap (λ (p : ClientBlock). is_wanting p.acquiring && not (is_unserved (view b.service c))) pair);
   release_sources = lets;
   lets = λ i m e f. still i m e f;
   releases = set-part (let_of c (rest channel.C)) n new s.block
-      (ap (λ (l : Letting). is_let (new.release_source c) (rest channel.C) l) letting_is
+      (ap (λ (l : ReleasePhase). is_let (new.release_source c) (rest channel.C) l) letting_is
       ∙ ap (λ (j : ℕ). comes_in_release j (rest channel.C)) (set-same c source b.release_source) ∙ none
       ∙ sym (ap (is_let (b.release_source c) (rest channel.C)) kept));
   sinks = λ i. sunk-as c i (rest channel.D) (s.tracked i) s s' (set-part (sunk_in c i (rest channel.D)) n new s.block refl);
   grants = λ m. ap (λ (z : Bool). is_acknowledging (view (s'.block m).service c) || z) (comes-same m asked asked' (rest channel.D) asks)
       ∙ set-part (granted_by c m asked (rest channel.D)) n new s.block refl m;
-  probes = set-part (λ (z : Block X). is_answered (z.pair c).probing) n new s.block (ap (λ (p : Pair). is_answered p.probing) pair);
+  probes = set-part (λ (z : Block X). is_answered (z.pair c).probing) n new s.block (ap (λ (p : ClientBlock). is_answered p.probing) pair);
   caps = λ m e. set-part (λ (z : Block X). cap_waited z.service) n new s.block refl m;
   trackers = λ m e. set-part (λ (z : Block X). z.tracker) n new s.block refl m;
 }
@@ -143,8 +143,8 @@ untouched-release_asked {w} {X} c n source r asked asked' rest s free none kept 
     pair : new.pair c ≡ after_release r (b.pair c)
     pair = set-same c (after_release r (b.pair c)) b.pair
 
-    letting_is : (new.pair c).letting ≡ Releasing r
-    letting_is = ap (λ (p : Pair). p.letting) pair
+    letting_is : (new.pair c).letting ≡ ReleaseSent r
+    letting_is = ap (λ (p : ClientBlock). p.letting) pair
 
     others : (i : ℕ) (o : Option ℕ) → is_of n o ≡ false → is_let_by c i (rest channel.C) o s' ≡ is_let_by c i (rest channel.C) o s
     others i None e = refl

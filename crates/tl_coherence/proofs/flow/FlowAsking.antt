@@ -18,16 +18,16 @@ use Rattle.tl_client.specs.declared.reply.Reply.{Reply}
 use Rattle.tl_client.specs.declared.reply.Reply.TheVariants as reply
 use Rattle.tl_client.specs.statement.Ask.{copy_stored, whole_grow}
 use Rattle.tl_client.specs.statement.Send.{access}
-use Rattle.tl_coherence.specs.refinement.Flowed.{IsFlowed}
-use Rattle.tl_coherence.specs.refinement.Follow.{Shadow, asked}
+use Rattle.tl_coherence.specs.refinement.MonitorRelation.{MonitorRelation}
+use Rattle.tl_coherence.specs.refinement.AbstractStep.{AbstractState, asked}
 use Rattle.tl_coherence.specs.statement.Log.{Log}
-use Rattle.tl_coherence.specs.protocol.Phase.{View, Idle, Own, Other, Granting, Acknowledging, GrantedOther, Calm, Pair}
+use Rattle.tl_coherence.specs.protocol.Phase.{View, Idle, Own, Other, Granting, Acknowledging, GrantedOther, NoAcquire, ClientBlock}
 use Rattle.tl_coherence.specs.protocol.PhaseSteps.{after_release}
-use Rattle.tl_coherence.specs.protocol.Protocol.{Block, Use, Closed, Asked, Acquires, view, is_granting, is_unserved, is_wanting, access_asked, acquire_asked, release_asked, releasing_block, block_stored}
-use Rattle.tl_coherence.specs.refinement.Render.{Mail}
+use Rattle.tl_coherence.specs.protocol.Protocol.{Block, SourceState, SourceFree, Asked, Acquires, view, is_granting, is_unserved, is_wanting, access_asked, acquire_asked, release_asked, releasing_block, block_stored}
+use Rattle.tl_coherence.specs.refinement.PacketMessages.{AccessMessages}
 use Rattle.tl_coherence.specs.statement.System.{System}
-use Rattle.tl_coherence.specs.protocol.Token.{set_at}
-use Rattle.tl_coherence.specs.refinement.Whole.{IsMatched, is_caching, asked_by}
+use Rattle.tl_coherence.specs.protocol.Packet.{set_at}
+use Rattle.tl_coherence.specs.refinement.SimulationRelation.{SimulationRelation, is_caching, asked_by}
 use Rattle.tl_coherence.proofs.client.Aside.{set_at-else}
 use Rattle.tl_coherence.proofs.client.AsideAll.{Leaves, leaves-asked}
 use Rattle.tl_coherence.proofs.deliveries.AskedAfter.{reply-cases, IsPlain}
@@ -46,7 +46,7 @@ use Rattle.tl_coherence.proofs.queues.Tokens.{set-same, set-part}
 use Rattle.tl_coherence.proofs.simulation.Popped.{unfinished_at}
 
 -- what client d's end is left with asks for the same
-pub asks-left : {w : ℕ} (d : ℕ) (h h' : Shadow w) → Leaves d h h' → (i : ℕ) → asked_by h'.mail h'.state d i ≡ asked_by h.mail h.state d i
+pub asks-left : {w : ℕ} (d : ℕ) (h h' : AbstractState w) → Leaves d h h' → (i : ℕ) → asked_by h'.mail h'.state d i ≡ asked_by h.mail h.state d i
 asks-left d h h' left i = asks-same d i h.mail h'.mail h.state h'.state (left.request i) (left.uses i) (λ n used. left.acquiring n) (λ n used. left.source n)
 
 unserved_ungranted : (v : View) → is_unserved v ≡ true → is_granting v ≡ false
@@ -57,17 +57,17 @@ unserved_ungranted GrantedOther e = refl
 unserved_ungranted Own e = refl
 unserved_ungranted (Granting d k) e = absurd cc
 
-acquires_not : (u : Use) (n : ℕ) → u ≡ Closed → u ≡ Acquires n → ⊥
-acquires_not u n e f = let g : Closed ≡ Acquires n = sym e ∙ f in cc
+acquires_not : (u : SourceState) (n : ℕ) → u ≡ SourceFree → u ≡ Acquires n → ⊥
+acquires_not u n e f = let g : SourceFree ≡ Acquires n = sym e ∙ f in cc
 
-module _ {w : ℕ} (config : Config) (log : Log w) (h : Shadow w) (sys : System w) (c : ℕ) (width : IsWidth w) (is : IsMatched config log h.mail h.request h.state sys) where
+module _ {w : ℕ} (config : Config) (log : Log w) (h : AbstractState w) (sys : System w) (c : ℕ) (width : IsWidth w) (is : SimulationRelation config log h.mail h.request h.state sys) where
   -- what is delivered on client d's link is as it was
   abbrev pub IsAskedOn : ℕ → History w → Op w → Reply → Type 0
-  IsAskedOn d t o r = IsAskable (is_caching config) c o r h → IsFlowed (asked_by h.mail h.state d) (unfinished_at sys d) d h.state t
-      → IsFlowed (asked_by (asked c o r h).mail (asked c o r h).state d) (unfinished_at sys d) d (asked c o r h).state t
+  IsAskedOn d t o r = IsAskable (is_caching config) c o r h → MonitorRelation (asked_by h.mail h.state d) (unfinished_at sys d) d h.state t
+      → MonitorRelation (asked_by (asked c o r h).mail (asked c o r h).state d) (unfinished_at sys d) d (asked c o r h).state t
 
   asked-nothing : (d : ℕ) (t : History w) (o : Op w) (r : Reply) → IsPlain o r → IsAskedOn d t o r
-  asked-nothing d t o r plain may before = subst (λ (x : Shadow w). IsFlowed (asked_by x.mail x.state d) (unfinished_at sys d) d x.state t) (sym (plain c h).0) before
+  asked-nothing d t o r plain may before = subst (λ (x : AbstractState w). MonitorRelation (asked_by x.mail x.state d) (unfinished_at sys d) d x.state t) (sym (plain c h).0) before
 
   -- ---- the client's own link
 
@@ -82,9 +82,9 @@ module _ {w : ℕ} (config : Config) (log : Log w) (h : Shadow w) (sys : System 
       (left-block_stored c (asked_by h.mail h.state c) (asked_by h.mail (block_stored c n bytes h.state) c) (unfinished_at sys c) h.state asks
       (coming-granting config log h.mail h.request h.state sys c is) c n bytes)
 
-  own-acquire : (t : History w) (n source : ℕ) (whole : Bool) (g : Grow) (bytes : List ℕ) → h.state.uses c source ≡ Closed → ((h.state.block n).pair c).acquiring ≡ Calm
-      → IsFlowed (asked_by h.mail h.state c) (unfinished_at sys c) c h.state t
-      → IsFlowed (asked_by h.mail (acquire_asked c n source whole g bytes h.state) c) (unfinished_at sys c) c
+  own-acquire : (t : History w) (n source : ℕ) (whole : Bool) (g : Grow) (bytes : List ℕ) → h.state.uses c source ≡ SourceFree → ((h.state.block n).pair c).acquiring ≡ NoAcquire
+      → MonitorRelation (asked_by h.mail h.state c) (unfinished_at sys c) c h.state t
+      → MonitorRelation (asked_by h.mail (acquire_asked c n source whole g bytes h.state) c) (unfinished_at sys c) c
       (acquire_asked c n source whole g bytes h.state) t
   own-acquire t n source whole g bytes closed calm =
       flowed-untouched before after (unfinished_at sys c) c h.state (acquire_asked c n source whole g bytes h.state) t
@@ -122,17 +122,17 @@ module _ {w : ℕ} (config : Config) (log : Log w) (h : Shadow w) (sys : System 
       asks : (i : ℕ) → after i ≡ before i
       asks i = asks-same c i h.mail h.mail h.state (release_asked c n source r h.state) refl (inl refl)
           (λ j used. set-part (λ (b : Block (List ℕ)). (b.pair c).acquiring) n new h.state.block
-          (ap (λ (p : Pair). p.acquiring) (set-same c (after_release r ((h.state.block n).pair c)) (h.state.block n).pair)) j)
+          (ap (λ (p : ClientBlock). p.acquiring) (set-same c (after_release r ((h.state.block n).pair c)) (h.state.block n).pair)) j)
           (λ j used. set-part (λ (b : Block (List ℕ)). b.source c) n new h.state.block refl j)
 
   own-access : (t : History w) (m : MessageA w) (source : ℕ) → IsAskedOn c t (op.Access (message.A m)) (reply.Started source)
   own-access t m source closed =
       flowed-untouched before after (unfinished_at sys c) c h.state (access_asked c source h.state) t
       (untouched-access_asked c source before after (unfinished_at sys c) h.state closed
-      (not-coming_a config log h.mail h.request h.state sys c source is (ap (λ (u : Use). waits_on_a c u h.state) closed)) asks
+      (not-coming_a config log h.mail h.request h.state sys c source is (ap (λ (u : SourceState). waits_on_a c u h.state) closed)) asks
       (λ k. coming-asked config log h.mail h.request h.state sys c k before after is (λ i n used. asks i (λ e. acquires_not (h.state.uses c i) n (ap (h.state.uses c) e ∙ closed) used))))
     where
-      mail' : Mail w
+      mail' : AccessMessages w
       mail' = record { request = set_at c source (access source m) h.mail.request; answer = h.mail.answer }
 
       before : ℕ → Option (BeatA w)
@@ -179,7 +179,7 @@ module _ {w : ℕ} (config : Config) (log : Log w) (h : Shadow w) (sys : System 
       coming = coming-granting config log h.mail h.request h.state sys d is
 
       left : (i : Op w) (j : Reply) → (((k : ℕ) → after i j k ≡ before k) → IsAside before (after i j) (unfinished_at sys d) d h.state (asked c i j h).state)
-          → IsFlowed before (unfinished_at sys d) d h.state t → IsFlowed (after i j) (unfinished_at sys d) d (asked c i j h).state t
+          → MonitorRelation before (unfinished_at sys d) d h.state t → MonitorRelation (after i j) (unfinished_at sys d) d (asked c i j h).state t
       left i j aside = flowed-aside before (after i j) (unfinished_at sys d) d h.state (asked c i j h).state t (aside (asks-left d h (asked c i j h) (leaves-asked c i j h d ne)))
 
   pub flowed-asked : (d : ℕ) (t : History w) (o : Op w) (r : Reply) → IsReply o r → IsAskedOn d t o r

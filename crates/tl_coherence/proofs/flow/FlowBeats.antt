@@ -12,7 +12,7 @@ use Rattle.tl_params.specs.declared.perm.Perm.TheVariants as perm
 use Rattle.tl_rules.specs.statement.Conformance.{same_perm}
 use Rattle.tl_coherence.specs.protocol.Invariant.{AreNamed, acquires_of}
 use Rattle.tl_coherence.specs.protocol.Protocol.{State, is_wanting}
-use Rattle.tl_coherence.specs.protocol.Token.{set_at}
+use Rattle.tl_coherence.specs.protocol.Packet.{set_at}
 use Rattle.tl_coherence.proofs.client.Aside.{set_at-else}
 use Rattle.tl_coherence.proofs.queues.Carried.{IsNext}
 use Rattle.tl_coherence.proofs.queues.Tokens.{same_number, set_at-same}

@@ -21,15 +21,15 @@ use Rattle.tl_rules.specs.statement.Conformance.{on_link, comes_in_release, come
 use Rattle.tl_rules.specs.statement.History.{block_at, is_grant, is_release, asks_for}
 use Rattle.tl_client.proofs.HeldAfter.{same_block}
 use Rattle.tl_coherence.specs.refinement.Carried.{IsCarried}
-use Rattle.tl_coherence.specs.refinement.Known.{comes_granting}
+use Rattle.tl_coherence.specs.refinement.ClientRelation.{comes_granting}
 use Rattle.tl_coherence.specs.statement.Log.{Log}
-use Rattle.tl_coherence.specs.protocol.Protocol.{State, Acquires, token, shown, view, is_on, is_granting, is_releasing}
-use Rattle.tl_coherence.specs.refinement.Render.{Mail, message_of, message_of_kind, report_told, prune_told, rendered}
+use Rattle.tl_coherence.specs.protocol.Protocol.{State, Acquires, packet, shown, view, is_on, is_granting, is_releasing}
+use Rattle.tl_coherence.specs.refinement.PacketMessages.{AccessMessages, message_of, message_of_kind, report_told, prune_told, block_message}
 use Rattle.tl_coherence.specs.statement.System.{System}
-use Rattle.tl_coherence.specs.protocol.Token.{Kind, Request, Acquire, Probe, ProbeAck, Release, Answer, Grant, ReleaseAck, GrantAck, Token}
-use Rattle.tl_coherence.specs.refinement.Whole.{IsMatched, is_caching, asked_by}
+use Rattle.tl_coherence.specs.protocol.Packet.{Kind, Request, Acquire, Probe, ProbeAck, Release, Answer, Grant, ReleaseAck, GrantAck, Packet}
+use Rattle.tl_coherence.specs.refinement.SimulationRelation.{SimulationRelation, is_caching, asked_by}
 use Rattle.tl_coherence.proofs.client.ClientEnd.{asks-acquire}
-use Rattle.tl_coherence.proofs.protocol.Due.{IsGrantDue, answer-due, grant-due, grant-rendered, grant_message, ack_message, own_view}
+use Rattle.tl_coherence.proofs.protocol.HeadOfD.{IsGrantDue, answer-due, grant-due, grant-rendered, grant_message, ack_message, own_view}
 use Rattle.tl_coherence.proofs.queues.FirstToken.{own_kind}
 use Rattle.tl_coherence.proofs.flow.FlowAside.{IsComing}
 use Rattle.tl_coherence.proofs.manager.ManagedEndings.{tracker-of}
@@ -52,24 +52,24 @@ IsGrantAlone {w} c s m = (y : MessageD w) × (m ≡ message.D y) × (is_grant y.
 never_grant : {A : Type 0} (b : Bool) → b ≡ false → b ≡ true → A
 never_grant b e f = absurd (let no : false ≡ true = sym e ∙ f in cc)
 
-alone_answer : {w : ℕ} (config : Config) (log : Log w) (mail : Mail w) (request : ℕ → MessageA w) (s : State (List ℕ)) (sys : System w) (c i : ℕ)
-    (rest : List Token) → IsMatched config log mail request s sys → (s.link c).d ≡ token Answer i ∷ rest
+alone_answer : {w : ℕ} (config : Config) (log : Log w) (mail : AccessMessages w) (request : ℕ → MessageA w) (s : State (List ℕ)) (sys : System w) (c i : ℕ)
+    (rest : List Packet) → SimulationRelation config log mail request s sys → (s.link c).d ≡ packet Answer i ∷ rest
     → IsGrantAlone c s (mail.answer c i)
 unfolding IsGrantAlone
 alone_answer config log mail request s sys c i rest h first =
     let due = answer-due (is_caching config) c i rest mail s h.invariant (h.answered c i) first in
     (due.answer, due.answer_is, never_grant (is_grant due.answer.opcode) (access_kind due.answer.opcode due.answers_access).0)
 
-alone_grant : {w : ℕ} (config : Config) (log : Log w) (mail : Mail w) (request : ℕ → MessageA w) (s : State (List ℕ)) (sys : System w) (c n : ℕ)
-    (rest : List Token) → IsMatched config log mail request s sys → (s.link c).d ≡ token Grant n ∷ rest
-    → IsGrantAlone {w = w} c s (rendered Grant c n (s.block n))
+alone_grant : {w : ℕ} (config : Config) (log : Log w) (mail : AccessMessages w) (request : ℕ → MessageA w) (s : State (List ℕ)) (sys : System w) (c n : ℕ)
+    (rest : List Packet) → SimulationRelation config log mail request s sys → (s.link c).d ≡ packet Grant n ∷ rest
+    → IsGrantAlone {w = w} c s (block_message Grant c n (s.block n))
 unfolding IsGrantAlone
 alone_grant config log mail request s sys c n rest h first =
     let due = grant-due (is_caching config) c n rest s h.invariant first in
     (grant_message due.data_too due.k ((s.block n).source c) (s.block n).tracker (s.block n).truth, grant-rendered c n s due, λ e. (n, due, refl, refl))
 
-alone_ack : (w : ℕ) (s : State (List ℕ)) (c n : ℕ) → IsGrantAlone {w = w} c s (rendered ReleaseAck c n (s.block n))
-unfolding IsGrantAlone rendered
+alone_ack : (w : ℕ) (s : State (List ℕ)) (c n : ℕ) → IsGrantAlone {w = w} c s (block_message ReleaseAck c n (s.block n))
+unfolding IsGrantAlone block_message
 alone_ack w s c n = (ack_message ((s.block n).release_source c), refl, λ e. absurd cc)
 
 begun_alone : {w : ℕ} (c : ℕ) (s : State (List ℕ)) (m : Message w) (k : ℕ) (x : BeatD w) (more : List (Beat w)) → IsGrantAlone c s m
@@ -89,15 +89,15 @@ begun_alone {w} c s m k x more is e grants = go k (e ∙ ap (λ (y : Message w).
         told source sink (n, due, of_source, of_sink) = (n, due, source ∙ of_source, sink ∙ of_sink)
 
 -- a Grant that was delivered in part is due
-half-granted : {w : ℕ} (config : Config) (log : Log w) (mail : Mail w) (request : ℕ → MessageA w) (s : State (List ℕ)) (sys : System w) (c : ℕ) (x : BeatD w)
-    (more : List (Beat w)) → IsMatched config log mail request s sys
+half-granted : {w : ℕ} (config : Config) (log : Log w) (mail : AccessMessages w) (request : ℕ → MessageA w) (s : State (List ℕ)) (sys : System w) (c : ℕ) (x : BeatD w)
+    (more : List (Beat w)) → SimulationRelation config log mail request s sys
     → unfinished channel.D (sys.clients c).past ≡ beat.D x ∷ more → is_grant x.opcode ≡ true → IsOfGrant c s x
 half-granted {w} config log mail request s sys c x more h is grants = go (s.link c).d refl (h.carried c channel.D)
   where
     rest_now : List (Beat w)
     rest_now = unfinished channel.D (sys.clients c).past
 
-    each : (k : Kind) (i : ℕ) (rest : List Token) → (s.link c).d ≡ token k i ∷ rest → is_on channel.D k ≡ true → IsGrantAlone c s (message_of_kind k mail s c i)
+    each : (k : Kind) (i : ℕ) (rest : List Packet) → (s.link c).d ≡ packet k i ∷ rest → is_on channel.D k ≡ true → IsGrantAlone c s (message_of_kind k mail s c i)
     each Answer i rest first own = alone_answer config log mail request s sys c i rest h first
     each Grant i rest first own = alone_grant config log mail request s sys c i rest h first
     each ReleaseAck i rest first own = alone_ack w s c i
@@ -108,7 +108,7 @@ half-granted {w} config log mail request s sys c x more h is grants = go (s.link
     each Release i rest first own = absurd cc
     each GrantAck i rest first own = absurd cc
 
-    go : (xs : List Token) → (s.link c).d ≡ xs → IsCarried rest_now (map (message_of mail s c) (s.link c).d) (sys.channels c channel.D) → IsOfGrant c s x
+    go : (xs : List Packet) → (s.link c).d ≡ xs → IsCarried rest_now (map (message_of mail s c) (s.link c).d) (sys.channels c channel.D) → IsOfGrant c s x
     go [] first carried =
         let none : IsCarried rest_now [] (sys.channels c channel.D) = subst (λ (ms : List (Message w)). IsCarried rest_now ms (sys.channels c channel.D))
         (ap (map (message_of mail s c)) first) carried in
@@ -119,7 +119,7 @@ half-granted {w} config log mail request s sys c x more h is grants = go (s.link
         begun_alone c s (message_of mail s c y) some.0 x more (each y.kind y.number ys first (own_kind (is_caching config) s c channel.D y.kind y.number ys h.invariant first)) (sym is ∙ some.2) grants
 
 -- the block of a Grant with this sink that was delivered in part
-pub coming-sink : {w : ℕ} (config : Config) (log : Log w) (mail : Mail w) (request : ℕ → MessageA w) (s : State (List ℕ)) (sys : System w) (c i : ℕ) → IsMatched config log mail request s sys
+pub coming-sink : {w : ℕ} (config : Config) (log : Log w) (mail : AccessMessages w) (request : ℕ → MessageA w) (s : State (List ℕ)) (sys : System w) (c i : ℕ) → SimulationRelation config log mail request s sys
     → comes_in_grant i (unfinished channel.D (sys.clients c).past) ≡ true → (n : ℕ) × IsGrantDue c n s × (s.tracked i ≡ Some n)
 coming-sink {w} config log mail request s sys c i h = go (unfinished channel.D (sys.clients c).past) refl
   where
@@ -135,8 +135,8 @@ coming-sink {w} config log mail request s sys c i h = go (unfinished channel.D (
         (of.0, of.1, ap s.tracked same ∙ tracker-of of.0 s h.invariant.named (rw of.1.service refl))
 
 -- a Grant of a block that was delivered in part is due
-pub coming-granting : {w : ℕ} (config : Config) (log : Log w) (mail : Mail w) (request : ℕ → MessageA w) (s : State (List ℕ)) (sys : System w) (c : ℕ)
-    → IsMatched config log mail request s sys → IsComing (asked_by mail s c) (unfinished channel.D (sys.clients c).past) c s
+pub coming-granting : {w : ℕ} (config : Config) (log : Log w) (mail : AccessMessages w) (request : ℕ → MessageA w) (s : State (List ℕ)) (sys : System w) (c : ℕ)
+    → SimulationRelation config log mail request s sys → IsComing (asked_by mail s c) (unfinished channel.D (sys.clients c).past) c s
 coming-granting {w} config log mail request s sys c h n = go (unfinished channel.D (sys.clients c).past) refl
   where
     go : (beats : List (Beat w)) → unfinished channel.D (sys.clients c).past ≡ beats → comes_granting n (asked_by mail s c) beats ≡ true → is_granting (view (s.block n).service c) ≡ true
@@ -154,8 +154,8 @@ coming-granting {w} config log mail request s sys c h n = go (unfinished channel
         ap (λ (i : ℕ). is_granting (view (s.block i).service c)) (sym same) ∙ ap is_granting (own_view c of.1.data_too of.1.k (s.block of.0).service of.1.service)
 
 -- requests that are asked with other first beats, but for sources that are open, change nothing of it
-pub coming-asked : {w : ℕ} (config : Config) (log : Log w) (mail : Mail w) (request : ℕ → MessageA w) (s : State (List ℕ)) (sys : System w) (c m : ℕ)
-    (asked asked' : ℕ → Option (BeatA w)) → IsMatched config log mail request s sys
+pub coming-asked : {w : ℕ} (config : Config) (log : Log w) (mail : AccessMessages w) (request : ℕ → MessageA w) (s : State (List ℕ)) (sys : System w) (c m : ℕ)
+    (asked asked' : ℕ → Option (BeatA w)) → SimulationRelation config log mail request s sys
     → ((i n : ℕ) → s.uses c i ≡ Acquires n → asked' i ≡ asked i)
     → comes_granting m asked' (unfinished channel.D (sys.clients c).past) ≡ comes_granting m asked (unfinished channel.D (sys.clients c).past)
 coming-asked {w} config log mail request s sys c m asked asked' h same = go (unfinished channel.D (sys.clients c).past) refl
@@ -181,17 +181,17 @@ IsReleaseAlone : {w : ℕ} → ℕ → State (List ℕ) → Message w → Type 0
 IsReleaseAlone {w} c s m = (y : MessageC w) × (m ≡ message.C y)
     × (is_release y.opcode ≡ true → (n : ℕ) × (is_releasing ((s.block n).pair c).letting ≡ true) × (y.source ≡ (s.block n).release_source c))
 
-alone_report : {w : ℕ} (c n : ℕ) (s : State (List ℕ)) (width : IsWidth w) (config : Config) (log : Log w) (mail : Mail w) (request : ℕ → MessageA w)
-    (sys : System w) → IsMatched config log mail request s sys → IsReleaseAlone {w = w} c s (rendered ProbeAck c n (s.block n))
-unfolding IsReleaseAlone rendered
+alone_report : {w : ℕ} (c n : ℕ) (s : State (List ℕ)) (width : IsWidth w) (config : Config) (log : Log w) (mail : AccessMessages w) (request : ℕ → MessageA w)
+    (sys : System w) → SimulationRelation config log mail request s sys → IsReleaseAlone {w = w} c s (block_message ProbeAck c n (s.block n))
+unfolding IsReleaseAlone block_message
 alone_report c n s width config log mail request sys h =
     let about = report-about (report_told ((s.block n).pair c).probing) n (s.block n).truth width (h.sized n).truth in
     (about.0, about.1, never_grant (is_release about.0.opcode) about.2.releases)
 
-alone_release : {w : ℕ} (c n : ℕ) (s : State (List ℕ)) (width : IsWidth w) (config : Config) (log : Log w) (mail : Mail w) (request : ℕ → MessageA w)
-    (sys : System w) → IsMatched config log mail request s sys → is_releasing ((s.block n).pair c).letting ≡ true
-    → IsReleaseAlone {w = w} c s (rendered Release c n (s.block n))
-unfolding IsReleaseAlone rendered
+alone_release : {w : ℕ} (c n : ℕ) (s : State (List ℕ)) (width : IsWidth w) (config : Config) (log : Log w) (mail : AccessMessages w) (request : ℕ → MessageA w)
+    (sys : System w) → SimulationRelation config log mail request s sys → is_releasing ((s.block n).pair c).letting ≡ true
+    → IsReleaseAlone {w = w} c s (block_message Release c n (s.block n))
+unfolding IsReleaseAlone block_message
 alone_release c n s width config log mail request sys h shows =
     let about = release-about (prune_told ((s.block n).pair c).letting) ((s.block n).release_source c) n (s.block n).truth width (h.sized n).truth in
     (about.0, about.1, λ e. (n, shows, about.3))
@@ -212,8 +212,8 @@ begun_release {w} c s m k x more is e releases = go k (e ∙ ap (λ (y : Message
             → (n : ℕ) × (is_releasing ((s.block n).pair c).letting ≡ true) × (x.source ≡ (s.block n).release_source c)
         told source (n, releasing, of_source) = (n, releasing, source ∙ of_source)
 
-half-released : {w : ℕ} (config : Config) (log : Log w) (mail : Mail w) (request : ℕ → MessageA w) (s : State (List ℕ)) (sys : System w) (c : ℕ) (x : BeatC w)
-    (more : List (Beat w)) → IsWidth w → IsMatched config log mail request s sys
+half-released : {w : ℕ} (config : Config) (log : Log w) (mail : AccessMessages w) (request : ℕ → MessageA w) (s : State (List ℕ)) (sys : System w) (c : ℕ) (x : BeatC w)
+    (more : List (Beat w)) → IsWidth w → SimulationRelation config log mail request s sys
     → unfinished channel.C (on_link c sys.manager.trace) ≡ beat.C x ∷ more → is_release x.opcode ≡ true → (n : ℕ)
     × (is_releasing ((s.block n).pair c).letting ≡ true) × (x.source ≡ (s.block n).release_source c)
 half-released {w} config log mail request s sys c x more width h is releases = go (s.link c).c refl (h.carried c channel.C)
@@ -224,10 +224,10 @@ half-released {w} config log mail request s sys c x more width h is releases = g
     rest_now : List (Beat w)
     rest_now = unfinished channel.C (on_link c sys.manager.trace)
 
-    each : (k : Kind) (i : ℕ) (rest : List Token) → (s.link c).c ≡ token k i ∷ rest → is_on channel.C k ≡ true → IsReleaseAlone c s (message_of_kind k mail s c i)
+    each : (k : Kind) (i : ℕ) (rest : List Packet) → (s.link c).c ≡ packet k i ∷ rest → is_on channel.C k ≡ true → IsReleaseAlone c s (message_of_kind k mail s c i)
     each ProbeAck i rest first own = alone_report c i s width config log mail request sys h
     each Release i rest first own = alone_release c i s width config log mail request sys h
-        (holds-first Release (s.link c).c rest (token Release i) (λ j. shown Release c (s.block j)) first refl (h.invariant.transfers c Release refl))
+        (holds-first Release (s.link c).c rest (packet Release i) (λ j. shown Release c (s.block j)) first refl (h.invariant.transfers c Release refl))
     each Request i rest first own = absurd cc
     each Acquire i rest first own = absurd cc
     each Probe i rest first own = absurd cc
@@ -236,7 +236,7 @@ half-released {w} config log mail request s sys c x more width h is releases = g
     each ReleaseAck i rest first own = absurd cc
     each GrantAck i rest first own = absurd cc
 
-    go : (xs : List Token) → (s.link c).c ≡ xs → IsCarried rest_now (map (message_of mail s c) (s.link c).c) (sys.channels c channel.C) → Here
+    go : (xs : List Packet) → (s.link c).c ≡ xs → IsCarried rest_now (map (message_of mail s c) (s.link c).c) (sys.channels c channel.C) → Here
     go [] first carried =
         let none : IsCarried rest_now [] (sys.channels c channel.C) = subst (λ (ms : List (Message w)). IsCarried rest_now ms (sys.channels c channel.C))
         (ap (map (message_of mail s c)) first) carried in
@@ -248,8 +248,8 @@ half-released {w} config log mail request s sys c x more width h is releases = g
         (each y.kind y.number ys first (own_kind (is_caching config) s c channel.C y.kind y.number ys h.invariant first)) (sym is ∙ some.2) releases
 
 -- no Release is half delivered with a source that is free
-pub coming-free : {w : ℕ} (config : Config) (log : Log w) (mail : Mail w) (request : ℕ → MessageA w) (s : State (List ℕ)) (sys : System w) (c source : ℕ)
-    → IsWidth w → IsMatched config log mail request s sys → s.lets c source ≡ None
+pub coming-free : {w : ℕ} (config : Config) (log : Log w) (mail : AccessMessages w) (request : ℕ → MessageA w) (s : State (List ℕ)) (sys : System w) (c source : ℕ)
+    → IsWidth w → SimulationRelation config log mail request s sys → s.lets c source ≡ None
     → comes_in_release source (unfinished channel.C (on_link c sys.manager.trace)) ≡ false
 coming-free {w} config log mail request s sys c source width h free = go (unfinished channel.C (on_link c sys.manager.trace)) refl
   where

@@ -17,13 +17,13 @@ use Rattle.tl_rules.specs.statement.Conformance.{comes_in_request, comes_in_gran
 use Rattle.tl_rules.specs.statement.History.{begins, ends, block_at, pending, is_grant, is_release_ack, asks_for, request_of, release_of, probe_of, grant_sink, releases, capped}
 use Rattle.tl_client.proofs.Opens.{request_of-d}
 use Rattle.tl_client.proofs.AccountedResponse.{release_of-d}
-use Rattle.tl_coherence.specs.refinement.Flowed.{IsFlowed, is_requested, is_let_by, is_sunk}
+use Rattle.tl_coherence.specs.refinement.MonitorRelation.{MonitorRelation, is_requested, is_let_by, is_sunk}
 use Rattle.tl_coherence.specs.protocol.Invariant.{is_of, acquires_of}
-use Rattle.tl_coherence.specs.refinement.Known.{comes_granting}
+use Rattle.tl_coherence.specs.refinement.ClientRelation.{comes_granting}
 use Rattle.tl_coherence.specs.protocol.Phase.{View, Granting, Acknowledging}
-use Rattle.tl_coherence.specs.protocol.Protocol.{Block, State, Use, Closed, Asked, InService, Replied, Acquires, view, is_granting, is_acknowledging, is_answered, is_wanting, is_unserved}
-use Rattle.tl_coherence.specs.refinement.Render.{probe_beat}
-use Rattle.tl_coherence.specs.refinement.Sources.{cap_waited}
+use Rattle.tl_coherence.specs.protocol.Protocol.{Block, State, SourceState, SourceFree, Asked, InService, Replied, Acquires, view, is_granting, is_acknowledging, is_answered, is_wanting, is_unserved}
+use Rattle.tl_coherence.specs.refinement.PacketMessages.{probe_beat}
+use Rattle.tl_coherence.specs.refinement.SourceRelation.{cap_waited}
 use Rattle.tl_coherence.proofs.flow.FlowAlone.{AreRests}
 use Rattle.tl_coherence.proofs.flow.FlowAnswered.{probed-of, unclosed, closes_last}
 use Rattle.tl_coherence.proofs.flow.FlowAside.{let_by-same}
@@ -57,7 +57,7 @@ pub record IsGranting {w : ℕ} {X : Type 0} (c n : ℕ) (d : Bool) (k : Cap) (y
   pub grants : (m : ℕ) → comes_granting m asked' (rest' channel.D) ≡ (not last && (n == m))
   pub asked_is : (i : ℕ) → (last && (y.source == i)) ≡ false → asked' i ≡ asked i
   pub elsewhere : AreElsewhere n s s'
-  pub uses : (i : ℕ) → s'.uses c i ≡ (if last && (y.source == i) then Closed else s.uses c i)
+  pub uses : (i : ℕ) → s'.uses c i ≡ (if last && (y.source == i) then SourceFree else s.uses c i)
   pub lets : (i : ℕ) → s'.lets c i ≡ s.lets c i
   pub tracked : (i : ℕ) → s'.tracked i ≡ s.tracked i
   pub held_is : held_by c (s'.block n) ≡ (if last then cap_right k else held_by c (s.block n))
@@ -114,9 +114,9 @@ of_other {w} m y t e = go (begins (beat.D y) t) (is_grant y.opcode && asks_for m
     go false q f = refl
 
 -- a use that isn't of the block in which the states differ
-pub requested-apart : {w : ℕ} {X : Type 0} (c i n : ℕ) (rest rest' : List (Beat w)) (u : Use) (s s' : State X) → AreElsewhere n s s'
+pub requested-apart : {w : ℕ} {X : Type 0} (c i n : ℕ) (rest rest' : List (Beat w)) (u : SourceState) (s s' : State X) → AreElsewhere n s s'
     → comes_in_request i rest' ≡ comes_in_request i rest → acquires_of n u ≡ false → is_requested c i rest' u s' ≡ is_requested c i rest u s
-requested-apart c i n rest rest' Closed s s' same comes e = refl
+requested-apart c i n rest rest' SourceFree s s' same comes e = refl
 requested-apart c i n rest rest' Asked s s' same comes e = comes
 requested-apart c i n rest rest' (InService m) s s' same comes e = refl
 requested-apart c i n rest rest' Replied s s' same comes e = refl
@@ -142,7 +142,7 @@ now_sunk false d k v a e f = rw (f, e) refl
 pub flowed-grant : {w : ℕ} {X : Type 0} (c n : ℕ) (d : Bool) (k : Cap) (y : BeatD w) (first last : Bool) (asked asked' : ℕ → Option (BeatA w))
     (rest rest' : Channel → List (Beat w)) (s s' : State X) (t : History w)
     → begins (beat.D y) t ≡ first → ends (beat.D y) t ≡ last → AreRests (beat.D y) rest rest' → IsGranting c n d k y first last asked asked' rest rest' s s'
-    → IsFlowed asked rest c s t → IsFlowed asked' rest' c s' (beat.D y ∷ t)
+    → MonitorRelation asked rest c s t → MonitorRelation asked' rest' c s' (beat.D y ∷ t)
 flowed-grant {w} {X} c n d k y first last asked asked' rest rest' s s' t first_is last_is rests is before =
     flowed-next (beat.D y) first last asked asked' rest rest' c s s' t (record {
       first_is = first_is;
@@ -189,7 +189,7 @@ flowed-grant {w} {X} c n d k y first last asked asked' rest rest' s s' t first_i
     grants_at m = is_grant y.opcode && asks_for m (request_of y.source t)
 
     was_requested : (i : ℕ) → (y.source == i) ≡ true → is_requested c i (rest channel.A) (s.uses c i) s ≡ true
-    was_requested i e = ap (λ (u : Use). is_requested c i (rest channel.A) u s) (is.use_is i e) ∙ ap (λ (v : View). not (is_unserved v)) is.seen
+    was_requested i e = ap (λ (u : SourceState). is_requested c i (rest channel.A) u s) (is.use_is i e) ∙ ap (λ (v : View). not (is_unserved v)) is.seen
 
     names : (m : ℕ) → (is_grant y.opcode && asks_for m (request_of y.source t)) ≡ (n == m)
     names m = ap (λ (z : Bool). z && asks_for m (request_of y.source t)) is.grant
@@ -206,15 +206,15 @@ flowed-grant {w} {X} c n d k y first last asked asked' rest rest' s s' t first_i
         ap (λ (z : Bool). is_acknowledging (view (s.block m).service c) || z)
         (is.grants m ∙ and_right (not last) (n == m) (ne_eqb n m (λ e. ne (sym e))) ∙ sym (is.granted m ∙ and_right (not first) (n == m) (ne_eqb n m (λ e. ne (sym e)))))
 
-    use_at : (i : ℕ) → is_requested c i (rest' channel.A) (s'.uses c i) s' ≡ is_requested c i (rest channel.A) (if last && (y.source == i) then Closed else s.uses c i) s'
-    use_at i = ap (λ (l : List (Beat w)). is_requested c i l (s'.uses c i) s') (rests channel.A) ∙ ap (λ (u : Use). is_requested c i (rest channel.A) u s') (is.uses i)
+    use_at : (i : ℕ) → is_requested c i (rest' channel.A) (s'.uses c i) s' ≡ is_requested c i (rest channel.A) (if last && (y.source == i) then SourceFree else s.uses c i) s'
+    use_at i = ap (λ (l : List (Beat w)). is_requested c i l (s'.uses c i) s') (rests channel.A) ∙ ap (λ (u : SourceState). is_requested c i (rest channel.A) u s') (is.uses i)
 
     requests : (i : ℕ) (z here : Bool) → last ≡ z → (y.source == i) ≡ here
-        → is_requested c i (rest channel.A) (if z && here then Closed else s.uses c i) s' ≡ step first last false
+        → is_requested c i (rest channel.A) (if z && here then SourceFree else s.uses c i) s' ≡ step first last false
         (not (is_release_ack y.opcode) && (y.source == i)) (is_requested c i (rest channel.A) (s.uses c i) s)
     requests i true true e f = ap not (sym e) ∙ sym (closed first last (is_release_ack y.opcode) (y.source == i) (is_requested c i (rest channel.A) (s.uses c i) s) is.ack f (was_requested i f))
     requests i false true e f =
-        ap (λ (u : Use). is_requested c i (rest channel.A) u s') (is.use_is i f) ∙ now_requested last d k (view new.service c) is.seen_is e ∙ ap not (sym e)
+        ap (λ (u : SourceState). is_requested c i (rest channel.A) u s') (is.use_is i f) ∙ now_requested last d k (view new.service c) is.seen_is e ∙ ap not (sym e)
         ∙ sym (closed first last (is_release_ack y.opcode) (y.source == i) (is_requested c i (rest channel.A) (s.uses c i) s) is.ack f (was_requested i f))
     requests i true false e f = requested-apart c i n (rest channel.A) (rest channel.A) (s.uses c i) s s' is.elsewhere refl (is.no_use i f)
         ∙ sym (unclosed_by first last (not (is_release_ack y.opcode)) (y.source == i) (is_requested c i (rest channel.A) (s.uses c i) s) f)
@@ -226,10 +226,10 @@ flowed-grant {w} {X} c n d k y first last asked asked' rest rest' s s' t first_i
     was_pending i e false f = before.requests i ∙ sym (requested-apart c i n (rest channel.A) (rest channel.A) (s.uses c i) s s' is.elsewhere refl (is.no_use i f)) ∙ e
 
     asked_still : (i : ℕ) → is_requested c i (rest' channel.A) (s'.uses c i) s' ≡ true → (z : Bool) → (last && (y.source == i)) ≡ z → request_of i (beat.D y ∷ t) ≡ asked' i
-    asked_still i e true f = absurd (let g : false ≡ true = sym (use_at i ∙ ap (λ (z : Bool). is_requested c i (rest channel.A) (if z then Closed else s.uses c i) s') f) ∙ e in cc)
+    asked_still i e true f = absurd (let g : false ≡ true = sym (use_at i ∙ ap (λ (z : Bool). is_requested c i (rest channel.A) (if z then SourceFree else s.uses c i) s') f) ∙ e in cc)
     asked_still i e false f =
         request_of-d i y t
-        ∙ before.asked_is i (was_pending i (sym (use_at i ∙ ap (λ (z : Bool). is_requested c i (rest channel.A) (if z then Closed else s.uses c i) s') f) ∙ e) (y.source == i) refl)
+        ∙ before.asked_is i (was_pending i (sym (use_at i ∙ ap (λ (z : Bool). is_requested c i (rest channel.A) (if z then SourceFree else s.uses c i) s') f) ∙ e) (y.source == i) refl)
         ∙ sym (is.asked_is i f)
 
     lets : (i : ℕ) → is_let_by c i (rest' channel.C) (s'.lets c i) s' ≡ is_let_by c i (rest channel.C) (s.lets c i) s

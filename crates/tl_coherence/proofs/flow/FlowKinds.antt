@@ -18,22 +18,22 @@ use Rattle.tl_params.specs.declared.param.Report.{Report}
 use Rattle.tl_rules.specs.statement.Conformance.{comes_in_grant}
 use Rattle.tl_rules.specs.statement.History.{block_at}
 use Rattle.tl_manager.specs.statement.Holders.{cap_probed}
-use Rattle.tl_coherence.specs.refinement.Flowed.{IsFlowed}
-use Rattle.tl_coherence.specs.refinement.Follow.{Shadow, with_state, some_below, performs, probes_some, access_taken, request_taken, is_unheld, gift, acquire_taken}
-use Rattle.tl_coherence.specs.refinement.Follow.{granted_after, last_taken, ack_taken, is_whole, taken_by_client, kind_taken}
+use Rattle.tl_coherence.specs.refinement.MonitorRelation.{MonitorRelation}
+use Rattle.tl_coherence.specs.refinement.AbstractStep.{AbstractState, with_state, some_below, performs, probes_some, access_taken, request_taken, is_unheld, gift, acquire_taken}
+use Rattle.tl_coherence.specs.refinement.AbstractStep.{granted_after, last_taken, ack_taken, is_whole, taken_by_client, kind_taken}
 use Rattle.tl_coherence.specs.protocol.Invariant.{cap_asked}
 use Rattle.tl_coherence.specs.statement.Log.{Log}
-use Rattle.tl_coherence.specs.protocol.Phase.{Own, Granting, Acknowledging, GrantedOther, Answered, Acquiring, Calm, Wants, is_calm, is_quiet, is_kept}
+use Rattle.tl_coherence.specs.protocol.Phase.{Own, Granting, Acknowledging, GrantedOther, ProbeAnswered, AcquirePhase, NoAcquire, AcquireOpen, is_unacquired, is_unprobed, is_unreleased}
 use Rattle.tl_coherence.specs.protocol.PhaseSteps.{is_granted_data, after_report}
-use Rattle.tl_coherence.specs.protocol.Protocol.{Service, Free, Waits, GrantSent, GrantTaken, Block, State, token, on, shown, view, is_answered, is_probed, acquire_served}
+use Rattle.tl_coherence.specs.protocol.Protocol.{Service, Free, Waits, GrantSent, GrantTaken, Block, State, packet, on, shown, view, is_answered, is_probed, acquire_served}
 use Rattle.tl_coherence.specs.protocol.Protocol.{acquire_granted, report_taken, report_grants}
-use Rattle.tl_coherence.specs.refinement.Render.{cap_sent, report_told, prune_told}
+use Rattle.tl_coherence.specs.refinement.PacketMessages.{cap_sent, report_told, prune_told}
 use Rattle.tl_coherence.specs.statement.System.{System}
-use Rattle.tl_coherence.specs.protocol.Token.{Kind, Request, Acquire, Probe, ProbeAck, Release, Answer, Grant, ReleaseAck, GrantAck, Token, set}
-use Rattle.tl_coherence.specs.refinement.Whole.{IsMatched, is_caching, asked_by}
+use Rattle.tl_coherence.specs.protocol.Packet.{Kind, Request, Acquire, Probe, ProbeAck, Release, Answer, Grant, ReleaseAck, GrantAck, Packet, set}
+use Rattle.tl_coherence.specs.refinement.SimulationRelation.{SimulationRelation, is_caching, asked_by}
 use Rattle.tl_coherence.proofs.client.AsideAll.{Leaves, is_for_manager, leaves-at_manager, leaves-at_client}
 use Rattle.tl_coherence.proofs.manager.Choices.{plain-past}
-use Rattle.tl_coherence.proofs.protocol.Due.{IsGrantDue, grant-due}
+use Rattle.tl_coherence.proofs.protocol.HeadOfD.{IsGrantDue, grant-due}
 use Rattle.tl_coherence.proofs.queues.Facts.{quiet_at_rest, own_alone, own_wants, answered_other, is_other}
 use Rattle.tl_coherence.proofs.flow.FlowApart.{replied, left-replied, left-served, left-acquire_granted, left-probe_taken, left-report_taken, left-release_taken}
 use Rattle.tl_coherence.proofs.flow.FlowApart.{left-answer_taken, left-grant_taken, left-release_ack_taken, left-grant_ack_taken, left-access_answered}
@@ -47,23 +47,23 @@ use Rattle.tl_coherence.proofs.manager.ManagedEndings.{tracker-of}
 use Rattle.tl_coherence.proofs.queues.Phases.{and_right}
 use Rattle.tl_coherence.proofs.queues.Tokens.{same_number, holds-first}
 use Rattle.tl_coherence.proofs.protocol.BothParts.{answered-is, quiet_unanswered, acknowledging-is, not-other}
-use Rattle.tl_coherence.proofs.potential.Owing.{serving-use}
+use Rattle.tl_coherence.proofs.rank.RankParts.{serving-use}
 use Rattle.tl_coherence.proofs.simulation.Popped.{unfinished_at}
 
-module _ {w : ℕ} (config : Config) (log : Log w) (h : Shadow w) (sys : System w) (c : ℕ) (is : IsMatched config log h.mail h.request h.state sys) (tracker : ℕ) where
+module _ {w : ℕ} (config : Config) (log : Log w) (h : AbstractState w) (sys : System w) (c : ℕ) (is : SimulationRelation config log h.mail h.request h.state sys) (tracker : ℕ) where
   abbrev s : State (List ℕ)
   s = h.state
 
   -- nothing of a free block is under way
-  free_quiet : (n : ℕ) → (s.block n).service ≡ Free → (d : ℕ) → is_quiet ((s.block n).pair d).probing ≡ true
+  free_quiet : (n : ℕ) → (s.block n).service ≡ Free → (d : ℕ) → is_unprobed ((s.block n).pair d).probing ≡ true
   free_quiet n free d = quiet_at_rest ((s.block n).pair d) (view (s.block n).service d) ((is.invariant.blocks n).phases d) (rw free refl)
 
   -- ---- what comes of the last beat at the manager, for client d's link
 
   module _ (d : ℕ) (rest : Channel → List (Beat w)) (same_d : rest channel.D ≡ unfinished_at sys d channel.D) (t : History w) where
     -- what was delivered on it is so
-    abbrev pub FlowedAs : Shadow w → Type 0
-    FlowedAs z = IsFlowed (asked_by z.mail z.state d) rest d z.state t
+    abbrev pub FlowedAs : AbstractState w → Type 0
+    FlowedAs z = MonitorRelation (asked_by z.mail z.state d) rest d z.state t
 
     abbrev before : ℕ → Option (BeatA w)
     before = asked_by h.mail h.state d
@@ -73,18 +73,18 @@ module _ {w : ℕ} (config : Config) (log : Log w) (h : Shadow w) (sys : System 
 
     -- ---- an access
 
-    pub settled-request : (source : ℕ) (m : MessageA w) (toks : List Token) → (s.block (block_at m.address)).service ≡ Free → s.tracked tracker ≡ None
+    pub settled-request : (source : ℕ) (m : MessageA w) (toks : List Packet) → (s.block (block_at m.address)).service ≡ Free → s.tracked tracker ≡ None
         → Leaves d h (request_taken (length config.clients.items) c source (message.A m) tracker toks h)
-        → IsFlowed before rest d (replied c source s) t → FlowedAs (request_taken (length config.clients.items) c source (message.A m) tracker toks h)
+        → MonitorRelation before rest d (replied c source s) t → FlowedAs (request_taken (length config.clients.items) c source (message.A m) tracker toks h)
     settled-request source m toks free unused left flowed =
         go (probes_some (length config.clients.items) c false (cap_probed m.opcode m.param) (s.block n).pair) (cap_probed m.opcode m.param) left
       where
         n : ℕ
         n = block_at m.address
 
-        answered : (z : Shadow w) → z.state ≡ (access_taken c source m tracker false None toks h).state → ((i : ℕ) → asked_by z.mail z.state d i ≡ before i) → FlowedAs z
+        answered : (z : AbstractState w) → z.state ≡ (access_taken c source m tracker false None toks h).state → ((i : ℕ) → asked_by z.mail z.state d i ≡ before i) → FlowedAs z
         answered z e asks =
-            subst (λ (u : State (List ℕ)). IsFlowed (asked_by z.mail z.state d) rest d u t) (sym e)
+            subst (λ (u : State (List ℕ)). MonitorRelation (asked_by z.mail z.state d) rest d u t) (sym e)
             (flowed-aside before (asked_by z.mail z.state d) rest d (replied c source s) (access_taken c source m tracker false None toks h).state t
             (left-access_answered d before (asked_by z.mail z.state d) rest s asks coming c n source (performs m) toks) flowed)
 
@@ -99,18 +99,18 @@ module _ {w : ℕ} (config : Config) (log : Log w) (h : Shadow w) (sys : System 
 
     -- ---- a ProbeAck
 
-    pub settled-report : (n : ℕ) (toks : List Token) → (s.link c).c ≡ token ProbeAck n ∷ toks
+    pub settled-report : (n : ℕ) (toks : List Packet) → (s.link c).c ≡ packet ProbeAck n ∷ toks
         → Leaves d h (ack_taken (length config.clients.items) config.profile c n (report_told ((s.block n).pair c).probing) toks h)
-        → IsFlowed before rest d (report_taken c n (report_told ((s.block n).pair c).probing) toks s) t
+        → MonitorRelation before rest d (report_taken c n (report_told ((s.block n).pair c).probing) toks s) t
         → FlowedAs (ack_taken (length config.clients.items) config.profile c n (report_told ((s.block n).pair c).probing) toks h)
-    settled-report n toks tokens left flowed = others (some_below (length config.clients.items) (λ i. not (i == c) && not (is_quiet ((s.block n).pair i).probing))) refl left
+    settled-report n toks tokens left flowed = others (some_below (length config.clients.items) (λ i. not (i == c) && not (is_unprobed ((s.block n).pair i).probing))) refl left
       where
         r : Report
         r = report_told ((s.block n).pair c).probing
 
-        answered : ((s.block n).pair c).probing ≡ Answered r
+        answered : ((s.block n).pair c).probing ≡ ProbeAnswered r
         answered = answered-is ((s.block n).pair c).probing
-            (holds-first ProbeAck (s.link c).c toks (token ProbeAck n) (λ i. shown ProbeAck c (s.block i)) tokens refl (is.invariant.transfers c ProbeAck refl))
+            (holds-first ProbeAck (s.link c).c toks (packet ProbeAck n) (λ i. shown ProbeAck c (s.block i)) tokens refl (is.invariant.transfers c ProbeAck refl))
 
         seen : is_other (view (s.block n).service c) ≡ true
         seen = answered_other r ((s.block n).pair c) (view (s.block n).service c) ((is.invariant.blocks n).phases c) answered
@@ -119,7 +119,7 @@ module _ {w : ℕ} (config : Config) (log : Log w) (h : Shadow w) (sys : System 
         taken l = flowed-asks before (asked_by h.mail (report_taken c n r toks s) d) rest d (report_taken c n r toks s) t (asks-left d h (with_state (report_taken c n r toks s) h) l) flowed
 
         -- the last one: what the service is
-        unanswered : ((i : ℕ) → (i ≡ c → ⊥) → is_quiet ((s.block n).pair i).probing ≡ true) → (i : ℕ) → (i ≡ c → ⊥) → is_answered ((s.block n).pair i).probing ≡ false
+        unanswered : ((i : ℕ) → (i ≡ c → ⊥) → is_unprobed ((s.block n).pair i).probing ≡ true) → (i : ℕ) → (i ≡ c → ⊥) → is_answered ((s.block n).pair i).probing ≡ false
         unanswered quiet i ne = quiet_unanswered ((s.block n).pair i).probing (quiet i ne)
 
         -- no Grant that was delivered in part is of a block that waits
@@ -134,10 +134,10 @@ module _ {w : ℕ} (config : Config) (log : Log w) (h : Shadow w) (sys : System 
                 absurd (let no : GrantSent d of.1.data_too of.1.k ≡ Waits q true source k = sym of.1.service ∙ ap (λ (j : ℕ). (s.block j).service) here ∙ waits in cc)
 
         granted : (q source : ℕ) (k : Cap) → (s.block n).service ≡ Waits q true source k
-            → ((i : ℕ) → (i ≡ c → ⊥) → is_quiet ((s.block n).pair i).probing ≡ true) → (a : Acquiring) → not (is_calm a) ≡ true
+            → ((i : ℕ) → (i ≡ c → ⊥) → is_unprobed ((s.block n).pair i).probing ≡ true) → (a : AcquirePhase) → not (is_unacquired a) ≡ true
             → Leaves d h (granted_after (length config.clients.items) config.profile c q n r a toks h) → FlowedAs (granted_after (length config.clients.items) config.profile c q n r a toks h)
-        granted q source k waits quiet Calm wants l = absurd cc
-        granted q source k waits quiet (Wants whole g) wants l =
+        granted q source k waits quiet NoAcquire wants l = absurd cc
+        granted q source k waits quiet (AcquireOpen whole g) wants l =
             let x = is_granted_data whole g ((s.block n).pair q).recorded in
             let j = gift config.profile whole g (is_unheld (length config.clients.items) (set c (after_report r ((s.block n).pair c)) (s.block n).pair)) in
             let after = report_grants c q n r x j toks s in
@@ -153,11 +153,11 @@ module _ {w : ℕ} (config : Config) (log : Log w) (h : Shadow w) (sys : System 
 
             even : ((s.block n).pair q).held ≡ ((s.block n).pair q).recorded
             even = same_perms ((s.block n).pair q).recorded ((s.block n).pair q).held
-                (and_right (is_kept ((s.block n).pair q).letting) _
-                (and_right (is_quiet ((s.block n).pair q).probing) _
+                (and_right (is_unreleased ((s.block n).pair q).letting) _
+                (and_right (is_unprobed ((s.block n).pair q).probing) _
                 (own_alone ((s.block n).pair q) (view (s.block n).service q) ((is.invariant.blocks n).phases q) own)))
 
-        last : ((i : ℕ) → (i ≡ c → ⊥) → is_quiet ((s.block n).pair i).probing ≡ true) → (service : Service) → (s.block n).service ≡ service
+        last : ((i : ℕ) → (i ≡ c → ⊥) → is_unprobed ((s.block n).pair i).probing ≡ true) → (service : Service) → (s.block n).service ≡ service
             → Leaves d h (last_taken (length config.clients.items) config.profile c n r service toks h)
             → FlowedAs (last_taken (length config.clients.items) config.profile c n r service toks h)
         last quiet Free e l = absurd (let no : false ≡ true = rw e at seen in cc)
@@ -175,7 +175,7 @@ module _ {w : ℕ} (config : Config) (log : Log w) (h : Shadow w) (sys : System 
             (performs (h.request n)) e (unanswered quiet) (tracker-of n s is.invariant.named (rw e refl))
             (ap is_heard (serving-use (is_caching config) s n q source k is.invariant e))) flowed
 
-        others : (x : Bool) → some_below (length config.clients.items) (λ i. not (i == c) && not (is_quiet ((s.block n).pair i).probing)) ≡ x
+        others : (x : Bool) → some_below (length config.clients.items) (λ i. not (i == c) && not (is_unprobed ((s.block n).pair i).probing)) ≡ x
             → Leaves d h (if x then with_state (report_taken c n r toks s) h else last_taken (length config.clients.items) config.profile c n r (s.block n).service toks h)
             → FlowedAs (if x then with_state (report_taken c n r toks s) h else last_taken (length config.clients.items) config.profile c n r (s.block n).service toks h)
         others true e l = taken l
@@ -185,8 +185,8 @@ module _ {w : ℕ} (config : Config) (log : Log w) (h : Shadow w) (sys : System 
 
   module _ (d : ℕ) (ne : d ≡ c → ⊥) (t : History w) where
     -- as it was
-    abbrev pub FlowsAs : Shadow w → Type 0
-    FlowsAs z = IsFlowed (asked_by z.mail z.state d) (unfinished_at sys d) d z.state t
+    abbrev pub FlowsAs : AbstractState w → Type 0
+    FlowsAs z = MonitorRelation (asked_by z.mail z.state d) (unfinished_at sys d) d z.state t
 
     abbrev then_asked : ℕ → Option (BeatA w)
     then_asked = asked_by h.mail h.state d
@@ -194,7 +194,7 @@ module _ {w : ℕ} (config : Config) (log : Log w) (h : Shadow w) (sys : System 
     comes : IsComing (asked_by h.mail h.state d) (unfinished_at sys d channel.D) d h.state
     comes = coming-granting config log h.mail h.request h.state sys d is
 
-    other_request : (source : ℕ) (m : Message w) (toks : List Token) → IsReady tracker c Request source h → m ≡ h.mail.request c source
+    other_request : (source : ℕ) (m : Message w) (toks : List Packet) → IsReady tracker c Request source h → m ≡ h.mail.request c source
         → Leaves d h (request_taken (length config.clients.items) c source m tracker toks h) → FlowsAs h
         → FlowsAs (request_taken (length config.clients.items) c source m tracker toks h)
     other_request source (message.B m) toks ready e l flowed = flowed
@@ -208,11 +208,11 @@ module _ {w : ℕ} (config : Config) (log : Log w) (h : Shadow w) (sys : System 
         same : m ≡ ready.0
         same = let both : message.A m ≡ message.A ready.0 = e ∙ ready.1 in cc
 
-    other_acquire : (n : ℕ) (a : Acquiring) (toks : List Token) → (s.block n).service ≡ Free → s.tracked tracker ≡ None
+    other_acquire : (n : ℕ) (a : AcquirePhase) (toks : List Packet) → (s.block n).service ≡ Free → s.tracked tracker ≡ None
         → Leaves d h (acquire_taken (length config.clients.items) config.profile c n a tracker toks h) → FlowsAs h
         → FlowsAs (acquire_taken (length config.clients.items) config.profile c n a tracker toks h)
-    other_acquire n Calm toks free unused l flowed = flowed
-    other_acquire n (Wants whole g) toks free unused l flowed = go (some_below (length config.clients.items) (λ i. is_probed c true (cap_asked (Wants whole g)) (b.pair i).recorded i)) l
+    other_acquire n NoAcquire toks free unused l flowed = flowed
+    other_acquire n (AcquireOpen whole g) toks free unused l flowed = go (some_below (length config.clients.items) (λ i. is_probed c true (cap_asked (AcquireOpen whole g)) (b.pair i).recorded i)) l
       where
         b : Block (List ℕ)
         b = s.block n
@@ -221,13 +221,13 @@ module _ {w : ℕ} (config : Config) (log : Log w) (h : Shadow w) (sys : System 
         granted = acquire_granted c n tracker (is_granted_data whole g (b.pair c).recorded) (gift config.profile whole g (is_unheld (length config.clients.items) b.pair)) toks s
 
         served : State (List ℕ)
-        served = acquire_served c n (b.source c) tracker (cap_asked (Wants whole g)) toks s
+        served = acquire_served c n (b.source c) tracker (cap_asked (AcquireOpen whole g)) toks s
 
         go : (x : Bool) → Leaves d h (with_state (if x then served else granted) h) → FlowsAs (with_state (if x then served else granted) h)
         go true i =
             flowed-aside then_asked (asked_by h.mail served d) (unfinished_at sys d) d s served t
             (left-served d then_asked (asked_by h.mail served d) (unfinished_at sys d) s (asks-left d h (with_state served h) i) comes c n
-            (b.source c) tracker true (cap_asked (Wants whole g)) served (λ m. refl) (ne_eqb d c ne) free (free_quiet n free d)
+            (b.source c) tracker true (cap_asked (AcquireOpen whole g)) served (λ m. refl) (ne_eqb d c ne) free (free_quiet n free d)
             (λ j. inl refl) (λ j. refl) unused (λ j. refl)) flowed
         go false i =
             flowed-aside then_asked (asked_by h.mail granted d) (unfinished_at sys d) d s granted t
@@ -235,7 +235,7 @@ module _ {w : ℕ} (config : Config) (log : Log w) (h : Shadow w) (sys : System 
             (is_granted_data whole g (b.pair c).recorded) (gift config.profile whole g (is_unheld (length config.clients.items) b.pair)) toks ne free
             (quiet_unanswered (b.pair d).probing (free_quiet n free d)) unused) flowed
 
-    other_grant : (n : ℕ) (toks : List Token) (due : IsGrantDue c n s) (service : Service) → service ≡ GrantSent c due.data_too due.k
+    other_grant : (n : ℕ) (toks : List Packet) (due : IsGrantDue c n s) (service : Service) → service ≡ GrantSent c due.data_too due.k
         → Leaves d h (taken_by_client c n service toks h) → FlowsAs h → FlowsAs (taken_by_client c n service toks h)
     other_grant n toks due service e l flowed = subst (λ (q : Service). FlowsAs (taken_by_client c n q toks h)) (sym e) (go (subst (λ (q : Service). Leaves d h (taken_by_client c n q toks h)) e l))
       where
@@ -247,7 +247,7 @@ module _ {w : ℕ} (config : Config) (log : Log w) (h : Shadow w) (sys : System 
             (is_whole ((s.block n).pair c).acquiring) due.data_too due.k toks ne due.service) flowed
 
     -- a message of client c's link that is taken
-    by_kind : (k : Kind) (i : ℕ) (toks : List Token) → on k (s.link c) ≡ token k i ∷ toks → IsReady tracker c k i h
+    by_kind : (k : Kind) (i : ℕ) (toks : List Packet) → on k (s.link c) ≡ packet k i ∷ toks → IsReady tracker c k i h
         → Leaves d h (kind_taken config tracker c k i toks h) → FlowsAs h → FlowsAs (kind_taken config tracker c k i toks h)
     by_kind Request source toks first ready l flowed = other_request source (h.mail.request c source) toks ready refl l flowed
     by_kind Acquire n toks first ready l flowed = other_acquire n ((s.block n).pair c).acquiring toks ready.0 ready.1 l flowed
@@ -277,13 +277,13 @@ module _ {w : ℕ} (config : Config) (log : Log w) (h : Shadow w) (sys : System 
     by_kind GrantAck n toks first ready l flowed =
         let after = kind_taken config tracker c GrantAck n toks h in
         let taken = acknowledging-is (s.block n).service c
-        (holds-first GrantAck (s.link c).e toks (token GrantAck n) (λ i. shown GrantAck c (s.block i)) first refl
+        (holds-first GrantAck (s.link c).e toks (packet GrantAck n) (λ i. shown GrantAck c (s.block i)) first refl
         (is.invariant.transfers c GrantAck refl)) in
         flowed-aside then_asked (asked_by after.mail after.state d) (unfinished_at sys d) d s after.state t
         (left-grant_ack_taken d then_asked (asked_by after.mail after.state d) (unfinished_at sys d) s (asks-left d h after l) comes c n toks ne taken
         (tracker-of n s is.invariant.named (rw taken refl))) flowed
 
-    pub other-kind : (k : Kind) (i : ℕ) (toks : List Token) → on k (s.link c) ≡ token k i ∷ toks → IsReady tracker c k i h → FlowsAs h → FlowsAs (kind_taken config tracker c k i toks h)
+    pub other-kind : (k : Kind) (i : ℕ) (toks : List Packet) → on k (s.link c) ≡ packet k i ∷ toks → IsReady tracker c k i h → FlowsAs h → FlowsAs (kind_taken config tracker c k i toks h)
     other-kind k i toks first ready = by_kind k i toks first ready (left (is_for_manager k) refl)
       where
         left : (b : Bool) → is_for_manager k ≡ b → Leaves d h (kind_taken config tracker c k i toks h)

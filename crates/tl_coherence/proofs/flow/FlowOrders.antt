@@ -26,38 +26,38 @@ use Rattle.tl_rules.specs.statement.Conformance.{broken_order, broken_in_order, 
 use Rattle.tl_rules.specs.statement.History.{block_at, is_acquire, is_probe, is_probe_ack, is_release, held, pending}
 use Rattle.tl_rules.specs.statement.Legality.{illegal}
 use Rattle.tl_rules.proofs.Later.{later-legal}
-use Rattle.tl_coherence.specs.refinement.Flowed.{IsFlowed, is_requested, is_let, is_let_by, is_sunk}
-use Rattle.tl_coherence.specs.refinement.Known.{comes_granting}
-use Rattle.tl_coherence.specs.protocol.Phase.{View, Idle, Letting, Kept, Releasing, Acked, Acquiring, Calm, Answered}
-use Rattle.tl_coherence.specs.protocol.Protocol.{State, Use, Asked, Acquires, view, is_granting, is_acknowledging, is_answered, is_acked, is_wanting, is_unserved}
-use Rattle.tl_coherence.specs.refinement.Render.{probe_beat}
-use Rattle.tl_coherence.specs.refinement.Sources.{cap_waited}
+use Rattle.tl_coherence.specs.refinement.MonitorRelation.{MonitorRelation, is_requested, is_let, is_let_by, is_sunk}
+use Rattle.tl_coherence.specs.refinement.ClientRelation.{comes_granting}
+use Rattle.tl_coherence.specs.protocol.Phase.{View, Idle, ReleasePhase, NoRelease, ReleaseSent, ReleaseAcked, AcquirePhase, NoAcquire, ProbeAnswered}
+use Rattle.tl_coherence.specs.protocol.Protocol.{State, SourceState, Asked, Acquires, view, is_granting, is_acknowledging, is_answered, is_acked, is_wanting, is_unserved}
+use Rattle.tl_coherence.specs.refinement.PacketMessages.{probe_beat}
+use Rattle.tl_coherence.specs.refinement.SourceRelation.{cap_waited}
 use Rattle.tl_coherence.proofs.manager.Orders.{report-legal, acquire-legal}
 use Rattle.tl_client.proofs.InOrder.{prune_again}
 
 -- who isn't granted the block holds what is recorded, as far as was delivered
 held_as : {w : ℕ} {X : Type 0} (c n : ℕ) (asked : ℕ → Option (BeatA w)) (rest : Channel → List (Beat w)) (s : State X) (t : History w)
-    → IsFlowed asked rest c s t → is_granting (view (s.block n).service c) ≡ false → held n t ≡ ((s.block n).pair c).recorded
+    → MonitorRelation asked rest c s t → is_granting (view (s.block n).service c) ≡ false → held n t ≡ ((s.block n).pair c).recorded
 held_as c n asked rest s t flowed none = flowed.held_is n ∙ ap (λ (g : Bool). if g then ((s.block n).pair c).held else ((s.block n).pair c).recorded) none
 
 -- ---- channel A
 
 pub request-flows : {w : ℕ} {X : Type 0} (p : Profile) (c : ℕ) (x : BeatA w) (asked : ℕ → Option (BeatA w)) (rest : Channel → List (Beat w)) (s : State X)
-    (t : History w) → IsFlowed asked rest c s t → rest channel.A ≡ [] → is_acquire x.opcode ≡ false → s.uses c x.source ≡ Asked
+    (t : History w) → MonitorRelation asked rest c s t → rest channel.A ≡ [] → is_acquire x.opcode ≡ false → s.uses c x.source ≡ Asked
     → broken_in_order p (beat.A x) t ≡ None
 unfolding broken_order
 request-flows {w} p c x asked rest s t flowed whole plain used =
     let none : unfinished channel.A t ≡ [] = flowed.rest_is channel.A ∙ whole in
-    let free : pending (key.RequestSource x.source) t ≡ false = flowed.requests x.source ∙ ap (λ (u : Use). is_requested c x.source (rest channel.A) u s) used ∙ ap (comes_in_request x.source) whole in
+    let free : pending (key.RequestSource x.source) t ≡ false = flowed.requests x.source ∙ ap (λ (u : SourceState). is_requested c x.source (rest channel.A) u s) used ∙ ap (comes_in_request x.source) whole in
     rw (none, plain, free) refl
 
 pub acquire-flows : {w : ℕ} {X : Type 0} (p : Profile) (c n : ℕ) (x : BeatA w) (asked : ℕ → Option (BeatA w)) (rest : Channel → List (Beat w)) (s : State X)
-    (t : History w) → IsFlowed asked rest c s t → rest channel.A ≡ [] → is_acquire x.opcode ≡ true → block_at x.address ≡ n
-    → s.uses c x.source ≡ Acquires n → view (s.block n).service c ≡ Idle → ((s.block n).pair c).letting ≡ Kept → grows_from x.param ((s.block n).pair c).recorded ≡ true
+    (t : History w) → MonitorRelation asked rest c s t → rest channel.A ≡ [] → is_acquire x.opcode ≡ true → block_at x.address ≡ n
+    → s.uses c x.source ≡ Acquires n → view (s.block n).service c ≡ Idle → ((s.block n).pair c).letting ≡ NoRelease → grows_from x.param ((s.block n).pair c).recorded ≡ true
     → broken_in_order p (beat.A x) t ≡ None
 acquire-flows {w} p c n x asked rest s t flowed whole acquires block used idle kept grows =
     acquire-legal p n ((s.block n).pair c).recorded x t acquires block (flowed.rest_is channel.A ∙ whole)
-    (flowed.requests x.source ∙ ap (λ (u : Use). is_requested c x.source (rest channel.A) u s) used ∙ ap (λ (v : View). not (is_unserved v)) idle)
+    (flowed.requests x.source ∙ ap (λ (u : SourceState). is_requested c x.source (rest channel.A) u s) used ∙ ap (λ (v : View). not (is_unserved v)) idle)
     (flowed.acquires n ∙ ap (λ (v : View). is_wanting ((s.block n).pair c).acquiring && not (is_unserved v)) idle ∙ and-false (is_wanting ((s.block n).pair c).acquiring))
     (flowed.releases n ∙ ap (is_let ((s.block n).release_source c) (rest channel.C)) kept)
     (held_as c n asked rest s t flowed (ap is_granting idle)) grows
@@ -69,7 +69,7 @@ unprobed true a b e f = rw (e, f) refl
 unprobed false a b e f = refl
 
 pub probe-flows : {w : ℕ} {X : Type 0} (p : Profile) (c n : ℕ) (x : BeatB w) (asked : ℕ → Option (BeatA w)) (rest : Channel → List (Beat w)) (s : State X)
-    (t : History w) → IsFlowed asked rest c s t → rest channel.B ≡ [] → block_at x.address ≡ n
+    (t : History w) → MonitorRelation asked rest c s t → rest channel.B ≡ [] → block_at x.address ≡ n
     → is_answered ((s.block n).pair c).probing ≡ false → is_acknowledging (view (s.block n).service c) ≡ false → comes_granting n asked (rest channel.D) ≡ false
     → broken_in_order p (beat.B x) t ≡ None
 unfolding broken_order
@@ -81,15 +81,15 @@ probe-flows {w} p c n x asked rest s t flowed whole block unanswered open_ none_
 
 -- ---- channel C
 
-unlet : {w : ℕ} (source : ℕ) (rest : List (Beat w)) (l : Letting) → rest ≡ [] → is_acked l ≡ false → is_let source rest l ≡ false
-unlet source rest Kept e f = refl
-unlet source rest (Releasing r) e f = ap (comes_in_release source) e
-unlet source rest Acked e f = absurd cc
+unlet : {w : ℕ} (source : ℕ) (rest : List (Beat w)) (l : ReleasePhase) → rest ≡ [] → is_acked l ≡ false → is_let source rest l ≡ false
+unlet source rest NoRelease e f = refl
+unlet source rest (ReleaseSent r) e f = ap (comes_in_release source) e
+unlet source rest ReleaseAcked e f = absurd cc
 
 pub report-flows : {w : ℕ} {X : Type 0} (p : Profile) (c n : ℕ) (k : Cap) (r : Report) (x : BeatC w) (asked : ℕ → Option (BeatA w))
-    (rest : Channel → List (Beat w)) (s : State X) (t : History w) → IsFlowed asked rest c s t → rest channel.C ≡ []
+    (rest : Channel → List (Beat w)) (s : State X) (t : History w) → MonitorRelation asked rest c s t → rest channel.C ≡ []
     → is_probe_ack x.opcode ≡ true → is_release x.opcode ≡ false → block_at x.address ≡ n → x.param ≡ report_code r
-    → ((s.block n).pair c).probing ≡ Answered r → cap_waited (s.block n).service ≡ k → is_acked ((s.block n).pair c).letting ≡ false
+    → ((s.block n).pair c).probing ≡ ProbeAnswered r → cap_waited (s.block n).service ≡ k → is_acked ((s.block n).pair c).letting ≡ false
     → is_granting (view (s.block n).service c) ≡ false → r ≡ report_at k ((s.block n).pair c).recorded
     → broken_in_order p (beat.C x) t ≡ None
 report-flows {w} p c n k r x asked rest s t flowed whole acks other block param answered waited unacked ungranted told =
@@ -102,9 +102,9 @@ releases : (taken acquires again prunes : Bool) → taken ≡ false → acquires
 releases taken acquires again prunes e f g h = rw (e, f, g, h) refl
 
 pub release-flows : {w : ℕ} {X : Type 0} (p : Profile) (c n : ℕ) (r : Prune) (x : BeatC w) (asked : ℕ → Option (BeatA w)) (rest : Channel → List (Beat w))
-    (s : State X) (t : History w) → IsFlowed asked rest c s t → rest channel.C ≡ []
+    (s : State X) (t : History w) → MonitorRelation asked rest c s t → rest channel.C ≡ []
     → is_release x.opcode ≡ true → block_at x.address ≡ n → x.param ≡ prune_code r → s.lets c x.source ≡ Some n
-    → ((s.block n).pair c).letting ≡ Releasing r → ((s.block n).pair c).acquiring ≡ Calm → is_granting (view (s.block n).service c) ≡ false
+    → ((s.block n).pair c).letting ≡ ReleaseSent r → ((s.block n).pair c).acquiring ≡ NoAcquire → is_granting (view (s.block n).service c) ≡ false
     → same_perm (prune_left r) ((s.block n).pair c).recorded ≡ true
     → broken_in_order p (beat.C x) t ≡ None
 unfolding broken_order
@@ -112,7 +112,7 @@ release-flows {w} p c n r x asked rest s t flowed whole is block param used lets
     let none : unfinished channel.C t ≡ [] = flowed.rest_is channel.C ∙ whole in
     let free : pending (key.ReleaseSource x.source) t ≡ false =
     flowed.release_sources x.source ∙ ap (λ (o : Option ℕ). is_let_by c x.source (rest channel.C) o s) used ∙ unlet x.source (rest channel.C) ((s.block n).pair c).letting whole (ap is_acked lets) in
-    let once : pending (key.AcquireOf n) t ≡ false = flowed.acquires n ∙ ap (λ (a : Acquiring). is_wanting a && not (is_unserved (view (s.block n).service c))) calm in
+    let once : pending (key.AcquireOf n) t ≡ false = flowed.acquires n ∙ ap (λ (a : AcquirePhase). is_wanting a && not (is_unserved (view (s.block n).service c))) calm in
     let again : pending (key.ReleaseOf n) t ≡ false = flowed.releases n ∙ unlet ((s.block n).release_source c) (rest channel.C) ((s.block n).pair c).letting whole (ap is_acked lets) in
     let prunes : prunes_from (prune_of x.param) (held n t) ≡ true = rw (param, prune_again r, held_as c n asked rest s t flowed ungranted) left in
     rw (none, is, block) (releases (pending (key.ReleaseSource x.source) t) (pending (key.AcquireOf n) t) (pending (key.ReleaseOf n) t)
@@ -121,7 +121,7 @@ release-flows {w} p c n r x asked rest s t flowed whole is block param used lets
 -- ---- channel E
 
 pub grant_ack-flows : {w : ℕ} {X : Type 0} (p : Profile) (c n : ℕ) (x : BeatE) (asked : ℕ → Option (BeatA w)) (rest : Channel → List (Beat w)) (s : State X)
-    (t : History w) → IsFlowed asked rest c s t → rest channel.E ≡ []
+    (t : History w) → MonitorRelation asked rest c s t → rest channel.E ≡ []
     → s.tracked x.sink ≡ Some n → is_acknowledging (view (s.block n).service c) ≡ true → comes_in_grant x.sink (rest channel.D) ≡ false
     → broken_in_order p (beat.E x) t ≡ None
 unfolding broken_order

@@ -6,13 +6,13 @@ use Rattle.tl_params.specs.declared.param.Cap.{Cap}
 use Rattle.tl_params.specs.declared.param.Grow.{Grow}
 use Rattle.tl_params.specs.declared.param.Prune.{Prune}
 use Rattle.tl_params.specs.declared.param.Report.{Report}
-use Rattle.tl_coherence.specs.protocol.Phase.{Pair, View, Idle, Own, Other, Granting, Acknowledging, GrantedOther, Probing, Sent, is_quiet}
+use Rattle.tl_coherence.specs.protocol.Phase.{ClientBlock, View, Idle, Own, Other, Granting, Acknowledging, GrantedOther, ProbePhase, ProbeSent, is_unprobed}
 use Rattle.tl_coherence.specs.protocol.PhaseSteps.{after_acquire, after_release, is_above, after_served, after_grant_sent, after_probe, after_report, after_release_taken, after_grant, after_release_ack}
 use Rattle.tl_coherence.specs.protocol.Protocol.{Service, Free, Waits, GrantSent, GrantTaken, Block, view, is_granting, is_acknowledging, is_answered, is_wanting}
 use Rattle.tl_coherence.specs.protocol.Protocol.{is_unserved, acquiring_block, releasing_block, stored_block, performed_block, granted_at_once, served_block, served_pair}
 use Rattle.tl_coherence.specs.protocol.Protocol.{probed_block, reported_block, ended_block, granted_block, let_block, taken_block, let_go_block, freed_block}
-use Rattle.tl_coherence.specs.refinement.Sources.{cap_waited}
-use Rattle.tl_coherence.specs.protocol.Token.{set}
+use Rattle.tl_coherence.specs.refinement.SourceRelation.{cap_waited}
+use Rattle.tl_coherence.specs.protocol.Packet.{set}
 use Rattle.tl_coherence.proofs.flow.FlowAside.{IsSameBlock}
 use Rattle.tl_coherence.proofs.queues.Tokens.{same_number, set-same, set-other}
 use Rattle.tl_coherence.proofs.protocol.BothParts.{quiet_unanswered}
@@ -30,14 +30,14 @@ others-same : {X : Type 0} (d : ℕ) (b b' : Block X) → b'.pair d ≡ b.pair d
     ⊎ ((is_acknowledging (view b.service d) || is_granting (view b.service d)) ≡ false)
     → IsSameView (view b.service d) (view b'.service d) → (is_answered (b.pair d).probing ≡ true → cap_waited b'.service ≡ cap_waited b.service) → IsSameBlock d b b'
 others-same {X} d b b' pair source tracker sees cap = record {
-  held = ap (λ (p : Pair). if is_granting (view b'.service d) then p.held else p.recorded) pair ∙ ap (λ (g : Bool). if g then (b.pair d).held else (b.pair d).recorded) sees.granting;
-  wanting = ap (λ (p : Pair). is_wanting p.acquiring) pair;
+  held = ap (λ (p : ClientBlock). if is_granting (view b'.service d) then p.held else p.recorded) pair ∙ ap (λ (g : Bool). if g then (b.pair d).held else (b.pair d).recorded) sees.granting;
+  wanting = ap (λ (p : ClientBlock). is_wanting p.acquiring) pair;
   unserved = sees.unserved;
-  letting = ap (λ (p : Pair). p.letting) pair;
+  letting = ap (λ (p : ClientBlock). p.letting) pair;
   source = source;
   acknowledging = sees.acknowledging;
-  answered = ap (λ (p : Pair). is_answered p.probing) pair;
-  cap = λ e. cap (sym (ap (λ (p : Pair). is_answered p.probing) pair) ∙ e);
+  answered = ap (λ (p : ClientBlock). is_answered p.probing) pair;
+  cap = λ e. cap (sym (ap (λ (p : ClientBlock). is_answered p.probing) pair) ∙ e);
   tracker = tracker;
 }
 
@@ -106,16 +106,16 @@ same-performed d f b = others-same d b (performed_block f b) refl refl (inl refl
 
 -- one who is probed, or spared, as a block that was at rest is served
 pub same-served : {X : Type 0} (d r source tracker : ℕ) (own : Bool) (k : Cap) (b : Block X) → (own && (d == r)) ≡ false → b.service ≡ Free
-    → is_quiet (b.pair d).probing ≡ true → IsSameBlock d b (served_block r own source tracker k b)
+    → is_unprobed (b.pair d).probing ≡ true → IsSameBlock d b (served_block r own source tracker k b)
 same-served {X} d r source tracker own k b other free quiet = record {
-  held = ap (λ (p : Pair). if is_granting (view (Waits r own source k) d) then p.held else p.recorded) pair ∙ ap (λ (g : Bool). if g then (b.pair d).held else (b.pair d).recorded) sees.granting;
-  wanting = ap (λ (p : Pair). is_wanting p.acquiring) pair;
+  held = ap (λ (p : ClientBlock). if is_granting (view (Waits r own source k) d) then p.held else p.recorded) pair ∙ ap (λ (g : Bool). if g then (b.pair d).held else (b.pair d).recorded) sees.granting;
+  wanting = ap (λ (p : ClientBlock). is_wanting p.acquiring) pair;
   unserved = sees.unserved;
-  letting = ap (λ (p : Pair). p.letting) pair;
+  letting = ap (λ (p : ClientBlock). p.letting) pair;
   source = refl;
   acknowledging = sees.acknowledging;
-  answered = ap (λ (p : Pair). is_answered p.probing) pair ∙ nor_now (is_above k (b.pair d).recorded) (b.pair d).probing quiet ∙ sym (quiet_unanswered (b.pair d).probing quiet);
-  cap = λ e. absurd (let f : false ≡ true = sym (ap (λ (p : Pair). is_answered p.probing) pair ∙ nor_now (is_above k (b.pair d).recorded) (b.pair d).probing quiet) ∙ e in cc);
+  answered = ap (λ (p : ClientBlock). is_answered p.probing) pair ∙ nor_now (is_above k (b.pair d).recorded) (b.pair d).probing quiet ∙ sym (quiet_unanswered (b.pair d).probing quiet);
+  cap = λ e. absurd (let f : false ≡ true = sym (ap (λ (p : ClientBlock). is_answered p.probing) pair ∙ nor_now (is_above k (b.pair d).recorded) (b.pair d).probing quiet) ∙ e in cc);
   tracker = inr (not_in (view b.service d) before);
 }
   where
@@ -128,7 +128,7 @@ same-served {X} d r source tracker own k b other free quiet = record {
     pair : served_pair r own k b.pair d ≡ after_served k (b.pair d)
     pair = rw other refl
 
-    nor_now : (a : Bool) (p : Probing) → is_quiet p ≡ true → is_answered (if a then Sent k else p) ≡ false
+    nor_now : (a : Bool) (p : ProbePhase) → is_unprobed p ≡ true → is_answered (if a then ProbeSent k else p) ≡ false
     nor_now true p e = refl
     nor_now false p e = quiet_unanswered p e
 
@@ -165,15 +165,15 @@ same-granted {X} d c q source r j k x b other waits quiet =
 pub same-given : {X : Type 0} (c q source : ℕ) (r : Report) (j k : Cap) (x : Bool) (b : Block X) → (q ≡ c → ⊥) → b.service ≡ Waits q true source j
     → (b.pair q).held ≡ (b.pair q).recorded → is_answered (b.pair q).probing ≡ false → IsSameBlock q (reported_block c r b) (granted_block c q r x k b)
 same-given {X} c q source r j k x b other waits even quiet = record {
-  held = ap (λ (v : View). if is_granting v then (new.pair q).held else (new.pair q).recorded) now ∙ ap (λ (p : Pair). p.held) pair ∙ even
-      ∙ sym (ap (λ (v : View). if is_granting v then (old.pair q).held else (old.pair q).recorded) then_ ∙ ap (λ (p : Pair). p.recorded) same);
-  wanting = ap (λ (p : Pair). is_wanting p.acquiring) pair ∙ sym (ap (λ (p : Pair). is_wanting p.acquiring) same);
+  held = ap (λ (v : View). if is_granting v then (new.pair q).held else (new.pair q).recorded) now ∙ ap (λ (p : ClientBlock). p.held) pair ∙ even
+      ∙ sym (ap (λ (v : View). if is_granting v then (old.pair q).held else (old.pair q).recorded) then_ ∙ ap (λ (p : ClientBlock). p.recorded) same);
+  wanting = ap (λ (p : ClientBlock). is_wanting p.acquiring) pair ∙ sym (ap (λ (p : ClientBlock). is_wanting p.acquiring) same);
   unserved = ap is_unserved now ∙ sym (ap is_unserved then_);
-  letting = ap (λ (p : Pair). p.letting) pair ∙ sym (ap (λ (p : Pair). p.letting) same);
+  letting = ap (λ (p : ClientBlock). p.letting) pair ∙ sym (ap (λ (p : ClientBlock). p.letting) same);
   source = refl;
   acknowledging = ap is_acknowledging now ∙ sym (ap is_acknowledging then_);
-  answered = ap (λ (p : Pair). is_answered p.probing) pair ∙ sym (ap (λ (p : Pair). is_answered p.probing) same);
-  cap = λ e. absurd (let f : false ≡ true = sym quiet ∙ sym (ap (λ (p : Pair). is_answered p.probing) pair) ∙ e in cc);
+  answered = ap (λ (p : ClientBlock). is_answered p.probing) pair ∙ sym (ap (λ (p : ClientBlock). is_answered p.probing) same);
+  cap = λ e. absurd (let f : false ≡ true = sym quiet ∙ sym (ap (λ (p : ClientBlock). is_answered p.probing) pair) ∙ e in cc);
   tracker = inl refl;
 }
   where

@@ -16,54 +16,54 @@ use Rattle.tl_burst.specs.statement.Part.{completes}
 use Rattle.tl_params.specs.declared.config.Config.{Config}
 use Rattle.tl_params.specs.declared.param.Cap.{Cap}
 use Rattle.tl_rules.specs.statement.History.{block_at}
-use Rattle.tl_coherence.specs.refinement.Flowed.{IsFlowed}
-use Rattle.tl_coherence.specs.refinement.Follow.{Shadow, with_state, some_below, request_taken, is_unheld, gift, acquire_taken, is_whole, taken_by_client, kind_taken}
+use Rattle.tl_coherence.specs.refinement.MonitorRelation.{MonitorRelation}
+use Rattle.tl_coherence.specs.refinement.AbstractStep.{AbstractState, with_state, some_below, request_taken, is_unheld, gift, acquire_taken, is_whole, taken_by_client, kind_taken}
 use Rattle.tl_coherence.specs.protocol.Invariant.{cap_asked}
 use Rattle.tl_coherence.specs.statement.Log.{Log}
-use Rattle.tl_coherence.specs.protocol.Phase.{Pair, Acquiring, Wants}
+use Rattle.tl_coherence.specs.protocol.Phase.{ClientBlock, AcquirePhase, AcquireOpen}
 use Rattle.tl_coherence.specs.protocol.PhaseSteps.{after_probe, after_release_ack, is_granted_data}
-use Rattle.tl_coherence.specs.protocol.Protocol.{Service, Block, State, token, tokens_on, is_on, is_probed, probed_block, probe_taken, let_go_block, release_ack_taken}
+use Rattle.tl_coherence.specs.protocol.Protocol.{Service, Block, State, packet, packets_on, is_on, is_probed, probed_block, probe_taken, let_go_block, release_ack_taken}
 use Rattle.tl_coherence.specs.protocol.Protocol.{release_taken, acquire_served, acquire_granted}
-use Rattle.tl_coherence.specs.refinement.Render.{cap_sent, prune_told, rendered, message_of_kind}
+use Rattle.tl_coherence.specs.refinement.PacketMessages.{cap_sent, prune_told, block_message, message_of_kind}
 use Rattle.tl_coherence.specs.statement.System.{System}
-use Rattle.tl_coherence.specs.protocol.Token.{Kind, Request, Acquire, Probe, ProbeAck, Release, Answer, Grant, ReleaseAck, GrantAck, Token}
-use Rattle.tl_coherence.specs.refinement.Whole.{IsMatched, is_caching, asked_by}
+use Rattle.tl_coherence.specs.protocol.Packet.{Kind, Request, Acquire, Probe, ProbeAck, Release, Answer, Grant, ReleaseAck, GrantAck, Packet}
+use Rattle.tl_coherence.specs.refinement.SimulationRelation.{SimulationRelation, is_caching, asked_by}
 use Rattle.tl_coherence.proofs.client.AsideAll.{Leaves, leaves-at_manager}
 use Rattle.tl_coherence.proofs.queues.Carried.{IsNext}
 use Rattle.tl_coherence.proofs.client.ClientDelivered.{ack_next}
 use Rattle.tl_coherence.proofs.client.ClientEnd.{asks-same}
-use Rattle.tl_coherence.proofs.protocol.Due.{IsGrantDue, grant-due, ack_message}
+use Rattle.tl_coherence.proofs.protocol.HeadOfD.{IsGrantDue, grant-due, ack_message}
 use Rattle.tl_coherence.proofs.flow.FlowAlone.{AreRests}
 use Rattle.tl_coherence.proofs.flow.FlowAside.{flowed-asks}
 use Rattle.tl_coherence.proofs.flow.FlowAsking.{asks-left}
 use Rattle.tl_coherence.proofs.flow.FlowBeats.{one-beat}
-use Rattle.tl_coherence.proofs.flow.FlowGiven.{own-answer, own-release_ack, own-grant}
+use Rattle.tl_coherence.proofs.flow.ChannelD.{own-answer, own-release_ack, own-grant}
 use Rattle.tl_coherence.proofs.flow.FlowKinds.{settled-request, settled-report}
-use Rattle.tl_coherence.proofs.flow.FlowProbed.{own-probe}
-use Rattle.tl_coherence.proofs.flow.FlowRequested.{own-access, own-acquire_served, own-acquire_granted}
-use Rattle.tl_coherence.proofs.flow.FlowTold.{report_rendered, ack_rendered, own-report, own-release, own-grant_ack}
+use Rattle.tl_coherence.proofs.flow.ChannelB.{own-probe}
+use Rattle.tl_coherence.proofs.flow.ChannelA.{own-access, own-acquire_served, own-acquire_granted}
+use Rattle.tl_coherence.proofs.flow.ChannelCE.{report_rendered, ack_rendered, own-report, own-release, own-grant_ack}
 use Rattle.tl_coherence.proofs.protocol.FollowKept.{IsReady}
-use Rattle.tl_coherence.proofs.protocol.Fronts.{IsAsked, asked-first, IsWanted, wanted-first, acquisition_beats}
+use Rattle.tl_coherence.proofs.protocol.Heads.{IsAsked, asked-first, IsWanted, wanted-first, acquisition_beats}
 use Rattle.tl_coherence.proofs.client.ProbeDelivered.{probe-beat}
 use Rattle.tl_coherence.proofs.manager.RequestsTaken.{acquire_wanted}
 use Rattle.tl_coherence.proofs.queues.Tokens.{set-same, set-part}
 use Rattle.tl_coherence.proofs.simulation.Popped.{unfinished_at}
 
-module _ {w : ℕ} (config : Config) (log : Log w) (h : Shadow w) (sys : System w) (c : ℕ) (width : IsWidth w)
-    (is : IsMatched config log h.mail h.request h.state sys) (tracker : ℕ) (t : History w)
-    (flowed : IsFlowed (asked_by h.mail h.state c) (unfinished_at sys c) c h.state t) (rest' : Channel → List (Beat w)) where
+module _ {w : ℕ} (config : Config) (log : Log w) (h : AbstractState w) (sys : System w) (c : ℕ) (width : IsWidth w)
+    (is : SimulationRelation config log h.mail h.request h.state sys) (tracker : ℕ) (t : History w)
+    (flowed : MonitorRelation (asked_by h.mail h.state c) (unfinished_at sys c) c h.state t) (rest' : Channel → List (Beat w)) where
   abbrev s : State (List ℕ)
   s = h.state
 
   -- what is delivered is that of this shadow, with this beat
-  abbrev pub FlowsWith : Beat w → Shadow w → Type 0
-  FlowsWith x z = IsFlowed (asked_by z.mail z.state c) rest' c z.state (x ∷ t)
+  abbrev pub FlowsWith : Beat w → AbstractState w → Type 0
+  FlowsWith x z = MonitorRelation (asked_by z.mail z.state c) rest' c z.state (x ∷ t)
 
-  module _ (i : ℕ) (toks : List Token) (x : Beat w) (ms : List (Message w)) (queue : List (Beat w)) (rests : AreRests x (unfinished_at sys c) rest') where
+  module _ (i : ℕ) (toks : List Packet) (x : Beat w) (ms : List (Message w)) (queue : List (Beat w)) (rests : AreRests x (unfinished_at sys c) rest') where
     -- after the beat, which was the last of its message or not
     abbrev Goes : Channel → Kind → Type 0
     Goes ch k =
-        tokens_on ch (h.state.link c) ≡ token k i ∷ toks → IsNext x (unfinished_at sys c ch) (message_of_kind k h.mail h.state c i) ms queue → (b : Bool)
+        packets_on ch (h.state.link c) ≡ packet k i ∷ toks → IsNext x (unfinished_at sys c ch) (message_of_kind k h.mail h.state c i) ms queue → (b : Bool)
         → completes x (unfinished_at sys c ch) ≡ b → (b ≡ true → IsReady tracker c k i h)
         → FlowsWith x (if b then kind_taken config tracker c k i toks h else h)
 
@@ -115,12 +115,12 @@ module _ {w : ℕ} (config : Config) (log : Log w) (h : Shadow w) (sys : System 
         one = (one-beat (message.A m) x (unfinished_at sys c channel.A) ms queue here (acquisition_beats w wanted.whole wanted.grow ((s.block i).source c) i)).2
 
         taken : IsReady tracker c Acquire i h → Leaves c h
-            (acquire_taken (length config.clients.items) config.profile c i (Wants wanted.whole wanted.grow) tracker toks h)
-            → FlowsWith x (acquire_taken (length config.clients.items) config.profile c i (Wants wanted.whole wanted.grow) tracker toks h)
-        taken r = either (some_below (length config.clients.items) (λ d. is_probed c true (cap_asked (Wants wanted.whole wanted.grow)) ((s.block i).pair d).recorded d))
+            (acquire_taken (length config.clients.items) config.profile c i (AcquireOpen wanted.whole wanted.grow) tracker toks h)
+            → FlowsWith x (acquire_taken (length config.clients.items) config.profile c i (AcquireOpen wanted.whole wanted.grow) tracker toks h)
+        taken r = either (some_below (length config.clients.items) (λ d. is_probed c true (cap_asked (AcquireOpen wanted.whole wanted.grow)) ((s.block i).pair d).recorded d))
           where
             served : State (List ℕ)
-            served = acquire_served c i ((s.block i).source c) tracker (cap_asked (Wants wanted.whole wanted.grow)) toks s
+            served = acquire_served c i ((s.block i).source c) tracker (cap_asked (AcquireOpen wanted.whole wanted.grow)) toks s
 
             granted : State (List ℕ)
             granted = acquire_granted c i tracker (is_granted_data wanted.whole wanted.grow ((s.block i).pair c).recorded)
@@ -129,7 +129,7 @@ module _ {w : ℕ} (config : Config) (log : Log w) (h : Shadow w) (sys : System 
             either : (z : Bool) → Leaves c h (with_state (if z then served else granted) h) → FlowsWith x (with_state (if z then served else granted) h)
             either true l =
                 own-acquire_served config log h sys c is t flowed rest' i wanted r.0 tracker r.1 (asked_by h.mail served c)
-                (asks-left c h (with_state served h) l) (cap_asked (Wants wanted.whole wanted.grow)) toks x ms queue here rests
+                (asks-left c h (with_state served h) l) (cap_asked (AcquireOpen wanted.whole wanted.grow)) toks x ms queue here rests
             either false l =
                 own-acquire_granted config log h sys c is t flowed rest' i wanted r.0 tracker r.1 (asked_by h.mail granted c)
                 (asks-left c h (with_state granted h) l) (is_granted_data wanted.whole wanted.grow ((s.block i).pair c).recorded)
@@ -138,8 +138,8 @@ module _ {w : ℕ} (config : Config) (log : Log w) (h : Shadow w) (sys : System 
         go : (z : Bool) → completes x (unfinished_at sys c channel.A) ≡ z → (z ≡ true → IsReady tracker c Acquire i h) → FlowsWith x (if z then kind_taken config tracker c Acquire i toks h else h)
         go false e r = contrary (completes x (unfinished_at sys c channel.A)) one e
         go true e r =
-            subst (λ (a : Acquiring). FlowsWith x (acquire_taken (length config.clients.items) config.profile c i a tracker toks h)) (sym wanted.wants)
-            (taken (r refl) (subst (λ (a : Acquiring). Leaves c h (acquire_taken (length config.clients.items) config.profile c i a tracker toks h))
+            subst (λ (a : AcquirePhase). FlowsWith x (acquire_taken (length config.clients.items) config.profile c i a tracker toks h)) (sym wanted.wants)
+            (taken (r refl) (subst (λ (a : AcquirePhase). Leaves c h (acquire_taken (length config.clients.items) config.profile c i a tracker toks h))
             wanted.wants (leaves-at_manager (is_caching config) config tracker c Acquire i toks h c refl is.invariant tokens)))
 
     -- ---- channel B
@@ -158,7 +158,7 @@ module _ {w : ℕ} (config : Config) (log : Log w) (h : Shadow w) (sys : System 
 
         asks : (j : ℕ) → asked_by h.mail (probe_taken c i k toks s) c j ≡ asked_by h.mail s c j
         asks j = asks-same c j h.mail h.mail s (probe_taken c i k toks s) refl (inl refl)
-            (λ n used. set-part (λ (z : Block (List ℕ)). (z.pair c).acquiring) i new s.block (ap (λ (p : Pair). p.acquiring) (set-same c (after_probe k ((s.block i).pair c)) (s.block i).pair)) n)
+            (λ n used. set-part (λ (z : Block (List ℕ)). (z.pair c).acquiring) i new s.block (ap (λ (p : ClientBlock). p.acquiring) (set-same c (after_probe k ((s.block i).pair c)) (s.block i).pair)) n)
             (λ n used. set-part (λ (z : Block (List ℕ)). z.source c) i new s.block refl n)
 
         go : (z : Bool) → completes x (unfinished_at sys c channel.B) ≡ z → FlowsWith x (if z then kind_taken config tracker c Probe i toks h else h)
@@ -170,7 +170,7 @@ module _ {w : ℕ} (config : Config) (log : Log w) (h : Shadow w) (sys : System 
     goes-report : Goes channel.C ProbeAck
     goes-report tokens next b last ready = go b last
       where
-        about : (m : MessageC w) × (rendered ProbeAck c i (s.block i) ≡ message.C m)
+        about : (m : MessageC w) × (block_message ProbeAck c i (s.block i) ≡ message.C m)
         about = let told = report_rendered c i (s.block i) width (is.sized i).truth in (told.0, told.1)
 
         here : IsNext x (unfinished_at sys c channel.C) (message.C about.0) ms queue
@@ -228,7 +228,7 @@ module _ {w : ℕ} (config : Config) (log : Log w) (h : Shadow w) (sys : System 
 
         asks : (j : ℕ) → asked_by h.mail (release_ack_taken c i toks s) c j ≡ asked_by h.mail s c j
         asks j = asks-same c j h.mail h.mail s (release_ack_taken c i toks s) refl (inl refl)
-            (λ n used. set-part (λ (z : Block (List ℕ)). (z.pair c).acquiring) i new s.block (ap (λ (p : Pair). p.acquiring) (set-same c (after_release_ack ((s.block i).pair c)) (s.block i).pair)) n)
+            (λ n used. set-part (λ (z : Block (List ℕ)). (z.pair c).acquiring) i new s.block (ap (λ (p : ClientBlock). p.acquiring) (set-same c (after_release_ack ((s.block i).pair c)) (s.block i).pair)) n)
             (λ n used. set-part (λ (z : Block (List ℕ)). z.source c) i new s.block refl n)
 
         go : (z : Bool) → completes x (unfinished_at sys c channel.D) ≡ z → FlowsWith x (if z then kind_taken config tracker c ReleaseAck i toks h else h)

@@ -13,14 +13,14 @@ use Rattle.tl_params.specs.declared.param.Cap.{Cap}
 use Rattle.tl_rules.specs.statement.Conformance.{comes_in_grant}
 use Rattle.tl_rules.specs.statement.History.{begins, ends, block_at, is_probe, release_of, probe_of, grant_sink}
 use Rattle.tl_client.proofs.Opens.{request_of-b}
-use Rattle.tl_coherence.specs.refinement.Flowed.{IsFlowed, is_requested, is_let, is_let_by, is_sunk}
-use Rattle.tl_coherence.specs.refinement.Known.{comes_granting}
-use Rattle.tl_coherence.specs.protocol.Phase.{View, Other, Pair}
+use Rattle.tl_coherence.specs.refinement.MonitorRelation.{MonitorRelation, is_requested, is_let, is_let_by, is_sunk}
+use Rattle.tl_coherence.specs.refinement.ClientRelation.{comes_granting}
+use Rattle.tl_coherence.specs.protocol.Phase.{View, Other, ClientBlock}
 use Rattle.tl_coherence.specs.protocol.PhaseSteps.{after_probe}
 use Rattle.tl_coherence.specs.protocol.Protocol.{Service, Block, State, view, is_granting, is_acknowledging, is_answered, is_wanting, is_unserved, probe_taken, probed_block}
-use Rattle.tl_coherence.specs.refinement.Render.{probe_beat}
-use Rattle.tl_coherence.specs.refinement.Sources.{cap_waited}
-use Rattle.tl_coherence.specs.protocol.Token.{Token, set}
+use Rattle.tl_coherence.specs.refinement.PacketMessages.{probe_beat}
+use Rattle.tl_coherence.specs.refinement.SourceRelation.{cap_waited}
+use Rattle.tl_coherence.specs.protocol.Packet.{Packet, set}
 use Rattle.tl_coherence.proofs.flow.FlowAlone.{AreRests}
 use Rattle.tl_coherence.proofs.flow.FlowAside.{requested-blocks, let_by-same}
 use Rattle.tl_coherence.proofs.flow.FlowStep.{flowed-next, held_by, acquired_by, let_of, granted_by, step, whole_opened, whole_unopened}
@@ -39,25 +39,25 @@ unfolding probe_of
 probed-of n y t first = rw first refl
 
 -- a part of one pair is that of another
-pub part_of : {A : Type 0} (part : Pair → A) (c : ℕ) (p : Pair) (pair : ℕ → Pair) → part p ≡ part (pair c) → part (set c p pair c) ≡ part (pair c)
+pub part_of : {A : Type 0} (part : ClientBlock → A) (c : ℕ) (p : ClientBlock) (pair : ℕ → ClientBlock) → part p ≡ part (pair c) → part (set c p pair c) ≡ part (pair c)
 part_of part c p pair e = ap part (set-same c p pair) ∙ e
 
-pub flowed-probe : {w : ℕ} {X : Type 0} (c n : ℕ) (k : Cap) (toks : List Token) (asked asked' : ℕ → Option (BeatA w)) (rest rest' : Channel → List (Beat w)) (s : State X) (t : History w)
+pub flowed-probe : {w : ℕ} {X : Type 0} (c n : ℕ) (k : Cap) (toks : List Packet) (asked asked' : ℕ → Option (BeatA w)) (rest rest' : Channel → List (Beat w)) (s : State X) (t : History w)
     → begins (beat.B (probe_beat n k)) t ≡ true → ends (beat.B (probe_beat n k)) t ≡ true → AreRests (beat.B (probe_beat n k)) rest rest' → ((i : ℕ) → asked' i ≡ asked i) → block_at (64 * n) ≡ n
     → view (s.block n).service c ≡ Other k → cap_waited (s.block n).service ≡ k → ((m : ℕ) → comes_granting m asked' (rest channel.D) ≡ comes_granting m asked (rest channel.D))
-    → IsFlowed asked rest c s t → IsFlowed asked' rest' c (probe_taken c n k toks s) (beat.B (probe_beat n k) ∷ t)
+    → MonitorRelation asked rest c s t → MonitorRelation asked' rest' c (probe_taken c n k toks s) (beat.B (probe_beat n k) ∷ t)
 flowed-probe {w} {X} c n k toks asked asked' rest rest' s t first last rests asks at seen waited comes before =
     flowed-next (beat.B y) true true asked asked' rest rest' c s s' t (record {
       first_is = first;
       last_is = last;
       rests = rests;
       held_is = set-part (held_by c) n new s.block
-          (ap (λ (v : View). if is_granting v then (new.pair c).held else (new.pair c).recorded) seen ∙ part_of (λ (p : Pair). p.recorded) c (after_probe k (b.pair c)) b.pair refl
+          (ap (λ (v : View). if is_granting v then (new.pair c).held else (new.pair c).recorded) seen ∙ part_of (λ (p : ClientBlock). p.recorded) c (after_probe k (b.pair c)) b.pair refl
           ∙ sym (ap (λ (v : View). if is_granting v then (b.pair c).held else (b.pair c).recorded) seen));
       requests = requests;
       asked_is = λ i e. request_of-b i y t ∙ before.asked_is i (before.requests i ∙ sym (requests i) ∙ e) ∙ sym (asks i);
       acquires = set-part (acquired_by c) n new s.block (ap (λ (z : Bool). z && not (is_unserved (view b.service c)))
-          (part_of (λ (p : Pair). is_wanting p.acquiring) c (after_probe k (b.pair c)) b.pair refl));
+          (part_of (λ (p : ClientBlock). is_wanting p.acquiring) c (after_probe k (b.pair c)) b.pair refl));
       release_sources = lets;
       released = λ i m e f. ap (option_map (λ z. block_at z.address)) (released-of i y t) ∙ before.released i m e (before.release_sources i ∙ sym (lets i) ∙ f);
       sizes = λ i m e f. ap (option_map (λ z. z.size)) (released-of i y t) ∙ before.sizes i m e (before.release_sources i ∙ sym (lets i) ∙ f);
@@ -85,10 +85,10 @@ flowed-probe {w} {X} c n k toks asked asked' rest rest' s t first last rests ask
     s' = probe_taken c n k toks s
 
     letting_same : (new.pair c).letting ≡ (b.pair c).letting
-    letting_same = part_of (λ (p : Pair). p.letting) c (after_probe k (b.pair c)) b.pair refl
+    letting_same = part_of (λ (p : ClientBlock). p.letting) c (after_probe k (b.pair c)) b.pair refl
 
     part_true : is_answered (new.pair c).probing ≡ true
-    part_true = ap (λ (p : Pair). is_answered p.probing) (set-same c (after_probe k (b.pair c)) b.pair)
+    part_true = ap (λ (p : ClientBlock). is_answered p.probing) (set-same c (after_probe k (b.pair c)) b.pair)
 
     requests : (i : ℕ) → is_requested c i (rest' channel.A) (s'.uses c i) s' ≡ is_requested c i (rest channel.A) (s.uses c i) s
     requests i =

@@ -15,13 +15,13 @@ use Rattle.tl_params.specs.declared.perm.Perm.{Perm}
 use Rattle.tl_params.specs.statement.Param.{prune_right}
 use Rattle.tl_rules.specs.statement.Conformance.{comes_in_release, comes_in_grant}
 use Rattle.tl_rules.specs.statement.History.{begins, ends, block_at, pending, is_probe_ack, is_release, release_of, reported}
-use Rattle.tl_coherence.specs.refinement.Flowed.{IsFlowed, is_requested, is_let, is_let_by, is_sunk}
-use Rattle.tl_coherence.specs.refinement.Known.{comes_granting}
+use Rattle.tl_coherence.specs.refinement.MonitorRelation.{MonitorRelation, is_requested, is_let, is_let_by, is_sunk}
+use Rattle.tl_coherence.specs.refinement.ClientRelation.{comes_granting}
 use Rattle.tl_coherence.specs.protocol.Invariant.{is_of, releases_with}
-use Rattle.tl_coherence.specs.protocol.Phase.{Letting, Kept, Releasing, Acked, Acquiring, is_kept}
+use Rattle.tl_coherence.specs.protocol.Phase.{ReleasePhase, NoRelease, ReleaseSent, ReleaseAcked, AcquirePhase, is_unreleased}
 use Rattle.tl_coherence.specs.protocol.Protocol.{Service, Block, State, view, is_granting, is_acknowledging, is_answered, is_wanting, is_unserved}
-use Rattle.tl_coherence.specs.refinement.Render.{probe_beat}
-use Rattle.tl_coherence.specs.refinement.Sources.{cap_waited}
+use Rattle.tl_coherence.specs.refinement.PacketMessages.{probe_beat}
+use Rattle.tl_coherence.specs.refinement.SourceRelation.{cap_waited}
 use Rattle.tl_coherence.proofs.flow.FlowAlone.{AreRests}
 use Rattle.tl_coherence.proofs.flow.FlowAside.{requested-blocks}
 use Rattle.tl_manager.proofs.Probing.{grant_sink-c, probe_of-c, request_of-c}
@@ -47,9 +47,9 @@ part-block part n s s' same here = each-block (λ m z. part z ≡ part (s.block 
 -- ---- a Release
 
 -- the letting after a beat of the Release
-abbrev pub letting_after : Bool → Prune → Letting
-letting_after true r = Acked
-letting_after false r = Releasing r
+abbrev pub letting_after : Bool → Prune → ReleasePhase
+letting_after true r = ReleaseAcked
+letting_after false r = ReleaseSent r
 
 -- a beat of client c's Release of block n
 pub record IsReleased {w : ℕ} {X : Type 0} (c n : ℕ) (r : Prune) (y : BeatC w) (first last : Bool) (rest rest' : Channel → List (Beat w)) (s s' : State X) : Type 0 where
@@ -59,7 +59,7 @@ pub record IsReleased {w : ℕ} {X : Type 0} (c n : ℕ) (r : Prune) (y : BeatC 
   pub at : block_at y.address ≡ n
   pub size : y.size ≡ 6
   pub says : reported y.param ≡ prune_right r
-  pub letting : ((s.block n).pair c).letting ≡ Releasing r
+  pub letting : ((s.block n).pair c).letting ≡ ReleaseSent r
   pub came : (i : ℕ) → comes_in_release i (rest channel.C) ≡ (not first && (y.source == i))
   pub comes : (i : ℕ) → comes_in_release i (rest' channel.C) ≡ (not last && (y.source == i))
   pub elsewhere : AreElsewhere n s s'
@@ -92,21 +92,21 @@ unopened : (first last r q p : Bool) → q ≡ false → step first last (r && q
 unopened first last true q p e = rw e (step_quiet first last p)
 unopened first last false q p e = step_quiet first last p
 
-let_now : {w : ℕ} (i : ℕ) (last : Bool) (r : Prune) (rest : List (Beat w)) (l : Letting) → l ≡ letting_after last r → comes_in_release i rest ≡ not last → is_let i rest l ≡ true
+let_now : {w : ℕ} (i : ℕ) (last : Bool) (r : Prune) (rest : List (Beat w)) (l : ReleasePhase) → l ≡ letting_after last r → comes_in_release i rest ≡ not last → is_let i rest l ≡ true
 let_now i true r rest l e f = ap (is_let i rest) e
 let_now i false r rest l e f = ap (is_let i rest) e ∙ f
 
-let_then : {w : ℕ} (i : ℕ) (first : Bool) (r : Prune) (rest : List (Beat w)) (l : Letting) → l ≡ Releasing r → comes_in_release i rest ≡ not first → is_let i rest l ≡ not first
+let_then : {w : ℕ} (i : ℕ) (first : Bool) (r : Prune) (rest : List (Beat w)) (l : ReleasePhase) → l ≡ ReleaseSent r → comes_in_release i rest ≡ not first → is_let i rest l ≡ not first
 let_then i first r rest l e f = ap (is_let i rest) e ∙ f
 
 pub with_true : (p q : Bool) → q ≡ true → (p && q) ≡ p
 with_true true q e = e
 with_true false q e = refl
 
-let_other : {w : ℕ} (i : ℕ) (rest rest' : List (Beat w)) (l : Letting) → (is_kept l ≡ false → comes_in_release i rest' ≡ comes_in_release i rest) → is_let i rest' l ≡ is_let i rest l
-let_other i rest rest' Kept h = refl
-let_other i rest rest' (Releasing r) h = h refl
-let_other i rest rest' Acked h = refl
+let_other : {w : ℕ} (i : ℕ) (rest rest' : List (Beat w)) (l : ReleasePhase) → (is_unreleased l ≡ false → comes_in_release i rest' ≡ comes_in_release i rest) → is_let i rest' l ≡ is_let i rest l
+let_other i rest rest' NoRelease h = refl
+let_other i rest rest' (ReleaseSent r) h = h refl
+let_other i rest rest' ReleaseAcked h = refl
 
 -- the last Release with the source of the beat, and with another one
 of_source : {w : ℕ} {A : Type 0} (part : BeatC w → A) (v : A) (i : ℕ) (y : BeatC w) (t : History w) (first : Bool) → begins (beat.C y) t ≡ first
@@ -132,7 +132,7 @@ both_some n m (Some i) e f = let g : Some n ≡ Some m = sym e ∙ f in cc
 pub flowed-release : {w : ℕ} {X : Type 0} (c n : ℕ) (r : Prune) (y : BeatC w) (first last : Bool) (asked : ℕ → Option (BeatA w)) (rest rest' : Channel → List (Beat w)) (s s' : State X) (t : History w)
     → begins (beat.C y) t ≡ first → ends (beat.C y) t ≡ last → AreRests (beat.C y) rest rest'
     → ((i m : ℕ) → is_of m (s.lets c i) ≡ releases_with c i (s.block m)) → IsReleased c n r y first last rest rest' s s'
-    → IsFlowed asked rest c s t → IsFlowed asked rest' c s' (beat.C y ∷ t)
+    → MonitorRelation asked rest c s t → MonitorRelation asked rest' c s' (beat.C y ∷ t)
 flowed-release {w} {X} c n r y first last asked rest rest' s s' t first_is last_is rests named is before =
     flowed-next (beat.C y) first last asked asked rest rest' c s s' t (record {
       first_is = first_is;
@@ -193,7 +193,7 @@ flowed-release {w} {X} c n r y first last asked rest rest' s s' t first_is last_
     comes_other : (i : ℕ) → (i ≡ y.source → ⊥) → comes_in_release i (rest' channel.C) ≡ comes_in_release i (rest channel.C)
     comes_other i ne = is.comes i ∙ and_right (not last) (y.source == i) (another i ne) ∙ sym (is.came i ∙ and_right (not first) (y.source == i) (another i ne))
 
-    open_other : (m : ℕ) → (m ≡ n → ⊥) → (i : ℕ) → i ≡ (s.block m).release_source c → is_kept ((s.block m).pair c).letting ≡ false → i ≡ y.source → ⊥
+    open_other : (m : ℕ) → (m ≡ n → ⊥) → (i : ℕ) → i ≡ (s.block m).release_source c → is_unreleased ((s.block m).pair c).letting ≡ false → i ≡ y.source → ⊥
     open_other m ne i at begun same = ne (both_some m n (s.lets c i) (is_of-is m (s.lets c i) (named i m ∙ rw (begun, at) (same_number ((s.block m).release_source c)))) (of_block i same))
 
     let_rest : (m : ℕ) → (m ≡ n → ⊥) → let_of c (rest' channel.C) (s.block m) ≡ let_of c (rest channel.C) (s.block m)
@@ -209,7 +209,7 @@ flowed-release {w} {X} c n r y first last asked rest rest' s s' t first_is last_
 
     acquires : (m : ℕ) → acquired_by c (s'.block m) ≡ acquired_by c (s.block m)
     acquires = part-block (acquired_by c) n s s' is.elsewhere
-        (ap (λ (l : Acquiring). is_wanting l && not (is_unserved (view new.service c))) is.acquiring
+        (ap (λ (l : AcquirePhase). is_wanting l && not (is_unserved (view new.service c))) is.acquiring
         ∙ ap (λ (q : Service). is_wanting (b.pair c).acquiring && not (is_unserved (view q c))) is.service)
 
     answered : (m : ℕ) → is_answered ((s'.block m).pair c).probing ≡ is_answered ((s.block m).pair c).probing

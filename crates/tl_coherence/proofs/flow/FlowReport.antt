@@ -10,8 +10,8 @@ use Rattle.tl_beat.specs.declared.channel.Channel.TheVariants as channel
 use Rattle.tl_burst.specs.statement.Messages.{History}
 use Rattle.tl_rules.specs.statement.Conformance.{comes_in_release}
 use Rattle.tl_rules.specs.statement.History.{begins, ends, block_at, is_probe_ack, is_release, release_of}
-use Rattle.tl_coherence.specs.refinement.Flowed.{IsFlowed, is_requested, is_let, is_let_by, is_sunk}
-use Rattle.tl_coherence.specs.protocol.Phase.{Letting, Kept, Releasing, Acked}
+use Rattle.tl_coherence.specs.refinement.MonitorRelation.{MonitorRelation, is_requested, is_let, is_let_by, is_sunk}
+use Rattle.tl_coherence.specs.protocol.Phase.{ReleasePhase, NoRelease, ReleaseSent, ReleaseAcked}
 use Rattle.tl_coherence.specs.protocol.Protocol.{State, view, is_answered, is_wanting, is_unserved}
 use Rattle.tl_coherence.proofs.flow.FlowAlone.{AreRests}
 use Rattle.tl_coherence.proofs.flow.FlowStep.{flowed-next, let_of, granted_by, step, step_quiet}
@@ -25,10 +25,10 @@ released-of {w} i y t e = go (begins (beat.C y) t) (is_release y.opcode) e
     go true r f = rw f refl
     go false r f = refl
 
-pub let_rest : {w : ℕ} (i : ℕ) (rest rest' : List (Beat w)) (l : Letting) → comes_in_release i rest' ≡ comes_in_release i rest → is_let i rest' l ≡ is_let i rest l
-let_rest i rest rest' Kept e = refl
-let_rest i rest rest' (Releasing r) e = e
-let_rest i rest rest' Acked e = refl
+pub let_rest : {w : ℕ} (i : ℕ) (rest rest' : List (Beat w)) (l : ReleasePhase) → comes_in_release i rest' ≡ comes_in_release i rest → is_let i rest' l ≡ is_let i rest l
+let_rest i rest rest' NoRelease e = refl
+let_rest i rest rest' (ReleaseSent r) e = e
+let_rest i rest rest' ReleaseAcked e = refl
 
 pub let_by_rest : {w : ℕ} {X : Type 0} (c i : ℕ) (rest rest' : List (Beat w)) (o : Option ℕ) (s : State X) → comes_in_release i rest' ≡ comes_in_release i rest
     → is_let_by c i rest' o s ≡ is_let_by c i rest o s
@@ -46,7 +46,7 @@ unclosed false q p = refl
 pub flowed-report_part : {w : ℕ} {X : Type 0} (c : ℕ) (y : BeatC w) (first : Bool) (asked : ℕ → Option (BeatA w)) (rest rest' : Channel → List (Beat w)) (s : State X) (t : History w)
     → begins (beat.C y) t ≡ first → ends (beat.C y) t ≡ false → AreRests (beat.C y) rest rest' → is_release y.opcode ≡ false
     → ((i : ℕ) → comes_in_release i (rest' channel.C) ≡ comes_in_release i (rest channel.C))
-    → IsFlowed asked rest c s t → IsFlowed asked rest' c s (beat.C y ∷ t)
+    → MonitorRelation asked rest c s t → MonitorRelation asked rest' c s (beat.C y ∷ t)
 flowed-report_part {w} {X} c y first asked rest rest' s t first_is last_is rests other comes before =
     flowed-next (beat.C y) first false asked asked rest rest' c s s t (record {
       first_is = first_is;

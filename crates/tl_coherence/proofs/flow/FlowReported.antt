@@ -14,13 +14,13 @@ use Rattle.tl_params.specs.declared.perm.Perm.{Perm}
 use Rattle.tl_params.specs.statement.Param.{report_right}
 use Rattle.tl_rules.specs.statement.Conformance.{comes_in_release, comes_in_grant}
 use Rattle.tl_rules.specs.statement.History.{begins, ends, block_at, is_probe_ack, is_release, probe_of, reported}
-use Rattle.tl_coherence.specs.refinement.Flowed.{IsFlowed, is_requested, is_let, is_let_by, is_sunk}
-use Rattle.tl_coherence.specs.protocol.Phase.{Pair}
+use Rattle.tl_coherence.specs.refinement.MonitorRelation.{MonitorRelation, is_requested, is_let, is_let_by, is_sunk}
+use Rattle.tl_coherence.specs.protocol.Phase.{ClientBlock}
 use Rattle.tl_coherence.specs.protocol.PhaseSteps.{after_report}
 use Rattle.tl_coherence.specs.protocol.Protocol.{Service, Block, State, view, is_granting, is_acknowledging, is_answered, is_wanting, is_unserved, report_taken, reported_block}
-use Rattle.tl_coherence.specs.refinement.Render.{probe_beat}
-use Rattle.tl_coherence.specs.refinement.Sources.{cap_waited}
-use Rattle.tl_coherence.specs.protocol.Token.{Token}
+use Rattle.tl_coherence.specs.refinement.PacketMessages.{probe_beat}
+use Rattle.tl_coherence.specs.refinement.SourceRelation.{cap_waited}
+use Rattle.tl_coherence.specs.protocol.Packet.{Packet}
 use Rattle.tl_coherence.proofs.flow.FlowAlone.{AreRests}
 use Rattle.tl_coherence.proofs.flow.FlowAside.{requested-blocks, let_by-same}
 use Rattle.tl_coherence.proofs.flow.FlowProbe.{part_of}
@@ -48,12 +48,12 @@ unsaid false true here q p e = rw e refl
 unsaid false false here q p e = refl
 
 -- the state in which nothing but the report is taken
-pub flowed-report : {w : ℕ} {X : Type 0} (c n : ℕ) (r : Report) (toks : List Token) (y : BeatC w) (first : Bool) (asked : ℕ → Option (BeatA w))
+pub flowed-report : {w : ℕ} {X : Type 0} (c n : ℕ) (r : Report) (toks : List Packet) (y : BeatC w) (first : Bool) (asked : ℕ → Option (BeatA w))
     (rest rest' : Channel → List (Beat w)) (s : State X) (t : History w)
     → begins (beat.C y) t ≡ first → ends (beat.C y) t ≡ true → AreRests (beat.C y) rest rest' → is_probe_ack y.opcode ≡ true → is_release y.opcode ≡ false
     → ((i : ℕ) → comes_in_release i (rest' channel.C) ≡ comes_in_release i (rest channel.C))
     → block_at y.address ≡ n → reported y.param ≡ report_right r → is_granting (view (s.block n).service c) ≡ false
-    → IsFlowed asked rest c s t → IsFlowed asked rest' c (report_taken c n r toks s) (beat.C y ∷ t)
+    → MonitorRelation asked rest c s t → MonitorRelation asked rest' c (report_taken c n r toks s) (beat.C y ∷ t)
 flowed-report {w} {X} c n r toks y first asked rest rest' s t first_is last_is rests ack other comes at says alone before =
     flowed-next (beat.C y) first true asked asked rest rest' c s s' t (record {
       first_is = first_is;
@@ -93,13 +93,13 @@ flowed-report {w} {X} c n r toks y first asked rest rest' s t first_is last_is r
     s' = report_taken c n r toks s
 
     recorded : (new.pair c).recorded ≡ report_right r
-    recorded = ap (λ (p : Pair). p.recorded) (set-same c (after_report r (b.pair c)) b.pair)
+    recorded = ap (λ (p : ClientBlock). p.recorded) (set-same c (after_report r (b.pair c)) b.pair)
 
     quiet : is_answered (new.pair c).probing ≡ false
-    quiet = ap (λ (p : Pair). is_answered p.probing) (set-same c (after_report r (b.pair c)) b.pair)
+    quiet = ap (λ (p : ClientBlock). is_answered p.probing) (set-same c (after_report r (b.pair c)) b.pair)
 
     letting_same : (new.pair c).letting ≡ (b.pair c).letting
-    letting_same = part_of (λ (p : Pair). p.letting) c (after_report r (b.pair c)) b.pair refl
+    letting_same = part_of (λ (p : ClientBlock). p.letting) c (after_report r (b.pair c)) b.pair refl
 
     apart : (m : ℕ) → (m ≡ n → ⊥) → (block_at y.address == m) ≡ false
     apart m ne = rw at (ne_eqb n m (λ e. ne (sym e)))
@@ -111,7 +111,7 @@ flowed-report {w} {X} c n r toks y first asked rest rest' s t first_is last_is r
 
     acquires : (m : ℕ) → acquired_by c (s'.block m) ≡ acquired_by c (s.block m)
     acquires = set-part (acquired_by c) n new s.block (ap (λ (z : Bool). z && not (is_unserved (view b.service c)))
-        (part_of (λ (p : Pair). is_wanting p.acquiring) c (after_report r (b.pair c)) b.pair refl))
+        (part_of (λ (p : ClientBlock). is_wanting p.acquiring) c (after_report r (b.pair c)) b.pair refl))
 
     lets : (i : ℕ) → is_let_by c i (rest' channel.C) (s'.lets c i) s' ≡ is_let_by c i (rest channel.C) (s.lets c i) s
     lets i =

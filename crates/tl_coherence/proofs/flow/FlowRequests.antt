@@ -22,29 +22,29 @@ use Rattle.tl_manager.specs.statement.Service.{services, is_in_service}
 use Rattle.tl_manager.specs.statement.Offer.{level_of, must_wait}
 use Rattle.tl_coherence.specs.statement.Flow.{flow}
 use Rattle.tl_coherence.specs.statement.Log.{Log}
-use Rattle.tl_coherence.specs.refinement.Matched.{receiver}
-use Rattle.tl_coherence.specs.protocol.Phase.{Pair, Idle, is_kept, is_quiet, ok}
-use Rattle.tl_coherence.specs.protocol.Protocol.{Free, State, token, view, is_on}
-use Rattle.tl_coherence.specs.refinement.Render.{Mail, message_of, message_of_kind}
+use Rattle.tl_coherence.specs.refinement.ChannelRelation.{receiver}
+use Rattle.tl_coherence.specs.protocol.Phase.{ClientBlock, Idle, is_unreleased, is_unprobed, ok}
+use Rattle.tl_coherence.specs.protocol.Protocol.{Free, State, packet, view, is_on}
+use Rattle.tl_coherence.specs.refinement.PacketMessages.{AccessMessages, message_of, message_of_kind}
 use Rattle.tl_coherence.specs.statement.System.{System}
-use Rattle.tl_coherence.specs.protocol.Token.{Kind, Request, Acquire, Probe, ProbeAck, Release, Answer, Grant, ReleaseAck, GrantAck}
-use Rattle.tl_coherence.specs.refinement.Whole.{IsMatched, AreFlowed, is_caching, asked_by}
+use Rattle.tl_coherence.specs.protocol.Packet.{Kind, Request, Acquire, Probe, ProbeAck, Release, Answer, Grant, ReleaseAck, GrantAck}
+use Rattle.tl_coherence.specs.refinement.SimulationRelation.{SimulationRelation, MonitorRelations, is_caching, asked_by}
 use Rattle.tl_coherence.proofs.manager.Admitted.{first_three, grows, unserved-free}
 use Rattle.tl_coherence.proofs.queues.Carried.{IsNext}
 use Rattle.tl_coherence.proofs.queues.Facts.{acquire_fits, asked_alone}
 use Rattle.tl_coherence.proofs.queues.FirstToken.{IsFirst, first-token}
 use Rattle.tl_coherence.proofs.flow.FlowLawful.{lawful-beat, next-flows}
 use Rattle.tl_coherence.proofs.flow.FlowOrders.{acquire-flows, request-flows}
-use Rattle.tl_coherence.proofs.protocol.Fronts.{IsAsked, asked-first, IsWanted, wanted-first, acquisition_beats}
+use Rattle.tl_coherence.proofs.protocol.Heads.{IsAsked, asked-first, IsWanted, wanted-first, acquisition_beats}
 use Rattle.tl_coherence.proofs.queues.Phases.{and_left, and_right}
 use Rattle.tl_coherence.proofs.deliveries.RequestsDelivered.{ends-burst}
 use Rattle.tl_coherence.proofs.manager.RequestsTaken.{acquire_wanted}
 use Rattle.tl_coherence.proofs.protocol.BothParts.{kept-is}
 use Rattle.tl_coherence.proofs.queues.Codes.{acquires-so}
 
-access-lawful : {w : ℕ} (config : Config) (log : Log w) (mail : Mail w) (request : ℕ → MessageA w) (s : State (List ℕ)) (sys : System w) (c source : ℕ)
+access-lawful : {w : ℕ} (config : Config) (log : Log w) (mail : AccessMessages w) (request : ℕ → MessageA w) (s : State (List ℕ)) (sys : System w) (c source : ℕ)
     (l : Level) (x : Beat w) (ms : List (Message w)) (queue : List (Beat w))
-    → IsMatched config log mail request s sys → AreFlowed log mail s sys → illegal l (channel_of x) x ≡ None → IsAsked config c source mail s
+    → SimulationRelation config log mail request s sys → MonitorRelations log mail s sys → illegal l (channel_of x) x ≡ None → IsAsked config c source mail s
     → IsNext x (unfinished channel.A (on_link c sys.manager.trace)) (mail.request c source) ms queue
     → broken_after l config.profile x (flow c log) ≡ None
 access-lawful {w} config log mail request s sys c source l x ms queue is flowed lawful asked next =
@@ -55,23 +55,23 @@ access-lawful {w} config log mail request s sys c source l x ms queue is flowed 
     rest : List (Beat w)
     rest = unfinished channel.A (on_link c sys.manager.trace)
 
-acquire-lawful : {w : ℕ} (config : Config) (log : Log w) (mail : Mail w) (request : ℕ → MessageA w) (s : State (List ℕ)) (sys : System w) (c n : ℕ) (l : Level)
+acquire-lawful : {w : ℕ} (config : Config) (log : Log w) (mail : AccessMessages w) (request : ℕ → MessageA w) (s : State (List ℕ)) (sys : System w) (c n : ℕ) (l : Level)
     (x : Beat w) (ms : List (Message w)) (queue : List (Beat w))
-    → IsMatched config log mail request s sys → AreFlowed log mail s sys → illegal l (channel_of x) x ≡ None → (wanted : IsWanted w c n s)
+    → SimulationRelation config log mail request s sys → MonitorRelations log mail s sys → illegal l (channel_of x) x ≡ None → (wanted : IsWanted w c n s)
     → IsNext x (unfinished channel.A (on_link c sys.manager.trace)) (message.A (acquire_wanted c n s wanted)) ms queue
     → must_wait config (record { 0 = c }) x sys.manager.trace ≡ false → broken_after l config.profile x (flow c log) ≡ None
 acquire-lawful {w} config log mail request s sys c n l x ms queue is flowed lawful wanted next moves =
     next-flows l config.profile (message.A m) x (unfinished channel.A (on_link c sys.manager.trace)) ms queue (flow c log) lawful next ((flowed c).rest_is channel.A)
     (λ none. acquire-flows config.profile c n (a_beat_of m 0) (asked_by mail s c) (λ ch. unfinished ch (receiver ch c sys)) s (flow c log) (flowed c) none
     (acquires-so wanted.whole) (same_block n) wanted.used idle
-    (kept-is p.letting (and_right (is_quiet p.probing) (is_kept p.letting) (and_left (is_quiet p.probing && is_kept p.letting) (same_perm p.recorded p.held) settled)))
+    (kept-is p.letting (and_right (is_unprobed p.probing) (is_unreleased p.letting) (and_left (is_unprobed p.probing && is_unreleased p.letting) (same_perm p.recorded p.held) settled)))
     (grows wanted.grow p.recorded p.held wanted.whole (acquire_fits wanted.whole wanted.grow p (view (s.block n).service c) well wanted.wants)
-    (and_right (is_quiet p.probing && is_kept p.letting) (same_perm p.recorded p.held) settled)))
+    (and_right (is_unprobed p.probing && is_unreleased p.letting) (same_perm p.recorded p.held) settled)))
   where
     m : MessageA w
     m = acquire_wanted c n s wanted
 
-    p : Pair
+    p : ClientBlock
     p = (s.block n).pair c
 
     well : ok p (view (s.block n).service c) ≡ true
@@ -91,11 +91,11 @@ acquire-lawful {w} config log mail request s sys c n l x ms queue is flowed lawf
     idle : view (s.block n).service c ≡ Idle
     idle = rw free refl
 
-    settled : ((is_quiet p.probing && is_kept p.letting) && same_perm p.recorded p.held) ≡ true
-    settled = first_three (is_quiet p.probing) (is_kept p.letting) (same_perm p.recorded p.held) _ (asked_alone wanted.whole wanted.grow p (view (s.block n).service c) well idle wanted.wants)
+    settled : ((is_unprobed p.probing && is_unreleased p.letting) && same_perm p.recorded p.held) ≡ true
+    settled = first_three (is_unprobed p.probing) (is_unreleased p.letting) (same_perm p.recorded p.held) _ (asked_alone wanted.whole wanted.grow p (view (s.block n).service c) well idle wanted.wants)
 
-pub flows-a : {w : ℕ} (config : Config) (log : Log w) (mail : Mail w) (request : ℕ → MessageA w) (s : State (List ℕ)) (sys : System w) (c : ℕ) (l : Level)
-    (x : Beat w) (queue : List (Beat w)) → IsWidth w → IsMatched config log mail request s sys → AreFlowed log mail s sys
+pub flows-a : {w : ℕ} (config : Config) (log : Log w) (mail : AccessMessages w) (request : ℕ → MessageA w) (s : State (List ℕ)) (sys : System w) (c : ℕ) (l : Level)
+    (x : Beat w) (queue : List (Beat w)) → IsWidth w → SimulationRelation config log mail request s sys → MonitorRelations log mail s sys
     → sys.channels c channel.A ≡ x ∷ queue → level_of config c ≡ Some l → must_wait config (record { 0 = c }) x sys.manager.trace ≡ false → broken_after l config.profile x (flow c log) ≡ None
 flows-a {w} config log mail request s sys c l x queue width is flowed beats level moves = go first.kind first.number first.tokens first.own first.next
   where
@@ -108,7 +108,7 @@ flows-a {w} config log mail request s sys c l x queue width is flowed beats leve
     lawful : illegal l (channel_of x) x ≡ None
     lawful = lawful-beat config log mail request s sys c channel.A l x queue is beats level
 
-    go : (k : Kind) (i : ℕ) → (s.link c).a ≡ token k i ∷ first.rest → is_on channel.A k ≡ true
+    go : (k : Kind) (i : ℕ) → (s.link c).a ≡ packet k i ∷ first.rest → is_on channel.A k ≡ true
         → IsNext x rest (message_of_kind k mail s c i) (map (message_of mail s c) first.rest) queue → broken_after l config.profile x (flow c log) ≡ None
     go Request i tokens own next = access-lawful config log mail request s sys c i l x (map (message_of mail s c) first.rest) queue is flowed lawful
         (asked-first config log mail request s sys c i first.rest is tokens) next

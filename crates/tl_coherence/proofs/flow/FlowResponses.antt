@@ -37,25 +37,25 @@ use Rattle.tl_manager.specs.statement.Handing.{grant_opcode}
 use Rattle.tl_client.proofs.HeldAfter.{same_block}
 use Rattle.tl_coherence.specs.refinement.Carried.{IsCarried}
 use Rattle.tl_coherence.specs.statement.Flow.{flow}
-use Rattle.tl_coherence.specs.refinement.Flowed.{is_requested, is_sunk, is_let, is_let_by}
-use Rattle.tl_coherence.specs.refinement.Follow.{acquire_opcode}
+use Rattle.tl_coherence.specs.refinement.MonitorRelation.{is_requested, is_sunk, is_let, is_let_by}
+use Rattle.tl_coherence.specs.refinement.AbstractStep.{acquire_opcode}
 use Rattle.tl_coherence.specs.protocol.Invariant.{is_busy, IsInvariant}
 use Rattle.tl_coherence.specs.statement.Log.{Log}
-use Rattle.tl_coherence.specs.protocol.Phase.{View, Letting, Kept, Releasing, Acked, Acquiring, Wants, is_kept}
-use Rattle.tl_coherence.specs.protocol.Protocol.{Service, GrantSent, is_answered, is_acked, is_releasing, is_granting, is_acknowledging, State, Use, Asked, Acquires, view}
-use Rattle.tl_coherence.specs.protocol.Protocol.{token, shown, is_on, is_unserved, is_wanting}
-use Rattle.tl_coherence.specs.refinement.Render.{Mail, report_told, prune_told, rendered, message_of, message_of_kind}
+use Rattle.tl_coherence.specs.protocol.Phase.{View, ReleasePhase, NoRelease, ReleaseSent, ReleaseAcked, AcquirePhase, AcquireOpen, is_unreleased}
+use Rattle.tl_coherence.specs.protocol.Protocol.{Service, GrantSent, is_answered, is_acked, is_releasing, is_granting, is_acknowledging, State, SourceState, Asked, Acquires, view}
+use Rattle.tl_coherence.specs.protocol.Protocol.{packet, shown, is_on, is_unserved, is_wanting}
+use Rattle.tl_coherence.specs.refinement.PacketMessages.{AccessMessages, report_told, prune_told, block_message, message_of, message_of_kind}
 use Rattle.tl_coherence.specs.statement.System.{System}
-use Rattle.tl_coherence.specs.protocol.Token.{Kind, Request, Acquire, Probe, ProbeAck, Release, Answer, Grant, ReleaseAck, GrantAck, Token}
-use Rattle.tl_coherence.specs.refinement.Whole.{IsMatched, AreFlowed, IsGivenAsked, gives_asked, is_caching, asked_by}
+use Rattle.tl_coherence.specs.protocol.Packet.{Kind, Request, Acquire, Probe, ProbeAck, Release, Answer, Grant, ReleaseAck, GrantAck, Packet}
+use Rattle.tl_coherence.specs.refinement.SimulationRelation.{SimulationRelation, MonitorRelations, IsGivenAsked, gives_asked, is_caching, asked_by}
 use Rattle.tl_coherence.proofs.queues.Carried.{IsNext}
 use Rattle.tl_coherence.proofs.client.ClientDelivered.{ack_next}
 use Rattle.tl_coherence.proofs.client.ClientEnd.{is_access, asks-access, asks-acquire}
 use Rattle.tl_coherence.proofs.client.ClientTakes.{answers_acquire, fits_asked, fitting, has_data, next-legal}
-use Rattle.tl_coherence.proofs.protocol.Due.{IsAnswerDue, answer-due, IsGrantDue, grant-due, grant-rendered, ack-due, acquire-used, grant_message, ack_message, own_view}
+use Rattle.tl_coherence.proofs.protocol.HeadOfD.{IsAnswerDue, answer-due, IsGrantDue, grant-due, grant-rendered, ack-due, acquire-used, grant_message, ack_message, own_view}
 use Rattle.tl_coherence.proofs.queues.Facts.{granting_alone}
 use Rattle.tl_coherence.proofs.queues.FirstToken.{IsFirst, first-token, own_kind}
-use Rattle.tl_coherence.proofs.protocol.Fronts.{asked-first, rendered-acquire}
+use Rattle.tl_coherence.proofs.protocol.Heads.{asked-first, rendered-acquire}
 use Rattle.tl_coherence.proofs.flow.FlowLawful.{lawful-beat}
 use Rattle.tl_coherence.proofs.queues.Phases.{and_left, and_right}
 use Rattle.tl_coherence.proofs.client.ResponseOrder.{answer-legal, grant-legal, ack-legal}
@@ -67,7 +67,7 @@ use Rattle.tl_manager.proofs.Answered.{no_ack_grant}
 -- ---- what is half taken on channel A
 
 -- a request with a source of this use is on channel A
-abbrev pub waits_on_a : ℕ → Use → State (List ℕ) → Bool
+abbrev pub waits_on_a : ℕ → SourceState → State (List ℕ) → Bool
 waits_on_a c Asked s = true
 waits_on_a c (Acquires n) s = is_unserved (view (s.block n).service c)
 waits_on_a c _ s = false
@@ -76,26 +76,26 @@ waits_on_a c _ s = false
 IsWaiting : {w : ℕ} → ℕ → State (List ℕ) → Message w → Type 0
 IsWaiting {w} c s m = (r : MessageA w) × (m ≡ message.A r) × (waits_on_a c (s.uses c r.source) s ≡ true)
 
-waiting_request : {w : ℕ} (config : Config) (log : Log w) (mail : Mail w) (request : ℕ → MessageA w) (s : State (List ℕ)) (sys : System w) (c i : ℕ)
-    (rest : List Token) → IsMatched config log mail request s sys
-    → (s.link c).a ≡ token Request i ∷ rest → IsWaiting c s (mail.request c i)
+waiting_request : {w : ℕ} (config : Config) (log : Log w) (mail : AccessMessages w) (request : ℕ → MessageA w) (s : State (List ℕ)) (sys : System w) (c i : ℕ)
+    (rest : List Packet) → SimulationRelation config log mail request s sys
+    → (s.link c).a ≡ packet Request i ∷ rest → IsWaiting c s (mail.request c i)
 unfolding IsWaiting
 waiting_request config log mail request s sys c i rest h first =
     let asked = asked-first config log mail request s sys c i rest h first in
-    (asked.request, asked.is_it, ap (λ (j : ℕ). waits_on_a c (s.uses c j) s) asked.source_is ∙ ap (λ (u : Use). waits_on_a c u s) asked.used)
+    (asked.request, asked.is_it, ap (λ (j : ℕ). waits_on_a c (s.uses c j) s) asked.source_is ∙ ap (λ (u : SourceState). waits_on_a c u s) asked.used)
 
-waiting_acquire : {w : ℕ} (config : Config) (log : Log w) (mail : Mail w) (request : ℕ → MessageA w) (s : State (List ℕ)) (sys : System w) (c n : ℕ)
-    (rest : List Token) → IsMatched config log mail request s sys
-    → (s.link c).a ≡ token Acquire n ∷ rest → IsWaiting {w = w} c s (rendered Acquire c n (s.block n))
+waiting_acquire : {w : ℕ} (config : Config) (log : Log w) (mail : AccessMessages w) (request : ℕ → MessageA w) (s : State (List ℕ)) (sys : System w) (c n : ℕ)
+    (rest : List Packet) → SimulationRelation config log mail request s sys
+    → (s.link c).a ≡ packet Acquire n ∷ rest → IsWaiting {w = w} c s (block_message Acquire c n (s.block n))
 unfolding IsWaiting
 waiting_acquire {w} config log mail request s sys c n rest h first =
     let shows : (is_wanting ((s.block n).pair c).acquiring && is_unserved (view (s.block n).service c)) ≡ true =
-    holds-first Acquire (s.link c).a rest (token Acquire n) (λ i. shown Acquire c (s.block i)) first refl (h.invariant.transfers c Acquire refl) in
+    holds-first Acquire (s.link c).a rest (packet Acquire n) (λ i. shown Acquire c (s.block i)) first refl (h.invariant.transfers c Acquire refl) in
     let wants = and_left (is_wanting ((s.block n).pair c).acquiring) (is_unserved (view (s.block n).service c)) shows in
     let asks = wanting-is ((s.block n).pair c).acquiring wants in (
       acquisition (acquire_opcode asks.0) asks.1 ((s.block n).source c) n,
       rendered-acquire c n (s.block n) asks.0 asks.1 asks.2,
-      ap (λ (u : Use). waits_on_a c u s) (acquire-used (is_caching config) c n s h.invariant wants)
+      ap (λ (u : SourceState). waits_on_a c u s) (acquire-used (is_caching config) c n s h.invariant wants)
           ∙ and_right (is_wanting ((s.block n).pair c).acquiring) (is_unserved (view (s.block n).service c)) shows,
     )
 
@@ -113,15 +113,15 @@ comes_not {w} c source s m k rest e is none = ap (comes_in_request source) e ∙
     go (suc i) = differ (is.0.source == source) refl
 
 -- no request is half taken whose source waits for an answer
-pub not-coming_a : {w : ℕ} (config : Config) (log : Log w) (mail : Mail w) (request : ℕ → MessageA w) (s : State (List ℕ)) (sys : System w) (c source : ℕ)
-    → IsMatched config log mail request s sys → waits_on_a c (s.uses c source) s ≡ false
+pub not-coming_a : {w : ℕ} (config : Config) (log : Log w) (mail : AccessMessages w) (request : ℕ → MessageA w) (s : State (List ℕ)) (sys : System w) (c source : ℕ)
+    → SimulationRelation config log mail request s sys → waits_on_a c (s.uses c source) s ≡ false
     → comes_in_request source (unfinished channel.A (on_link c sys.manager.trace)) ≡ false
 not-coming_a {w} config log mail request s sys c source h none = go (s.link c).a refl (h.carried c channel.A)
   where
     rest_now : List (Beat w)
     rest_now = unfinished channel.A (on_link c sys.manager.trace)
 
-    each : (k : Kind) (i : ℕ) (rest : List Token) → (s.link c).a ≡ token k i ∷ rest → is_on channel.A k ≡ true → IsWaiting c s (message_of_kind k mail s c i)
+    each : (k : Kind) (i : ℕ) (rest : List Packet) → (s.link c).a ≡ packet k i ∷ rest → is_on channel.A k ≡ true → IsWaiting c s (message_of_kind k mail s c i)
     each Request i rest first own = waiting_request config log mail request s sys c i rest h first
     each Acquire i rest first own = waiting_acquire config log mail request s sys c i rest h first
     each Probe i rest first own = absurd cc
@@ -132,7 +132,7 @@ not-coming_a {w} config log mail request s sys c source h none = go (s.link c).a
     each ReleaseAck i rest first own = absurd cc
     each GrantAck i rest first own = absurd cc
 
-    go : (xs : List Token) → (s.link c).a ≡ xs → IsCarried rest_now (map (message_of mail s c) (s.link c).a) (sys.channels c channel.A) → comes_in_request source rest_now ≡ false
+    go : (xs : List Packet) → (s.link c).a ≡ xs → IsCarried rest_now (map (message_of mail s c) (s.link c).a) (sys.channels c channel.A) → comes_in_request source rest_now ≡ false
     go [] first carried =
         let nothing : IsCarried rest_now [] (sys.channels c channel.A) = subst (λ (ms : List (Message w)). IsCarried rest_now ms (sys.channels c channel.A))
         (ap (map (message_of mail s c)) first) carried in
@@ -144,18 +144,18 @@ not-coming_a {w} config log mail request s sys c source h none = go (s.link c).a
 
 -- ---- an answer
 
-flow-answer : {w : ℕ} (config : Config) (log : Log w) (mail : Mail w) (request : ℕ → MessageA w) (s : State (List ℕ)) (sys : System w) (c source : ℕ)
-    → IsMatched config log mail request s sys → AreFlowed log mail s sys → (due : IsAnswerDue c source mail s)
+flow-answer : {w : ℕ} (config : Config) (log : Log w) (mail : AccessMessages w) (request : ℕ → MessageA w) (s : State (List ℕ)) (sys : System w) (c source : ℕ)
+    → SimulationRelation config log mail request s sys → MonitorRelations log mail s sys → (due : IsAnswerDue c source mail s)
     → unfinished channel.D (sys.clients c).past ≡ [] → broken_in_order config.profile (beat_of (message.D due.answer) 0) (flow c log) ≡ None
 flow-answer {w} config log mail request s sys c source h flowed due whole =
     let kind = access_kind due.answer.opcode due.answers_access in
     let asks : asked_by mail s c source ≡ Some (a_beat_of due.request 0) = asks-access c source due.request mail s (ap is_access due.used) due.request_is in
-    let live = (flowed c).requests source ∙ ap (λ (u : Use). is_requested c source (unfinished channel.A (on_link c sys.manager.trace)) u s) due.used in
+    let live = (flowed c).requests source ∙ ap (λ (u : SourceState). is_requested c source (unfinished channel.A (on_link c sys.manager.trace)) u s) due.used in
     answer-legal config.profile (d_beat_of due.answer 0) (a_beat_of due.request 0) (flow c log) (record {
       whole = (flowed c).rest_is channel.D ∙ whole;
       complete = ap (λ (b : List (Beat w)). comes_in_request due.answer.source b) ((flowed c).rest_is channel.A)
           ∙ ap (λ (i : ℕ). comes_in_request i (unfinished channel.A (on_link c sys.manager.trace))) due.from
-          ∙ not-coming_a config log mail request s sys c source h (ap (λ (u : Use). waits_on_a c u s) due.used);
+          ∙ not-coming_a config log mail request s sys c source h (ap (λ (u : SourceState). waits_on_a c u s) due.used);
       other = kind.1;
       live = ap (λ (i : ℕ). pending (RequestSource i) (flow c log)) due.from ∙ live;
       request = ap (λ (i : ℕ). request_of i (flow c log)) due.from ∙ (flowed c).asked_is source live ∙ asks;
@@ -181,9 +181,9 @@ grant_tracked caching c n s inv due =
     is_of-is n (s.tracked (s.block n).tracker) (inv.named.trackers (s.block n).tracker n
     ∙ ap (λ (x : Service). is_busy x && ((s.block n).tracker == (s.block n).tracker)) due.service ∙ same_number (s.block n).tracker)
 
-flow-grant : {w : ℕ} (config : Config) (log : Log w) (mail : Mail w) (request : ℕ → MessageA w) (s : State (List ℕ)) (sys : System w) (c n : ℕ)
-    → IsMatched config log mail request s sys → AreFlowed log mail s sys → (due : IsGrantDue c n s)
-    → gives_asked config.profile (Wants due.whole due.g) due.k ≡ true → unfinished channel.D (sys.clients c).past ≡ []
+flow-grant : {w : ℕ} (config : Config) (log : Log w) (mail : AccessMessages w) (request : ℕ → MessageA w) (s : State (List ℕ)) (sys : System w) (c n : ℕ)
+    → SimulationRelation config log mail request s sys → MonitorRelations log mail s sys → (due : IsGrantDue c n s)
+    → gives_asked config.profile (AcquireOpen due.whole due.g) due.k ≡ true → unfinished channel.D (sys.clients c).past ≡ []
     → broken_in_order config.profile (beat_of (message.D (grant_message due.data_too due.k ((s.block n).source c) (s.block n).tracker (s.block n).truth)) 0) (flow c log) ≡ None
 flow-grant {w} config log mail request s sys c n h flowed due given whole =
     let source = (s.block n).source c in
@@ -193,13 +193,13 @@ flow-grant {w} config log mail request s sys c n h flowed due given whole =
     let asks : asked_by mail s c source ≡ Some r = asks-acquire c source n source due.whole due.g mail s due.used due.wants refl in
     let mine = own_view c due.data_too due.k (s.block n).service due.service in
     let live : pending (RequestSource source) (flow c log) ≡ true =
-    (flowed c).requests source ∙ ap (λ (u : Use). is_requested c source (unfinished channel.A (on_link c sys.manager.trace)) u s) due.used ∙ ap (λ (v : View). not (is_unserved v)) mine in
+    (flowed c).requests source ∙ ap (λ (u : SourceState). is_requested c source (unfinished channel.A (on_link c sys.manager.trace)) u s) due.used ∙ ap (λ (v : View). not (is_unserved v)) mine in
     let held_now : held n (flow c log) ≡ ((s.block n).pair c).held = (flowed c).held_is n
     ∙ ap (λ (v : View). if is_granting v then ((s.block n).pair c).held else ((s.block n).pair c).recorded) mine in
     grant-legal config.profile n (d_beat_of (grant_message due.data_too due.k source sink (s.block n).truth) 0) r (flow c log) (record {
       whole = (flowed c).rest_is channel.D ∙ whole;
       complete = ap (λ (b : List (Beat w)). comes_in_request source b) ((flowed c).rest_is channel.A)
-          ∙ not-coming_a config log mail request s sys c source h (ap (λ (u : Use). waits_on_a c u s) due.used ∙ ap is_unserved mine);
+          ∙ not-coming_a config log mail request s sys c source h (ap (λ (u : SourceState). waits_on_a c u s) due.used ∙ ap is_unserved mine);
       other = no_ack_grant due.data_too;
       live = live;
       request = (flowed c).asked_is source live ∙ asks;
@@ -239,17 +239,17 @@ unreleased_prune w source prune.TtoB i n copy e = (about opc.ReleaseData (prune_
 unreleased_prune w source prune.TtoN i n copy e = (about opc.ReleaseData (prune_code prune.TtoN) i n copy, refl, e)
 unreleased_prune w source prune.BtoN i n copy e = (about opc.Release (prune_code prune.BtoN) i n zeros, refl, e)
 
-rendered_report : (w : ℕ) (c n source : ℕ) (s : State (List ℕ)) → IsUnreleased {w = w} source (rendered ProbeAck c n (s.block n))
-unfolding rendered
+rendered_report : (w : ℕ) (c n source : ℕ) (s : State (List ℕ)) → IsUnreleased {w = w} source (block_message ProbeAck c n (s.block n))
+unfolding block_message
 rendered_report w c n source s = unreleased_report w source (report_left (report_told ((s.block n).pair c).probing)) (report_told ((s.block n).pair c).probing) n (s.block n).truth
 
-rendered_release : (w : ℕ) (c n source : ℕ) (s : State (List ℕ)) → ((s.block n).release_source c == source) ≡ false → IsUnreleased {w = w} source (rendered Release c n (s.block n))
-unfolding rendered
+rendered_release : (w : ℕ) (c n source : ℕ) (s : State (List ℕ)) → ((s.block n).release_source c == source) ≡ false → IsUnreleased {w = w} source (block_message Release c n (s.block n))
+unfolding block_message
 rendered_release w c n source s e = unreleased_prune w source (prune_told ((s.block n).pair c).letting) ((s.block n).release_source c) n (s.block n).truth e
 
 -- no Release is half taken with the source of one that was acknowledged
-not-coming_c : {w : ℕ} (config : Config) (log : Log w) (mail : Mail w) (request : ℕ → MessageA w) (s : State (List ℕ)) (sys : System w) (c n : ℕ)
-    → IsMatched config log mail request s sys → s.lets c ((s.block n).release_source c) ≡ Some n
+not-coming_c : {w : ℕ} (config : Config) (log : Log w) (mail : AccessMessages w) (request : ℕ → MessageA w) (s : State (List ℕ)) (sys : System w) (c n : ℕ)
+    → SimulationRelation config log mail request s sys → s.lets c ((s.block n).release_source c) ≡ Some n
     → is_acked ((s.block n).pair c).letting ≡ true → comes_in_release ((s.block n).release_source c) (unfinished channel.C (on_link c sys.manager.trace)) ≡ false
 not-coming_c {w} config log mail request s sys c n h let_ acked = go (s.link c).c refl (h.carried c channel.C)
   where
@@ -259,15 +259,15 @@ not-coming_c {w} config log mail request s sys c n h let_ acked = go (s.link c).
     rest_now : List (Beat w)
     rest_now = unfinished channel.C (on_link c sys.manager.trace)
 
-    apart : (x : Letting) → is_acked x ≡ true → is_releasing x ≡ true → ⊥
-    apart Acked e f = cc
-    apart Kept e f = cc
-    apart (Releasing r) e f = cc
+    apart : (x : ReleasePhase) → is_acked x ≡ true → is_releasing x ≡ true → ⊥
+    apart ReleaseAcked e f = cc
+    apart NoRelease e f = cc
+    apart (ReleaseSent r) e f = cc
 
-    open_release : (x : Letting) → is_releasing x ≡ true → not (is_kept x) ≡ true
-    open_release (Releasing r) e = refl
-    open_release Kept e = absurd cc
-    open_release Acked e = absurd cc
+    open_release : (x : ReleasePhase) → is_releasing x ≡ true → not (is_unreleased x) ≡ true
+    open_release (ReleaseSent r) e = refl
+    open_release NoRelease e = absurd cc
+    open_release ReleaseAcked e = absurd cc
 
     differ : (i : ℕ) → is_releasing ((s.block i).pair c).letting ≡ true → (b : Bool) → ((s.block i).release_source c == source) ≡ b → b ≡ false
     differ i releasing false e = refl
@@ -275,16 +275,16 @@ not-coming_c {w} config log mail request s sys c n h let_ acked = go (s.link c).
         let open_ = open_release ((s.block i).pair c).letting releasing in
         let lets : s.lets c ((s.block i).release_source c) ≡ Some i = is_of-is i (s.lets c ((s.block i).release_source c))
         (h.invariant.named.releases c ((s.block i).release_source c) i
-        ∙ and_from (not (is_kept ((s.block i).pair c).letting)) ((s.block i).release_source c == (s.block i).release_source c) open_
+        ∙ and_from (not (is_unreleased ((s.block i).pair c).letting)) ((s.block i).release_source c == (s.block i).release_source c) open_
         (same_number ((s.block i).release_source c))) in
         let same : i ≡ n = same_Some i n (sym lets ∙ ap (s.lets c) (eqb-true ((s.block i).release_source c) source e) ∙ let_) in
         absurd (apart ((s.block n).pair c).letting acked (sym (ap (λ (j : ℕ). is_releasing ((s.block j).pair c).letting) same) ∙ releasing))
 
-    each : (k : Kind) (i : ℕ) (rest : List Token) → (s.link c).c ≡ token k i ∷ rest → is_on channel.C k ≡ true → IsUnreleased source (message_of_kind k mail s c i)
+    each : (k : Kind) (i : ℕ) (rest : List Packet) → (s.link c).c ≡ packet k i ∷ rest → is_on channel.C k ≡ true → IsUnreleased source (message_of_kind k mail s c i)
     each ProbeAck i rest first own = rendered_report w c i source s
     each Release i rest first own =
         rendered_release w c i source s
-        (differ i (holds-first Release (s.link c).c rest (token Release i) (λ j. shown Release c (s.block j)) first refl (h.invariant.transfers c Release refl))
+        (differ i (holds-first Release (s.link c).c rest (packet Release i) (λ j. shown Release c (s.block j)) first refl (h.invariant.transfers c Release refl))
         ((s.block i).release_source c == source) refl)
     each Request i rest first own = absurd cc
     each Acquire i rest first own = absurd cc
@@ -294,7 +294,7 @@ not-coming_c {w} config log mail request s sys c n h let_ acked = go (s.link c).
     each ReleaseAck i rest first own = absurd cc
     each GrantAck i rest first own = absurd cc
 
-    go : (xs : List Token) → (s.link c).c ≡ xs → IsCarried rest_now (map (message_of mail s c) (s.link c).c) (sys.channels c channel.C) → comes_in_release source rest_now ≡ false
+    go : (xs : List Packet) → (s.link c).c ≡ xs → IsCarried rest_now (map (message_of mail s c) (s.link c).c) (sys.channels c channel.C) → comes_in_release source rest_now ≡ false
     go [] first carried =
         let nothing : IsCarried rest_now [] (sys.channels c channel.C) = subst (λ (ms : List (Message w)). IsCarried rest_now ms (sys.channels c channel.C))
         (ap (map (message_of mail s c)) first) carried in
@@ -304,8 +304,8 @@ not-coming_c {w} config log mail request s sys c n h let_ acked = go (s.link c).
         subst (λ (ms : List (Message w)). IsCarried rest_now ms (sys.channels c channel.C)) (ap (map (message_of mail s c)) first) carried in
         unreleased source (message_of mail s c x) some.0 rest_now some.2 (each x.kind x.number xs first (own_kind (is_caching config) s c channel.C x.kind x.number xs h.invariant first))
 
-flow-ack : {w : ℕ} (config : Config) (log : Log w) (mail : Mail w) (request : ℕ → MessageA w) (s : State (List ℕ)) (sys : System w) (c n : ℕ)
-    → IsMatched config log mail request s sys → AreFlowed log mail s sys
+flow-ack : {w : ℕ} (config : Config) (log : Log w) (mail : AccessMessages w) (request : ℕ → MessageA w) (s : State (List ℕ)) (sys : System w) (c n : ℕ)
+    → SimulationRelation config log mail request s sys → MonitorRelations log mail s sys
     → s.lets c ((s.block n).release_source c) ≡ Some n → is_acked ((s.block n).pair c).letting ≡ true
     → unfinished channel.D (sys.clients c).past ≡ []
     → broken_in_order config.profile (beat_of (message.D (ack_message ((s.block n).release_source c))) 0) (flow c log) ≡ None
@@ -319,24 +319,24 @@ flow-ack {w} config log mail request s sys c n h flowed let_ acked whole =
     refl live
     ((flowed c).sizes source n let_ live)
   where
-    let_acked : (x : Letting) (source : ℕ) (rest : List (Beat w)) → is_acked x ≡ true → is_let source rest x ≡ true
-    let_acked Acked source rest e = refl
-    let_acked Kept source rest e = absurd cc
-    let_acked (Releasing r) source rest e = absurd cc
+    let_acked : (x : ReleasePhase) (source : ℕ) (rest : List (Beat w)) → is_acked x ≡ true → is_let source rest x ≡ true
+    let_acked ReleaseAcked source rest e = refl
+    let_acked NoRelease source rest e = absurd cc
+    let_acked (ReleaseSent r) source rest e = absurd cc
 
 -- ---- all of channel D
 
 -- each beat of a response, where its first breaks no rule
-legal_next : {w : ℕ} (config : Config) (log : Log w) (mail : Mail w) (request : ℕ → MessageA w) (s : State (List ℕ)) (sys : System w) (c : ℕ) (m : MessageD w)
+legal_next : {w : ℕ} (config : Config) (log : Log w) (mail : AccessMessages w) (request : ℕ → MessageA w) (s : State (List ℕ)) (sys : System w) (c : ℕ) (m : MessageD w)
     (ms : List (Message w)) (x : Beat w) (queue : List (Beat w))
-    → IsMatched config log mail request s sys → AreFlowed log mail s sys → IsNext x (unfinished channel.D (sys.clients c).past) (message.D m) ms queue
+    → SimulationRelation config log mail request s sys → MonitorRelations log mail s sys → IsNext x (unfinished channel.D (sys.clients c).past) (message.D m) ms queue
     → (unfinished channel.D (sys.clients c).past ≡ [] → broken_in_order config.profile (beat_of (message.D m) 0) (flow c log) ≡ None) → broken_in_order config.profile x (flow c log) ≡ None
 legal_next {w} config log mail request s sys c m ms x queue h flowed next first =
     let rest_is = (flowed c).rest_is channel.D in
     ap (λ (y : Beat w). broken_in_order config.profile y (flow c log)) next.beat_is ∙ next-legal config.profile m next.k (flow c log) (rest_is ∙ next.rest_is) (λ whole. first (sym rest_is ∙ whole))
 
-legal_d : {w : ℕ} (config : Config) (log : Log w) (mail : Mail w) (request : ℕ → MessageA w) (s : State (List ℕ)) (sys : System w) (c : ℕ) (x : Beat w)
-    (queue : List (Beat w)) → IsWidth w → IsMatched config log mail request s sys → AreFlowed log mail s sys
+legal_d : {w : ℕ} (config : Config) (log : Log w) (mail : AccessMessages w) (request : ℕ → MessageA w) (s : State (List ℕ)) (sys : System w) (c : ℕ) (x : Beat w)
+    (queue : List (Beat w)) → IsWidth w → SimulationRelation config log mail request s sys → MonitorRelations log mail s sys
     → sys.channels c channel.D ≡ x ∷ queue → broken_in_order config.profile x (flow c log) ≡ None
 legal_d {w} config log mail request s sys c x queue width h flowed beats = go first.kind first.number first.tokens first.own first.next
   where
@@ -349,30 +349,30 @@ legal_d {w} config log mail request s sys c x queue width h flowed beats = go fi
     ms : List (Message w)
     ms = map (message_of mail s c) first.rest
 
-    given : (n : ℕ) (due : IsGrantDue c n s) → gives_asked config.profile (Wants due.whole due.g) due.k ≡ true
+    given : (n : ℕ) (due : IsGrantDue c n s) → gives_asked config.profile (AcquireOpen due.whole due.g) due.k ≡ true
     given n due =
         let all : IsGivenAsked config.profile (GrantSent c due.data_too due.k) (s.block n).pair = subst (λ (i : Service). IsGivenAsked config.profile i (s.block n).pair) due.service (h.given n) in
-        sym (ap (λ (i : Acquiring). gives_asked config.profile i due.k) due.wants) ∙ all
+        sym (ap (λ (i : AcquirePhase). gives_asked config.profile i due.k) due.wants) ∙ all
 
-    answer : (i : ℕ) → (s.link c).d ≡ token Answer i ∷ first.rest → IsNext x rest_now (mail.answer c i) ms queue → broken_in_order config.profile x (flow c log) ≡ None
+    answer : (i : ℕ) → (s.link c).d ≡ packet Answer i ∷ first.rest → IsNext x rest_now (mail.answer c i) ms queue → broken_in_order config.profile x (flow c log) ≡ None
     answer i tokens next =
         let due = answer-due (is_caching config) c i first.rest mail s h.invariant (h.answered c i) tokens in
         legal_next config log mail request s sys c due.answer ms x queue h flowed (subst (λ (m : Message w). IsNext x rest_now m ms queue) due.answer_is next)
         (flow-answer config log mail request s sys c i h flowed due)
 
-    grant : (n : ℕ) → (s.link c).d ≡ token Grant n ∷ first.rest → IsNext x rest_now (rendered Grant c n (s.block n)) ms queue → broken_in_order config.profile x (flow c log) ≡ None
+    grant : (n : ℕ) → (s.link c).d ≡ packet Grant n ∷ first.rest → IsNext x rest_now (block_message Grant c n (s.block n)) ms queue → broken_in_order config.profile x (flow c log) ≡ None
     grant n tokens next =
         let due = grant-due (is_caching config) c n first.rest s h.invariant tokens in
         legal_next config log mail request s sys c (grant_message due.data_too due.k ((s.block n).source c) (s.block n).tracker (s.block n).truth) ms x queue h flowed
         (subst (λ (m : Message w). IsNext x rest_now m ms queue) (grant-rendered c n s due) next) (flow-grant config log mail request s sys c n h flowed due (given n due))
 
-    ack : (n : ℕ) → (s.link c).d ≡ token ReleaseAck n ∷ first.rest → IsNext x rest_now (rendered ReleaseAck c n (s.block n)) ms queue → broken_in_order config.profile x (flow c log) ≡ None
+    ack : (n : ℕ) → (s.link c).d ≡ packet ReleaseAck n ∷ first.rest → IsNext x rest_now (block_message ReleaseAck c n (s.block n)) ms queue → broken_in_order config.profile x (flow c log) ≡ None
     ack n tokens next =
         legal_next config log mail request s sys c (ack_message ((s.block n).release_source c)) ms x queue h flowed (ack_next c n s x rest_now ms queue next)
         (flow-ack config log mail request s sys c n h flowed (ack-due (is_caching config) c n first.rest s h.invariant tokens)
-        (holds-first ReleaseAck (s.link c).d first.rest (token ReleaseAck n) (λ i. shown ReleaseAck c (s.block i)) tokens refl (h.invariant.transfers c ReleaseAck refl)))
+        (holds-first ReleaseAck (s.link c).d first.rest (packet ReleaseAck n) (λ i. shown ReleaseAck c (s.block i)) tokens refl (h.invariant.transfers c ReleaseAck refl)))
 
-    go : (k : Kind) (i : ℕ) → (s.link c).d ≡ token k i ∷ first.rest → is_on channel.D k ≡ true → IsNext x rest_now (message_of_kind k mail s c i) ms queue
+    go : (k : Kind) (i : ℕ) → (s.link c).d ≡ packet k i ∷ first.rest → is_on channel.D k ≡ true → IsNext x rest_now (message_of_kind k mail s c i) ms queue
         → broken_in_order config.profile x (flow c log) ≡ None
     go Answer i tokens own next = answer i tokens next
     go Grant i tokens own next = grant i tokens next
@@ -388,8 +388,8 @@ in_order : {w : ℕ} (l : Level) (p : Profile) (x : Beat w) (t : History w) → 
 unfolding broken_after
 in_order l p x t lawful order = rw lawful order
 
-pub flows-d : {w : ℕ} (config : Config) (log : Log w) (mail : Mail w) (request : ℕ → MessageA w) (s : State (List ℕ)) (sys : System w) (c : ℕ) (l : Level)
-    (x : Beat w) (queue : List (Beat w)) → IsWidth w → IsMatched config log mail request s sys → AreFlowed log mail s sys
+pub flows-d : {w : ℕ} (config : Config) (log : Log w) (mail : AccessMessages w) (request : ℕ → MessageA w) (s : State (List ℕ)) (sys : System w) (c : ℕ) (l : Level)
+    (x : Beat w) (queue : List (Beat w)) → IsWidth w → SimulationRelation config log mail request s sys → MonitorRelations log mail s sys
     → sys.channels c channel.D ≡ x ∷ queue → level_of config c ≡ Some l → broken_after l config.profile x (flow c log) ≡ None
 flows-d config log mail request s sys c l x queue width h flowed beats level =
     in_order l config.profile x (flow c log) (lawful-beat config log mail request s sys c channel.D l x queue h beats level) (legal_d config log mail request s sys c x queue width h flowed beats)

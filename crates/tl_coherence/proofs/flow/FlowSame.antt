@@ -5,10 +5,10 @@ use Rattle.tl_beat.specs.declared.beat.BeatA.{BeatA}
 use Rattle.tl_beat.specs.declared.channel.Channel.{Channel}
 use Rattle.tl_beat.specs.declared.channel.Channel.TheVariants as channel
 use Rattle.tl_burst.specs.statement.Messages.{History}
-use Rattle.tl_coherence.specs.refinement.Flowed.{IsFlowed, is_requested, is_let_by, is_sunk}
+use Rattle.tl_coherence.specs.refinement.MonitorRelation.{MonitorRelation, is_requested, is_let_by, is_sunk}
 use Rattle.tl_coherence.specs.protocol.Protocol.{State, is_answered}
-use Rattle.tl_coherence.specs.refinement.Render.{probe_beat}
-use Rattle.tl_coherence.specs.refinement.Sources.{cap_waited}
+use Rattle.tl_coherence.specs.refinement.PacketMessages.{probe_beat}
+use Rattle.tl_coherence.specs.refinement.SourceRelation.{cap_waited}
 use Rattle.tl_coherence.proofs.flow.FlowStep.{held_by, acquired_by, let_of, granted_by}
 
 -- each value is as before
@@ -27,7 +27,7 @@ pub record IsUntouched {w : ℕ} {X : Type 0} (asked asked' : ℕ → Option (Be
   pub trackers : (n : ℕ) → granted_by c n asked (rest channel.D) (s.block n) ≡ true → (s'.block n).tracker ≡ (s.block n).tracker
 
 pub flowed-untouched : {w : ℕ} {X : Type 0} (asked asked' : ℕ → Option (BeatA w)) (rest : Channel → List (Beat w)) (c : ℕ) (s s' : State X) (t : History w)
-    → IsUntouched asked asked' rest c s s' → IsFlowed asked rest c s t → IsFlowed asked' rest c s' t
+    → IsUntouched asked asked' rest c s s' → MonitorRelation asked rest c s t → MonitorRelation asked' rest c s' t
 flowed-untouched asked asked' rest c s s' t is before = record {
   rest_is = before.rest_is;
   held_is = λ n. before.held_is n ∙ sym (is.held_is n);
@@ -47,7 +47,7 @@ flowed-untouched asked asked' rest c s s' t is before = record {
 
 -- and what each channel's receiver has of the first message is given in another way
 pub flowed-rests : {w : ℕ} {X : Type 0} (asked : ℕ → Option (BeatA w)) (rest rest' : Channel → List (Beat w)) (c : ℕ) (s : State X) (t : History w)
-    → ((ch : Channel) → rest' ch ≡ rest ch) → IsFlowed asked rest c s t → IsFlowed asked rest' c s t
+    → ((ch : Channel) → rest' ch ≡ rest ch) → MonitorRelation asked rest c s t → MonitorRelation asked rest' c s t
 flowed-rests {w} asked rest rest' c s t same before = record {
   rest_is = λ ch. before.rest_is ch ∙ sym (same ch);
   held_is = before.held_is;

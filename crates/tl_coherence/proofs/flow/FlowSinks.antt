@@ -25,14 +25,14 @@ use Rattle.tl_manager.specs.statement.Offer.{level_of}
 use Rattle.tl_coherence.specs.refinement.Carried.{IsCarried}
 use Rattle.tl_coherence.specs.statement.Flow.{flow}
 use Rattle.tl_coherence.specs.statement.Log.{Log}
-use Rattle.tl_coherence.specs.refinement.Matched.{receiver}
-use Rattle.tl_coherence.specs.protocol.Protocol.{Service, GrantSent, GrantTaken, State, token, shown, view, is_on, is_acknowledging}
-use Rattle.tl_coherence.specs.refinement.Render.{Mail, message_of, message_of_kind, rendered}
+use Rattle.tl_coherence.specs.refinement.ChannelRelation.{receiver}
+use Rattle.tl_coherence.specs.protocol.Protocol.{Service, GrantSent, GrantTaken, State, packet, shown, view, is_on, is_acknowledging}
+use Rattle.tl_coherence.specs.refinement.PacketMessages.{AccessMessages, message_of, message_of_kind, block_message}
 use Rattle.tl_coherence.specs.statement.System.{System}
-use Rattle.tl_coherence.specs.protocol.Token.{Kind, Request, Acquire, Probe, ProbeAck, Release, Answer, Grant, ReleaseAck, GrantAck, Token}
-use Rattle.tl_coherence.specs.refinement.Whole.{IsMatched, AreFlowed, is_caching, asked_by}
+use Rattle.tl_coherence.specs.protocol.Packet.{Kind, Request, Acquire, Probe, ProbeAck, Release, Answer, Grant, ReleaseAck, GrantAck, Packet}
+use Rattle.tl_coherence.specs.refinement.SimulationRelation.{SimulationRelation, MonitorRelations, is_caching, asked_by}
 use Rattle.tl_coherence.proofs.queues.Carried.{IsNext}
-use Rattle.tl_coherence.proofs.protocol.Due.{ack_message, answer-due, grant-due, grant-rendered, grant_message}
+use Rattle.tl_coherence.proofs.protocol.HeadOfD.{ack_message, answer-due, grant-due, grant-rendered, grant_message}
 use Rattle.tl_coherence.proofs.queues.FirstToken.{first-token, own_kind}
 use Rattle.tl_coherence.proofs.flow.FlowBeats.{first_false}
 use Rattle.tl_coherence.proofs.flow.FlowLawful.{lawful-beat, next-flows}
@@ -58,17 +58,17 @@ comes_else sink m k rest e is = ap (comes_in_grant sink) e ∙ ap (λ y. comes_i
 not_both : (c : ℕ) (d : Bool) (k : Cap) (q : Service) → q ≡ GrantSent c d k → q ≡ GrantTaken c → ⊥
 not_both c d k q e f = let g : GrantSent c d k ≡ GrantTaken c = sym e ∙ f in cc
 
-else_answer : {w : ℕ} (config : Config) (log : Log w) (mail : Mail w) (request : ℕ → MessageA w) (s : State (List ℕ)) (sys : System w) (c sink i : ℕ)
-    (rest : List Token) → IsMatched config log mail request s sys → (s.link c).d ≡ token Answer i ∷ rest → IsElse sink (mail.answer c i)
+else_answer : {w : ℕ} (config : Config) (log : Log w) (mail : AccessMessages w) (request : ℕ → MessageA w) (s : State (List ℕ)) (sys : System w) (c sink i : ℕ)
+    (rest : List Packet) → SimulationRelation config log mail request s sys → (s.link c).d ≡ packet Answer i ∷ rest → IsElse sink (mail.answer c i)
 unfolding IsElse
 else_answer config log mail request s sys c sink i rest h first =
     let due = answer-due (is_caching config) c i rest mail s h.invariant (h.answered c i) first in
     (due.answer, due.answer_is, first_false (is_grant due.answer.opcode) (due.answer.sink == sink) (access_kind due.answer.opcode due.answers_access).0)
 
 -- a Grant that is on its way has another block's tracker for its sink
-else_grant : {w : ℕ} (config : Config) (log : Log w) (mail : Mail w) (request : ℕ → MessageA w) (s : State (List ℕ)) (sys : System w) (c n i : ℕ)
-    (rest : List Token) → IsMatched config log mail request s sys → (s.link c).d ≡ token Grant i ∷ rest
-    → (s.block n).service ≡ GrantTaken c → IsElse {w = w} (s.block n).tracker (rendered {w = w} Grant c i (s.block i))
+else_grant : {w : ℕ} (config : Config) (log : Log w) (mail : AccessMessages w) (request : ℕ → MessageA w) (s : State (List ℕ)) (sys : System w) (c n i : ℕ)
+    (rest : List Packet) → SimulationRelation config log mail request s sys → (s.link c).d ≡ packet Grant i ∷ rest
+    → (s.block n).service ≡ GrantTaken c → IsElse {w = w} (s.block n).tracker (block_message {w = w} Grant c i (s.block i))
 unfolding IsElse
 else_grant {w} config log mail request s sys c n i rest h first taken =
     let due = grant-due (is_caching config) c i rest s h.invariant first in
@@ -81,12 +81,12 @@ else_grant {w} config log mail request s sys c n i rest h first taken =
       and_right (is_grant (grant_opcode due.data_too)) ((s.block i).tracker == (s.block n).tracker) (ne_eqb (s.block i).tracker (s.block n).tracker apart),
     )
 
-else_ack : {w : ℕ} (mail : Mail w) (s : State (List ℕ)) (c sink i : ℕ) → IsElse {w = w} sink (rendered {w = w} ReleaseAck c i (s.block i))
-unfolding IsElse rendered
+else_ack : {w : ℕ} (mail : AccessMessages w) (s : State (List ℕ)) (c sink i : ℕ) → IsElse {w = w} sink (block_message {w = w} ReleaseAck c i (s.block i))
+unfolding IsElse block_message
 else_ack mail s c sink i = (ack_message ((s.block i).release_source c), refl, refl)
 
-no_grant_coming : {w : ℕ} (config : Config) (log : Log w) (mail : Mail w) (request : ℕ → MessageA w) (s : State (List ℕ)) (sys : System w) (c n : ℕ)
-    → IsMatched config log mail request s sys → (s.block n).service ≡ GrantTaken c
+no_grant_coming : {w : ℕ} (config : Config) (log : Log w) (mail : AccessMessages w) (request : ℕ → MessageA w) (s : State (List ℕ)) (sys : System w) (c n : ℕ)
+    → SimulationRelation config log mail request s sys → (s.block n).service ≡ GrantTaken c
     → comes_in_grant (s.block n).tracker (unfinished channel.D (sys.clients c).past) ≡ false
 no_grant_coming {w} config log mail request s sys c n h taken = go (s.link c).d refl (h.carried c channel.D)
   where
@@ -96,7 +96,7 @@ no_grant_coming {w} config log mail request s sys c n h taken = go (s.link c).d 
     sink : ℕ
     sink = (s.block n).tracker
 
-    elses : (k : Kind) (i : ℕ) (rest : List Token) → (s.link c).d ≡ token k i ∷ rest → is_on channel.D k ≡ true → IsElse sink (message_of_kind k mail s c i)
+    elses : (k : Kind) (i : ℕ) (rest : List Packet) → (s.link c).d ≡ packet k i ∷ rest → is_on channel.D k ≡ true → IsElse sink (message_of_kind k mail s c i)
     elses Answer i rest first own = else_answer config log mail request s sys c sink i rest h first
     elses Grant i rest first own = else_grant config log mail request s sys c n i rest h first taken
     elses ReleaseAck i rest first own = else_ack mail s c sink i
@@ -107,7 +107,7 @@ no_grant_coming {w} config log mail request s sys c n h taken = go (s.link c).d 
     elses Release i rest first own = absurd cc
     elses GrantAck i rest first own = absurd cc
 
-    go : (xs : List Token) → (s.link c).d ≡ xs → IsCarried rest_now (map (message_of mail s c) (s.link c).d) (sys.channels c channel.D) → comes_in_grant sink rest_now ≡ false
+    go : (xs : List Packet) → (s.link c).d ≡ xs → IsCarried rest_now (map (message_of mail s c) (s.link c).d) (sys.channels c channel.D) → comes_in_grant sink rest_now ≡ false
     go [] first carried =
         let none : IsCarried rest_now [] (sys.channels c channel.D) = subst (λ (ms : List (Message w)). IsCarried rest_now ms (sys.channels c channel.D))
         (ap (map (message_of mail s c)) first) carried in
@@ -117,14 +117,14 @@ no_grant_coming {w} config log mail request s sys c n h taken = go (s.link c).d 
         subst (λ (ms : List (Message w)). IsCarried rest_now ms (sys.channels c channel.D)) (ap (map (message_of mail s c)) first) carried in
         comes_else sink (message_of mail s c x) some.0 rest_now some.2 (elses x.kind x.number xs first (own_kind (is_caching config) s c channel.D x.kind x.number xs h.invariant first))
 
-ack-lawful : {w : ℕ} (config : Config) (log : Log w) (mail : Mail w) (request : ℕ → MessageA w) (s : State (List ℕ)) (sys : System w) (c n : ℕ)
-    (toks : List Token) (l : Level) (x : Beat w) (ms : List (Message w)) (queue : List (Beat w))
-    → IsMatched config log mail request s sys → AreFlowed log mail s sys → illegal l (channel_of x) x ≡ None → (s.link c).e ≡ token GrantAck n ∷ toks
-    → IsNext x (unfinished channel.E (on_link c sys.manager.trace)) (rendered GrantAck c n (s.block n)) ms queue
+ack-lawful : {w : ℕ} (config : Config) (log : Log w) (mail : AccessMessages w) (request : ℕ → MessageA w) (s : State (List ℕ)) (sys : System w) (c n : ℕ)
+    (toks : List Packet) (l : Level) (x : Beat w) (ms : List (Message w)) (queue : List (Beat w))
+    → SimulationRelation config log mail request s sys → MonitorRelations log mail s sys → illegal l (channel_of x) x ≡ None → (s.link c).e ≡ packet GrantAck n ∷ toks
+    → IsNext x (unfinished channel.E (on_link c sys.manager.trace)) (block_message GrantAck c n (s.block n)) ms queue
     → broken_after l config.profile x (flow c log) ≡ None
-unfolding rendered
+unfolding block_message
 ack-lawful {w} config log mail request s sys c n toks l x ms queue is flowed lawful tokens next =
-    next-flows l config.profile (rendered GrantAck c n (s.block n)) x (unfinished channel.E (on_link c sys.manager.trace)) ms queue (flow c log) lawful next ((flowed c).rest_is channel.E)
+    next-flows l config.profile (block_message GrantAck c n (s.block n)) x (unfinished channel.E (on_link c sys.manager.trace)) ms queue (flow c log) lawful next ((flowed c).rest_is channel.E)
     (λ none. grant_ack-flows config.profile c n y (asked_by mail s c) (λ ch. unfinished ch (receiver ch c sys)) s (flow c log) (flowed c) none
     (tracker-of n s is.invariant.named (rw taken refl)) shows (no_grant_coming config log mail request s sys c n is taken))
   where
@@ -132,13 +132,13 @@ ack-lawful {w} config log mail request s sys c n toks l x ms queue is flowed law
     y = record { sink = (s.block n).tracker }
 
     shows : is_acknowledging (view (s.block n).service c) ≡ true
-    shows = holds-first GrantAck (s.link c).e toks (token GrantAck n) (λ i. shown GrantAck c (s.block i)) tokens refl (is.invariant.transfers c GrantAck refl)
+    shows = holds-first GrantAck (s.link c).e toks (packet GrantAck n) (λ i. shown GrantAck c (s.block i)) tokens refl (is.invariant.transfers c GrantAck refl)
 
     taken : (s.block n).service ≡ GrantTaken c
     taken = acknowledging-is (s.block n).service c shows
 
-pub flows-e : {w : ℕ} (config : Config) (log : Log w) (mail : Mail w) (request : ℕ → MessageA w) (s : State (List ℕ)) (sys : System w) (c : ℕ) (l : Level)
-    (x : Beat w) (queue : List (Beat w)) → IsWidth w → IsMatched config log mail request s sys → AreFlowed log mail s sys
+pub flows-e : {w : ℕ} (config : Config) (log : Log w) (mail : AccessMessages w) (request : ℕ → MessageA w) (s : State (List ℕ)) (sys : System w) (c : ℕ) (l : Level)
+    (x : Beat w) (queue : List (Beat w)) → IsWidth w → SimulationRelation config log mail request s sys → MonitorRelations log mail s sys
     → sys.channels c channel.E ≡ x ∷ queue → level_of config c ≡ Some l → broken_after l config.profile x (flow c log) ≡ None
 flows-e {w} config log mail request s sys c l x queue width is flowed beats level =
     by-first_e (λ i. broken_after l config.profile x (flow c log) ≡ None) c mail s sys x queue (first-token (is_caching config) channel.E c mail s sys x queue width is.invariant is.carried beats)

@@ -10,11 +10,11 @@ use Rattle.tl_params.specs.declared.key.Key.{Key}
 use Rattle.tl_params.specs.declared.key.Key.TheVariants.{RequestSource, ReleaseSource, AcquireOf, ReleaseOf, GrantSink, GrantAckOf, ProbeOf}
 use Rattle.tl_params.specs.declared.perm.Perm.{Perm}
 use Rattle.tl_rules.specs.statement.History.{begins, ends, opens, closes, pending, held, says_held, block_at, request_of, release_of, probe_of, grant_sink}
-use Rattle.tl_coherence.specs.refinement.Flowed.{IsFlowed, is_requested, is_let, is_let_by, is_sunk}
-use Rattle.tl_coherence.specs.refinement.Known.{comes_granting}
+use Rattle.tl_coherence.specs.refinement.MonitorRelation.{MonitorRelation, is_requested, is_let, is_let_by, is_sunk}
+use Rattle.tl_coherence.specs.refinement.ClientRelation.{comes_granting}
 use Rattle.tl_coherence.specs.protocol.Protocol.{Block, State, view, is_granting, is_acknowledging, is_answered, is_wanting, is_unserved}
-use Rattle.tl_coherence.specs.refinement.Render.{probe_beat}
-use Rattle.tl_coherence.specs.refinement.Sources.{cap_waited}
+use Rattle.tl_coherence.specs.refinement.PacketMessages.{probe_beat}
+use Rattle.tl_coherence.specs.refinement.SourceRelation.{cap_waited}
 
 -- a key that was pending so, after a beat that begins and completes its message so and opens and closes the key so
 abbrev pub step : Bool → Bool → Bool → Bool → Bool → Bool
@@ -92,7 +92,7 @@ held_stepped : {w : ℕ} (n : ℕ) (x : Beat w) (t : History w) (last : Bool) (p
 held_stepped n x t last p p' f before after = held-next n x t last f ∙ ap (λ (q : Perm). if last then unwrap_or (says_held n x t) q else q) before ∙ sym after
 
 pub flowed-next : {w : ℕ} {X : Type 0} (x : Beat w) (first last : Bool) (asked asked' : ℕ → Option (BeatA w)) (rest rest' : Channel → List (Beat w)) (c : ℕ) (s s' : State X) (t : History w)
-    → IsStepped x first last asked asked' rest rest' c s s' t → IsFlowed asked rest c s t → IsFlowed asked' rest' c s' (x ∷ t)
+    → IsStepped x first last asked asked' rest rest' c s s' t → MonitorRelation asked rest c s t → MonitorRelation asked' rest' c s' (x ∷ t)
 flowed-next {w} {X} x first last asked asked' rest rest' c s s' t is before = record {
   rest_is = λ ch. unfinished-next ch x t ∙ ap (λ (r : List (Beat w)). if on ch x then grown x r else r) (before.rest_is ch) ∙ sym (is.rests ch);
   held_is = λ n. held_stepped n x t last (held_by c (s.block n)) (held_by c (s'.block n)) is.last_is (before.held_is n) (is.held_is n);

@@ -3,10 +3,10 @@ use Rattle.std.proofs.Common.{◌≡◌, ℕ, Bool, true, false, ◌&&◌, ◌||
 use Rattle.std.proofs.lemmas.Bool.{cases_eq}
 use Rattle.tl_beat.specs.declared.beat.Beat.{Beat}
 use Rattle.tl_rules.specs.statement.Conformance.{comes_in_grant}
-use Rattle.tl_coherence.specs.refinement.Flowed.{is_sunk}
+use Rattle.tl_coherence.specs.refinement.MonitorRelation.{is_sunk}
 use Rattle.tl_coherence.specs.protocol.Phase.{View, Idle, Own, Other, Granting, Acknowledging, GrantedOther}
 use Rattle.tl_coherence.specs.protocol.Protocol.{Block, State, view, is_granting, is_acknowledging}
-use Rattle.tl_coherence.specs.protocol.Token.{set}
+use Rattle.tl_coherence.specs.protocol.Packet.{set}
 use Rattle.tl_coherence.proofs.flow.FlowOthers.{is_outside}
 use Rattle.tl_coherence.proofs.flow.FlowReleased.{AreElsewhere}
 use Rattle.tl_coherence.proofs.queues.Tokens.{set-same, set-other}

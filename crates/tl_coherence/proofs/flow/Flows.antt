@@ -30,22 +30,22 @@ use Rattle.tl_coherence.specs.declared.event.Outcome.{Outcome}
 use Rattle.tl_coherence.specs.declared.event.Outcome.TheVariants as outcome
 use Rattle.tl_coherence.specs.statement.Draining.{is_moving}
 use Rattle.tl_coherence.specs.statement.Flow.{flow}
-use Rattle.tl_coherence.specs.refinement.Flowed.{IsFlowed}
-use Rattle.tl_coherence.specs.refinement.Follow.{Shadow, followed, followed_by, kind_taken, token_taken, asked}
+use Rattle.tl_coherence.specs.refinement.MonitorRelation.{MonitorRelation}
+use Rattle.tl_coherence.specs.refinement.AbstractStep.{AbstractState, abstract_step, abstract_step_by, kind_taken, packet_taken, asked}
 use Rattle.tl_coherence.specs.statement.Headline.{AreTyped, IsGiven}
-use Rattle.tl_coherence.specs.statement.Log.{Log, IsLog, after}
-use Rattle.tl_coherence.specs.statement.Remembered.{remembered}
-use Rattle.tl_coherence.specs.refinement.Matched.{receiver}
-use Rattle.tl_coherence.specs.protocol.Protocol.{token, on}
-use Rattle.tl_coherence.specs.refinement.Render.{message_of}
+use Rattle.tl_coherence.specs.statement.Log.{Log, IsLog, system_after}
+use Rattle.tl_coherence.specs.statement.OneMemory.{one_memory_after}
+use Rattle.tl_coherence.specs.refinement.ChannelRelation.{receiver}
+use Rattle.tl_coherence.specs.protocol.Protocol.{packet, on}
+use Rattle.tl_coherence.specs.refinement.PacketMessages.{message_of}
 use Rattle.tl_coherence.specs.statement.Step.{Step, stepped, replied, outcome_of, is_to_client}
 use Rattle.tl_coherence.specs.statement.System.{System, terms_at, same_channel, with_manager, with_channel, with_messages}
-use Rattle.tl_coherence.specs.protocol.Token.{Token}
-use Rattle.tl_coherence.specs.refinement.Whole.{IsMatched, AreFlowed, is_caching, asked_by}
+use Rattle.tl_coherence.specs.protocol.Packet.{Packet}
+use Rattle.tl_coherence.specs.refinement.SimulationRelation.{SimulationRelation, MonitorRelations, is_caching, asked_by}
 use Rattle.tl_coherence.proofs.deliveries.AskedWell.{IsAskedWell, asked-well}
 use Rattle.tl_coherence.proofs.client.ClientStep.{on_same}
-use Rattle.tl_coherence.proofs.links.Conveyed.{on_it, flow_moved, taken_at, flow_still}
-use Rattle.tl_coherence.proofs.links.Firsts.{first-of}
+use Rattle.tl_coherence.proofs.links.FifoOfChannels.{on_it, flow_moved, taken_at, flow_still}
+use Rattle.tl_coherence.proofs.links.HeadsOfLinks.{first-of}
 use Rattle.tl_coherence.proofs.queues.FirstToken.{IsFirst, first-token}
 use Rattle.tl_coherence.proofs.flow.FlowAlone.{AreRests}
 use Rattle.tl_coherence.proofs.flow.FlowAsking.{flowed-asked}
@@ -57,8 +57,8 @@ use Rattle.tl_coherence.proofs.flow.FlowResponses.{flows-d}
 use Rattle.tl_coherence.proofs.flow.FlowSame.{flowed-rests}
 use Rattle.tl_coherence.proofs.flow.FlowSinks.{flows-e}
 use Rattle.tl_coherence.proofs.protocol.FollowKept.{IsReady}
-use Rattle.tl_coherence.proofs.deliveries.HeardAfter.{followed-moving, followed-still}
-use Rattle.tl_coherence.proofs.deliveries.HeardAll.{unmoved}
+use Rattle.tl_coherence.proofs.deliveries.DeliverDAfter.{followed-moving, followed-still}
+use Rattle.tl_coherence.proofs.deliveries.DeliverDWhole.{unmoved}
 use Rattle.tl_coherence.proofs.simulation.Fresh.{fresh-flowed}
 use Rattle.tl_coherence.proofs.deliveries.InvariantKept.{request-moves, ready-delivered}
 use Rattle.tl_coherence.proofs.deliveries.Matching.{shadow, matched, stepped-nobody}
@@ -84,20 +84,20 @@ receiver_handed handed sys d channel.E = ap (λ (m : manager_end.End _). on_link
 
 -- what is left of a beat that is moved on channel ch of client c's link: what was delivered, what receivers have, and
 -- what the protocol is
-pub record IsMovedOn {w : ℕ} (config : Config) (log : Log w) (link : Link) (ch : Channel) (h : Shadow w) (x : Beat w) (queue : List (Beat w)) : Type 0 where
-  pub first : IsFirst ch link.0 h.mail h.state (after config log) x queue
+pub record IsMovedOn {w : ℕ} (config : Config) (log : Log w) (link : Link) (ch : Channel) (h : AbstractState w) (x : Beat w) (queue : List (Beat w)) : Type 0 where
+  pub first : IsFirst ch link.0 h.mail h.state (system_after config log) x queue
   pub on_ch : IsOn ch x
-  pub delivered : (d : ℕ) → flow d ((Deliver link ch, (stepped config (Deliver link ch) (after config log)).outcome) ∷ log) ≡ (if link.0 == d then x ∷ flow d log else flow d log)
+  pub delivered : (d : ℕ) → flow d ((Deliver link ch, (stepped config (Deliver link ch) (system_after config log)).outcome) ∷ log) ≡ (if link.0 == d then x ∷ flow d log else flow d log)
   pub rests : (d : ℕ) (at : Channel)
-      → unfinished_at (stepped config (Deliver link ch) (after config log)).after d at
-      ≡ (if (d == link.0) && same_channel at ch then grown x (unfinished_at (after config log) d at) else unfinished_at (after config log) d at)
-  pub follows : followed config (Deliver link ch) (after config log) h
-      ≡ (if completes x (unfinished_at (after config log) link.0 ch) then kind_taken config (next_tracker (after config log)) link.0 first.kind first.number first.rest h else h)
+      → unfinished_at (stepped config (Deliver link ch) (system_after config log)).after d at
+      ≡ (if (d == link.0) && same_channel at ch then grown x (unfinished_at (system_after config log) d at) else unfinished_at (system_after config log) d at)
+  pub follows : abstract_step config (Deliver link ch) (system_after config log) h
+      ≡ (if completes x (unfinished_at (system_after config log) link.0 ch) then kind_taken config (next_tracker (system_after config log)) link.0 first.kind first.number first.rest h else h)
 
-moved-to_manager : {w : ℕ} (config : Config) (log : Log w) (link : Link) (ch : Channel) (h : Shadow w) (terms : Terms) (x : Beat w) (queue : List (Beat w))
-    → IsWidth w → IsMatched config log h.mail h.request h.state (after config log)
-    → terms_at config link.0 ≡ Some terms → is_to_client ch ≡ false → (after config log).channels link.0 ch ≡ x ∷ queue
-    → is_moving (stepped config (Deliver link ch) (after config log)).outcome ≡ true → IsMovedOn config log link ch h x queue
+moved-to_manager : {w : ℕ} (config : Config) (log : Log w) (link : Link) (ch : Channel) (h : AbstractState w) (terms : Terms) (x : Beat w) (queue : List (Beat w))
+    → IsWidth w → SimulationRelation config log h.mail h.request h.state (system_after config log)
+    → terms_at config link.0 ≡ Some terms → is_to_client ch ≡ false → (system_after config log).channels link.0 ch ≡ x ∷ queue
+    → is_moving (stepped config (Deliver link ch) (system_after config log)).outcome ≡ true → IsMovedOn config log link ch h x queue
 unfolding with_messages
 moved-to_manager {w} config log link ch h terms x queue width is known down beats moving = record {
   first = at.first;
@@ -109,7 +109,7 @@ moved-to_manager {w} config log link ch h terms x queue width is known down beat
 }
   where
     sys : System w
-    sys = after config log
+    sys = system_after config log
 
     at : IsAtManager config log link ch h x queue
     at = at-manager config log link ch h terms x queue width is known down beats moving
@@ -123,10 +123,10 @@ moved-to_manager {w} config log link ch h terms x queue width is known down beat
     base : System w
     base = with_manager e (with_channel link.0 ch queue sys)
 
-moved-to_client : {w : ℕ} (config : Config) (log : Log w) (link : Link) (ch : Channel) (h : Shadow w) (terms : Terms) (x : Beat w) (queue : List (Beat w))
-    → IsWidth w → IsMatched config log h.mail h.request h.state (after config log)
-    → terms_at config link.0 ≡ Some terms → is_to_client ch ≡ true → (after config log).channels link.0 ch ≡ x ∷ queue
-    → is_moving (stepped config (Deliver link ch) (after config log)).outcome ≡ true → IsMovedOn config log link ch h x queue
+moved-to_client : {w : ℕ} (config : Config) (log : Log w) (link : Link) (ch : Channel) (h : AbstractState w) (terms : Terms) (x : Beat w) (queue : List (Beat w))
+    → IsWidth w → SimulationRelation config log h.mail h.request h.state (system_after config log)
+    → terms_at config link.0 ≡ Some terms → is_to_client ch ≡ true → (system_after config log).channels link.0 ch ≡ x ∷ queue
+    → is_moving (stepped config (Deliver link ch) (system_after config log)).outcome ≡ true → IsMovedOn config log link ch h x queue
 moved-to_client {w} config log link ch h terms x queue width is known up beats moving = record {
   first = first;
   on_ch = on_ch;
@@ -136,11 +136,11 @@ moved-to_client {w} config log link ch h terms x queue width is known up beats m
       ∙ (landed-client link.0 ch x queue t.message (offer.taken x (sys.clients link.0)).after sys up beats on_ch
       (client-heard terms link.0 ch x queue sys (stepped config (Deliver link ch) sys) width (is.kept link.0) t)).rests d i;
   follows = followed-moving config link ch sys h x queue moving beats
-      ∙ ap (λ (l : List Token). if completes x (unfinished_at sys link.0 ch) then token_taken config (next_tracker sys) link.0 l h else h) first.tokens;
+      ∙ ap (λ (l : List Packet). if completes x (unfinished_at sys link.0 ch) then packet_taken config (next_tracker sys) link.0 l h else h) first.tokens;
 }
   where
     sys : System w
-    sys = after config log
+    sys = system_after config log
 
     t : IsTakenByClient terms link.0 ch x queue sys (stepped config (Deliver link ch) sys)
     t = client-moves config link ch sys terms x queue known beats up moving
@@ -151,10 +151,10 @@ moved-to_client {w} config log link ch h terms x queue width is known up beats m
     on_ch : IsOn ch x
     on_ch = subst (λ (i : Channel). IsOn i x) (first-of config log h link.0 terms ch x queue width is known beats).on (on_it x)
 
-pub moved-on : {w : ℕ} (config : Config) (log : Log w) (link : Link) (ch : Channel) (h : Shadow w) (x : Beat w) (queue : List (Beat w)) (terms : Terms)
-    → IsWidth w → IsMatched config log h.mail h.request h.state (after config log)
-    → (after config log).channels link.0 ch ≡ x ∷ queue → terms_at config link.0 ≡ Some terms
-    → is_moving (stepped config (Deliver link ch) (after config log)).outcome ≡ true → (b : Bool) → is_to_client ch ≡ b
+pub moved-on : {w : ℕ} (config : Config) (log : Log w) (link : Link) (ch : Channel) (h : AbstractState w) (x : Beat w) (queue : List (Beat w)) (terms : Terms)
+    → IsWidth w → SimulationRelation config log h.mail h.request h.state (system_after config log)
+    → (system_after config log).channels link.0 ch ≡ x ∷ queue → terms_at config link.0 ≡ Some terms
+    → is_moving (stepped config (Deliver link ch) (system_after config log)).outcome ≡ true → (b : Bool) → is_to_client ch ≡ b
     → IsMovedOn config log link ch h x queue
 moved-on config log link ch h x queue terms width is beats known moving true e = moved-to_client config log link ch h terms x queue width is known e beats moving
 moved-on config log link ch h x queue terms width is beats known moving false e = moved-to_manager config log link ch h terms x queue width is known e beats moving
@@ -162,26 +162,26 @@ moved-on config log link ch h x queue terms width is beats known moving false e 
 -- ---- what is delivered after a delivery
 
 -- each link's values are those of the protocol after this step
-abbrev AreFlowedAfter : {w : ℕ} → Config → Log w → Event w → Shadow w → Type 0
+abbrev AreFlowedAfter : {w : ℕ} → Config → Log w → Event w → AbstractState w → Type 0
 AreFlowedAfter config log event h =
-    AreFlowed ((event, (stepped config event (after config log)).outcome) ∷ log) (followed config event (after config log) h).mail
-    (followed config event (after config log) h).state (stepped config event (after config log)).after
+    MonitorRelations ((event, (stepped config event (system_after config log)).outcome) ∷ log) (abstract_step config event (system_after config log) h).mail
+    (abstract_step config event (system_after config log) h).state (stepped config event (system_after config log)).after
 
-moved-flowed : {w : ℕ} (config : Config) (log : Log w) (link : Link) (ch : Channel) (h : Shadow w) (x : Beat w) (queue : List (Beat w)) → IsWidth w
-    → IsMatched config log h.mail h.request h.state (after config log)
-    → AreFlowed log h.mail h.state (after config log) → (after config log).channels link.0 ch ≡ x ∷ queue
-    → is_moving (stepped config (Deliver link ch) (after config log)).outcome ≡ true → IsMovedOn config log link ch h x queue
+moved-flowed : {w : ℕ} (config : Config) (log : Log w) (link : Link) (ch : Channel) (h : AbstractState w) (x : Beat w) (queue : List (Beat w)) → IsWidth w
+    → SimulationRelation config log h.mail h.request h.state (system_after config log)
+    → MonitorRelations log h.mail h.state (system_after config log) → (system_after config log).channels link.0 ch ≡ x ∷ queue
+    → is_moving (stepped config (Deliver link ch) (system_after config log)).outcome ≡ true → IsMovedOn config log link ch h x queue
     → AreFlowedAfter config log (Deliver link ch) h
 moved-flowed {w} config log link ch h x queue width is flowed beats moving at d =
-    subst (λ (z : Shadow w). Here z (flow d ((Deliver link ch, (stepped config (Deliver link ch) sys).outcome) ∷ log))) (sym at.follows)
+    subst (λ (z : AbstractState w). Here z (flow d ((Deliver link ch, (stepped config (Deliver link ch) sys).outcome) ∷ log))) (sym at.follows)
     (subst (λ (t : History w). Here h' t) (sym (at.delivered d))
     (elim (cases_eq d c) [
-      | inl same ↦ subst (λ (i : ℕ). IsFlowed (asked_by h'.mail h'.state i) (unfinished_at sys' i) i h'.state (if c == i then x ∷ flow i log else flow i log)) (sym same) own
+      | inl same ↦ subst (λ (i : ℕ). MonitorRelation (asked_by h'.mail h'.state i) (unfinished_at sys' i) i h'.state (if c == i then x ∷ flow i log else flow i log)) (sym same) own
       | inr other ↦ others other
     ]))
   where
     sys : System w
-    sys = after config log
+    sys = system_after config log
 
     sys' : System w
     sys' = (stepped config (Deliver link ch) sys).after
@@ -192,21 +192,21 @@ moved-flowed {w} config log link ch h x queue width is flowed beats moving at d 
     last : Bool
     last = completes x (unfinished_at sys c ch)
 
-    h' : Shadow w
+    h' : AbstractState w
     h' = if last then kind_taken config (next_tracker sys) c at.first.kind at.first.number at.first.rest h else h
 
-    Here : Shadow w → History w → Type 0
-    Here z t = IsFlowed (asked_by z.mail z.state d) (unfinished_at sys' d) d z.state t
+    Here : AbstractState w → History w → Type 0
+    Here z t = MonitorRelation (asked_by z.mail z.state d) (unfinished_at sys' d) d z.state t
 
     ready : last ≡ true → IsReady (next_tracker sys) c at.first.kind at.first.number h
     ready e = ready-delivered config log h.mail h.request h.state sys link ch x queue width is (record { moves = moving; beats = beats; whole = e; first = at.first })
 
-    on_kind : on at.first.kind (h.state.link c) ≡ token at.first.kind at.first.number ∷ at.first.rest
+    on_kind : on at.first.kind (h.state.link c) ≡ packet at.first.kind at.first.number ∷ at.first.rest
     on_kind = on_same ch at.first.kind (h.state.link c) at.first.own ∙ at.first.tokens
 
-    own : IsFlowed (asked_by h'.mail h'.state c) (unfinished_at sys' c) c h'.state (if c == c then x ∷ flow c log else flow c log)
+    own : MonitorRelation (asked_by h'.mail h'.state c) (unfinished_at sys' c) c h'.state (if c == c then x ∷ flow c log else flow c log)
     own =
-        subst (λ (b : Bool). IsFlowed (asked_by h'.mail h'.state c) (unfinished_at sys' c) c h'.state (if b then x ∷ flow c log else flow c log)) (sym (same_number c))
+        subst (λ (b : Bool). MonitorRelation (asked_by h'.mail h'.state c) (unfinished_at sys' c) c h'.state (if b then x ∷ flow c log else flow c log)) (sym (same_number c))
         (own-kind config log h sys c width is (next_tracker sys) (flow c log) (flowed c) (unfinished_at sys' c) at.first.number at.first.rest x
         (map (message_of h.mail h.state c) at.first.rest) queue rests ch at.first.kind at.first.own at.first.tokens at.first.next last refl ready)
       where
@@ -215,9 +215,9 @@ moved-flowed {w} config log link ch h x queue width is flowed beats moving at d 
             at.rests c i ∙ ap (λ (b : Bool). if b && same_channel i ch then grown x (unfinished_at sys c i) else unfinished_at sys c i) (same_number c)
             ∙ ap (λ (b : Bool). if b then grown x (unfinished_at sys c i) else unfinished_at sys c i) (sym (at.on_ch i))
 
-    others : (d ≡ c → ⊥) → IsFlowed (asked_by h'.mail h'.state d) (unfinished_at sys' d) d h'.state (if c == d then x ∷ flow d log else flow d log)
+    others : (d ≡ c → ⊥) → MonitorRelation (asked_by h'.mail h'.state d) (unfinished_at sys' d) d h'.state (if c == d then x ∷ flow d log else flow d log)
     others ne =
-        subst (λ (b : Bool). IsFlowed (asked_by h'.mail h'.state d) (unfinished_at sys' d) d h'.state (if b then x ∷ flow d log else flow d log)) (sym (ne_eqb c d (λ e. ne (sym e))))
+        subst (λ (b : Bool). MonitorRelation (asked_by h'.mail h'.state d) (unfinished_at sys' d) d h'.state (if b then x ∷ flow d log else flow d log)) (sym (ne_eqb c d (λ e. ne (sym e))))
         (flowed-rests (asked_by h'.mail h'.state d) (unfinished_at sys d) (unfinished_at sys' d) d h'.state (flow d log) rests (either last refl))
       where
         rests : (i : Channel) → unfinished_at sys' d i ≡ unfinished_at sys d i
@@ -228,45 +228,45 @@ moved-flowed {w} config log link ch h x queue width is flowed beats moving at d 
         either true e = other-kind config log h sys c is (next_tracker sys) d ne (flow d log) at.first.kind at.first.number at.first.rest on_kind (ready e) (flowed d)
         either false e = flowed d
 
-delivered-flowed : {w : ℕ} (config : Config) (log : Log w) (link : Link) (ch : Channel) (h : Shadow w) → IsWidth w
-    → IsMatched config log h.mail h.request h.state (after config log) → AreFlowed log h.mail h.state (after config log)
+delivered-flowed : {w : ℕ} (config : Config) (log : Log w) (link : Link) (ch : Channel) (h : AbstractState w) → IsWidth w
+    → SimulationRelation config log h.mail h.request h.state (system_after config log) → MonitorRelations log h.mail h.state (system_after config log)
     → AreFlowedAfter config log (Deliver link ch) h
 delivered-flowed {w} config log link ch h width is flowed = go (is_moving (stepped config (Deliver link ch) sys).outcome) refl
   where
     sys : System w
-    sys = after config log
+    sys = system_after config log
 
     go : (b : Bool) → is_moving (stepped config (Deliver link ch) sys).outcome ≡ b → AreFlowedAfter config log (Deliver link ch) h
     go true moving =
         let at = first-moved config link ch sys moving in
         moved-flowed config log link ch h at.0 at.1 width is flowed at.3.0 moving (moved-on config log link ch h at.0 at.1 at.2 width is at.3.0 at.3.1 moving (is_to_client ch) refl)
     go false still =
-        λ d. subst (λ (z : Shadow w). IsFlowed (asked_by z.mail z.state d) (unfinished_at (stepped config (Deliver link ch) sys).after d) d z.state
+        λ d. subst (λ (z : AbstractState w). MonitorRelation (asked_by z.mail z.state d) (unfinished_at (stepped config (Deliver link ch) sys).after d) d z.state
         (flow d ((Deliver link ch, (stepped config (Deliver link ch) sys).outcome) ∷ log))) (sym (followed-still config link ch sys h still))
-        (subst (λ (t : History w). IsFlowed (asked_by h.mail h.state d) (unfinished_at (stepped config (Deliver link ch) sys).after d) d h.state t)
+        (subst (λ (t : History w). MonitorRelation (asked_by h.mail h.state d) (unfinished_at (stepped config (Deliver link ch) sys).after d) d h.state t)
         (sym (flow_still (Deliver link ch) (stepped config (Deliver link ch) sys).outcome log d still))
         (flowed-rests (asked_by h.mail h.state d) (unfinished_at sys d) (unfinished_at (stepped config (Deliver link ch) sys).after d) d h.state (flow d log)
         (λ i. (unmoved config link ch sys still).rests d i) (flowed d)))
 
 -- ---- and after a client was asked
 
-asked-flowed : {w : ℕ} (config : Config) (log : Log w) (c : ℕ) (o : Op w) (h : Shadow w) → IsWidth w
-    → IsMatched config log h.mail h.request h.state (after config log) → AreFlowed log h.mail h.state (after config log)
+asked-flowed : {w : ℕ} (config : Config) (log : Log w) (c : ℕ) (o : Op w) (h : AbstractState w) → IsWidth w
+    → SimulationRelation config log h.mail h.request h.state (system_after config log) → MonitorRelations log h.mail h.state (system_after config log)
     → AreFlowedAfter config log (Ask c o) h
 asked-flowed {w} config log c o h width is flowed = go (terms_at config c) refl
   where
     sys : System w
-    sys = after config log
+    sys = system_after config log
 
     After : Step w → Type 0
-    After x = AreFlowed ((Ask c o, x.outcome) ∷ log) (followed_by config (Ask c o) x.outcome sys h).mail (followed_by config (Ask c o) x.outcome sys h).state x.after
+    After x = MonitorRelations ((Ask c o, x.outcome) ∷ log) (abstract_step_by config (Ask c o) x.outcome sys h).mail (abstract_step_by config (Ask c o) x.outcome sys h).state x.after
 
     go : (i : Option Terms) → terms_at config c ≡ i → After (stepped config (Ask c o) sys)
     go None none = subst After (sym (stepped-nobody config (Ask c o) sys none))
-        (λ d. subst (λ (t : History w). IsFlowed (asked_by h.mail h.state d) (unfinished_at sys d) d h.state t)
+        (λ d. subst (λ (t : History w). MonitorRelation (asked_by h.mail h.state d) (unfinished_at sys d) d h.state t)
         (sym (flow_still (Ask c o) outcome.NoSuchClient log d refl)) (flowed d))
     go (Some terms) known = subst After (sym (stepped-asked config c o sys terms known)) (λ d.
-        subst (λ (t : History w). IsFlowed (asked_by h'.mail h'.state d) (unfinished_at (replied c a sys).after d) d h'.state t) (sym (flow_still (Ask c o) (outcome.Replied a.reply) log d refl))
+        subst (λ (t : History w). MonitorRelation (asked_by h'.mail h'.state d) (unfinished_at (replied c a sys).after d) d h'.state t) (sym (flow_still (Ask c o) (outcome.Replied a.reply) log d refl))
         (flowed-rests (asked_by h'.mail h'.state d) (unfinished_at sys d) (unfinished_at (replied c a sys).after d) d h'.state (flow d log)
         (λ i. (handed-client c a.message a.after sys (λ j. unfinished-asked terms o (sys.clients c) j width (is.kept c))).rests d i)
         (flowed-asked config log h sys c width is d (flow d log) o a.reply well.reply well.may (flowed d))))
@@ -274,26 +274,26 @@ asked-flowed {w} config log c o h width is flowed = go (terms_at config c) refl
         a : ask.Asked w
         a = ask.asked terms o (sys.clients c)
 
-        h' : Shadow w
+        h' : AbstractState w
         h' = asked c o a.reply h
 
-        well : IsAskedWell config c o h (remembered config log) (ask.asked terms o (sys.clients c))
+        well : IsAskedWell config c o h (one_memory_after config log) (ask.asked terms o (sys.clients c))
         well = asked-well config log h sys c terms o width is known
 
-flowed-event : {w : ℕ} (config : Config) (log : Log w) (event : Event w) (h : Shadow w) → IsWidth w
-    → IsMatched config log h.mail h.request h.state (after config log) → AreFlowed log h.mail h.state (after config log) → AreFlowedAfter config log event h
+flowed-event : {w : ℕ} (config : Config) (log : Log w) (event : Event w) (h : AbstractState w) → IsWidth w
+    → SimulationRelation config log h.mail h.request h.state (system_after config log) → MonitorRelations log h.mail h.state (system_after config log) → AreFlowedAfter config log event h
 flowed-event config log (Ask c o) h width is flowed = asked-flowed config log c o h width is flowed
 flowed-event config log (Deliver link ch) h width is flowed = delivered-flowed config log link ch h width is flowed
 
 -- what is delivered on each link has the values of the protocol after every log
-pub flowed : {w : ℕ} (config : Config) (log : Log w) → IsWidth w → AreTyped log → IsLog config log → AreFlowed log (shadow config log).mail (shadow config log).state (after config log)
-unfolding shadow after AreTyped IsLog
+pub flowed : {w : ℕ} (config : Config) (log : Log w) → IsWidth w → AreTyped log → IsLog config log → MonitorRelations log (shadow config log).mail (shadow config log).state (system_after config log)
+unfolding shadow system_after AreTyped IsLog
 flowed config [] width typed is = fresh-flowed
 flowed {w} config (x ∷ log) width typed is =
-    let sys : System w = after config log in
-    let h : Shadow w = shadow config log in
-    let h' : Shadow w = followed config x.0 sys h in
-    subst (λ (o : Outcome w). AreFlowed ((x.0, o) ∷ log) h'.mail h'.state (stepped config x.0 sys).after) (sym is.0)
+    let sys : System w = system_after config log in
+    let h : AbstractState w = shadow config log in
+    let h' : AbstractState w = abstract_step config x.0 sys h in
+    subst (λ (o : Outcome w). MonitorRelations ((x.0, o) ∷ log) h'.mail h'.state (stepped config x.0 sys).after) (sym is.0)
     (flowed-event config log x.0 h width (matched config log width typed.1 is.1) (flowed config log width typed.1 is.1))
 
 -- ---- no rule is broken
@@ -303,35 +303,35 @@ unfolding is_legal
 legal_more l p x t e f = rw (e, f) refl
 
 -- nor by a beat of any channel that is moved
-unbroken : {w : ℕ} (config : Config) (log : Log w) (h : Shadow w) (link : Link) (ch : Channel) (l : Level) (x : Beat w) (queue : List (Beat w)) → IsWidth w
-    → IsMatched config log h.mail h.request h.state (after config log) → AreFlowed log h.mail h.state (after config log)
-    → is_moving (stepped config (Deliver link ch) (after config log)).outcome ≡ true → (after config log).channels link.0 ch ≡ x ∷ queue
+unbroken : {w : ℕ} (config : Config) (log : Log w) (h : AbstractState w) (link : Link) (ch : Channel) (l : Level) (x : Beat w) (queue : List (Beat w)) → IsWidth w
+    → SimulationRelation config log h.mail h.request h.state (system_after config log) → MonitorRelations log h.mail h.state (system_after config log)
+    → is_moving (stepped config (Deliver link ch) (system_after config log)).outcome ≡ true → (system_after config log).channels link.0 ch ≡ x ∷ queue
     → level_of config link.0 ≡ Some l → broken_after l config.profile x (flow link.0 log) ≡ None
 unbroken config log h link channel.A l x queue width is values moving beats level =
-    flows-a config log h.mail h.request h.state (after config log) link.0 l x queue width is values beats level
-    (request-moves config log h.mail h.request h.state (after config log) link x queue is moving beats (arrival-first config log h (after config log) link.0 x queue width is beats))
-unbroken config log h link channel.B l x queue width is values moving beats level = flows-b config log h.mail h.request h.state (after config log) link.0 l x queue width is values beats level
-unbroken config log h link channel.C l x queue width is values moving beats level = flows-c config log h.mail h.request h.state (after config log) link.0 l x queue width is values beats level
-unbroken config log h link channel.D l x queue width is values moving beats level = flows-d config log h.mail h.request h.state (after config log) link.0 l x queue width is values beats level
-unbroken config log h link channel.E l x queue width is values moving beats level = flows-e config log h.mail h.request h.state (after config log) link.0 l x queue width is values beats level
+    flows-a config log h.mail h.request h.state (system_after config log) link.0 l x queue width is values beats level
+    (request-moves config log h.mail h.request h.state (system_after config log) link x queue is moving beats (arrival-first config log h (system_after config log) link.0 x queue width is beats))
+unbroken config log h link channel.B l x queue width is values moving beats level = flows-b config log h.mail h.request h.state (system_after config log) link.0 l x queue width is values beats level
+unbroken config log h link channel.C l x queue width is values moving beats level = flows-c config log h.mail h.request h.state (system_after config log) link.0 l x queue width is values beats level
+unbroken config log h link channel.D l x queue width is values moving beats level = flows-d config log h.mail h.request h.state (system_after config log) link.0 l x queue width is values beats level
+unbroken config log h link channel.E l x queue width is values moving beats level = flows-e config log h.mail h.request h.state (system_after config log) link.0 l x queue width is values beats level
 
 -- who is asked moves no beat
-pub asked-still : {w : ℕ} (config : Config) (log : Log w) (c : ℕ) (o : Op w) → is_moving (stepped config (Ask c o) (after config log)).outcome ≡ false
+pub asked-still : {w : ℕ} (config : Config) (log : Log w) (c : ℕ) (o : Op w) → is_moving (stepped config (Ask c o) (system_after config log)).outcome ≡ false
 asked-still {w} config log c o = go (terms_at config c) refl
   where
-    go : (i : Option Terms) → terms_at config c ≡ i → is_moving (stepped config (Ask c o) (after config log)).outcome ≡ false
-    go None none = ap (λ (x : Step w). is_moving x.outcome) (stepped-nobody config (Ask c o) (after config log) none)
-    go (Some terms) known = ap (λ (x : Step w). is_moving x.outcome) (stepped-asked config c o (after config log) terms known)
+    go : (i : Option Terms) → terms_at config c ≡ i → is_moving (stepped config (Ask c o) (system_after config log)).outcome ≡ false
+    go None none = ap (λ (x : Step w). is_moving x.outcome) (stepped-nobody config (Ask c o) (system_after config log) none)
+    go (Some terms) known = ap (λ (x : Step w). is_moving x.outcome) (stepped-asked config c o (system_after config log) terms known)
 
-legal-event : {w : ℕ} (config : Config) (log : Log w) (h : Shadow w) (event : Event w) (d : ℕ) (l : Level) → IsWidth w
-    → IsMatched config log h.mail h.request h.state (after config log) → AreFlowed log h.mail h.state (after config log)
-    → level_of config d ≡ Some l → is_legal l config.profile (flow d log) ≡ true → is_legal l config.profile (flow d ((event, (stepped config event (after config log)).outcome) ∷ log)) ≡ true
+legal-event : {w : ℕ} (config : Config) (log : Log w) (h : AbstractState w) (event : Event w) (d : ℕ) (l : Level) → IsWidth w
+    → SimulationRelation config log h.mail h.request h.state (system_after config log) → MonitorRelations log h.mail h.state (system_after config log)
+    → level_of config d ≡ Some l → is_legal l config.profile (flow d log) ≡ true → is_legal l config.profile (flow d ((event, (stepped config event (system_after config log)).outcome) ∷ log)) ≡ true
 legal-event {w} config log h (Ask c o) d l width is values level legal =
-    ap (is_legal l config.profile) (flow_still (Ask c o) (stepped config (Ask c o) (after config log)).outcome log d (asked-still config log c o)) ∙ legal
+    ap (is_legal l config.profile) (flow_still (Ask c o) (stepped config (Ask c o) (system_after config log)).outcome log d (asked-still config log c o)) ∙ legal
 legal-event {w} config log h (Deliver link ch) d l width is values level legal = go (is_moving (stepped config (Deliver link ch) sys).outcome) refl
   where
     sys : System w
-    sys = after config log
+    sys = system_after config log
 
     with_beat : (x : Beat w) (b : Bool) → (b ≡ true → broken_after l config.profile x (flow d log) ≡ None) → is_legal l config.profile (if b then x ∷ flow d log else flow d log) ≡ true
     with_beat x true whole = legal_more l config.profile x (flow d log) (whole refl) legal

@@ -17,20 +17,20 @@ use Rattle.tl_coherence.specs.declared.event.Outcome.{Outcome}
 use Rattle.tl_coherence.specs.statement.Draining.{is_moving}
 use Rattle.tl_coherence.specs.statement.Flow.{flow}
 use Rattle.tl_coherence.specs.statement.Headline.{AreTyped, IsGiven}
-use Rattle.tl_coherence.specs.statement.Log.{Log, IsLog, after}
+use Rattle.tl_coherence.specs.statement.Log.{Log, IsLog, system_after}
 use Rattle.tl_coherence.specs.statement.Ranged.{AreRanged}
 use Rattle.tl_coherence.specs.statement.Step.{is_to_client, stepped}
 use Rattle.tl_coherence.specs.statement.System.{terms_at}
-use Rattle.tl_coherence.specs.refinement.Whole.{AreLanes, IsMatched, is_caching}
+use Rattle.tl_coherence.specs.refinement.SimulationRelation.{AreLanes, SimulationRelation, is_caching}
 use Rattle.tl_coherence.proofs.simulation.Bounded.{matched-bounded}
 use Rattle.tl_coherence.proofs.memory.Bytes.{remembered-ranged}
 use Rattle.tl_coherence.proofs.client.ClientTakes.{sound-beat}
-use Rattle.tl_coherence.proofs.links.Conveyed.{flow_still}
+use Rattle.tl_coherence.proofs.links.FifoOfChannels.{flow_still}
 use Rattle.tl_coherence.proofs.queues.FirstToken.{IsFirst, first-token}
 use Rattle.tl_coherence.proofs.flow.FlowLawful.{lawful-beat}
 use Rattle.tl_coherence.proofs.flow.Flows.{asked-still, moved-on}
-use Rattle.tl_coherence.proofs.links.Given.{matched-given}
-use Rattle.tl_coherence.proofs.simulation.Goods.{level-terms}
+use Rattle.tl_coherence.proofs.links.FromInvariant.{matched-given}
+use Rattle.tl_coherence.proofs.simulation.BeatsInFlight.{level-terms}
 use Rattle.tl_coherence.proofs.deliveries.Matching.{shadow}
 use Rattle.tl_coherence.proofs.outstanding.Outstanding.{first-moved}
 use Rattle.tl_coherence.proofs.simulation.Owned.{sources-own}
@@ -40,30 +40,30 @@ use Rattle.tl_coherence.proofs.lines.Writable.{legal-writable}
 -- ---- the first beat of a channel
 
 module _ {w : ℕ} (config : Config) (log : Log w) (given : IsGiven config log) (c : ℕ) (terms : Terms) (known : terms_at config c ≡ Some terms) (ch : Channel)
-    (x : Beat w) (queue : List (Beat w)) (beats : (after config log).channels c ch ≡ x ∷ queue) where
-  is : IsMatched config log (shadow config log).mail (shadow config log).request (shadow config log).state (after config log)
+    (x : Beat w) (queue : List (Beat w)) (beats : (system_after config log).channels c ch ≡ x ∷ queue) where
+  is : SimulationRelation config log (shadow config log).mail (shadow config log).request (shadow config log).state (system_after config log)
   is = matched-given config log given
 
-  first : IsFirst ch c (shadow config log).mail (shadow config log).state (after config log) x queue
-  first = first-token (is_caching config) ch c (shadow config log).mail (shadow config log).state (after config log) x queue given.width is.invariant is.carried beats
+  first : IsFirst ch c (shadow config log).mail (shadow config log).state (system_after config log) x queue
+  first = first-token (is_caching config) ch c (shadow config log).mail (shadow config log).state (system_after config log) x queue given.width is.invariant is.carried beats
 
   pub first-writable : IsWritable x
   first-writable =
       let lawful : illegal terms.level (channel_of x) x ≡ None =
       lawful-beat config log (shadow config log).mail (shadow config log).request (shadow config log).state
-      (after config log) c ch terms.level x queue is beats (level-terms config c terms known).0 in
+      (system_after config log) c ch terms.level x queue is beats (level-terms config c terms known).0 in
       subst IsWritable (sym first.next.beat_is) (legal-writable terms.level (channel_of x) _ first.next.k given.width
       (ap (λ (y : Beat w). illegal terms.level (channel_of x) y) (sym first.next.beat_is) ∙ lawful))
 
   pub first-in_range : AreRanged log → IsInRange x
   first-in_range ranged =
       let few = limits config given.fits in
-      let sound = sound-beat config log (shadow config log).mail (shadow config log).request (shadow config log).state (after config log) c ch x queue is beats in
+      let sound = sound-beat config log (shadow config log).mail (shadow config log).request (shadow config log).state (system_after config log) c ch x queue is beats in
       let lanes : AreLanes x = All-head AreLanes x queue (subst (λ (l : List (Beat w)). All AreLanes l) beats (is.typed c ch)) in
-      let bounds = matched-bounded config log (shadow config log).mail (shadow config log).request (shadow config log).state (after config log) is c (sources-own config log c given.width) in
+      let bounds = matched-bounded config log (shadow config log).mail (shadow config log).request (shadow config log).state (system_after config log) is c (sources-own config log c given.width) in
       subst IsInRange (sym first.next.beat_is)
       (ranged-beat config.blocks _ first.next.k few.1 (ap (λ (y : Beat w). is_outside config.blocks y) (sym first.next.beat_is) ∙ sound.inside) (subst AreLanes first.next.beat_is lanes)
-      (first-ranged config log (shadow config log).mail (shadow config log).request (shadow config log).state (after config log) is
+      (first-ranged config log (shadow config log).mail (shadow config log).request (shadow config log).state (system_after config log) is
       (remembered-ranged config log ranged) c _ config.trackers bounds
       (few-sources config c given.fits) few.2 ch first.kind first.number first.rest first.own first.tokens))
 
@@ -72,22 +72,22 @@ module _ {w : ℕ} (config : Config) (log : Log w) (given : IsGiven config log) 
 -- what holds of the first beat of each channel, where a log is of this kind, holds of all that is delivered
 module _ {w : ℕ} (config : Config) (P : Beat w → Type 0) (Q : Log w → Type 0) (earlier : (x : Event w × Outcome w) (log : Log w) → Q (x ∷ log) → Q log)
     (front : (log : Log w) → IsGiven config log → Q log → (c : ℕ) (terms : Terms) → terms_at config c ≡ Some terms
-    → (ch : Channel) (x : Beat w) (queue : List (Beat w)) → (after config log).channels c ch ≡ x ∷ queue → P x) where
+    → (ch : Channel) (x : Beat w) (queue : List (Beat w)) → (system_after config log).channels c ch ≡ x ∷ queue → P x) where
   with-beat : (d : ℕ) (log : Log w) (x : Beat w) (b : Bool) → P x → All P (flow d log) → All P (if b then x ∷ flow d log else flow d log)
   with-beat d log x true here rest = All-cons P x (flow d log) here rest
   with-beat d log x false here rest = rest
 
-  next : (log : Log w) (event : Event w) (d : ℕ) → IsGiven config log → Q log → All P (flow d log) → All P (flow d ((event, (stepped config event (after config log)).outcome) ∷ log))
-  next log (Ask c o) d given q rest = subst (All P) (sym (flow_still (Ask c o) (stepped config (Ask c o) (after config log)).outcome log d (asked-still config log c o))) rest
-  next log (Deliver link ch) d given q rest = go (is_moving (stepped config (Deliver link ch) (after config log)).outcome) refl
+  next : (log : Log w) (event : Event w) (d : ℕ) → IsGiven config log → Q log → All P (flow d log) → All P (flow d ((event, (stepped config event (system_after config log)).outcome) ∷ log))
+  next log (Ask c o) d given q rest = subst (All P) (sym (flow_still (Ask c o) (stepped config (Ask c o) (system_after config log)).outcome log d (asked-still config log c o))) rest
+  next log (Deliver link ch) d given q rest = go (is_moving (stepped config (Deliver link ch) (system_after config log)).outcome) refl
     where
-      go : (b : Bool) → is_moving (stepped config (Deliver link ch) (after config log)).outcome ≡ b
-          → All P (flow d ((Deliver link ch, (stepped config (Deliver link ch) (after config log)).outcome) ∷ log))
+      go : (b : Bool) → is_moving (stepped config (Deliver link ch) (system_after config log)).outcome ≡ b
+          → All P (flow d ((Deliver link ch, (stepped config (Deliver link ch) (system_after config log)).outcome) ∷ log))
       go true moving =
-          let at = first-moved config link ch (after config log) moving in
+          let at = first-moved config link ch (system_after config log) moving in
           let moved = moved-on config log link ch (shadow config log) at.0 at.1 at.2 given.width (matched-given config log given) at.3.0 at.3.1 moving (is_to_client ch) refl in
           subst (All P) (sym (moved.delivered d)) (with-beat d log at.0 (link.0 == d) (front log given q link.0 at.2 at.3.1 ch at.0 at.1 at.3.0) rest)
-      go false still = subst (All P) (sym (flow_still (Deliver link ch) (stepped config (Deliver link ch) (after config log)).outcome log d still)) rest
+      go false still = subst (All P) (sym (flow_still (Deliver link ch) (stepped config (Deliver link ch) (system_after config log)).outcome log d still)) rest
 
   pub all-delivered : (log : Log w) → IsGiven config log → Q log → (d : ℕ) → All P (flow d log)
   unfolding AreTyped IsLog flow

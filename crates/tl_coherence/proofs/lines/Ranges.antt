@@ -28,18 +28,18 @@ use Rattle.tl_client.specs.declared.operation.Op.TheVariants as op
 use Rattle.tl_client.specs.statement.End.{Terms}
 use Rattle.tl_client.specs.statement.Send.{probe_ack, release, sourced}
 use Rattle.tl_manager.specs.statement.Handing.{access_answer, release_ack}
-use Rattle.tl_coherence.specs.refinement.Beside.{Answers, IsOpened}
+use Rattle.tl_coherence.specs.refinement.MemoryRelation.{Answers, IsOpened}
 use Rattle.tl_coherence.specs.statement.Delivery.{sources_of}
 use Rattle.tl_coherence.specs.statement.Log.{Log}
 use Rattle.tl_coherence.specs.statement.Machine.{Requests}
-use Rattle.tl_coherence.specs.protocol.Phase.{Acquiring, Calm, Wants}
-use Rattle.tl_coherence.specs.protocol.Protocol.{Service, Free, Waits, GrantSent, GrantTaken, State, Use, Closed, Asked, Replied, Acquires, token, tokens_on, is_on}
+use Rattle.tl_coherence.specs.protocol.Phase.{AcquirePhase, NoAcquire, AcquireOpen}
+use Rattle.tl_coherence.specs.protocol.Protocol.{Service, Free, Waits, GrantSent, GrantTaken, State, SourceState, SourceFree, Asked, Replied, Acquires, packet, packets_on, is_on}
 use Rattle.tl_coherence.specs.statement.Ranged.{AreBytes}
-use Rattle.tl_coherence.specs.statement.Remembered.{remembered}
-use Rattle.tl_coherence.specs.refinement.Render.{Mail, acquire_of, grant_of, message_of_kind, prune_told, rendered, report_told}
+use Rattle.tl_coherence.specs.statement.OneMemory.{one_memory_after}
+use Rattle.tl_coherence.specs.refinement.PacketMessages.{AccessMessages, acquire_of, grant_of, message_of_kind, prune_told, block_message, report_told}
 use Rattle.tl_coherence.specs.statement.System.{System, terms_at}
-use Rattle.tl_coherence.specs.protocol.Token.{Kind, Request, Acquire, Probe, ProbeAck, Release, Answer, Grant, ReleaseAck, GrantAck, Token, count, is, one_if}
-use Rattle.tl_coherence.specs.refinement.Whole.{AreLanes, IsMatched, is_caching}
+use Rattle.tl_coherence.specs.protocol.Packet.{Kind, Request, Acquire, Probe, ProbeAck, Release, Answer, Grant, ReleaseAck, GrantAck, Packet, count, is, one_if}
+use Rattle.tl_coherence.specs.refinement.SimulationRelation.{AreLanes, SimulationRelation, is_caching}
 use Rattle.tl_coherence.proofs.memory.Bytes.{IsRangedMachine, IsRangedOpen, IsRangedReply}
 use Rattle.tl_coherence.proofs.protocol.Capacities.{AreBounded, acquire_named, answer_named, grant_ack_named, grant_named, release_ack_named, release_named, request_named}
 use Rattle.tl_coherence.proofs.protocol.Capacities.{shown_there, shows_it, tracker_of_service}
@@ -77,10 +77,10 @@ ranged-beat blocks (message.E m) k few inside lanes is = is
 pub zeros-bytes : (n : ℕ) → AreBytes (replicate n 0)
 zeros-bytes n = All-replicate (λ byte. byte < 2 ^ 8) n 0 (lit< tt)
 
-acquire-ranged : (w : ℕ) (a : Acquiring) (source n : ℕ) → source < 2 ^ 8 → IsRangedMessage (acquire_of {w = w} a source n)
-acquire-ranged w (Wants true g) source n small = (small, zeros-bytes 64)
-acquire-ranged w (Wants false g) source n small = (small, zeros-bytes 64)
-acquire-ranged w Calm source n small = (small, zeros-bytes 64)
+acquire-ranged : (w : ℕ) (a : AcquirePhase) (source n : ℕ) → source < 2 ^ 8 → IsRangedMessage (acquire_of {w = w} a source n)
+acquire-ranged w (AcquireOpen true g) source n small = (small, zeros-bytes 64)
+acquire-ranged w (AcquireOpen false g) source n small = (small, zeros-bytes 64)
+acquire-ranged w NoAcquire source n small = (small, zeros-bytes 64)
 
 report-ranged : (w : ℕ) (p : Perm) (r : Report) (n : ℕ) (truth : List ℕ) → AreBytes truth → IsRangedMessage (probe_ack {w = w} opb.ProbeBlock p r n truth)
 report-ranged w perm.Trunk r n truth bytes = (lit< tt, bytes)
@@ -134,15 +134,15 @@ few-sources config c fits = go (slice_get config.clients.items c) refl
 
 -- ---- the message of the first token of a channel
 
-module _ {w : ℕ} (config : Config) (log : Log w) (mail : Mail w) (request : ℕ → MessageA w) (s : State (List ℕ)) (sys : System w)
-    (matched : IsMatched config log mail request s sys) (ranged : IsRangedMachine (remembered config log)) (c sources trackers : ℕ)
+module _ {w : ℕ} (config : Config) (log : Log w) (mail : AccessMessages w) (request : ℕ → MessageA w) (s : State (List ℕ)) (sys : System w)
+    (matched : SimulationRelation config log mail request s sys) (ranged : IsRangedMachine (one_memory_after config log)) (c sources trackers : ℕ)
     (bounds : AreBounded c sources trackers s) (few_sources : sources ≤ 8) (few_trackers : trackers ≤ 8) where
   truth-bytes : (n : ℕ) → AreBytes (s.block n).truth
   truth-bytes n = All-from_get_or (λ byte. byte < 2 ^ 8) (s.block n).truth 0 (λ i less.
       let inside : i < 64 = omega (arith, less, (matched.sized n).truth) in
       rw (sym (matched.beside.memory n i inside)) (ranged.memory (64 * n + i)))
 
-  used-small : (source : ℕ) (u : Use) → s.uses c source ≡ u → (u ≡ Closed → ⊥) → source < 2 ^ 8
+  used-small : (source : ℕ) (u : SourceState) → s.uses c source ≡ u → (u ≡ SourceFree → ⊥) → source < 2 ^ 8
   used-small source u e used = let less = bounds.requests source (λ none. used (sym e ∙ none)) in omega (arith, less, few_sources)
 
   let-small : (source n : ℕ) → s.lets c source ≡ Some n → source < 2 ^ 8
@@ -153,13 +153,13 @@ module _ {w : ℕ} (config : Config) (log : Log w) (mail : Mail w) (request : �
 
   request-ranged : (n : ℕ) → s.uses c n ≡ Asked → IsRangedMessage (mail.request c n)
   request-ranged n used =
-      let opened : IsOpened c n mail s Asked ((remembered config log).opened c Requests n) = rw used at (matched.beside.requests c n) in
+      let opened : IsOpened c n mail s Asked ((one_memory_after config log).opened c Requests n) = rw used at (matched.beside.requests c n) in
       let are : IsRangedOpen (Some (record { asked = op.Access (message.A opened.0); answer = None })) = rw opened.2 at (ranged.opened c Requests n) in
       rw opened.1 (used-small n Asked used (λ e. absurd cc), are.0)
 
   answer-is-ranged : (n : ℕ) → s.uses c n ≡ Replied → IsRangedMessage (mail.answer c n)
   answer-is-ranged n used =
-      let opened : IsOpened c n mail s Replied ((remembered config log).opened c Requests n) = rw used at (matched.beside.requests c n) in
+      let opened : IsOpened c n mail s Replied ((one_memory_after config log).opened c Requests n) = rw used at (matched.beside.requests c n) in
       let m : MessageA w = opened.1.0 in
       let r : memory.AccessResult = opened.0 in
       let are : IsRangedOpen (Some (record { asked = op.Access (message.A m); answer = Some r })) = rw opened.1.2 at (ranged.opened c Requests n) in
@@ -167,7 +167,7 @@ module _ {w : ℕ} (config : Config) (log : Log w) (mail : Mail w) (request : �
       rw answers.0 (answer-ranged (sourced n m) r (used-small n Replied used (λ e. absurd cc)) are.1)
 
   kind-ranged : (k : Kind) (n : ℕ) → shows_it s c k n ≡ true → IsRangedMessage (message_of_kind k mail s c n)
-  unfolding rendered
+  unfolding block_message
   kind-ranged Request n shows = request-ranged n (request_named (is_caching config) s c n matched.invariant shows)
   kind-ranged Answer n shows = answer-is-ranged n (answer_named (is_caching config) s c n matched.invariant shows)
   kind-ranged Acquire n shows =
@@ -185,8 +185,8 @@ module _ {w : ℕ} (config : Config) (log : Log w) (mail : Mail w) (request : �
   kind-ranged ReleaseAck n shows = ack-ranged w ((s.block n).release_source c) (let-small ((s.block n).release_source c) n (release_ack_named (is_caching config) s c n matched.invariant shows))
   kind-ranged GrantAck n shows = tracker-small (s.block n).tracker n (grant_ack_named (is_caching config) s c n matched.invariant shows)
 
-  pub first-ranged : (ch : Channel) (k : Kind) (n : ℕ) (rest : List Token) → is_on ch k ≡ true → tokens_on ch (s.link c) ≡ token k n ∷ rest → IsRangedMessage (message_of_kind k mail s c n)
+  pub first-ranged : (ch : Channel) (k : Kind) (n : ℕ) (rest : List Packet) → is_on ch k ≡ true → packets_on ch (s.link c) ≡ packet k n ∷ rest → IsRangedMessage (message_of_kind k mail s c n)
   unfolding count
   first-ranged ch k n rest on_it tokens =
-      let one : one_if (is k n (token k n)) ≡ 1 = rw (same_kind_again k, same_number n) refl in
+      let one : one_if (is k n (packet k n)) ≡ 1 = rw (same_kind_again k, same_number n) refl in
       kind-ranged k n (shown_there (is_caching config) s c ch k n matched.invariant on_it (rw tokens (omega (arith, one))))

@@ -23,18 +23,18 @@ use Rattle.tl_client.specs.statement.Offer as offer
 use Rattle.tl_coherence.specs.declared.event.Event.TheVariants.{Deliver}
 use Rattle.tl_coherence.specs.declared.event.Outcome.TheVariants as outcome
 use Rattle.tl_coherence.specs.statement.Draining.{is_moving}
-use Rattle.tl_coherence.specs.refinement.Follow.{Shadow, followed, kind_taken, token_taken}
-use Rattle.tl_coherence.specs.statement.Log.{Log, after}
-use Rattle.tl_coherence.specs.protocol.Protocol.{token, is_on}
-use Rattle.tl_coherence.specs.refinement.Render.{message_of_kind, rendered}
+use Rattle.tl_coherence.specs.refinement.AbstractStep.{AbstractState, abstract_step, kind_taken, packet_taken}
+use Rattle.tl_coherence.specs.statement.Log.{Log, system_after}
+use Rattle.tl_coherence.specs.protocol.Protocol.{packet, is_on}
+use Rattle.tl_coherence.specs.refinement.PacketMessages.{message_of_kind, block_message}
 use Rattle.tl_coherence.specs.statement.Step.{Step, stepped, is_to_client, outcome_of}
 use Rattle.tl_coherence.specs.statement.System.{System, terms_at}
-use Rattle.tl_coherence.specs.protocol.Token.{Kind, Request, Acquire, Probe, ProbeAck, Release, Answer, Grant, ReleaseAck, GrantAck, Token}
-use Rattle.tl_coherence.specs.refinement.Whole.{IsMatched, is_caching}
-use Rattle.tl_coherence.proofs.protocol.Due.{answer-due, grant-due, grant-rendered, ack_message}
+use Rattle.tl_coherence.specs.protocol.Packet.{Kind, Request, Acquire, Probe, ProbeAck, Release, Answer, Grant, ReleaseAck, GrantAck, Packet}
+use Rattle.tl_coherence.specs.refinement.SimulationRelation.{SimulationRelation, is_caching}
+use Rattle.tl_coherence.proofs.protocol.HeadOfD.{answer-due, grant-due, grant-rendered, ack_message}
 use Rattle.tl_coherence.proofs.queues.FirstToken.{IsFirst, first-token}
-use Rattle.tl_coherence.proofs.client.Heard.{finish_at, acked, answer-last, answer-part, same_answers}
-use Rattle.tl_coherence.proofs.deliveries.HeardAfter.{followed-moving}
+use Rattle.tl_coherence.proofs.client.DeliverD.{finish_at, acked, answer-last, answer-part, same_answers}
+use Rattle.tl_coherence.proofs.deliveries.DeliverDAfter.{followed-moving}
 use Rattle.tl_coherence.proofs.deliveries.Matching.{not_moving, stepped-nobody}
 use Rattle.tl_coherence.proofs.simulation.Moved.{IsTakenByClient, client-moves, manager-moves}
 use Rattle.tl_coherence.proofs.client.ProbeDelivered.{delivered-b}
@@ -42,17 +42,17 @@ use Rattle.tl_coherence.proofs.manager.RequestsTaken.{next_tracker}
 use Rattle.tl_coherence.proofs.queues.Steps.{stepped-empty}
 
 -- the operation with this source ends so
-pub record IsEnding {w : ℕ} (config : Config) (log : Log w) (link : Link) (ch : Channel) (h : Shadow w) (x : Beat w) (source : ℕ) (f : Finish) : Type 0 where
+pub record IsEnding {w : ℕ} (config : Config) (log : Log w) (link : Link) (ch : Channel) (h : AbstractState w) (x : Beat w) (source : ℕ) (f : Finish) : Type 0 where
   pub on_d : ch ≡ channel.D
   pub queue : List (Beat w)
-  pub first : IsFirst channel.D link.0 h.mail h.state (after config log) x queue
+  pub first : IsFirst channel.D link.0 h.mail h.state (system_after config log) x queue
   pub response : MessageD w
   pub response_is : message_of_kind first.kind h.mail h.state link.0 first.number ≡ message.D response
-  pub last : completes x (unfinished channel.D ((after config log).clients link.0).past) ≡ true
+  pub last : completes x (unfinished channel.D ((system_after config log).clients link.0).past) ≡ true
   pub beat_is : x ≡ beat.D (d_beat_of response first.next.k)
   pub source_is : source ≡ response.source
-  pub finish_is : f ≡ finish_at (d_beat_of response first.next.k) ((after config log).clients link.0)
-  pub follows : followed config (Deliver link channel.D) (after config log) h ≡ kind_taken config (next_tracker (after config log)) link.0 first.kind first.number first.rest h
+  pub finish_is : f ≡ finish_at (d_beat_of response first.next.k) ((system_after config log).clients link.0)
+  pub follows : abstract_step config (Deliver link channel.D) (system_after config log) h ≡ kind_taken config (next_tracker (system_after config log)) link.0 first.kind first.number first.rest h
 
 done_beat : {w : ℕ} (x y : Beat w) (i j : ℕ) (f g : Finish) → outcome.Done x i f ≡ outcome.Done y j g → x ≡ y
 done_beat x y i j f g e = cc
@@ -67,10 +67,10 @@ done_moved : {w : ℕ} (x y : Beat w) (i : ℕ) (f : Finish) → outcome.Done x 
 done_moved x y i f e = absurd cc
 
 -- the response that is first on channel D
-response_of : {w : ℕ} (config : Config) (log : Log w) (h : Shadow w) (sys : System w) (c : ℕ) (k : Kind) (i : ℕ) (rest : List Token)
-    → IsMatched config log h.mail h.request h.state sys → (h.state.link c).d ≡ token k i ∷ rest → is_on channel.D k ≡ true
+response_of : {w : ℕ} (config : Config) (log : Log w) (h : AbstractState w) (sys : System w) (c : ℕ) (k : Kind) (i : ℕ) (rest : List Packet)
+    → SimulationRelation config log h.mail h.request h.state sys → (h.state.link c).d ≡ packet k i ∷ rest → is_on channel.D k ≡ true
     → (m : MessageD w) × (message_of_kind k h.mail h.state c i ≡ message.D m)
-unfolding rendered
+unfolding block_message
 response_of config log h sys c Answer i rest is tokens own = let due = answer-due (is_caching config) c i rest h.mail h.state is.invariant (is.answered c i) tokens in (due.answer, due.answer_is)
 response_of config log h sys c Grant n rest is tokens own = let due = grant-due (is_caching config) c n rest h.state is.invariant tokens in (_, grant-rendered c n h.state due)
 response_of config log h sys c ReleaseAck n rest is tokens own = (ack_message ((h.state.block n).release_source c), refl)
@@ -81,14 +81,14 @@ response_of config log h sys c ProbeAck i rest is tokens own = absurd cc
 response_of config log h sys c Release i rest is tokens own = absurd cc
 response_of config log h sys c GrantAck i rest is tokens own = absurd cc
 
-ending_d : {w : ℕ} (config : Config) (log : Log w) (link : Link) (h : Shadow w) (terms : Terms) (y : Beat w) (queue : List (Beat w)) (x : Beat w) (source : ℕ)
-    (f : Finish) → IsWidth w → IsMatched config log h.mail h.request h.state (after config log)
-    → terms_at config link.0 ≡ Some terms → (after config log).channels link.0 channel.D ≡ y ∷ queue
-    → (stepped config (Deliver link channel.D) (after config log)).outcome ≡ outcome.Done x source f → IsEnding config log link channel.D h x source f
+ending_d : {w : ℕ} (config : Config) (log : Log w) (link : Link) (h : AbstractState w) (terms : Terms) (y : Beat w) (queue : List (Beat w)) (x : Beat w) (source : ℕ)
+    (f : Finish) → IsWidth w → SimulationRelation config log h.mail h.request h.state (system_after config log)
+    → terms_at config link.0 ≡ Some terms → (system_after config log).channels link.0 channel.D ≡ y ∷ queue
+    → (stepped config (Deliver link channel.D) (system_after config log)).outcome ≡ outcome.Done x source f → IsEnding config log link channel.D h x source f
 ending_d {w} config log link h terms y queue x source f width is known beats done = go (completes y (unfinished channel.D e.past)) refl
   where
     sys : System w
-    sys = after config log
+    sys = system_after config log
 
     c : ℕ
     c = link.0
@@ -142,17 +142,17 @@ ending_d {w} config log link h terms y queue x source f width is known beats don
           source_is = i;
           finish_is = j;
           follows = followed-moving config link channel.D sys h y queue moving beats
-              ∙ ap (λ (b : Bool). if b then token_taken config (next_tracker sys) c (h.state.link c).d h else h) whole
-              ∙ ap (λ (l : List Token). token_taken config (next_tracker sys) c l h) first.tokens;
+              ∙ ap (λ (b : Bool). if b then packet_taken config (next_tracker sys) c (h.state.link c).d h else h) whole
+              ∙ ap (λ (l : List Packet). packet_taken config (next_tracker sys) c l h) first.tokens;
         })
 
-pub ending : {w : ℕ} (config : Config) (log : Log w) (link : Link) (ch : Channel) (h : Shadow w) (x : Beat w) (source : ℕ) (f : Finish) → IsWidth w
-    → IsMatched config log h.mail h.request h.state (after config log)
-    → (stepped config (Deliver link ch) (after config log)).outcome ≡ outcome.Done x source f → IsEnding config log link ch h x source f
+pub ending : {w : ℕ} (config : Config) (log : Log w) (link : Link) (ch : Channel) (h : AbstractState w) (x : Beat w) (source : ℕ) (f : Finish) → IsWidth w
+    → SimulationRelation config log h.mail h.request h.state (system_after config log)
+    → (stepped config (Deliver link ch) (system_after config log)).outcome ≡ outcome.Done x source f → IsEnding config log link ch h x source f
 ending {w} config log link ch h x source f width is done = found (terms_at config link.0) refl
   where
     sys : System w
-    sys = after config log
+    sys = system_after config log
 
     up : (at : Channel) (terms : Terms) (y : Beat w) (queue : List (Beat w)) → terms_at config link.0 ≡ Some terms → sys.channels link.0 at ≡ y ∷ queue
         → is_to_client at ≡ false → (stepped config (Deliver link at) sys).outcome ≡ outcome.Done x source f → ⊥

@@ -30,24 +30,24 @@ use Rattle.tl_manager.specs.statement.Service.{is_access_answer}
 use Rattle.tl_manager.proofs.Recording.{cap-gives}
 use Rattle.tl_coherence.specs.declared.event.Event.TheVariants.{Deliver}
 use Rattle.tl_coherence.specs.declared.event.Outcome.TheVariants as outcome
-use Rattle.tl_coherence.specs.refinement.Beside.{IsOpened, op_of}
+use Rattle.tl_coherence.specs.refinement.MemoryRelation.{IsOpened, op_of}
 use Rattle.tl_coherence.specs.statement.Coherent.{started}
-use Rattle.tl_coherence.specs.refinement.Follow.{Shadow, followed, is_whole, kind_taken, taken_by_client}
-use Rattle.tl_coherence.specs.statement.Log.{Log, after}
+use Rattle.tl_coherence.specs.refinement.AbstractStep.{AbstractState, abstract_step, is_whole, kind_taken, taken_by_client}
+use Rattle.tl_coherence.specs.statement.Log.{Log, system_after}
 use Rattle.tl_coherence.specs.statement.Machine.{Open, Requests}
-use Rattle.tl_coherence.specs.protocol.Phase.{Pair, Acquiring, Calm, Wants}
+use Rattle.tl_coherence.specs.protocol.Phase.{ClientBlock, AcquirePhase, NoAcquire, AcquireOpen}
 use Rattle.tl_coherence.specs.protocol.PhaseSteps.{after_grant}
-use Rattle.tl_coherence.specs.protocol.Protocol.{Service, Block, is_on, Use, Acquires, token, taken_block}
-use Rattle.tl_coherence.specs.statement.Remembered.{remembered}
-use Rattle.tl_coherence.specs.refinement.Render.{message_of_kind, rendered}
+use Rattle.tl_coherence.specs.protocol.Protocol.{Service, Block, is_on, SourceState, Acquires, packet, taken_block}
+use Rattle.tl_coherence.specs.statement.OneMemory.{one_memory_after}
+use Rattle.tl_coherence.specs.refinement.PacketMessages.{message_of_kind, block_message}
 use Rattle.tl_coherence.specs.statement.Step.{stepped}
 use Rattle.tl_coherence.specs.statement.System.{System}
-use Rattle.tl_coherence.specs.protocol.Token.{Kind, Request, Acquire, Probe, ProbeAck, Release, Answer, Grant, ReleaseAck, GrantAck, Token}
-use Rattle.tl_coherence.specs.refinement.Whole.{IsMatched, is_caching}
+use Rattle.tl_coherence.specs.protocol.Packet.{Kind, Request, Acquire, Probe, ProbeAck, Release, Answer, Grant, ReleaseAck, GrantAck, Packet}
+use Rattle.tl_coherence.specs.refinement.SimulationRelation.{SimulationRelation, is_caching}
 use Rattle.tl_coherence.proofs.memory.Coherence.{opened-started}
-use Rattle.tl_coherence.proofs.protocol.Due.{IsGrantDue, ack_message, answer-due, grant-due, grant-rendered, grant_message}
+use Rattle.tl_coherence.proofs.protocol.HeadOfD.{IsGrantDue, ack_message, answer-due, grant-due, grant-rendered, grant_message}
 use Rattle.tl_coherence.proofs.links.Ending.{IsEnding, ending}
-use Rattle.tl_coherence.proofs.client.Heard.{finish_at}
+use Rattle.tl_coherence.proofs.client.DeliverD.{finish_at}
 use Rattle.tl_coherence.proofs.deliveries.Matching.{matched-event}
 use Rattle.tl_coherence.proofs.manager.RequestsTaken.{next_tracker}
 use Rattle.tl_coherence.proofs.queues.Tokens.{set-same}
@@ -90,18 +90,18 @@ same_grant p q e = cc
 
 -- ---- the operation that it answers
 
-acquired_block : (w : ℕ) (x : Acquiring) (n : ℕ) (bytes : List ℕ) → op_block (op_of {w = w} x n bytes) ≡ n
-acquired_block w (Wants true g) n bytes = refl
-acquired_block w (Wants false g) n bytes = refl
-acquired_block w Calm n bytes = refl
+acquired_block : (w : ℕ) (x : AcquirePhase) (n : ℕ) (bytes : List ℕ) → op_block (op_of {w = w} x n bytes) ≡ n
+acquired_block w (AcquireOpen true g) n bytes = refl
+acquired_block w (AcquireOpen false g) n bytes = refl
+acquired_block w NoAcquire n bytes = refl
 
-pub opened-acquire : {w : ℕ} (config : Config) (log : Log w) (h : Shadow w) (sys : System w) (c source n : ℕ) (u : Use)
-    → IsMatched config log h.mail h.request h.state sys → h.state.uses c source ≡ u → u ≡ Acquires n
-    → (remembered config log).opened c Requests source ≡ Some (record { asked = op_of ((h.state.block n).pair c).acquiring n ((h.state.block n).waiting c); answer = None })
+pub opened-acquire : {w : ℕ} (config : Config) (log : Log w) (h : AbstractState w) (sys : System w) (c source n : ℕ) (u : SourceState)
+    → SimulationRelation config log h.mail h.request h.state sys → h.state.uses c source ≡ u → u ≡ Acquires n
+    → (one_memory_after config log).opened c Requests source ≡ Some (record { asked = op_of ((h.state.block n).pair c).acquiring n ((h.state.block n).waiting c); answer = None })
 opened-acquire {w} config log h sys c source n u is e f = go (h.state.uses c source) (e ∙ f) (is.beside.requests c source)
   where
-    go : (v : Use) → v ≡ Acquires n → IsOpened c source h.mail h.state v ((remembered config log).opened c Requests source)
-        → (remembered config log).opened c Requests source ≡ Some (record { asked = op_of ((h.state.block n).pair c).acquiring n ((h.state.block n).waiting c); answer = None })
+    go : (v : SourceState) → v ≡ Acquires n → IsOpened c source h.mail h.state v ((one_memory_after config log).opened c Requests source)
+        → (one_memory_after config log).opened c Requests source ≡ Some (record { asked = op_of ((h.state.block n).pair c).acquiring n ((h.state.block n).waiting c); answer = None })
     go v g i = rw g at i
 
 same_op : {w : ℕ} (x y : Op w) → Some x ≡ Some y → x ≡ y
@@ -109,25 +109,25 @@ same_op x y e = cc
 
 -- ---- what the client holds then
 
-pub held_granted : {w : ℕ} (config : Config) (tracker c n : ℕ) (rest : List Token) (h : Shadow w) (due : IsGrantDue c n h.state)
+pub held_granted : {w : ℕ} (config : Config) (tracker c n : ℕ) (rest : List Packet) (h : AbstractState w) (due : IsGrantDue c n h.state)
     → (((kind_taken config tracker c Grant n rest h).state.block n).pair c).held ≡ cap_right due.k
 held_granted {w} config tracker c n rest h due =
     ap (λ (v : Service). ((((taken_by_client c n v rest h).state).block n).pair c).held) due.service
     ∙ ap (λ (i : Block (List ℕ)). (i.pair c).held) (set-same n (taken_block c (is_whole (b.pair c).acquiring) due.data_too due.k b) h.state.block)
-    ∙ ap (λ (p : Pair). p.held) (set-same c (after_grant due.k (b.pair c)) b.pair)
+    ∙ ap (λ (p : ClientBlock). p.held) (set-same c (after_grant due.k (b.pair c)) b.pair)
   where
     b : Block (List ℕ)
     b = h.state.block n
 
-pub granted-holds : {w : ℕ} (config : Config) (log : Log w) (link : Link) (ch : Channel) (h : Shadow w) (x : Beat w) (source : ℕ) (p : Perm) (op : Op w)
-    → IsWidth w → IsMatched config log h.mail h.request h.state (after config log)
-    → (stepped config (Deliver link ch) (after config log)).outcome ≡ outcome.Done x source (finish.Granted p) → started link.0 Requests source log ≡ Some op
-    → held (op_block op) ((stepped config (Deliver link ch) (after config log)).after.clients link.0).past ≡ p
-unfolding rendered
+pub granted-holds : {w : ℕ} (config : Config) (log : Log w) (link : Link) (ch : Channel) (h : AbstractState w) (x : Beat w) (source : ℕ) (p : Perm) (op : Op w)
+    → IsWidth w → SimulationRelation config log h.mail h.request h.state (system_after config log)
+    → (stepped config (Deliver link ch) (system_after config log)).outcome ≡ outcome.Done x source (finish.Granted p) → started link.0 Requests source log ≡ Some op
+    → held (op_block op) ((stepped config (Deliver link ch) (system_after config log)).after.clients link.0).past ≡ p
+unfolding block_message
 granted-holds {w} config log link ch h x source p op width is done asked = go end.first.kind refl end.first.own
   where
     sys : System w
-    sys = after config log
+    sys = system_after config log
 
     c : ℕ
     c = link.0
@@ -138,14 +138,14 @@ granted-holds {w} config log link ch h x source p op width is done asked = go en
     n : ℕ
     n = end.first.number
 
-    tokens : (k : Kind) → end.first.kind ≡ k → (h.state.link c).d ≡ token k n ∷ end.first.rest
-    tokens k e = end.first.tokens ∙ ap (λ (i : Kind). token i n ∷ end.first.rest) e
+    tokens : (k : Kind) → end.first.kind ≡ k → (h.state.link c).d ≡ packet k n ∷ end.first.rest
+    tokens k e = end.first.tokens ∙ ap (λ (i : Kind). packet i n ∷ end.first.rest) e
 
     response_is : (k : Kind) → end.first.kind ≡ k → message_of_kind k h.mail h.state c n ≡ message.D end.response
     response_is k e = ap (λ (i : Kind). message_of_kind i h.mail h.state c n) (sym e) ∙ end.response_is
 
-    then_matched : IsMatched config ((Deliver link ch, (stepped config (Deliver link ch) sys).outcome) ∷ log) (followed config (Deliver link ch) sys h).mail
-        (followed config (Deliver link ch) sys h).request (followed config (Deliver link ch) sys h).state (stepped config (Deliver link ch) sys).after
+    then_matched : SimulationRelation config ((Deliver link ch, (stepped config (Deliver link ch) sys).outcome) ∷ log) (abstract_step config (Deliver link ch) sys h).mail
+        (abstract_step config (Deliver link ch) sys h).request (abstract_step config (Deliver link ch) sys h).state (stepped config (Deliver link ch) sys).after
     then_matched = matched-event config log h (Deliver link ch) width tt is
 
     grant : (e : end.first.kind ≡ Grant) → held (op_block op) ((stepped config (Deliver link ch) sys).after.clients c).past ≡ p
@@ -162,8 +162,8 @@ granted-holds {w} config log link ch h x source p op width is done asked = go en
         same_op op _ (sym asked ∙ sym (opened-started config log c Requests source) ∙ ap (λ (o : Option (Open w)). option_map (λ i. i.asked) o) opened) in
         let block_is : op_block op ≡ n = ap op_block op_is ∙ acquired_block w ((h.state.block n).pair c).acquiring n ((h.state.block n).waiting c) in
         ap (λ (i : ℕ). held i ((stepped config (Deliver link ch) sys).after.clients c).past) block_is ∙ (then_matched.known c).held_is n
-        ∙ ap (λ (at : Channel). (((followed config (Deliver link at) sys h).state.block n).pair c).held) end.on_d
-        ∙ ap (λ (i : Shadow w). ((i.state.block n).pair c).held) end.follows ∙ ap (λ (k : Kind). (((kind_taken config (next_tracker sys) c k n end.first.rest h).state.block n).pair c).held) e
+        ∙ ap (λ (at : Channel). (((abstract_step config (Deliver link at) sys h).state.block n).pair c).held) end.on_d
+        ∙ ap (λ (i : AbstractState w). ((i.state.block n).pair c).held) end.follows ∙ ap (λ (k : Kind). (((kind_taken config (next_tracker sys) c k n end.first.rest h).state.block n).pair c).held) e
         ∙ held_granted config (next_tracker sys) c n end.first.rest h due ∙ sym cap_is
 
     go : (k : Kind) → end.first.kind ≡ k → is_on channel.D end.first.kind ≡ true → held (op_block op) ((stepped config (Deliver link ch) sys).after.clients c).past ≡ p

@@ -31,22 +31,22 @@ use Rattle.tl_manager.specs.statement.End as manager_end
 use Rattle.tl_manager.specs.statement.Offer as manager
 use Rattle.tl_manager.specs.statement.Offer.{must_wait, Judgement, Breaks, Waits, Passes, breaks_or, waits_or, is_waiting, offered_as, judged_on, judged_at, open_level}
 use Rattle.tl_manager.proofs.Stalls.{never-stalled}
-use Rattle.tl_coherence.specs.refinement.Beside.{IsLet}
+use Rattle.tl_coherence.specs.refinement.MemoryRelation.{IsLet}
 use Rattle.tl_coherence.specs.statement.Coherent.{IsCoherent, started}
 use Rattle.tl_coherence.specs.declared.event.Event.TheVariants.{Deliver}
 use Rattle.tl_coherence.specs.statement.Delivery.{IsExact, IsReleasing, Moves, is_emptiness, is_stall, outcome_of_delivery}
 use Rattle.tl_coherence.specs.statement.Draining.{is_moving}
 use Rattle.tl_coherence.specs.protocol.Invariant.{is_of, releases_with}
-use Rattle.tl_coherence.specs.statement.Log.{Log, after}
+use Rattle.tl_coherence.specs.statement.Log.{Log, system_after}
 use Rattle.tl_coherence.specs.statement.Machine.{Open, Releases, is_client}
 use Rattle.tl_coherence.specs.statement.Movable.{is_movable, moves, stalls}
-use Rattle.tl_coherence.specs.protocol.Phase.{is_kept}
+use Rattle.tl_coherence.specs.protocol.Phase.{is_unreleased}
 use Rattle.tl_coherence.specs.protocol.Protocol.{State}
-use Rattle.tl_coherence.specs.statement.Remembered.{remembered}
-use Rattle.tl_coherence.specs.refinement.Render.{Mail}
+use Rattle.tl_coherence.specs.statement.OneMemory.{one_memory_after}
+use Rattle.tl_coherence.specs.refinement.PacketMessages.{AccessMessages}
 use Rattle.tl_coherence.specs.statement.Step.{Step, delivered, is_to_client, judged, manager_took, stepped, stepped_at}
 use Rattle.tl_coherence.specs.statement.System.{System, terms_at}
-use Rattle.tl_coherence.specs.refinement.Whole.{IsMatched}
+use Rattle.tl_coherence.specs.refinement.SimulationRelation.{SimulationRelation}
 use Rattle.tl_coherence.proofs.protocol.Capacities.{source_of_release}
 use Rattle.tl_coherence.proofs.memory.Runs.{IsTaken, IsTakenUp, IsTakenIn, stall-delivered}
 use Rattle.tl_coherence.proofs.queues.Tokens.{same_number}
@@ -94,13 +94,13 @@ stalled-as-it-waits terms ch x e taken = rw (up-unbroken terms ch x e taken) ref
 is_some_of : (n : ℕ) (o : Option ℕ) → o ≡ Some n → is_of n o ≡ true
 is_some_of n o e = rw e (same_number n)
 
-module _ {w : ℕ} (config : Config) (log : Log w) (mail : Mail w) (request : ℕ → MessageA w) (s : State (List ℕ)) (matched : IsMatched config log mail request s (after config log))
-    (coherent : IsCoherent (after config log) log (remembered config log)) (c n : ℕ) where
-  pub releasing-started : pending (ReleaseOf n) ((after config log).clients c).past ≡ true → IsReleasing c n log
+module _ {w : ℕ} (config : Config) (log : Log w) (mail : AccessMessages w) (request : ℕ → MessageA w) (s : State (List ℕ)) (matched : SimulationRelation config log mail request s (system_after config log))
+    (coherent : IsCoherent (system_after config log) log (one_memory_after config log)) (c n : ℕ) where
+  pub releasing-started : pending (ReleaseOf n) ((system_after config log).clients c).past ≡ true → IsReleasing c n log
   releasing-started p = let found = of_let (rw let_by at (matched.beside.releases c source)) in (source, found.0, found.1)
     where
-      not_kept : is_kept ((s.block n).pair c).letting ≡ false
-      not_kept = not-true (is_kept ((s.block n).pair c).letting) (sym ((matched.known c).releases n) ∙ p)
+      not_kept : is_unreleased ((s.block n).pair c).letting ≡ false
+      not_kept = not-true (is_unreleased ((s.block n).pair c).letting) (sym ((matched.known c).releases n) ∙ p)
 
       source : ℕ
       source = (s.block n).release_source c
@@ -108,13 +108,13 @@ module _ {w : ℕ} (config : Config) (log : Log w) (mail : Mail w) (request : �
       let_by : s.lets c source ≡ Some n
       let_by = source_of_release _ s c n matched.invariant not_kept
 
-      of_let : IsLet (Some n) ((remembered config log).opened c Releases source) → (prune : Prune) × (started c Releases source log ≡ Some (Release n prune))
+      of_let : IsLet (Some n) ((one_memory_after config log).opened c Releases source) → (prune : Prune) × (started c Releases source log ≡ Some (Release n prune))
       of_let (p, is) = (p, sym (coherent.opened c Releases source) ∙ ap (λ (o : Option (Open w)). option_map (λ x. x.asked) o) is)
 
-  pub started-releasing : IsReleasing c n log → pending (ReleaseOf n) ((after config log).clients c).past ≡ true
+  pub started-releasing : IsReleasing c n log → pending (ReleaseOf n) ((system_after config log).clients c).past ≡ true
   started-releasing (source, prune, is) = go (s.lets c source) refl (matched.beside.releases c source)
     where
-      asked_is : option_map (λ x. x.asked) ((remembered config log).opened c Releases source) ≡ Some (Release n prune)
+      asked_is : option_map (λ x. x.asked) ((one_memory_after config log).opened c Releases source) ≡ Some (Release n prune)
       asked_is = coherent.opened c Releases source ∙ is
 
       same_release : (m : ℕ) (p : Prune) (a b : Option (Op w)) → a ≡ Some (Release m p) → b ≡ Some (Release n prune) → a ≡ b → m ≡ n
@@ -123,13 +123,13 @@ module _ {w : ℕ} (config : Config) (log : Log w) (mail : Mail w) (request : �
       nothing : (x : Op w) → None ≡ Some x → ⊥
       nothing x e = absurd cc
 
-      go : (o : Option ℕ) → s.lets c source ≡ o → IsLet o ((remembered config log).opened c Releases source) → pending (ReleaseOf n) ((after config log).clients c).past ≡ true
+      go : (o : Option ℕ) → s.lets c source ≡ o → IsLet o ((one_memory_after config log).opened c Releases source) → pending (ReleaseOf n) ((system_after config log).clients c).past ≡ true
       go None e none = absurd (nothing _ (rw none at asked_is))
       go (Some m) e (p, opened) =
-          let asked : option_map (λ x. x.asked) ((remembered config log).opened c Releases source) ≡ Some (Release m p) = rw opened refl in
+          let asked : option_map (λ x. x.asked) ((one_memory_after config log).opened c Releases source) ≡ Some (Release m p) = rw opened refl in
           let same : m ≡ n = same_release m p _ _ asked asked_is refl in
           let named : releases_with c source (s.block n) ≡ true = sym (matched.invariant.named.releases c source n) ∙ is_some_of n (s.lets c source) (e ∙ ap (λ (i : ℕ). Some i) same) in
-          (matched.known c).releases n ∙ and_left (not (is_kept ((s.block n).pair c).letting)) _ named
+          (matched.known c).releases n ∙ and_left (not (is_unreleased ((s.block n).pair c).letting)) _ named
 
 -- ---- deliveries
 
@@ -182,12 +182,12 @@ moving-else {w} config terms link ch (x ∷ rest) s some unstalled = go (is_to_c
 
 -- a movable delivery moves a beat, where empty and stalled ones are what they should be
 pub movable-moves : {w : ℕ} (config : Config) (log : Log w) (c : ℕ) (ch : Channel) → (is_client config c ≡ true → IsExact config log c ch)
-    → is_movable config c ch (after config log) ≡ true → is_moving (outcome_of_delivery config log c ch) ≡ true
+    → is_movable config c ch (system_after config log) ≡ true → is_moving (outcome_of_delivery config log c ch) ≡ true
 unfolding is_movable stepped
-movable-moves {w} config log c ch exactly movable = go (terms_at config c) refl ((after config log).channels c ch) refl movable
+movable-moves {w} config log c ch exactly movable = go (terms_at config c) refl ((system_after config log).channels c ch) refl movable
   where
     sys : System w
-    sys = after config log
+    sys = system_after config log
 
     go : (o : Option Terms) → terms_at config c ≡ o → (beats : List (Beat w)) → sys.channels c ch ≡ beats → moves config o c ch beats sys ≡ true
         → is_moving (outcome_of_delivery config log c ch) ≡ true
@@ -210,42 +210,42 @@ pub record IsFirst {w : ℕ} (config : Config) (terms : Terms) (c : ℕ) (ch : C
   pub taken : IsTaken config terms c ch x sys
   pub probes : (y : BeatB w) → x ≡ beat.B y → is_probe y.opcode ≡ true
 
-module _ {w : ℕ} (config : Config) (log : Log w) (mail : Mail w) (request : ℕ → MessageA w) (s : State (List ℕ)) (matched : IsMatched config log mail request s (after config log))
-    (coherent : IsCoherent (after config log) log (remembered config log)) (c : ℕ) (terms : Terms) (is : terms_at config c ≡ Some terms) where
-  movable-is : (ch : Channel) (x : Beat w) (rest : List (Beat w)) → (after config log).channels c ch ≡ x ∷ rest
-      → is_movable config c ch (after config log) ≡ not (stalls config terms c ch x (after config log))
+module _ {w : ℕ} (config : Config) (log : Log w) (mail : AccessMessages w) (request : ℕ → MessageA w) (s : State (List ℕ)) (matched : SimulationRelation config log mail request s (system_after config log))
+    (coherent : IsCoherent (system_after config log) log (one_memory_after config log)) (c : ℕ) (terms : Terms) (is : terms_at config c ≡ Some terms) where
+  movable-is : (ch : Channel) (x : Beat w) (rest : List (Beat w)) → (system_after config log).channels c ch ≡ x ∷ rest
+      → is_movable config c ch (system_after config log) ≡ not (stalls config terms c ch x (system_after config log))
   unfolding is_movable
   movable-is ch x rest e = rw (is, e) refl
 
-  outcome-is : (ch : Channel) → outcome_of_delivery config log c ch ≡ (delivered config terms c ch ((after config log).channels c ch) (after config log)).outcome
+  outcome-is : (ch : Channel) → outcome_of_delivery config log c ch ≡ (delivered config terms c ch ((system_after config log).channels c ch) (system_after config log)).outcome
   unfolding stepped
   outcome-is ch = rw (outcome_of_delivery, is) refl
 
-  moves-exactly : (ch : Channel) (x : Beat w) (rest : List (Beat w)) → (after config log).channels c ch ≡ x ∷ rest → IsFirst config terms c ch x (after config log) → Moves config log c x
+  moves-exactly : (ch : Channel) (x : Beat w) (rest : List (Beat w)) → (system_after config log).channels c ch ≡ x ∷ rest → IsFirst config terms c ch x (system_after config log) → Moves config log c x
   moves-exactly channel.A (beat.A y) rest e first =
-      movable-is channel.A (beat.A y) rest e ∙ ap not (stalled-as-it-must config (record { 0 = c }) channel.A (beat.A y) (after config log).manager (first.taken.1 refl))
+      movable-is channel.A (beat.A y) rest e ∙ ap not (stalled-as-it-must config (record { 0 = c }) channel.A (beat.A y) (system_after config log).manager (first.taken.1 refl))
   moves-exactly channel.C (beat.C y) rest e first =
-      movable-is channel.C (beat.C y) rest e ∙ ap not (never-stalled config (record { 0 = c }) channel.C (beat.C y) (after config log).manager refl)
+      movable-is channel.C (beat.C y) rest e ∙ ap not (never-stalled config (record { 0 = c }) channel.C (beat.C y) (system_after config log).manager refl)
   moves-exactly channel.E (beat.E y) rest e first =
-      movable-is channel.E (beat.E y) rest e ∙ ap not (never-stalled config (record { 0 = c }) channel.E (beat.E y) (after config log).manager refl)
+      movable-is channel.E (beat.E y) rest e ∙ ap not (never-stalled config (record { 0 = c }) channel.E (beat.E y) (system_after config log).manager refl)
   moves-exactly channel.D (beat.D y) rest e first =
-      movable-is channel.D (beat.D y) rest e ∙ ap not (stalled-as-it-waits terms channel.D (beat.D y) ((after config log).clients c) (first.taken.0 refl))
+      movable-is channel.D (beat.D y) rest e ∙ ap not (stalled-as-it-waits terms channel.D (beat.D y) ((system_after config log).clients c) (first.taken.0 refl))
   moves-exactly channel.B (beat.B y) rest e first = (there, back)
     where
-      waits : is_movable config c channel.B (after config log) ≡ not (pending (ReleaseOf (block_at y.address)) ((after config log).clients c).past)
-      waits = movable-is channel.B (beat.B y) rest e ∙ ap not (stalled-as-it-waits terms channel.B (beat.B y) ((after config log).clients c) (first.taken.0 refl) ∙ rw (first.probes y refl) refl)
+      waits : is_movable config c channel.B (system_after config log) ≡ not (pending (ReleaseOf (block_at y.address)) ((system_after config log).clients c).past)
+      waits = movable-is channel.B (beat.B y) rest e ∙ ap not (stalled-as-it-waits terms channel.B (beat.B y) ((system_after config log).clients c) (first.taken.0 refl) ∙ rw (first.probes y refl) refl)
 
-      there : is_movable config c channel.B (after config log) ≡ false → IsReleasing c (block_at y.address) log
+      there : is_movable config c channel.B (system_after config log) ≡ false → IsReleasing c (block_at y.address) log
       there h = releasing-started config log mail request s matched coherent c (block_at y.address) (not-false _ (sym waits ∙ h))
 
-      back : IsReleasing c (block_at y.address) log → is_movable config c channel.B (after config log) ≡ false
+      back : IsReleasing c (block_at y.address) log → is_movable config c channel.B (system_after config log) ≡ false
       back h = waits ∙ ap not (started-releasing config log mail request s matched coherent c (block_at y.address) h)
   moves-exactly ch x rest e first = absurd (let on = first.on in cc)
 
-  pub exact : (ch : Channel) → ((x : Beat w) (rest : List (Beat w)) → (after config log).channels c ch ≡ x ∷ rest → IsFirst config terms c ch x (after config log)) → IsExact config log c ch
+  pub exact : (ch : Channel) → ((x : Beat w) (rest : List (Beat w)) → (system_after config log).channels c ch ≡ x ∷ rest → IsFirst config terms c ch x (system_after config log)) → IsExact config log c ch
   exact ch firsts = record {
-    empty = ap is_emptiness (outcome-is ch) ∙ emptiness config terms c ch ((after config log).channels c ch) (after config log);
-    stalled = stall ((after config log).channels c ch) refl;
+    empty = ap is_emptiness (outcome-is ch) ∙ emptiness config terms c ch ((system_after config log).channels c ch) (system_after config log);
+    stalled = stall ((system_after config log).channels c ch) refl;
     moves = λ x rest e. moves-exactly ch x rest e (firsts x rest e);
   }
     where
@@ -253,10 +253,10 @@ module _ {w : ℕ} (config : Config) (log : Log w) (mail : Mail w) (request : �
       not_not true = refl
       not_not false = refl
 
-      stall : (beats : List (Beat w)) → (after config log).channels c ch ≡ beats
-          → is_stall (outcome_of_delivery config log c ch) ≡ not (is_empty ((after config log).channels c ch))
-          && not (is_movable config c ch (after config log))
+      stall : (beats : List (Beat w)) → (system_after config log).channels c ch ≡ beats
+          → is_stall (outcome_of_delivery config log c ch) ≡ not (is_empty ((system_after config log).channels c ch))
+          && not (is_movable config c ch (system_after config log))
       stall [] e = rw (outcome-is ch, e) refl
       stall (x ∷ rest) e =
           ap is_stall (outcome-is ch) ∙ rw (movable-is ch x rest e, e)
-          (stall-delivered config terms c ch x rest (after config log) (firsts x rest e).taken ∙ not_not (stalls config terms c ch x (after config log)))
+          (stall-delivered config terms c ch x rest (system_after config log) (firsts x rest e).taken ∙ not_not (stalls config terms c ch x (system_after config log)))

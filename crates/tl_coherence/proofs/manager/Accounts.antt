@@ -26,12 +26,12 @@ use Rattle.tl_manager.specs.statement.End.{End}
 use Rattle.tl_manager.proofs.Serving.{some_is, none_of_block}
 use Rattle.tl_manager.proofs.Settled.{all-settled}
 use Rattle.tl_manager.proofs.Sources.{source-pending, sink-pending}
-use Rattle.tl_coherence.specs.protocol.Phase.{Pair, View, Own, Other, Granting, Acknowledging, GrantedOther, is_quiet, ok}
-use Rattle.tl_coherence.specs.protocol.Protocol.{Service, Free, Waits, GrantSent, GrantTaken, State, Use, Closed, Asked, InService, Replied, Acquires, view, is_granting, is_acknowledging, is_wanting}
+use Rattle.tl_coherence.specs.protocol.Phase.{ClientBlock, View, Own, Other, Granting, Acknowledging, GrantedOther, is_unprobed, ok}
+use Rattle.tl_coherence.specs.protocol.Protocol.{Service, Free, Waits, GrantSent, GrantTaken, State, SourceState, SourceFree, Asked, InService, Replied, Acquires, view, is_granting, is_acknowledging, is_wanting}
 use Rattle.tl_coherence.specs.protocol.Invariant.{IsInvariant, IsAwaited, IsOwnSource, is_serving, tracks_with, is_busy}
-use Rattle.tl_coherence.specs.refinement.Managed.{IsManaged, is_own, client_in, service_with}
-use Rattle.tl_coherence.specs.refinement.Sources.{AreServed, IsFor, is_served, is_granted, cap_waited}
-use Rattle.tl_coherence.specs.refinement.Render.{probe_beat}
+use Rattle.tl_coherence.specs.refinement.ManagerRelation.{ManagerRelation, is_own, client_in, service_with}
+use Rattle.tl_coherence.specs.refinement.SourceRelation.{ServedSourceRelation, IsFor, is_served, is_granted, cap_waited}
+use Rattle.tl_coherence.specs.refinement.PacketMessages.{probe_beat}
 use Rattle.tl_coherence.proofs.queues.Facts.{is_other, own_wants}
 use Rattle.tl_coherence.proofs.queues.Phases.{each_phase, of_phase, and_left, and_right}
 use Rattle.tl_coherence.proofs.queues.Tokens.{same_number}
@@ -76,10 +76,10 @@ any-found {w} test (s ∷ ss) apart e = go (test s) refl (λ f. any-found test s
 -- ---- phases
 
 -- where no other request waits, no Probe is under way
-settled_unless : Pair → View → Bool
-settled_unless p v = is_other v || is_quiet p.probing
+settled_unless : ClientBlock → View → Bool
+settled_unless p v = is_other v || is_unprobed p.probing
 
-quiet_unless : (p : Pair) (v : View) → ok p v ≡ true → is_other v ≡ false → is_quiet p.probing ≡ true
+quiet_unless : (p : ClientBlock) (v : View) → ok p v ≡ true → is_other v ≡ false → is_unprobed p.probing ≡ true
 unfolding each_phase ok settled_unless
 quiet_unless p v well e = rw e at (of_phase settled_unless refl p v well)
 
@@ -94,7 +94,7 @@ is_granted_in (GrantTaken q) = true
 -- the values of a trace that the others follow from
 pub record IsTraced {w : ℕ} {X : Type 0} (request : ℕ → MessageA w) (s : State X) (t : Trace w) : Type 0 where
   pub recorded_is : (c n : ℕ) → recorded c n t ≡ ((s.block n).pair c).recorded
-  pub probes : (c n : ℕ) → pending (ProbeOf n) (on_link c t) ≡ not (is_quiet ((s.block n).pair c).probing)
+  pub probes : (c n : ℕ) → pending (ProbeOf n) (on_link c t) ≡ not (is_unprobed ((s.block n).pair c).probing)
   pub serving_is : (n : ℕ) → service_of_block n (services t) ≡ service_with (client_in (s.block n).service) (s.block n).tracker (request n)
   pub requests : (n : ℕ) → IsFor (s.block n).service n (request n)
   pub asked : (n r source : ℕ) (own : Bool) (k : Cap) → (s.block n).service ≡ Waits r own source k → request_of source (on_link r t) ≡ Some (a_beat_of (request n) 0)
@@ -197,7 +197,7 @@ granting-is c n tracker m t (GrantTaken q) granted = rw (granted (at_service q t
     go false = refl
 
 pub managed-traced : {w : ℕ} {X : Type 0} (caching : ℕ → Bool) (config : Config) (request : ℕ → MessageA w) (s : State X) (e : End w) → IsInvariant caching s
-    → IsKept config e → IsTraced request s e.trace → IsManaged request s e.trace
+    → IsKept config e → IsTraced request s e.trace → ManagerRelation request s e.trace
 managed-traced {w} {X} caching config request s e inv kept is = record {
   recorded_is = is.recorded_is;
   probes = is.probes;
@@ -249,8 +249,8 @@ pub record IsServing {X : Type 0} (c source : ℕ) (s : State X) : Type 0 where
   pub cap : Cap
   pub waits_so : (s.block block).service ≡ Waits c own source cap
 
-served-waits : {X : Type 0} (caching : ℕ → Bool) (s : State X) (c source : ℕ) (u : Use) → IsInvariant caching s → s.uses c source ≡ u → is_served c u s ≡ true → IsServing c source s
-served-waits caching s c source Closed inv f e = absurd cc
+served-waits : {X : Type 0} (caching : ℕ → Bool) (s : State X) (c source : ℕ) (u : SourceState) → IsInvariant caching s → s.uses c source ≡ u → is_served c u s ≡ true → IsServing c source s
+served-waits caching s c source SourceFree inv f e = absurd cc
 served-waits caching s c source Asked inv f e = absurd cc
 served-waits caching s c source Replied inv f e = absurd cc
 served-waits {X} caching s c source (InService n) inv f e = go (s.block n).service refl (sym (inv.named.serves c source n) ∙ rw (f, same_number n) refl)
@@ -428,7 +428,7 @@ request-with {w} (GrantSent q d k) tracker m v f = (sym (ap (λ (u : manager.Ser
 request-with {w} (GrantTaken q) tracker m v f = (sym (ap (λ (u : manager.Service w). u.request) (some_is (at_service q tracker m) v f)), λ e. cc)
 
 probes-traced : {w : ℕ} {X : Type 0} (caching : ℕ → Bool) (config : Config) (request : ℕ → MessageA w) (s : State X) (e : End w) → IsInvariant caching s → IsKept config e → IsTraced request s e.trace
-    → (c n : ℕ) → is_quiet ((s.block n).pair c).probing ≡ false → probe_of n (on_link c e.trace) ≡ Some (probe_beat n (cap_waited (s.block n).service))
+    → (c n : ℕ) → is_unprobed ((s.block n).pair c).probing ≡ false → probe_of n (on_link c e.trace) ≡ Some (probe_beat n (cap_waited (s.block n).service))
 probes-traced {w} {X} caching config request s e inv kept is c n sent =
     let probed : IsProbed c n e.trace = (kept.steady.accounted.blocks n).probes c (is.probes c n ∙ ap not sent) in
     let granted : is_granted_in (s.block n).service ≡ false = sym (granted-is caching config request s e inv kept is n probed.service probed.serves) ∙ probed.unanswered in
@@ -437,7 +437,7 @@ probes-traced {w} {X} caching config request s e inv kept is c n sent =
     probed.probe ∙ ap (λ (k : Cap). Some (probe_beat n k)) (cap-of (s.block n).service n (request n) probed.cap (is.requests n) granted of.1 caps)
 
 pub are_served-traced : {w : ℕ} {X : Type 0} (caching : ℕ → Bool) (config : Config) (request : ℕ → MessageA w) (s : State X) (e : End w) → IsInvariant caching s
-    → IsKept config e → IsTraced request s e.trace → AreServed request s e.trace
+    → IsKept config e → IsTraced request s e.trace → ServedSourceRelation request s e.trace
 are_served-traced {w} {X} caching config request s e inv kept is = record {
   sources = λ c source.
       source-pending c source e.trace kept.steady.accounted
@@ -450,7 +450,7 @@ are_served-traced {w} {X} caching config request s e inv kept is = record {
 }
 
 -- the other way
-pub traced-known : {w : ℕ} {X : Type 0} (request : ℕ → MessageA w) (s : State X) (t : Trace w) → IsManaged request s t → AreServed request s t → IsTraced request s t
+pub traced-known : {w : ℕ} {X : Type 0} (request : ℕ → MessageA w) (s : State X) (t : Trace w) → ManagerRelation request s t → ServedSourceRelation request s t → IsTraced request s t
 traced-known request s t managed served = record {
   recorded_is = managed.recorded_is;
   probes = managed.probes;

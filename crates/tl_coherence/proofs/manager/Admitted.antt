@@ -45,21 +45,21 @@ use Rattle.tl_manager.specs.code.Releases.{comes_of}
 use Rattle.tl_manager.specs.statement.Service.{services, service_of_block, is_in_service, least_untaken, trackers_of}
 use Rattle.tl_manager.proofs.Free.{least_free-is_free}
 use Rattle.tl_manager.proofs.Serving.{tracker_among}
-use Rattle.tl_coherence.specs.refinement.Follow.{acquire_opcode}
+use Rattle.tl_coherence.specs.refinement.AbstractStep.{acquire_opcode}
 use Rattle.tl_coherence.specs.statement.Log.{Log}
-use Rattle.tl_coherence.specs.protocol.Phase.{Pair, View, Idle, Own, Other, Granting, Acknowledging, GrantedOther, Wants, Letting, Kept, Releasing, Acked, is_kept, is_quiet, ok, grow_fits}
-use Rattle.tl_coherence.specs.refinement.Sources.{is_served}
-use Rattle.tl_coherence.specs.refinement.Managed.{IsManaged, is_own, client_in, service_with}
+use Rattle.tl_coherence.specs.protocol.Phase.{ClientBlock, View, Idle, Own, Other, Granting, Acknowledging, GrantedOther, AcquireOpen, ReleasePhase, NoRelease, ReleaseSent, ReleaseAcked, is_unreleased, is_unprobed, ok, grow_fits}
+use Rattle.tl_coherence.specs.refinement.SourceRelation.{is_served}
+use Rattle.tl_coherence.specs.refinement.ManagerRelation.{ManagerRelation, is_own, client_in, service_with}
 use Rattle.tl_coherence.specs.protocol.Invariant.{IsInvariant, tracks_with, is_busy}
-use Rattle.tl_coherence.specs.protocol.Protocol.{Service, Free, Waits, GrantSent, GrantTaken, Asked, State, token, is_on, is_releasing, is_unserved, shown, view}
+use Rattle.tl_coherence.specs.protocol.Protocol.{Service, Free, Waits, GrantSent, GrantTaken, Asked, State, packet, is_on, is_releasing, is_unserved, shown, view}
 use Rattle.tl_coherence.specs.refinement.Carried.{IsCarried}
-use Rattle.tl_coherence.specs.refinement.Render.{Mail, rendered, message_of, report_told, prune_told}
+use Rattle.tl_coherence.specs.refinement.PacketMessages.{AccessMessages, block_message, message_of, report_told, prune_told}
 use Rattle.tl_coherence.specs.statement.System.{System}
-use Rattle.tl_coherence.specs.protocol.Token.{Kind, Request, Acquire, Probe, ProbeAck, Release, Answer, Grant, ReleaseAck, GrantAck, Token, count, one_if, is}
-use Rattle.tl_coherence.specs.refinement.Whole.{IsMatched, AreLanes}
+use Rattle.tl_coherence.specs.protocol.Packet.{Kind, Request, Acquire, Probe, ProbeAck, Release, Answer, Grant, ReleaseAck, GrantAck, Packet, count, one_if, is}
+use Rattle.tl_coherence.specs.refinement.SimulationRelation.{SimulationRelation, AreLanes}
 use Rattle.tl_coherence.proofs.manager.Arrivals.{link_of}
 use Rattle.tl_coherence.proofs.queues.Facts.{asked_alone, acquire_fits}
-use Rattle.tl_coherence.proofs.protocol.Fronts.{IsWanted}
+use Rattle.tl_coherence.proofs.protocol.Heads.{IsWanted}
 use Rattle.tl_coherence.proofs.manager.Orders.{acquire-legal}
 use Rattle.tl_coherence.proofs.queues.Phases.{and_left, and_right}
 use Rattle.tl_coherence.proofs.queues.Rendered.{same_kind_again}
@@ -83,32 +83,32 @@ release_comes w prune.TtoN source i n (suc k) payload ne = rw (same_block i) (ne
 release_comes w prune.BtoN source i n (suc k) payload ne = rw (same_block i) (ne_eqb i n ne)
 
 -- the first token of a list stands there
-pub first_counts : (x : Token) (xs : List Token) → count x.kind x.number (x ∷ xs) ≡ 0 → ⊥
+pub first_counts : (x : Packet) (xs : List Packet) → count x.kind x.number (x ∷ xs) ≡ 0 → ⊥
 unfolding count
 first_counts x xs none = let one : one_if (is x.kind x.number x) ≡ 1 = rw (same_kind_again x.kind, same_number x.number) refl in absurd (omega (arith, none, one))
 
-pub release-comes : {w : ℕ} (config : Config) (log : Log w) (mail : Mail w) (request : ℕ → MessageA w) (s : State (List ℕ)) (sys : System w) (c n : ℕ)
-    → IsMatched config log mail request s sys → is_releasing ((s.block n).pair c).letting ≡ false → comes_of n (unfinished channel.C (on_link c sys.manager.trace)) ≡ false
-unfolding rendered
+pub release-comes : {w : ℕ} (config : Config) (log : Log w) (mail : AccessMessages w) (request : ℕ → MessageA w) (s : State (List ℕ)) (sys : System w) (c n : ℕ)
+    → SimulationRelation config log mail request s sys → is_releasing ((s.block n).pair c).letting ≡ false → comes_of n (unfinished channel.C (on_link c sys.manager.trace)) ≡ false
+unfolding block_message
 release-comes {w} config log mail request s sys c n is kept = go (s.link c).c refl
   where
     t : List (Beat w)
     t = unfinished channel.C (on_link c sys.manager.trace)
 
-    carried : (xs : List Token) → (s.link c).c ≡ xs → IsCarried t (map (message_of mail s c) xs) (sys.channels c channel.C)
+    carried : (xs : List Packet) → (s.link c).c ≡ xs → IsCarried t (map (message_of mail s c) xs) (sys.channels c channel.C)
     carried xs e = rw e at (is.carried c channel.C)
 
-    apart : (x : Token) (xs : List Token) → (s.link c).c ≡ x ∷ xs → is_on channel.C x.kind ≡ false → ⊥
+    apart : (x : Packet) (xs : List Packet) → (s.link c).c ≡ x ∷ xs → is_on channel.C x.kind ≡ false → ⊥
     apart x xs e off = first_counts x xs (rw e at (is.invariant.own_kinds c channel.C x.kind x.number off))
 
-    kinds : (k : Kind) (x : Token) (xs : List Token) → (s.link c).c ≡ x ∷ xs → x.kind ≡ k → (i : ℕ) → comes_of n (begun (message_of mail s c x) i) ≡ false
+    kinds : (k : Kind) (x : Packet) (xs : List Packet) → (s.link c).c ≡ x ∷ xs → x.kind ≡ k → (i : ℕ) → comes_of n (begun (message_of mail s c x) i) ≡ false
     kinds ProbeAck x xs e f i =
         rw f (ack_comes w (report_left (report_told ((s.block x.number).pair c).probing)) (report_told ((s.block x.number).pair c).probing) x.number n i (s.block x.number).truth)
     kinds Release x xs e f i =
         rw f (release_comes w (prune_told ((s.block x.number).pair c).letting) ((s.block x.number).release_source c) x.number n i (s.block x.number).truth (λ same.
-        let first : (s.link c).c ≡ token Release x.number ∷ xs = e ∙ ap (λ (k : Kind). token k x.number ∷ xs) f in
+        let first : (s.link c).c ≡ packet Release x.number ∷ xs = e ∙ ap (λ (k : Kind). packet k x.number ∷ xs) f in
         let shows : is_releasing ((s.block x.number).pair c).letting ≡ true =
-        holds-first Release (s.link c).c xs (token Release x.number) (λ j. shown Release c (s.block j)) first refl
+        holds-first Release (s.link c).c xs (packet Release x.number) (λ j. shown Release c (s.block j)) first refl
         (is.invariant.transfers c Release refl) in
         let no : true ≡ false = sym shows ∙ ap (λ j. is_releasing ((s.block j).pair c).letting) same ∙ kept in
         cc))
@@ -120,15 +120,15 @@ release-comes {w} config log mail request s sys c n is kept = go (s.link c).c re
     kinds ReleaseAck x xs e f i = absurd (apart x xs e (rw f refl))
     kinds GrantAck x xs e f i = absurd (apart x xs e (rw f refl))
 
-    go : (xs : List Token) → (s.link c).c ≡ xs → comes_of n t ≡ false
+    go : (xs : List Packet) → (s.link c).c ≡ xs → comes_of n t ≡ false
     go [] e = rw (carried [] e).0 refl
     go (x ∷ xs) e = let h = carried (x ∷ xs) e in rw h.2 (kinds x.kind x xs e refl h.0)
 
 -- ---- the order of messages
 
 -- a source that isn't in service, and of which no burst is unfinished, is free
-source-free : {w : ℕ} (config : Config) (log : Log w) (mail : Mail w) (request : ℕ → MessageA w) (s : State (List ℕ)) (sys : System w) (c source : ℕ)
-    → IsMatched config log mail request s sys → is_served c (s.uses c source) s ≡ false → unfinished channel.A (on_link c sys.manager.trace) ≡ []
+source-free : {w : ℕ} (config : Config) (log : Log w) (mail : AccessMessages w) (request : ℕ → MessageA w) (s : State (List ℕ)) (sys : System w) (c source : ℕ)
+    → SimulationRelation config log mail request s sys → is_served c (s.uses c source) s ≡ false → unfinished channel.A (on_link c sys.manager.trace) ≡ []
     → pending (key.RequestSource source) (on_link c sys.manager.trace) ≡ false
 source-free config log mail request s sys c source is unserved none = is.served.sources c source ∙ rw (unserved, none) refl
 
@@ -138,14 +138,14 @@ unfolding broken_order
 access-order p x t access none free = rw (none, free, access) refl
 
 -- a beat of an access that was asked
-pub order-access : {w : ℕ} (config : Config) (log : Log w) (mail : Mail w) (request : ℕ → MessageA w) (s : State (List ℕ)) (sys : System w) (c source : ℕ) (m : MessageA w) (k : ℕ)
-    → IsMatched config log mail request s sys → s.uses c source ≡ Asked → m.source ≡ source → is_acquire m.opcode ≡ false → unfinished channel.A (on_link c sys.manager.trace) ≡ begun (message.A m) k
+pub order-access : {w : ℕ} (config : Config) (log : Log w) (mail : AccessMessages w) (request : ℕ → MessageA w) (s : State (List ℕ)) (sys : System w) (c source : ℕ) (m : MessageA w) (k : ℕ)
+    → SimulationRelation config log mail request s sys → s.uses c source ≡ Asked → m.source ≡ source → is_acquire m.opcode ≡ false → unfinished channel.A (on_link c sys.manager.trace) ≡ begun (message.A m) k
     → broken_in_order config.profile (beat.A (a_beat_of m k)) (on_link c sys.manager.trace) ≡ None
 order-access {w} config log mail request s sys c source m zero is used source_is access burst =
     access-order config.profile (a_beat_of m 0) (on_link c sys.manager.trace) access burst (rw source_is (source-free config log mail request s sys c source is (rw used refl) burst))
 order-access config log mail request s sys c source m (suc i) is used source_is access burst = later-legal config.profile (message.A m) i (on_link c sys.manager.trace) burst
 
-pub grows : (g : Grow) (p q : Perm) (whole : Bool) → grow_fits q (Wants whole g) ≡ true → same_perm p q ≡ true → grows_from (grow_code g) p ≡ true
+pub grows : (g : Grow) (p q : Perm) (whole : Bool) → grow_fits q (AcquireOpen whole g) ≡ true → same_perm p q ≡ true → grows_from (grow_code g) p ≡ true
 grows grow.NtoB perm.None perm.None whole e f = refl
 grows grow.NtoT perm.None perm.None whole e f = refl
 grows grow.BtoT perm.None perm.None whole e f = refl
@@ -167,10 +167,10 @@ grows g perm.Branch perm.Trunk whole e f = absurd cc
 grows g perm.Trunk perm.None whole e f = absurd cc
 grows g perm.Trunk perm.Branch whole e f = absurd cc
 
-kept-is : (x : Letting) → is_kept x ≡ true → is_releasing x ≡ false
-kept-is Kept e = refl
-kept-is (Releasing r) e = absurd cc
-kept-is Acked e = absurd cc
+kept-is : (x : ReleasePhase) → is_unreleased x ≡ true → is_releasing x ≡ false
+kept-is NoRelease e = refl
+kept-is (ReleaseSent r) e = absurd cc
+kept-is ReleaseAcked e = absurd cc
 
 pub first_three : (x y z more : Bool) → (x && (y && (z && more))) ≡ true → ((x && y) && z) ≡ true
 first_three true true true more e = refl
@@ -179,8 +179,8 @@ first_three true false z more e = absurd cc
 first_three false y z more e = absurd cc
 
 -- a beat of an Acquire that is wanted, whose block isn't in service
-pub order-acquire : {w : ℕ} (config : Config) (log : Log w) (mail : Mail w) (request : ℕ → MessageA w) (s : State (List ℕ)) (sys : System w) (c n : ℕ) (k : ℕ)
-    → IsMatched config log mail request s sys → (is_it : IsWanted w c n s) → (s.block n).service ≡ Free
+pub order-acquire : {w : ℕ} (config : Config) (log : Log w) (mail : AccessMessages w) (request : ℕ → MessageA w) (s : State (List ℕ)) (sys : System w) (c n : ℕ) (k : ℕ)
+    → SimulationRelation config log mail request s sys → (is_it : IsWanted w c n s) → (s.block n).service ≡ Free
     → unfinished channel.A (on_link c sys.manager.trace) ≡ begun (message.A (acquisition (acquire_opcode is_it.whole) is_it.grow ((s.block n).source c) n)) k
     → broken_in_order config.profile (beat.A (a_beat_of (acquisition (acquire_opcode is_it.whole) is_it.grow ((s.block n).source c) n) k)) (on_link c sys.manager.trace) ≡ None
 order-acquire {w} config log mail request s sys c n zero is is_it free burst =
@@ -189,13 +189,13 @@ order-acquire {w} config log mail request s sys c n zero is is_it free burst =
     (source-free config log mail request s sys c ((s.block n).source c) is (rw (is_it.used, idle) refl) burst)
     (is.managed.acquires c n ∙ rw idle refl)
     ((is.manager_kept.releases c).blocks n ∙ release-comes config log mail request s sys c n is
-    (kept-is p.letting (and_right (is_quiet p.probing) (is_kept p.letting)
-    (and_left (is_quiet p.probing && is_kept p.letting) (same_perm p.recorded p.held) settled))))
+    (kept-is p.letting (and_right (is_unprobed p.probing) (is_unreleased p.letting)
+    (and_left (is_unprobed p.probing && is_unreleased p.letting) (same_perm p.recorded p.held) settled))))
     (is.managed.recorded_is c n)
     (grows is_it.grow p.recorded p.held is_it.whole (acquire_fits is_it.whole is_it.grow p (view (s.block n).service c) well is_it.wants)
-    (and_right (is_quiet p.probing && is_kept p.letting) (same_perm p.recorded p.held) settled))
+    (and_right (is_unprobed p.probing && is_unreleased p.letting) (same_perm p.recorded p.held) settled))
   where
-    p : Pair
+    p : ClientBlock
     p = (s.block n).pair c
 
     well : ok p (view (s.block n).service c) ≡ true
@@ -204,14 +204,14 @@ order-acquire {w} config log mail request s sys c n zero is is_it free burst =
     idle : view (s.block n).service c ≡ Idle
     idle = rw free refl
 
-    settled : ((is_quiet p.probing && is_kept p.letting) && same_perm p.recorded p.held) ≡ true
-    settled = first_three (is_quiet p.probing) (is_kept p.letting) (same_perm p.recorded p.held) _ (asked_alone is_it.whole is_it.grow p (view (s.block n).service c) well idle is_it.wants)
+    settled : ((is_unprobed p.probing && is_unreleased p.letting) && same_perm p.recorded p.held) ≡ true
+    settled = first_three (is_unprobed p.probing) (is_unreleased p.letting) (same_perm p.recorded p.held) _ (asked_alone is_it.whole is_it.grow p (view (s.block n).service c) well idle is_it.wants)
 order-acquire {w} config log mail request s sys c n (suc i) is is_it free burst =
     later-legal config.profile (message.A (acquisition (acquire_opcode is_it.whole) is_it.grow ((s.block n).source c) n)) i (on_link c sys.manager.trace) burst
 
 -- ---- what a beat that needn't wait finds
 
-pub unserved-free : {w : ℕ} {X : Type 0} (request : ℕ → MessageA w) (s : State X) (t : Trace w) (n : ℕ) → IsManaged request s t → is_in_service n (services t) ≡ false → (s.block n).service ≡ Free
+pub unserved-free : {w : ℕ} {X : Type 0} (request : ℕ → MessageA w) (s : State X) (t : Trace w) (n : ℕ) → ManagerRelation request s t → is_in_service n (services t) ≡ false → (s.block n).service ≡ Free
 unserved-free {w} request s t n is none = go (s.block n).service (ap is_some (sym (is.serving_is n)) ∙ none)
   where
     go : (service : Service) → is_some (service_with (client_in service) (s.block n).tracker (request n)) ≡ false → service ≡ Free
@@ -222,7 +222,7 @@ unserved-free {w} request s t n is none = go (s.block n).service (ap is_some (sy
 
 -- the tracker of the next service is of no block
 pub free-untracked : {w : ℕ} {X : Type 0} (caching : ℕ → Bool) (request : ℕ → MessageA w) (s : State X) (t : Trace w) → IsInvariant caching s
-    → IsManaged request s t → s.tracked (least_untaken (trackers_of (services t))) ≡ None
+    → ManagerRelation request s t → s.tracked (least_untaken (trackers_of (services t))) ≡ None
 free-untracked {w} caching request s t inv is = go (s.tracked i) refl
   where
     i : ℕ
@@ -268,8 +268,8 @@ pub record IsFirstBeat {w : ℕ} (config : Config) (c : ℕ) (x : BeatA w) (sys 
   pub clean : is_spoiled (beat.A x) ≡ false
   pub typed : IsTyped (beat.A x)
 
-pub first-beat : {w : ℕ} (config : Config) (log : Log w) (mail : Mail w) (request : ℕ → MessageA w) (s : State (List ℕ)) (sys : System w) (c : ℕ) (x : BeatA w) (queue : List (Beat w))
-    → IsMatched config log mail request s sys → sys.channels c channel.A ≡ beat.A x ∷ queue → IsFirstBeat config c x sys
+pub first-beat : {w : ℕ} (config : Config) (log : Log w) (mail : AccessMessages w) (request : ℕ → MessageA w) (s : State (List ℕ)) (sys : System w) (c : ℕ) (x : BeatA w) (queue : List (Beat w))
+    → SimulationRelation config log mail request s sys → sys.channels c channel.A ≡ beat.A x ∷ queue → IsFirstBeat config c x sys
 first-beat {w} config log mail request s sys c x queue is beats =
     let sound : IsSound config (link_of c, beat.A x) = head_all (λ y. IsSound config (link_of c, y)) (beat.A x) queue (sys.channels c channel.A) beats (is.sound c channel.A) in
     let typed : AreLanes (beat.A x) = head_all AreLanes (beat.A x) queue (sys.channels c channel.A) beats (is.typed c channel.A) in
@@ -306,8 +306,8 @@ early_first p x t none free = rw (none, free) (early_none
     (is_acquire x.opcode && (pending (key.AcquireOf (block_at x.address)) t || pending (key.ReleaseOf (block_at x.address)) t))
     (is_acquire x.opcode && not (grows_from x.param (held (block_at x.address) t))))
 
-pub early-acquire : {w : ℕ} (config : Config) (log : Log w) (mail : Mail w) (request : ℕ → MessageA w) (s : State (List ℕ)) (sys : System w) (c n k : ℕ)
-    → IsMatched config log mail request s sys → (is_it : IsWanted w c n s)
+pub early-acquire : {w : ℕ} (config : Config) (log : Log w) (mail : AccessMessages w) (request : ℕ → MessageA w) (s : State (List ℕ)) (sys : System w) (c n k : ℕ)
+    → SimulationRelation config log mail request s sys → (is_it : IsWanted w c n s)
     → unfinished channel.A (on_link c sys.manager.trace) ≡ begun (message.A (acquisition (acquire_opcode is_it.whole) is_it.grow ((s.block n).source c) n)) k
     → before_stall (broken_in_order config.profile (beat.A (a_beat_of (acquisition (acquire_opcode is_it.whole) is_it.grow ((s.block n).source c) n) k)) (on_link c sys.manager.trace)) ≡ None
 early-acquire {w} config log mail request s sys c n zero is is_it burst =

@@ -23,12 +23,12 @@ use Rattle.tl_manager.specs.statement.Offer.{Reception, level_of, taken}
 use Rattle.tl_manager.proofs.Events.{deed-part, deed-probes, performed-access, performed-acquire}
 use Rattle.tl_manager.proofs.Keeping.{kept-offered}
 use Rattle.tl_manager.proofs.Memories.{memory-elsewhere}
-use Rattle.tl_coherence.specs.refinement.Follow.{performs}
+use Rattle.tl_coherence.specs.refinement.AbstractStep.{performs}
 use Rattle.tl_coherence.specs.protocol.Invariant.{IsInvariant}
 use Rattle.tl_coherence.specs.protocol.Protocol.{Waits, Block, State, served_block, performed_block, granted_at_once}
-use Rattle.tl_coherence.specs.refinement.Render.{Mail}
-use Rattle.tl_coherence.specs.protocol.Token.{set}
-use Rattle.tl_coherence.specs.refinement.Whole.{IsServedWith}
+use Rattle.tl_coherence.specs.refinement.PacketMessages.{AccessMessages}
+use Rattle.tl_coherence.specs.protocol.Packet.{set}
+use Rattle.tl_coherence.specs.refinement.SimulationRelation.{IsServedWith}
 use Rattle.tl_coherence.proofs.manager.Accounts.{traced-known}
 use Rattle.tl_coherence.proofs.manager.Admitted.{offered-taken}
 use Rattle.tl_coherence.proofs.manager.Arrivals.{link_of, with_beat, IsComing, ends-coming, service_for, served-last}
@@ -63,7 +63,7 @@ memory-coming {w} config c k i m e is other =
 
 -- ---- a beat that isn't the last
 
-pub at_manager-more : {w : ℕ} (caching : ℕ → Bool) (config : Config) (mail : Mail w) (request : ℕ → MessageA w) (s : State (List ℕ)) (c k : ℕ) (m : MessageA w) (e : End w)
+pub at_manager-more : {w : ℕ} (caching : ℕ → Bool) (config : Config) (mail : AccessMessages w) (request : ℕ → MessageA w) (s : State (List ℕ)) (c k : ℕ) (m : MessageA w) (e : End w)
     → IsInvariant caching s → IsComing config c k m e → k + 1 < beats_of (A m) → IsUnwaited c m.source s → IsAtManager config mail request s e
     → IsAtManager config mail request s (end_after config c k m e)
 unfolding with_handed
@@ -90,7 +90,7 @@ deed-probing {w} config c k n j m e is last block caps someone =
     probing_of : ℕ → List ℕ → Deed w
     probing_of i ds = record { handed = probes i j ds; memory = e.memory }
 
-pub at_manager-probing : {w : ℕ} (caching : ℕ → Bool) (config : Config) (mail : Mail w) (request : ℕ → MessageA w) (c k n : ℕ) (own : Bool) (source : ℕ)
+pub at_manager-probing : {w : ℕ} (caching : ℕ → Bool) (config : Config) (mail : AccessMessages w) (request : ℕ → MessageA w) (c k n : ℕ) (own : Bool) (source : ℕ)
     (j : Cap) (m : MessageA w) (s u : State (List ℕ)) (e : End w)
     → IsInvariant caching u
     → ((i : ℕ) → u.block i ≡ set n (served_block c own source (least_untaken (trackers_of (services e.trace))) j (s.block n)) s.block i)
@@ -118,7 +118,7 @@ at_manager-probing {w} caching config mail request c k n own source j m s u e in
 
 -- ---- the last one: the access is answered
 
-pub at_manager-answered : {w : ℕ} (caching : ℕ → Bool) (config : Config) (mail : Mail w) (request : ℕ → MessageA w) (c k n : ℕ) (m : MessageA w) (s u : State (List ℕ)) (e : End w)
+pub at_manager-answered : {w : ℕ} (caching : ℕ → Bool) (config : Config) (mail : AccessMessages w) (request : ℕ → MessageA w) (c k n : ℕ) (m : MessageA w) (s u : State (List ℕ)) (e : End w)
     → IsInvariant caching u → ((i : ℕ) → u.block i ≡ set n (performed_block (performs m) (s.block n)) s.block i)
     → IsAnswering config c k n m s e → illegal_message_at (level_of config c) (A m) ≡ None
     → deed config (link_of c) (beat.A (a_beat_of m k)) e ≡ performed config (service_for c m e.trace) (with_beat c m k e.trace) e.memory
@@ -157,7 +157,7 @@ at_manager-answered {w} caching config mail request c k n m s u e inv blocks is 
 
 -- ---- the last one: the Acquire is granted
 
-pub at_manager-granted : {w : ℕ} (caching : ℕ → Bool) (config : Config) (mail : Mail w) (request : ℕ → MessageA w) (c k n : ℕ) (b : Bool) (j : Cap) (m : MessageA w) (s u : State (List ℕ)) (e : End w)
+pub at_manager-granted : {w : ℕ} (caching : ℕ → Bool) (config : Config) (mail : AccessMessages w) (request : ℕ → MessageA w) (c k n : ℕ) (b : Bool) (j : Cap) (m : MessageA w) (s u : State (List ℕ)) (e : End w)
     → IsInvariant caching u → ((i : ℕ) → u.block i ≡ set n (granted_at_once c (least_untaken (trackers_of (services e.trace))) b j (s.block n)) s.block i)
     → IsGranting config c k n j m s e
     → deed config (link_of c) (beat.A (a_beat_of m k)) e ≡ performed config (service_for c m e.trace) (with_beat c m k e.trace) e.memory

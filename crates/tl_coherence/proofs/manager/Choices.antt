@@ -8,11 +8,11 @@ use Rattle.tl_params.specs.declared.param.Cap.{Cap}
 use Rattle.tl_rules.specs.statement.Legality.{is_one_of}
 use Rattle.tl_manager.specs.statement.Holders.{clients_where, is_nobody}
 use Rattle.tl_manager.proofs.Clients.{among-where, nobody-is, nobody-where, where-same}
-use Rattle.tl_coherence.specs.refinement.Follow.{some_below}
+use Rattle.tl_coherence.specs.refinement.AbstractStep.{some_below}
 use Rattle.tl_coherence.specs.protocol.Invariant.{IsInvariant, IsOwnSource}
 use Rattle.tl_coherence.specs.protocol.Phase.{Own}
 use Rattle.tl_coherence.specs.protocol.Protocol.{Waits, State, Acquires, InService, view, is_wanting}
-use Rattle.tl_coherence.specs.refinement.Whole.{is_caching}
+use Rattle.tl_coherence.specs.refinement.SimulationRelation.{is_caching}
 use Rattle.tl_coherence.proofs.queues.Facts.{own_wants}
 use Rattle.tl_coherence.proofs.protocol.FollowKept.{some-none}
 use Rattle.tl_coherence.proofs.queues.Tokens.{same_number}

@@ -22,16 +22,16 @@ use Rattle.tl_manager.proofs.Acked.{services-e, granted-left, accounted-e, burst
 use Rattle.tl_manager.proofs.Links.{own_beat, other_beat, beat-keeps, pending-closed, whole-e}
 use Rattle.tl_manager.proofs.Serving.{if_passes, serving-filter}
 use Rattle.tl_coherence.specs.protocol.Invariant.{AreNamed, is_busy}
-use Rattle.tl_coherence.specs.refinement.Managed.{IsManaged, is_own, client_in, service_with}
-use Rattle.tl_coherence.specs.protocol.Phase.{Acknowledging, GrantedOther, is_quiet}
-use Rattle.tl_coherence.specs.protocol.Protocol.{Service, Free, Waits, GrantSent, GrantTaken, Block, State, Use, Closed, Asked, InService, Replied, Acquires, view}
+use Rattle.tl_coherence.specs.refinement.ManagerRelation.{ManagerRelation, is_own, client_in, service_with}
+use Rattle.tl_coherence.specs.protocol.Phase.{Acknowledging, GrantedOther, is_unprobed}
+use Rattle.tl_coherence.specs.protocol.Protocol.{Service, Free, Waits, GrantSent, GrantTaken, Block, State, SourceState, SourceFree, Asked, InService, Replied, Acquires, view}
 use Rattle.tl_coherence.specs.protocol.Protocol.{is_granting, is_acknowledging, grant_ack_taken, freed_block}
-use Rattle.tl_coherence.specs.refinement.Render.{probe_beat}
-use Rattle.tl_coherence.specs.refinement.Sources.{AreServed, is_served, is_granted, cap_waited}
-use Rattle.tl_coherence.specs.protocol.Token.{Token, set}
+use Rattle.tl_coherence.specs.refinement.PacketMessages.{probe_beat}
+use Rattle.tl_coherence.specs.refinement.SourceRelation.{ServedSourceRelation, is_served, is_granted, cap_waited}
+use Rattle.tl_coherence.specs.protocol.Packet.{Packet, set}
 use Rattle.tl_coherence.proofs.manager.ManagedEndings.{tracker-of, tracker-alone}
 use Rattle.tl_coherence.proofs.queues.Tokens.{same_number, set-same, set-other, set-part}
-use Rattle.tl_coherence.proofs.manager.Quieted.{part_none}
+use Rattle.tl_coherence.proofs.manager.QuiescentManager.{part_none}
 
 -- ---- a beat of channel E
 
@@ -76,7 +76,7 @@ client_busy (GrantTaken q) r e = refl
 -- ---- services
 
 -- the service of the block ends, and no other one
-serving-acked : {w : ℕ} {X : Type 0} (c n : ℕ) (x : BeatE) (request : ℕ → MessageA w) (s : State X) (t : Trace w) → IsAcked c n x request s t → IsManaged request s t → (i : ℕ)
+serving-acked : {w : ℕ} {X : Type 0} (c n : ℕ) (x : BeatE) (request : ℕ → MessageA w) (s : State X) (t : Trace w) → IsAcked c n x request s t → ManagerRelation request s t → (i : ℕ)
     → (service_of_block i (services (acked c x t)) ≡ (if i == n then None else service_of_block i (services t)))
 serving-acked {w} c n x request s t is known i = passed ∙ elim (cases_eq i n) [
   | inl same ↦ rw (same, known.serving_is n, is.taken) here
@@ -116,13 +116,13 @@ serving-acked {w} c n x request s t is known i = passed ∙ elim (cases_eq i n) 
 
 -- ---- what is known
 
-pub managed-acked : {w : ℕ} {X : Type 0} (request : ℕ → MessageA w) (c n : ℕ) (rest : List Token) (x : BeatE) (s : State X) (t : Trace w) → IsAcked c n x request s t → IsManaged request s t
-    → IsManaged request (grant_ack_taken c n rest s) (acked c x t)
+pub managed-acked : {w : ℕ} {X : Type 0} (request : ℕ → MessageA w) (c n : ℕ) (rest : List Packet) (x : BeatE) (s : State X) (t : Trace w) → IsAcked c n x request s t → ManagerRelation request s t
+    → ManagerRelation request (grant_ack_taken c n rest s) (acked c x t)
 managed-acked {w} {X} request c n rest x s t is known = record {
   recorded_is = λ d i. beat-keeps (held i) d (record { 0 = c }) (beat.E x) t (λ h. held_unsaid i (beat.E x) h refl) ∙ known.recorded_is d i
       ∙ sym (set-part (λ (b : Block X). (b.pair d).recorded) n new s.block refl i);
   probes = λ d i. beat-keeps (pending (key.ProbeOf i)) d (record { 0 = c }) (beat.E x) t (λ h. pending-quiet (key.ProbeOf i) (beat.E x) h refl refl)
-      ∙ known.probes d i ∙ sym (set-part (λ (b : Block X). not (is_quiet (b.pair d).probing)) n new s.block refl i);
+      ∙ known.probes d i ∙ sym (set-part (λ (b : Block X). not (is_unprobed (b.pair d).probing)) n new s.block refl i);
   acquires = λ d i.
       beat-keeps (pending (key.AcquireOf i)) d (record { 0 = c }) (beat.E x) t (λ h. pending-quiet (key.AcquireOf i) (beat.E x) h refl refl) ∙ known.acquires d i
       ∙ sym (set-part (λ (b : Block X). is_own (view b.service d)) n new s.block (rw is.taken (sym (not_owned (d == c)))) i);
@@ -163,8 +163,8 @@ managed-acked {w} {X} request c n rest x s t is known = record {
           (as_before d i other (service_of_block i (services t)) refl (serves i ∙ rw (ne_eqb i n other) refl) ∙ sym ((is.accounted.blocks i).grants d) ∙ known.grant_acks d i)
     ]
 
-pub are_served-acked : {w : ℕ} {X : Type 0} (request : ℕ → MessageA w) (c n : ℕ) (rest : List Token) (x : BeatE) (s : State X) (t : Trace w) → IsAcked c n x request s t → AreServed request s t
-    → AreServed request (grant_ack_taken c n rest s) (acked c x t)
+pub are_served-acked : {w : ℕ} {X : Type 0} (request : ℕ → MessageA w) (c n : ℕ) (rest : List Packet) (x : BeatE) (s : State X) (t : Trace w) → IsAcked c n x request s t → ServedSourceRelation request s t
+    → ServedSourceRelation request (grant_ack_taken c n rest s) (acked c x t)
 are_served-acked {w} {X} request c n rest x s t is known = record {
   sources = λ d i.
       beat-keeps (pending (key.RequestSource i)) d (record { 0 = c }) (beat.E x) t (λ h. pending-quiet (key.RequestSource i) (beat.E x) h refl refl) ∙ known.sources d i
@@ -176,7 +176,7 @@ are_served-acked {w} {X} request c n rest x s t is known = record {
   ];
   asked = λ i p from own low e. beat-keeps (request_of from) p (record { 0 = c }) (beat.E x) t (request_of-e from x) ∙ asked_now i p from own low e;
   probes = λ d i e.
-      beat-keeps (probe_of i) d (record { 0 = c }) (beat.E x) t (probe_of-e i x) ∙ known.probes d i (sym (set-part (λ (b : Block X). is_quiet (b.pair d).probing) n new s.block refl i) ∙ e)
+      beat-keeps (probe_of i) d (record { 0 = c }) (beat.E x) t (probe_of-e i x) ∙ known.probes d i (sym (set-part (λ (b : Block X). is_unprobed (b.pair d).probing) n new s.block refl i) ∙ e)
       ∙ sym (ap (λ k. Some (probe_beat i k)) (set-part (λ (b : Block X). cap_waited b.service) n new s.block (rw is.taken refl) i));
 }
   where
@@ -186,8 +186,8 @@ are_served-acked {w} {X} request c n rest x s t is known = record {
     z : State X
     z = grant_ack_taken c n rest s
 
-    served_now : (d : ℕ) (y : Use) → is_served d y z ≡ is_served d y s
-    served_now d Closed = refl
+    served_now : (d : ℕ) (y : SourceState) → is_served d y z ≡ is_served d y s
+    served_now d SourceFree = refl
     served_now d Asked = refl
     served_now d (InService j) = refl
     served_now d Replied = refl

@@ -25,14 +25,14 @@ use Rattle.tl_manager.proofs.Handed.{after_sent}
 use Rattle.tl_manager.proofs.Replied.{IsReply, source-reply}
 use Rattle.tl_manager.proofs.Replies.{reply-quiet, burst-reply, request-reply, probe-reply}
 use Rattle.tl_coherence.specs.protocol.Invariant.{AreNamed, is_busy}
-use Rattle.tl_coherence.specs.refinement.Managed.{IsManaged, is_own}
-use Rattle.tl_coherence.specs.protocol.Phase.{is_quiet}
+use Rattle.tl_coherence.specs.refinement.ManagerRelation.{ManagerRelation, is_own}
+use Rattle.tl_coherence.specs.protocol.Phase.{is_unprobed}
 use Rattle.tl_coherence.specs.protocol.PhaseSteps.{after_report}
-use Rattle.tl_coherence.specs.protocol.Protocol.{Free, Waits, Block, State, Use, Closed, Asked, InService, Replied, Acquires, view, is_granting, is_acknowledging, report_answers, ended_block}
-use Rattle.tl_coherence.specs.refinement.Sources.{AreServed, is_served, is_granted, cap_waited}
-use Rattle.tl_coherence.specs.refinement.Render.{probe_beat}
-use Rattle.tl_coherence.specs.protocol.Token.{Token, set, set_at}
-use Rattle.tl_coherence.proofs.manager.Quieted.{quiet-c, IsLastOf, recorded-answer, pair-part}
+use Rattle.tl_coherence.specs.protocol.Protocol.{Free, Waits, Block, State, SourceState, SourceFree, Asked, InService, Replied, Acquires, view, is_granting, is_acknowledging, report_answers, ended_block}
+use Rattle.tl_coherence.specs.refinement.SourceRelation.{ServedSourceRelation, is_served, is_granted, cap_waited}
+use Rattle.tl_coherence.specs.refinement.PacketMessages.{probe_beat}
+use Rattle.tl_coherence.specs.protocol.Packet.{Packet, set, set_at}
+use Rattle.tl_coherence.proofs.manager.QuiescentManager.{quiet-c, IsLastOf, recorded-answer, pair-part}
 use Rattle.tl_coherence.proofs.manager.ManagedReports.{reported-records, reported-missing, reported-probing}
 use Rattle.tl_coherence.proofs.queues.Tokens.{same_number, set-same, set-other, set-part, set_at-same}
 use Rattle.tl_coherence.proofs.protocol.BothParts.{is_of-is}
@@ -76,7 +76,7 @@ pub record IsEnding {w : ℕ} {X : Type 0} (c q n source : ℕ) (k : Cap) (r : R
   pub report : is_probe_ack x.opcode ≡ true
   pub waits : (s.block n).service ≡ Waits q false source k
   -- no other ProbeAck is missing
-  pub settled : (d : ℕ) → (d ≡ c → ⊥) → is_quiet ((s.block n).pair d).probing ≡ true
+  pub settled : (d : ℕ) → (d ≡ c → ⊥) → is_unprobed ((s.block n).pair d).probing ≡ true
   pub named : AreNamed s
   pub reply : IsReply n (service_for q n request s) m (taken c x t)
   pub answers : is_access_answer m.opcode ≡ true
@@ -86,15 +86,15 @@ pub record IsEnding {w : ℕ} {X : Type 0} (c q n source : ℕ) (k : Cap) (r : R
 
 -- after a ProbeAck that was the last one missing nobody's is
 pub all-quiet : {X : Type 0} (c n : ℕ) (r : Report) (new : Block X) (block : ℕ → Block X) → ((d : ℕ) → new.pair d ≡ set c (after_report r ((block n).pair c)) (block n).pair d)
-    → ((d : ℕ) → (d ≡ c → ⊥) → is_quiet ((block n).pair d).probing ≡ true) → (d : ℕ) → is_quiet ((set n new block n).pair d).probing ≡ true
+    → ((d : ℕ) → (d ≡ c → ⊥) → is_unprobed ((block n).pair d).probing ≡ true) → (d : ℕ) → is_unprobed ((set n new block n).pair d).probing ≡ true
 all-quiet c n r new block pairs settled d =
-    pair-part (λ p. is_quiet p.probing) c n (after_report r ((block n).pair c)) new block pairs d n ∙ elim (cases_eq c d) [
+    pair-part (λ p. is_unprobed p.probing) c n (after_report r ((block n).pair c)) new block pairs d n ∙ elim (cases_eq c d) [
       | inl same ↦ rw (same, same_number d, same_number n) refl
       | inr other ↦ rw (ne_eqb c d other) (settled d (λ e. other (sym e)))
     ]
 
-pub managed-ended : {w : ℕ} {X : Type 0} (request : ℕ → MessageA w) (c q n source : ℕ) (k : Cap) (r : Report) (f : X → X) (rest : List Token) (x : BeatC w) (m : MessageD w) (s : State X) (t : Trace w)
-    → IsEnding c q n source k r x m request s t → IsManaged request s t → IsManaged request (report_answers c q n source r f rest s) (after_sent (record { 0 = q }) (D m) (taken c x t))
+pub managed-ended : {w : ℕ} {X : Type 0} (request : ℕ → MessageA w) (c q n source : ℕ) (k : Cap) (r : Report) (f : X → X) (rest : List Packet) (x : BeatC w) (m : MessageD w) (s : State X) (t : Trace w)
+    → IsEnding c q n source k r x m request s t → ManagerRelation request s t → ManagerRelation request (report_answers c q n source r f rest s) (after_sent (record { 0 = q }) (D m) (taken c x t))
 managed-ended {w} {X} request c q n source k r f rest x m s t is known = record {
   recorded_is = λ d i. recorded-answer (record { 0 = q }) m u is.reply.width is.reply.whole other d i ∙ reported-records request c n r new x s t is.last (λ j. refl) known d i;
   probes = λ d i. reply-quiet (key.ProbeOf i) (record { 0 = q }) m u d is.reply.width is.reply.whole (λ e. (refl, refl))
@@ -132,9 +132,9 @@ no-burst c q t ok free = go (comes_in_request q (unfinished channel.A (on_link c
     go true k e = absurd (omega (arith, e))
     go false k e = refl
 
-pub are_served-ended : {w : ℕ} {X : Type 0} (request : ℕ → MessageA w) (c q n source : ℕ) (k : Cap) (r : Report) (f : X → X) (rest : List Token) (x : BeatC w)
+pub are_served-ended : {w : ℕ} {X : Type 0} (request : ℕ → MessageA w) (c q n source : ℕ) (k : Cap) (r : Report) (f : X → X) (rest : List Packet) (x : BeatC w)
     (m : MessageD w) (s : State X) (t : Trace w)
-    → IsEnding c q n source k r x m request s t → AreServed request s t → AreServed request (report_answers c q n source r f rest s) (after_sent (record { 0 = q }) (D m) (taken c x t))
+    → IsEnding c q n source k r x m request s t → ServedSourceRelation request s t → ServedSourceRelation request (report_answers c q n source r f rest s) (after_sent (record { 0 = q }) (D m) (taken c x t))
 are_served-ended {w} {X} request c q n source k r f rest x m s t is known = record {
   sources = λ d i. sources_now d i ((q == d) && (source == i)) refl;
   sinks = λ d i. reply-quiet (key.GrantSink i) (record { 0 = q }) m u d is.reply.width is.reply.whole (λ e. (rw other refl, refl))
@@ -162,8 +162,8 @@ are_served-ended {w} {X} request c q n source k r f rest x m s t is known = reco
     other : is_grant m.opcode ≡ false
     other = answer_kind m.opcode is.answers
 
-    served_now : (d : ℕ) (y : Use) → is_served d y z ≡ is_served d y s
-    served_now d Closed = refl
+    served_now : (d : ℕ) (y : SourceState) → is_served d y z ≡ is_served d y s
+    served_now d SourceFree = refl
     served_now d Asked = refl
     served_now d (InService j) = refl
     served_now d Replied = refl
@@ -202,9 +202,9 @@ are_served-ended {w} {X} request c q n source k r f rest x m s t is known = reco
       | inr apart ↦ known.asked i p source own cap (ap (λ (b : Block X). b.service) (sym (set-other n i new s.block apart)) ∙ e)
     ]
 
-    probes_now : (d i : ℕ) → is_quiet ((set n new s.block i).pair d).probing ≡ false → probe_of i (on_link d t) ≡ Some (probe_beat i (cap_waited (set n new s.block i).service))
+    probes_now : (d i : ℕ) → is_unprobed ((set n new s.block i).pair d).probing ≡ false → probe_of i (on_link d t) ≡ Some (probe_beat i (cap_waited (set n new s.block i).service))
     probes_now d i e = elim (cases_eq i n) [
-      | inl same ↦ absurd (let yes = all-quiet c n r new s.block (λ j. refl) is.settled d in let no : is_quiet ((set n new s.block n).pair d).probing ≡ false =
+      | inl same ↦ absurd (let yes = all-quiet c n r new s.block (λ j. refl) is.settled d in let no : is_unprobed ((set n new s.block n).pair d).probing ≡ false =
           rw same at e in let differ : true ≡ false = sym yes ∙ no in cc)
       | inr apart ↦ known.probes d i (reported-probing c n r new s.block (λ j. refl) d i e) ∙ rw (set-other n i new s.block apart) refl
     ]

@@ -28,15 +28,15 @@ use Rattle.tl_manager.proofs.Handed.{after_sent, own_link, other_link}
 use Rattle.tl_manager.proofs.Replied.{source-reply}
 use Rattle.tl_manager.proofs.Replies.{pending-reply, reply-quiet, burst-reply, request-reply, probe-reply}
 use Rattle.tl_coherence.specs.protocol.Invariant.{AreNamed}
-use Rattle.tl_coherence.specs.refinement.Managed.{IsManaged, is_own}
-use Rattle.tl_coherence.specs.protocol.Phase.{Pair, Own, Other, Granting, GrantedOther, is_quiet}
+use Rattle.tl_coherence.specs.refinement.ManagerRelation.{ManagerRelation, is_own}
+use Rattle.tl_coherence.specs.protocol.Phase.{ClientBlock, Own, Other, Granting, GrantedOther, is_unprobed}
 use Rattle.tl_coherence.specs.protocol.PhaseSteps.{after_report, after_grant_sent}
-use Rattle.tl_coherence.specs.protocol.Protocol.{Waits, GrantSent, Block, State, Use, Closed, Asked, InService, Replied, Acquires, view, is_granting, is_acknowledging}
+use Rattle.tl_coherence.specs.protocol.Protocol.{Waits, GrantSent, Block, State, SourceState, SourceFree, Asked, InService, Replied, Acquires, view, is_granting, is_acknowledging}
 use Rattle.tl_coherence.specs.protocol.Protocol.{is_wanting, report_grants, granted_block, reported_block}
-use Rattle.tl_coherence.specs.refinement.Sources.{AreServed, is_served, is_granted, cap_waited}
-use Rattle.tl_coherence.specs.refinement.Render.{probe_beat}
-use Rattle.tl_coherence.specs.protocol.Token.{Token, set}
-use Rattle.tl_coherence.proofs.manager.Quieted.{quiet-c, IsLastOf}
+use Rattle.tl_coherence.specs.refinement.SourceRelation.{ServedSourceRelation, is_served, is_granted, cap_waited}
+use Rattle.tl_coherence.specs.refinement.PacketMessages.{probe_beat}
+use Rattle.tl_coherence.specs.protocol.Packet.{Packet, set}
+use Rattle.tl_coherence.proofs.manager.QuiescentManager.{quiet-c, IsLastOf}
 use Rattle.tl_coherence.proofs.manager.ManagedEndings.{tracker-of, tracker-alone, taken, service_for, no-burst}
 use Rattle.tl_coherence.proofs.manager.ManagedReports.{reported-records, reported-missing}
 use Rattle.tl_coherence.proofs.queues.Phases.{and_right}
@@ -103,7 +103,7 @@ given-records {w} q n tracker m u is d i = go (q == d) refl
 
 -- ---- one client of one block has another pair than it had in the block's place
 
-pub pair-over : {X A : Type 0} (part : Pair → A) (q n : ℕ) (p : Pair) (new mid : Block X) (block : ℕ → Block X) → ((d : ℕ) → new.pair d ≡ set q p mid.pair d) → (d i : ℕ)
+pub pair-over : {X A : Type 0} (part : ClientBlock → A) (q n : ℕ) (p : ClientBlock) (new mid : Block X) (block : ℕ → Block X) → ((d : ℕ) → new.pair d ≡ set q p mid.pair d) → (d i : ℕ)
     → part ((set n new block i).pair d) ≡ (if (q == d) && (n == i) then part p else part ((set n mid block i).pair d))
 pair-over {X} {A} part q n p new mid block is d i = elim (cases_eq i n) [
   | inl same ↦ rw (same, set-same n new block, set-same n mid block, same_number n, is d) (elim (cases_eq d q) [
@@ -124,7 +124,7 @@ pub record IsConceded {w : ℕ} {X : Type 0} (c q n source : ℕ) (k gift : Cap)
   pub report : is_probe_ack x.opcode ≡ true
   pub waits : (s.block n).service ≡ Waits q true source k
   -- no other ProbeAck is missing
-  pub settled : (d : ℕ) → (d ≡ c → ⊥) → is_quiet ((s.block n).pair d).probing ≡ true
+  pub settled : (d : ℕ) → (d ≡ c → ⊥) → is_unprobed ((s.block n).pair d).probing ≡ true
   pub apart : c ≡ q → ⊥
   pub named : AreNamed s
   pub used : s.uses q source ≡ Acquires n
@@ -180,14 +180,14 @@ if_always : {A : Type 0} (b : Bool) (p q : A) → (if b && true then p else q) �
 if_always true p q = refl
 if_always false p q = refl
 
-pub managed-conceded : {w : ℕ} {X : Type 0} (request : ℕ → MessageA w) (c q n source : ℕ) (k gift : Cap) (r : Report) (dt : Bool) (rest : List Token)
+pub managed-conceded : {w : ℕ} {X : Type 0} (request : ℕ → MessageA w) (c q n source : ℕ) (k gift : Cap) (r : Report) (dt : Bool) (rest : List Packet)
     (x : BeatC w) (m : MessageD w) (s : State X) (t : Trace w)
-    → IsConceded c q n source k gift r x m request s t → IsManaged request s t → IsManaged request (report_grants c q n r dt gift rest s) (after_sent (record { 0 = q }) (D m) (taken c x t))
+    → IsConceded c q n source k gift r x m request s t → ManagerRelation request s t → ManagerRelation request (report_grants c q n r dt gift rest s) (after_sent (record { 0 = q }) (D m) (taken c x t))
 managed-conceded {w} {X} request c q n source k gift r dt rest x m s t is known = record {
   recorded_is = λ d i. given-records q n (s.block n).tracker m u given d i ∙ records_now d i ∙ sym (pair-over (λ p. p.recorded) q n gives new mid s.block (λ j. refl) d i);
   probes = λ d i.
       reply-quiet (key.ProbeOf i) (record { 0 = q }) m u d given.width given.whole (λ e. (refl, refl)) ∙ reported-missing request c n r mid x s t is.last is.report (λ j. refl) known d i
-      ∙ sym (pair-over (λ p. not (is_quiet p.probing)) q n gives new mid s.block (λ j. refl) d i ∙ probing_same d i ((q == d) && (n == i)) refl);
+      ∙ sym (pair-over (λ p. not (is_unprobed p.probing)) q n gives new mid s.block (λ j. refl) d i ∙ probing_same d i ((q == d) && (n == i)) refl);
   acquires = λ d i. given-acquires q n (s.block n).tracker m u given d i ∙ acquires_now d i;
   grant_acks = λ d i. given-acks q n (s.block n).tracker m u given d i ∙ acks_now d i;
   serving_is = λ i.
@@ -207,7 +207,7 @@ managed-conceded {w} {X} request c q n source k gift r dt rest x m s t is known 
     new : Block X
     new = granted_block c q r dt gift (s.block n)
 
-    gives : Pair
+    gives : ClientBlock
     gives = after_grant_sent gift ((s.block n).pair q)
 
     given : IsGiven q n (s.block n).tracker m u
@@ -220,8 +220,8 @@ managed-conceded {w} {X} request c q n source k gift r dt rest x m s t is known 
     others e = is.apart (sym e)
 
     probing_same : (d i : ℕ) (b : Bool) → ((q == d) && (n == i)) ≡ b
-        → (if b then not (is_quiet gives.probing) else not (is_quiet ((set n mid s.block i).pair d).probing))
-        ≡ not (is_quiet ((set n mid s.block i).pair d).probing)
+        → (if b then not (is_unprobed gives.probing) else not (is_unprobed ((set n mid s.block i).pair d).probing))
+        ≡ not (is_unprobed ((set n mid s.block i).pair d).probing)
     probing_same d i false e = refl
     probing_same d i true e =
         let p = and_parts (q == d) (n == i) e in
@@ -261,9 +261,9 @@ only_source q n source i s named used e =
     let second = eqb-true i ((s.block n).source q) (and_right (is_wanting ((s.block n).pair q).acquiring) (i == (s.block n).source q) there) in
     second ∙ sym first
 
-pub are_served-conceded : {w : ℕ} {X : Type 0} (request : ℕ → MessageA w) (c q n source : ℕ) (k gift : Cap) (r : Report) (dt : Bool) (rest : List Token)
+pub are_served-conceded : {w : ℕ} {X : Type 0} (request : ℕ → MessageA w) (c q n source : ℕ) (k gift : Cap) (r : Report) (dt : Bool) (rest : List Packet)
     (x : BeatC w) (m : MessageD w) (s : State X) (t : Trace w)
-    → IsConceded c q n source k gift r x m request s t → AreServed request s t → AreServed request (report_grants c q n r dt gift rest s) (after_sent (record { 0 = q }) (D m) (taken c x t))
+    → IsConceded c q n source k gift r x m request s t → ServedSourceRelation request s t → ServedSourceRelation request (report_grants c q n r dt gift rest s) (after_sent (record { 0 = q }) (D m) (taken c x t))
 are_served-conceded {w} {X} request c q n source k gift r dt rest x m s t is known = record {
   sources = λ d i. sources_now d i ((q == d) && (source == i)) refl;
   sinks = λ d i. given-sinks q n (s.block n).tracker m u given d i ∙ sinks_now d i ((q == d) && ((s.block n).tracker == i)) refl;
@@ -287,7 +287,7 @@ are_served-conceded {w} {X} request c q n source k gift r dt rest x m s t is kno
     new : Block X
     new = granted_block c q r dt gift (s.block n)
 
-    gives : Pair
+    gives : ClientBlock
     gives = after_grant_sent gift ((s.block n).pair q)
 
     z : State X
@@ -305,8 +305,8 @@ are_served-conceded {w} {X} request c q n source k gift r dt rest x m s t is kno
       | inr other ↦ ne_eqb d q other
     ]
 
-    served_now : (d i : ℕ) → ((q == d) && (source == i)) ≡ false → (y : Use) → s.uses d i ≡ y → is_served d y z ≡ is_served d y s
-    served_now d i apart Closed e = refl
+    served_now : (d i : ℕ) → ((q == d) && (source == i)) ≡ false → (y : SourceState) → s.uses d i ≡ y → is_served d y z ≡ is_served d y s
+    served_now d i apart SourceFree e = refl
     served_now d i apart Asked e = refl
     served_now d i apart (InService j) e = refl
     served_now d i apart Replied e = refl
@@ -370,10 +370,10 @@ are_served-conceded {w} {X} request c q n source k gift r dt rest x m s t is kno
     others e = is.apart (sym e)
 
     -- who isn't quiet isn't of this block
-    probing_before : (d i : ℕ) → (i ≡ n → ⊥) → is_quiet ((set n new s.block i).pair d).probing ≡ false → is_quiet ((s.block i).pair d).probing ≡ false
+    probing_before : (d i : ℕ) → (i ≡ n → ⊥) → is_unprobed ((set n new s.block i).pair d).probing ≡ false → is_unprobed ((s.block i).pair d).probing ≡ false
     probing_before d i other e = rw (set-other n i new s.block other) at e
 
-    quiet_here : (d : ℕ) → is_quiet ((set n new s.block n).pair d).probing ≡ true
+    quiet_here : (d : ℕ) → is_unprobed ((set n new s.block n).pair d).probing ≡ true
     quiet_here d = rw (set-same n new s.block) (elim (cases_eq d q) [
       | inl client ↦ rw (client, set-same q gives mid.pair) (is.settled q others)
       | inr other ↦ rw (set-other q d gives mid.pair other) (elim (cases_eq d c) [
@@ -382,8 +382,8 @@ are_served-conceded {w} {X} request c q n source k gift r dt rest x m s t is kno
       ])
     ])
 
-    probes_now : (d i : ℕ) → is_quiet ((set n new s.block i).pair d).probing ≡ false → probe_of i (on_link d t) ≡ Some (probe_beat i (cap_waited (set n new s.block i).service))
+    probes_now : (d i : ℕ) → is_unprobed ((set n new s.block i).pair d).probing ≡ false → probe_of i (on_link d t) ≡ Some (probe_beat i (cap_waited (set n new s.block i).service))
     probes_now d i e = elim (cases_eq i n) [
-      | inl same ↦ absurd (let no : is_quiet ((set n new s.block n).pair d).probing ≡ false = rw same at e in let differ : true ≡ false = sym (quiet_here d) ∙ no in cc)
+      | inl same ↦ absurd (let no : is_unprobed ((set n new s.block n).pair d).probing ≡ false = rw same at e in let differ : true ≡ false = sym (quiet_here d) ∙ no in cc)
       | inr other ↦ known.probes d i (probing_before d i other e) ∙ rw (set-other n i new s.block other) refl
     ]

@@ -39,26 +39,26 @@ use Rattle.tl_manager.specs.statement.Offer.{offered, taken}
 use Rattle.tl_manager.proofs.Events.{deed-part, deed-release, deed-report, deed-ack, memory_with}
 use Rattle.tl_manager.proofs.Handed.{whole-taken}
 use Rattle.tl_manager.proofs.Keeping.{kept-offered}
-use Rattle.tl_coherence.specs.refinement.Follow.{Shadow, with_state, some_below}
-use Rattle.tl_coherence.specs.refinement.Managed.{IsManaged}
-use Rattle.tl_coherence.specs.protocol.Phase.{Pair, is_quiet}
+use Rattle.tl_coherence.specs.refinement.AbstractStep.{AbstractState, with_state, some_below}
+use Rattle.tl_coherence.specs.refinement.ManagerRelation.{ManagerRelation}
+use Rattle.tl_coherence.specs.protocol.Phase.{ClientBlock, is_unprobed}
 use Rattle.tl_coherence.specs.protocol.Protocol.{Block, State, report_taken, reported_block, release_taken, let_block, grant_ack_taken, freed_block}
-use Rattle.tl_coherence.specs.refinement.Sources.{AreServed}
-use Rattle.tl_coherence.specs.protocol.Token.{Token}
-use Rattle.tl_coherence.specs.refinement.Whole.{IsServedWith}
+use Rattle.tl_coherence.specs.refinement.SourceRelation.{ServedSourceRelation}
+use Rattle.tl_coherence.specs.protocol.Packet.{Packet}
+use Rattle.tl_coherence.specs.refinement.SimulationRelation.{IsServedWith}
 use Rattle.tl_coherence.proofs.manager.ManagedAcks.{IsAcked, managed-acked, are_served-acked}
 use Rattle.tl_coherence.proofs.manager.ManagedReports.{managed-report_part, are_served-report_part, managed-reported, are_served-reported, IsReleased, managed-released, are_served-released}
 use Rattle.tl_coherence.proofs.manager.ManagersEnd.{IsAtManager}
 use Rattle.tl_coherence.proofs.manager.ManagerMemory.{block_in, other-blocks, blocks-now, block-taken}
 use Rattle.tl_coherence.proofs.manager.Choices.{nobody-same}
 use Rattle.tl_coherence.proofs.manager.ManagerTakes.{IsTakenUp}
-use Rattle.tl_coherence.proofs.manager.Quieted.{IsLastOf, missing-last}
+use Rattle.tl_coherence.proofs.manager.QuiescentManager.{IsLastOf, missing-last}
 use Rattle.tl_coherence.proofs.manager.Reporting.{IsAbout, reported-prune}
 use Rattle.tl_client.proofs.HeldAfter.{reported-report}
 use Rattle.tl_coherence.proofs.queues.Tokens.{same_number, set-same, set-other, set-part}
 
 -- what is kept of the manager's end beside the protocol as it follows
-abbrev pub IsManagerOf : {w : ℕ} → Config → Shadow w → End w → Type 0
+abbrev pub IsManagerOf : {w : ℕ} → Config → AbstractState w → End w → Type 0
 IsManagerOf config h e = IsAtManager config h.mail h.request h.state e
 
 -- ---- what each beat leaves that is taken, where this is done at it
@@ -82,7 +82,7 @@ others-left {w} config c n x d e width up is kept block i other =
 
 -- ---- a beat of channel C that isn't the last of its message
 
-pub report_part-left : {w : ℕ} (config : Config) (c : ℕ) (x : BeatC w) (h : Shadow w) (e : End w) → IsWidth w → IsTakenUp config c channel.C (beat.C x) e
+pub report_part-left : {w : ℕ} (config : Config) (c : ℕ) (x : BeatC w) (h : AbstractState w) (e : End w) → IsWidth w → IsTakenUp config c channel.C (beat.C x) e
     → ends (beat.C x) (on_link c e.trace) ≡ false → IsManagerOf config h e
     → IsManagerOf config h (left c (beat.C x) (deed config (record { 0 = c }) (beat.C x) e) e)
 unfolding with_handed
@@ -146,23 +146,23 @@ memory-end {w} b c n param carries truth k m e is =
 release_is : {w : ℕ} (source : ℕ) → (m : MessageD w) × (release_ack source ≡ message.D m) × (is_release_ack m.opcode ≡ true) × (is_grant m.opcode ≡ false)
 release_is source = (_, refl, refl, refl)
 
-pub deed-released : {w : ℕ} (config : Config) (c n k : ℕ) (r : Prune) (m : MessageC w) (h : Shadow w) (e : End w)
+pub deed-released : {w : ℕ} (config : Config) (c n k : ℕ) (r : Prune) (m : MessageC w) (h : AbstractState w) (e : End w)
     → IsEnd false c n (prune_code r) (same_perm (prune_left r) perm.Trunk) (h.state.block n).truth k m e
     → deed config (record { 0 = c }) (beat.C (c_beat_of m k)) e ≡ record { handed = (record { 0 = c }, release_ack m.source) ∷ []; memory = memory_with (record { 0 = c }) (c_beat_of m k) e }
 deed-released config c n k r m h e end =
     deed-release config (record { 0 = c }) (c_beat_of m k) e (ends-it false c n (prune_code r) (same_perm (prune_left r) perm.Trunk) (h.state.block n).truth k m e end) end.about.releases
 
-pub released-left : {w : ℕ} (config : Config) (c n k : ℕ) (r : Prune) (rest : List Token) (m : MessageC w) (h : Shadow w) (e : End w) → IsTakenUp config c channel.C (beat.C (c_beat_of m k)) e
+pub released-left : {w : ℕ} (config : Config) (c n k : ℕ) (r : Prune) (rest : List Packet) (m : MessageC w) (h : AbstractState w) (e : End w) → IsTakenUp config c channel.C (beat.C (c_beat_of m k)) e
     → IsEnd false c n (prune_code r) (same_perm (prune_left r) perm.Trunk) (h.state.block n).truth k m e → IsManagerOf config h e
     → IsManagerOf config (with_state (release_taken c n r rest h.state) h) (left c (beat.C (c_beat_of m k)) (deed config (record { 0 = c }) (beat.C (c_beat_of m k)) e) e)
 unfolding with_handed
 released-left {w} config c n k r rest m h e up end is =
     subst (λ (d : Deed w). IsManagerOf config (with_state after h) (left c (beat.C x) d e)) (sym done) (record {
       managed =
-          subst (λ (i : Message w). IsManaged h.request after (with_handed ((record { 0 = c }, i) ∷ []) ((record { 0 = c }, beat.C x) ∷ e.trace))) (sym answer.1)
+          subst (λ (i : Message w). ManagerRelation h.request after (with_handed ((record { 0 = c }, i) ∷ []) ((record { 0 = c }, beat.C x) ∷ e.trace))) (sym answer.1)
           (managed-released h.request c n r rest x answer.0 h.state e.trace (last-of false c n (prune_code r) carries truth k (prune_right r) m e end (reported-prune r)) released is.managed);
       served =
-          subst (λ (i : Message w). AreServed h.request after (with_handed ((record { 0 = c }, i) ∷ []) ((record { 0 = c }, beat.C x) ∷ e.trace))) (sym answer.1)
+          subst (λ (i : Message w). ServedSourceRelation h.request after (with_handed ((record { 0 = c }, i) ∷ []) ((record { 0 = c }, beat.C x) ∷ e.trace))) (sym answer.1)
           (are_served-released h.request c n r rest x answer.0 h.state e.trace released is.served);
       served_with = λ i. still i;
       manager_kept = kept-left config c x does e end.width up done is.manager_kept;
@@ -206,11 +206,11 @@ released-left {w} config c n k r rest m h e up end is =
 -- ---- which ProbeAcks are missing
 
 -- whose Probe is still under way once client c has answered
-abbrev pub others_probed : ℕ → (ℕ → Pair) → ℕ → Bool
-others_probed c pair d = not (d == c) && not (is_quiet (pair d).probing)
+abbrev pub others_probed : ℕ → (ℕ → ClientBlock) → ℕ → Bool
+others_probed c pair d = not (d == c) && not (is_unprobed (pair d).probing)
 
-pub settled-is : {w : ℕ} (config : Config) (c n : ℕ) (right : Perm) (x : BeatC w) (h : Shadow w) (e : End w) → IsLastOf c n right x e.trace
-    → is_probe_ack x.opcode ≡ true → IsManaged h.request h.state e.trace
+pub settled-is : {w : ℕ} (config : Config) (c n : ℕ) (right : Perm) (x : BeatC w) (h : AbstractState w) (e : End w) → IsLastOf c n right x e.trace
+    → is_probe_ack x.opcode ≡ true → ManagerRelation h.request h.state e.trace
     → is_settled config n ((record { 0 = c }, beat.C x) ∷ e.trace) ≡ not (some_below (length config.clients.items) (others_probed c (h.state.block n).pair))
 settled-is {w} config c n right x h e last report managed =
     nobody-same config (λ d. is_missing d n ((record { 0 = c }, beat.C x) ∷ e.trace)) (others_probed c (h.state.block n).pair) (λ d. missing-last c n right x e.trace last report d n ∙ now d)
@@ -223,9 +223,9 @@ settled-is {w} config c n right x h e last report managed =
 
 -- ---- a ProbeAck that isn't the last one missing
 
-pub deed-reported : {w : ℕ} (config : Config) (c n k : ℕ) (r : Report) (m : MessageC w) (h : Shadow w) (e : End w)
+pub deed-reported : {w : ℕ} (config : Config) (c n k : ℕ) (r : Report) (m : MessageC w) (h : AbstractState w) (e : End w)
     → IsEnd true c n (report_code r) (same_perm (report_left r) perm.Trunk) (h.state.block n).truth k m e
-    → some_below (length config.clients.items) (others_probed c (h.state.block n).pair) ≡ true → IsManaged h.request h.state e.trace
+    → some_below (length config.clients.items) (others_probed c (h.state.block n).pair) ≡ true → ManagerRelation h.request h.state e.trace
     → deed config (record { 0 = c }) (beat.C (c_beat_of m k)) e ≡ nothing (memory_with (record { 0 = c }) (c_beat_of m k) e)
 deed-reported {w} config c n k r m h e end others managed =
     deed-report config (record { 0 = c }) x e (ends-it true c n (report_code r) carries truth k m e end) end.about.releases end.about.reports
@@ -241,7 +241,7 @@ deed-reported {w} config c n k r m h e end others managed =
     carries : Bool
     carries = same_perm (report_left r) perm.Trunk
 
-pub reported-left : {w : ℕ} (config : Config) (c n k : ℕ) (r : Report) (rest : List Token) (m : MessageC w) (h : Shadow w) (e : End w) → IsTakenUp config c channel.C (beat.C (c_beat_of m k)) e
+pub reported-left : {w : ℕ} (config : Config) (c n k : ℕ) (r : Report) (rest : List Packet) (m : MessageC w) (h : AbstractState w) (e : End w) → IsTakenUp config c channel.C (beat.C (c_beat_of m k)) e
     → IsEnd true c n (report_code r) (same_perm (report_left r) perm.Trunk) (h.state.block n).truth k m e
     → some_below (length config.clients.items) (others_probed c (h.state.block n).pair) ≡ true → IsManagerOf config h e
     → IsManagerOf config (with_state (report_taken c n r rest h.state) h) (left c (beat.C (c_beat_of m k)) (deed config (record { 0 = c }) (beat.C (c_beat_of m k)) e) e)
@@ -288,7 +288,7 @@ reported-left {w} config c n k r rest m h e up end others is =
 
 -- ---- a GrantAck
 
-pub acked-left : {w : ℕ} (config : Config) (c n : ℕ) (rest : List Token) (x : BeatE) (h : Shadow w) (e : End w) → IsWidth w
+pub acked-left : {w : ℕ} (config : Config) (c n : ℕ) (rest : List Packet) (x : BeatE) (h : AbstractState w) (e : End w) → IsWidth w
     → IsTakenUp config c channel.E (beat.E x) e → IsAcked c n x h.request h.state e.trace → IsManagerOf config h e
     → IsManagerOf config (with_state (grant_ack_taken c n rest h.state) h) (left c (beat.E x) (deed config (record { 0 = c }) (beat.E x) e) e)
 unfolding with_handed

@@ -26,9 +26,9 @@ use Rattle.tl_manager.specs.statement.Deed.{with_block, written}
 use Rattle.tl_manager.specs.statement.Offer.{offered}
 use Rattle.tl_manager.proofs.Memories.{memory-elsewhere}
 use Rattle.tl_manager.proofs.Written.{block-written}
-use Rattle.tl_coherence.specs.refinement.Follow.{answers, bytes_at, performs}
+use Rattle.tl_coherence.specs.refinement.AbstractStep.{answers, bytes_at, performs}
 use Rattle.tl_coherence.specs.protocol.Protocol.{Block, State}
-use Rattle.tl_coherence.specs.protocol.Token.{set}
+use Rattle.tl_coherence.specs.protocol.Packet.{set}
 use Rattle.tl_coherence.proofs.queues.Tokens.{set-same, set-other}
 use Rattle.tl_coherence.proofs.manager.Memories.{byte_in}
 

@@ -6,7 +6,7 @@ use Rattle.tl_coherence.proofs.manager.ManagedReports.{reported-records}
 use Rattle.tl_coherence.proofs.manager.ManagedGrants.{IsConceded, managed-conceded, are_served-conceded}
 use Rattle.tl_coherence.specs.protocol.PhaseSteps.{is_granted_data, after_report}
 use Rattle.tl_params.specs.declared.perm.Perm.{Perm}
-use Rattle.tl_coherence.specs.refinement.Render.{grant_of}
+use Rattle.tl_coherence.specs.refinement.PacketMessages.{grant_of}
 use Rattle.tl_params.specs.declared.param.Grow.{Grow}
 use Rattle.std.proofs.Common.{◌≡◌, ℕ, Bool, true, false, not, ◌&&◌, List, [], ◌∷◌, Some, length, refl, sym, ◌∙◌, ap, ap₂, subst, inl, inr}
 use Rattle.std.specs.Prelude.{◌==◌, if◌then◌else◌}
@@ -45,22 +45,22 @@ use Rattle.tl_manager.proofs.Keeping.{is_taken}
 use Rattle.tl_manager.proofs.Replied.{IsReply}
 use Rattle.tl_manager.proofs.SteadyReports.{report-ready}
 use Rattle.tl_manager.proofs.Recording.{cap-gives}
-use Rattle.tl_coherence.specs.refinement.Follow.{Shadow, answers, performs, some_below, with_answer, with_state, acquire_opcode, gift, is_unheld}
+use Rattle.tl_coherence.specs.refinement.AbstractStep.{AbstractState, answers, performs, some_below, with_answer, with_state, acquire_opcode, gift, is_unheld}
 use Rattle.tl_coherence.specs.protocol.Invariant.{AreNamed}
-use Rattle.tl_coherence.specs.refinement.Managed.{IsManaged}
-use Rattle.tl_coherence.specs.protocol.Phase.{is_quiet, Pair}
+use Rattle.tl_coherence.specs.refinement.ManagerRelation.{ManagerRelation}
+use Rattle.tl_coherence.specs.protocol.Phase.{is_unprobed, ClientBlock}
 use Rattle.tl_coherence.specs.protocol.Protocol as protocol
 use Rattle.tl_coherence.specs.protocol.Protocol.{Service, Free, Waits, GrantSent, Block, State, Acquires, report_answers, ended_block, report_grants, granted_block, reported_block}
-use Rattle.tl_coherence.specs.refinement.Sources.{AreServed, IsFor}
-use Rattle.tl_coherence.specs.protocol.Token.{set, Token}
-use Rattle.tl_coherence.specs.refinement.Whole.{IsServedWith}
+use Rattle.tl_coherence.specs.refinement.SourceRelation.{ServedSourceRelation, IsFor}
+use Rattle.tl_coherence.specs.protocol.Packet.{set, Packet}
+use Rattle.tl_coherence.specs.refinement.SimulationRelation.{IsServedWith}
 use Rattle.tl_coherence.proofs.manager.ManagedEndings.{IsEnding, managed-ended, are_served-ended, service_for}
 use Rattle.tl_coherence.proofs.manager.ManagedEndings as endings
 use Rattle.tl_coherence.proofs.manager.Choices.{nobody-same}
 use Rattle.tl_coherence.proofs.manager.ManagerAfter.{IsManagerOf, left, kept-left, others-left, IsEnd, ends-it, last-of, memory-end, others_probed, settled-is}
 use Rattle.tl_coherence.proofs.manager.ManagerMemory.{block_in, blocks-now, block-performed, answer-performed}
 use Rattle.tl_coherence.proofs.manager.ManagerTakes.{IsTakenUp}
-use Rattle.tl_coherence.proofs.manager.Quieted.{quiet-c, IsLastOf, missing-last}
+use Rattle.tl_coherence.proofs.manager.QuiescentManager.{quiet-c, IsLastOf, missing-last}
 use Rattle.tl_client.proofs.HeldAfter.{reported-report}
 use Rattle.tl_coherence.proofs.queues.Tokens.{set-same, set-other}
 use Rattle.tl_coherence.proofs.queues.Codes.{data-same}
@@ -69,7 +69,7 @@ use Rattle.tl_manager.proofs.Performed.{grants_by_opcode}
 -- ---- the service of the block
 
 -- the last ProbeAck of a service that waits
-pub record IsSettling {w : ℕ} (config : Config) (c q n source k : ℕ) (own : Bool) (low : Cap) (r : Report) (m : MessageC w) (h : Shadow w) (e : End w) : Type 0 where
+pub record IsSettling {w : ℕ} (config : Config) (c q n source k : ℕ) (own : Bool) (low : Cap) (r : Report) (m : MessageC w) (h : AbstractState w) (e : End w) : Type 0 where
   pub up : IsTakenUp config c channel.C (beat.C (c_beat_of m k)) e
   pub end : IsEnd true c n (report_code r) (same_perm (report_left r) perm.Trunk) (h.state.block n).truth k m e
   pub alone : some_below (length config.clients.items) (others_probed c (h.state.block n).pair) ≡ false
@@ -80,21 +80,21 @@ pub record IsSettling {w : ℕ} (config : Config) (c q n source k : ℕ) (own : 
 abbrev pub trace_with : {w : ℕ} → ℕ → ℕ → MessageC w → End w → Trace w
 trace_with c k m e = endings.taken c (c_beat_of m k) e.trace
 
-settling-last : {w : ℕ} (config : Config) (c q n source k : ℕ) (own : Bool) (low : Cap) (r : Report) (m : MessageC w) (h : Shadow w) (e : End w)
+settling-last : {w : ℕ} (config : Config) (c q n source k : ℕ) (own : Bool) (low : Cap) (r : Report) (m : MessageC w) (h : AbstractState w) (e : End w)
     → IsSettling config c q n source k own low r m h e → IsLastOf c n (report_right r) (c_beat_of m k) e.trace
 settling-last config c q n source k own low r m h e at = last-of true c n (report_code r) (same_perm (report_left r) perm.Trunk) (h.state.block n).truth k
     (report_right r) m e at.end (reported-report r)
 
-settling-all : {w : ℕ} (config : Config) (c q n source k : ℕ) (own : Bool) (low : Cap) (r : Report) (m : MessageC w) (h : Shadow w) (e : End w)
+settling-all : {w : ℕ} (config : Config) (c q n source k : ℕ) (own : Bool) (low : Cap) (r : Report) (m : MessageC w) (h : AbstractState w) (e : End w)
     → IsSettling config c q n source k own low r m h e → is_settled config n (trace_with c k m e) ≡ true
 settling-all config c q n source k own low r m h e at =
     settled-is config c n (report_right r) (c_beat_of m k) h e (settling-last config c q n source k own low r m h e at) at.end.about.reports at.is.managed ∙ ap not at.alone
 
-settling-found : {w : ℕ} (config : Config) (c q n source k : ℕ) (own : Bool) (low : Cap) (r : Report) (m : MessageC w) (h : Shadow w) (e : End w) → IsSettling config c q n source k own low r m h e
+settling-found : {w : ℕ} (config : Config) (c q n source k : ℕ) (own : Bool) (low : Cap) (r : Report) (m : MessageC w) (h : AbstractState w) (e : End w) → IsSettling config c q n source k own low r m h e
     → service_of_block n (services (trace_with c k m e)) ≡ Some (service_for q n h.request h.state)
 settling-found config c q n source k own low r m h e at = ap (service_of_block n) ((quiet-c (record { 0 = c }) (c_beat_of m k) e.trace).serves) ∙ at.is.managed.serving_is n ∙ rw at.waits refl
 
-pub settling-ready : {w : ℕ} (config : Config) (c q n source k : ℕ) (own : Bool) (low : Cap) (r : Report) (m : MessageC w) (h : Shadow w) (e : End w) → IsSettling config c q n source k own low r m h e
+pub settling-ready : {w : ℕ} (config : Config) (c q n source k : ℕ) (own : Bool) (low : Cap) (r : Report) (m : MessageC w) (h : AbstractState w) (e : End w) → IsSettling config c q n source k own low r m h e
     → IsReady config n (service_for q n h.request h.state) (trace_with c k m e)
 settling-ready {w} config c q n source k own low r m h e at =
     subst (λ (i : ℕ). IsReady config i (service_for q n h.request h.state) (trace_with c k m e)) at.end.about.block
@@ -104,7 +104,7 @@ settling-ready {w} config c q n source k own low r m h e at =
     (ap (λ (i : ℕ). service_of_block i (services (trace_with c k m e))) at.end.about.block ∙ settling-found config c q n source k own low r m h e at)
     (ap (λ (i : ℕ). is_settled config i (trace_with c k m e)) at.end.about.block ∙ settling-all config c q n source k own low r m h e at))
 
-pub settling-deed : {w : ℕ} (config : Config) (c q n source k : ℕ) (own : Bool) (low : Cap) (r : Report) (m : MessageC w) (h : Shadow w) (e : End w) → IsSettling config c q n source k own low r m h e
+pub settling-deed : {w : ℕ} (config : Config) (c q n source k : ℕ) (own : Bool) (low : Cap) (r : Report) (m : MessageC w) (h : AbstractState w) (e : End w) → IsSettling config c q n source k own low r m h e
     → deed config (record { 0 = c }) (beat.C (c_beat_of m k)) e ≡ performed config (service_for q n h.request h.state) (trace_with c k m e) (memory_with (record { 0 = c }) (c_beat_of m k) e)
 settling-deed {w} config c q n source k own low r m h e at =
     deed-settled config (record { 0 = c }) (c_beat_of m k) (service_for q n h.request h.state) e
@@ -114,27 +114,27 @@ settling-deed {w} config c q n source k own low r m h e at =
     (ap (λ (i : ℕ). service_of_block i (services (trace_with c k m e))) at.end.about.block ∙ settling-found config c q n source k own low r m h e at)
 
 -- nobody else's Probe is under way
-pub settling-quiet : {w : ℕ} (config : Config) (c q n source k : ℕ) (own : Bool) (low : Cap) (r : Report) (m : MessageC w) (h : Shadow w) (e : End w) → IsSettling config c q n source k own low r m h e
-    → (d : ℕ) → (d ≡ c → ⊥) → is_quiet ((h.state.block n).pair d).probing ≡ true
+pub settling-quiet : {w : ℕ} (config : Config) (c q n source k : ℕ) (own : Bool) (low : Cap) (r : Report) (m : MessageC w) (h : AbstractState w) (e : End w) → IsSettling config c q n source k own low r m h e
+    → (d : ℕ) → (d ≡ c → ⊥) → is_unprobed ((h.state.block n).pair d).probing ≡ true
 settling-quiet config c q n source k own low r m h e at d other =
     let differ : c ≡ d → ⊥ = λ f. other (sym f) in
     let now = missing-last c n (report_right r) (c_beat_of m k) e.trace (settling-last config c q n source k own low r m h e at) at.end.about.reports d n in
     let none : (if (c == d) && (n == n) then false else pending (key.ProbeOf n) (on_link d e.trace)) ≡ false = sym now ∙ (settling-ready config c q n source k own low r m h e at).settled d in
     let before : pending (key.ProbeOf n) (on_link d e.trace) ≡ false = rw (ne_eqb c d differ) at none in
-    not-false (is_quiet ((h.state.block n).pair d).probing) (sym (at.is.managed.probes d n) ∙ before)
+    not-false (is_unprobed ((h.state.block n).pair d).probing) (sym (at.is.managed.probes d n) ∙ before)
 
 -- the request is lawful
-settling-lawful : {w : ℕ} (config : Config) (c q n source k : ℕ) (own : Bool) (low : Cap) (r : Report) (m : MessageC w) (h : Shadow w) (e : End w) → IsSettling config c q n source k own low r m h e
+settling-lawful : {w : ℕ} (config : Config) (c q n source k : ℕ) (own : Bool) (low : Cap) (r : Report) (m : MessageC w) (h : AbstractState w) (e : End w) → IsSettling config c q n source k own low r m h e
     → IsPerformable config (service_for q n h.request h.state)
 settling-lawful config c q n source k own low r m h e at = of_served (IsPerformable config) n (services e.trace) (service_for q n h.request h.state)
     (at.is.managed.serving_is n ∙ rw at.waits refl) at.is.manager_kept.requests
 
-settling-for : {w : ℕ} (config : Config) (c q n source k : ℕ) (own : Bool) (low : Cap) (r : Report) (m : MessageC w) (h : Shadow w) (e : End w)
+settling-for : {w : ℕ} (config : Config) (c q n source k : ℕ) (own : Bool) (low : Cap) (r : Report) (m : MessageC w) (h : AbstractState w) (e : End w)
     → IsSettling config c q n source k own low r m h e → IsFor (Waits q own source low) n (h.request n)
 settling-for config c q n source k own low r m h e at = rw at.waits at (at.is.served.requests n)
 
 -- the answer is the reply of the service
-settling-reply : {w : ℕ} (config : Config) (c q n source k : ℕ) (own : Bool) (low : Cap) (r : Report) (m : MessageC w) (i : MessageD w) (h : Shadow w)
+settling-reply : {w : ℕ} (config : Config) (c q n source k : ℕ) (own : Bool) (low : Cap) (r : Report) (m : MessageC w) (i : MessageD w) (h : AbstractState w)
     (e : End w) → IsSettling config c q n source k own low r m h e
     → i.source ≡ (h.request n).source → is_release_ack i.opcode ≡ false → IsReply n (service_for q n h.request h.state) i (trace_with c k m e)
 settling-reply config c q n source k own low r m i h e at source_is other =
@@ -152,7 +152,7 @@ settling-reply config c q n source k own low r m i h e at source_is other =
     }
 
 -- the memory that the request finds
-settling-memory : {w : ℕ} (config : Config) (c q n source k : ℕ) (own : Bool) (low : Cap) (r : Report) (m : MessageC w) (h : Shadow w) (e : End w) → IsSettling config c q n source k own low r m h e
+settling-memory : {w : ℕ} (config : Config) (c q n source k : ℕ) (own : Bool) (low : Cap) (r : Report) (m : MessageC w) (h : AbstractState w) (e : End w) → IsSettling config c q n source k own low r m h e
     → block_in (memory_with (record { 0 = c }) (c_beat_of m k) e) n ≡ protocol.written r (h.state.block n).truth (h.state.block n).memory
 settling-memory config c q n source k own low r m h e at =
     memory-end true c n (report_code r) (same_perm (report_left r) perm.Trunk) (h.state.block n).truth k m e at.end
@@ -167,7 +167,7 @@ answer_is r answer.Hint = (_, refl, refl, refl, refl)
 answer_is r (answer.Data payload) = (_, refl, refl, refl, refl)
 
 -- what is done: the access is performed on what the ProbeAcks left of the block, and its answer is handed out
-pub deed-ended : {w : ℕ} (config : Config) (c q n source k : ℕ) (low : Cap) (r : Report) (m : MessageC w) (h : Shadow w) (e : End w) → IsSettling config c q n source k false low r m h e
+pub deed-ended : {w : ℕ} (config : Config) (c q n source k : ℕ) (low : Cap) (r : Report) (m : MessageC w) (h : AbstractState w) (e : End w) → IsSettling config c q n source k false low r m h e
     → deed config (record { 0 = c }) (beat.C (c_beat_of m k)) e
     ≡ record {
       handed = (record { 0 = q }, answers (h.request n) (protocol.written r (h.state.block n).truth (h.state.block n).memory)) ∷ [];
@@ -181,7 +181,7 @@ deed-ended {w} config c q n source k low r m h e at =
     (answer-performed (level_of config q) (h.request n) memory n at.end.width (settling-lawful config c q n source k false low r m h e at).lawful for.2
     ∙ ap (answers (h.request n)) (settling-memory config c q n source k false low r m h e at))
 
-pub ended-left : {w : ℕ} (config : Config) (c q n source k : ℕ) (low : Cap) (r : Report) (rest : List Token) (m : MessageC w) (h : Shadow w) (e : End w)
+pub ended-left : {w : ℕ} (config : Config) (c q n source k : ℕ) (low : Cap) (r : Report) (rest : List Packet) (m : MessageC w) (h : AbstractState w) (e : End w)
     → IsSettling config c q n source k false low r m h e
     → IsManagerOf config (with_answer q source (answers (h.request n) (protocol.written r (h.state.block n).truth (h.state.block n).memory))
     (with_state (report_answers c q n source r (performs (h.request n)) rest h.state) h))
@@ -190,10 +190,10 @@ unfolding with_handed
 ended-left {w} config c q n source k low r rest m h e at =
     subst (λ (d : Deed w). IsManagerOf config (with_answer q source said (with_state after h)) (left c (beat.C x) d e)) (sym done) (record {
       managed =
-          subst (λ (i : Message w). IsManaged h.request after (with_handed ((record { 0 = q }, i) ∷ []) (trace_with c k m e))) (sym reply.1)
+          subst (λ (i : Message w). ManagerRelation h.request after (with_handed ((record { 0 = q }, i) ∷ []) (trace_with c k m e))) (sym reply.1)
           (managed-ended h.request c q n source low r (performs (h.request n)) rest x reply.0 h.state e.trace ending at.is.managed);
       served =
-          subst (λ (i : Message w). AreServed h.request after (with_handed ((record { 0 = q }, i) ∷ []) (trace_with c k m e))) (sym reply.1)
+          subst (λ (i : Message w). ServedSourceRelation h.request after (with_handed ((record { 0 = q }, i) ∷ []) (trace_with c k m e))) (sym reply.1)
           (are_served-ended h.request c q n source low r (performs (h.request n)) rest x reply.0 h.state e.trace ending at.is.served);
       served_with = λ i. still i;
       manager_kept = kept-left config c x does e at.end.width at.up done at.is.manager_kept;
@@ -273,10 +273,10 @@ given_is : {w : ℕ} (q : ℕ) (d : Bool) (k : Cap) (source sink : ℕ) (payload
 given_is q d k source sink payload = let kinds = grants_by_opcode d in (_, refl, kinds.0, kinds.1, refl, refl, refl)
 
 -- what is recorded of the block before the Grant
-abbrev pub pairs_after : ℕ → Report → (ℕ → Pair) → ℕ → Pair
+abbrev pub pairs_after : ℕ → Report → (ℕ → ClientBlock) → ℕ → ClientBlock
 pairs_after c r pair = set c (after_report r (pair c)) pair
 
-settling-records : {w : ℕ} (config : Config) (c q n source k : ℕ) (own : Bool) (low : Cap) (r : Report) (m : MessageC w) (h : Shadow w) (e : End w) → IsSettling config c q n source k own low r m h e
+settling-records : {w : ℕ} (config : Config) (c q n source k : ℕ) (own : Bool) (low : Cap) (r : Report) (m : MessageC w) (h : AbstractState w) (e : End w) → IsSettling config c q n source k own low r m h e
     → (d : ℕ) → recorded d n (trace_with c k m e) ≡ (pairs_after c r (h.state.block n).pair d).recorded
 settling-records {w} config c q n source k own low r m h e at d =
     reported-records h.request c n r (reported_block c r (h.state.block n)) (c_beat_of m k) h.state e.trace (settling-last config c q n source k own low r m h e at) (λ j. refl) at.is.managed d n
@@ -288,23 +288,23 @@ has_copy-is perm.Branch = refl
 has_copy-is perm.Trunk = refl
 
 -- the Acquire that is granted is the one that client q has open
-pub record IsWanted {w : ℕ} (c q n source : ℕ) (whole : Bool) (g : Grow) (h : Shadow w) : Type 0 where
+pub record IsWanted {w : ℕ} (c q n source : ℕ) (whole : Bool) (g : Grow) (h : AbstractState w) : Type 0 where
   pub apart : c ≡ q → ⊥
   pub used : h.state.uses q source ≡ Acquires n
   pub opcode_is : (h.request n).opcode ≡ acquire_opcode whole
   pub param_is : (h.request n).param ≡ grow_code g
 
 -- what it is granted
-abbrev pub gift_after : {w : ℕ} → Config → ℕ → ℕ → Report → Bool → Grow → Shadow w → Cap
+abbrev pub gift_after : {w : ℕ} → Config → ℕ → ℕ → Report → Bool → Grow → AbstractState w → Cap
 gift_after config c n r whole g h = gift config.profile whole g (is_unheld (length config.clients.items) (pairs_after c r (h.state.block n).pair))
 
-abbrev pub grant_after : {w : ℕ} → Config → ℕ → ℕ → ℕ → ℕ → Report → Bool → Grow → Shadow w → Message w
+abbrev pub grant_after : {w : ℕ} → Config → ℕ → ℕ → ℕ → ℕ → Report → Bool → Grow → AbstractState w → Message w
 grant_after config c q n source r whole g h =
     grant_of (GrantSent q (is_granted_data whole g ((h.state.block n).pair q).recorded) (gift_after config c n r whole g h)) source (h.state.block n).tracker
     (protocol.written r (h.state.block n).truth (h.state.block n).memory)
 
 -- what is done: the Grant is handed out, with what the ProbeAcks left of the block
-pub deed-conceded : {w : ℕ} (config : Config) (c q n source k : ℕ) (low : Cap) (r : Report) (whole : Bool) (g : Grow) (m : MessageC w) (h : Shadow w)
+pub deed-conceded : {w : ℕ} (config : Config) (c q n source k : ℕ) (low : Cap) (r : Report) (whole : Bool) (g : Grow) (m : MessageC w) (h : AbstractState w)
     (e : End w) → IsSettling config c q n source k true low r m h e → IsWanted c q n source whole g h
     → deed config (record { 0 = c }) (beat.C (c_beat_of m k)) e ≡ record
     { handed = (record { 0 = q }, grant_after config c q n source r whole g h) ∷ []; memory = memory_with (record { 0 = c }) (c_beat_of m k) e }
@@ -333,24 +333,24 @@ deed-conceded {w} config c q n source k low r whole g m h e at wanted =
         (λ d. ap has_copy (settling-records config c q n source k true low r m h e at d) ∙ has_copy-is (pairs_after c r (h.state.block n).pair d).recorded)
 
     mine : (pairs_after c r (h.state.block n).pair q).recorded ≡ ((h.state.block n).pair q).recorded
-    mine = ap (λ (p : Pair). p.recorded) (set-other c q (after_report r ((h.state.block n).pair c)) (h.state.block n).pair (λ f. wanted.apart (sym f)))
+    mine = ap (λ (p : ClientBlock). p.recorded) (set-other c q (after_report r ((h.state.block n).pair c)) (h.state.block n).pair (λ f. wanted.apart (sym f)))
 
     sent : grant_of (GrantSent q (is_granted_data whole g ((h.state.block n).pair q).recorded) (gift config.profile whole g unheld)) (h.request n).source
         (h.state.block n).tracker (block_in memory n) ≡ grant_after config c q n source r whole g h
     sent = rw (for.1, settling-memory config c q n source k true low r m h e at) refl
 
-pub conceded-left : {w : ℕ} (config : Config) (c q n source k : ℕ) (low : Cap) (r : Report) (whole : Bool) (g : Grow) (rest : List Token) (m : MessageC w)
-    (h : Shadow w) (e : End w) → IsSettling config c q n source k true low r m h e → IsWanted c q n source whole g h
+pub conceded-left : {w : ℕ} (config : Config) (c q n source k : ℕ) (low : Cap) (r : Report) (whole : Bool) (g : Grow) (rest : List Packet) (m : MessageC w)
+    (h : AbstractState w) (e : End w) → IsSettling config c q n source k true low r m h e → IsWanted c q n source whole g h
     → IsManagerOf config (with_state (report_grants c q n r (is_granted_data whole g ((h.state.block n).pair q).recorded) (gift_after config c n r whole g h) rest h.state) h)
     (left c (beat.C (c_beat_of m k)) (deed config (record { 0 = c }) (beat.C (c_beat_of m k)) e) e)
 unfolding with_handed
 conceded-left {w} config c q n source k low r whole g rest m h e at wanted =
     subst (λ (d : Deed w). IsManagerOf config (with_state after h) (left c (beat.C x) d e)) (sym done) (record {
       managed =
-          subst (λ (i : Message w). IsManaged h.request after (with_handed ((record { 0 = q }, i) ∷ []) (trace_with c k m e))) (sym reply.1)
+          subst (λ (i : Message w). ManagerRelation h.request after (with_handed ((record { 0 = q }, i) ∷ []) (trace_with c k m e))) (sym reply.1)
           (managed-conceded h.request c q n source low given r data_too rest x reply.0 h.state e.trace conceded at.is.managed);
       served =
-          subst (λ (i : Message w). AreServed h.request after (with_handed ((record { 0 = q }, i) ∷ []) (trace_with c k m e))) (sym reply.1)
+          subst (λ (i : Message w). ServedSourceRelation h.request after (with_handed ((record { 0 = q }, i) ∷ []) (trace_with c k m e))) (sym reply.1)
           (are_served-conceded h.request c q n source low given r data_too rest x reply.0 h.state e.trace conceded at.is.served);
       served_with = λ i. still i;
       manager_kept = kept-left config c x does e at.end.width at.up done at.is.manager_kept;

@@ -36,13 +36,13 @@ use Rattle.tl_manager.specs.statement.Offer.{Passes, is_from_client, judged, lev
 use Rattle.tl_manager.proofs.Judged.{judged-passes, manager-takes}
 use Rattle.tl_manager.proofs.Links.{whole-e}
 use Rattle.tl_coherence.specs.protocol.Invariant.{IsInvariant, AreNamed}
-use Rattle.tl_coherence.specs.refinement.Managed.{IsManaged, is_own}
-use Rattle.tl_coherence.specs.protocol.Phase.{View, Own, Other, Granting, Acknowledging, GrantedOther, Answered, Releasing, is_kept, is_quiet, same_report}
-use Rattle.tl_coherence.specs.protocol.Protocol.{Service, Free, Waits, GrantSent, GrantTaken, Block, State, view, is_answered, is_granting, is_acknowledging, is_on, token}
-use Rattle.tl_coherence.specs.refinement.Render.{Mail, message_of, rendered, message_of_kind}
-use Rattle.tl_coherence.specs.refinement.Sources.{AreServed, cap_waited, is_granted}
+use Rattle.tl_coherence.specs.refinement.ManagerRelation.{ManagerRelation, is_own}
+use Rattle.tl_coherence.specs.protocol.Phase.{View, Own, Other, Granting, Acknowledging, GrantedOther, ProbeAnswered, ReleaseSent, is_unreleased, is_unprobed, same_report}
+use Rattle.tl_coherence.specs.protocol.Protocol.{Service, Free, Waits, GrantSent, GrantTaken, Block, State, view, is_answered, is_granting, is_acknowledging, is_on, packet}
+use Rattle.tl_coherence.specs.refinement.PacketMessages.{AccessMessages, message_of, block_message, message_of_kind}
+use Rattle.tl_coherence.specs.refinement.SourceRelation.{ServedSourceRelation, cap_waited, is_granted}
 use Rattle.tl_coherence.specs.statement.System.{System}
-use Rattle.tl_coherence.specs.protocol.Token.{Kind, Request, Acquire, Probe, ProbeAck, Release, Answer, Grant, ReleaseAck, GrantAck, Token, is, one_if, count}
+use Rattle.tl_coherence.specs.protocol.Packet.{Kind, Request, Acquire, Probe, ProbeAck, Release, Answer, Grant, ReleaseAck, GrantAck, Packet, is, one_if, count}
 use Rattle.tl_coherence.proofs.queues.Carried.{IsNext}
 use Rattle.tl_coherence.proofs.queues.Facts.{is_other, report_fits, own_alone, release_begins}
 use Rattle.tl_coherence.proofs.manager.Orders.{report-legal}
@@ -55,20 +55,20 @@ use Rattle.tl_coherence.proofs.queues.Tokens.{same_number, ordered-first}
 -- ---- the first message of channel C or E
 
 -- it is a ProbeAck or a Release
-pub by-first_c : {w : ℕ} (P : List Token → Type 0) (c : ℕ) (mail : Mail w) (s : State (List ℕ)) (sys : System w) (x : Beat w) (queue : List (Beat w)) → IsFirst channel.C c mail s sys x queue
-    → ((n : ℕ) (rest : List Token) → (s.link c).c ≡ token ProbeAck n ∷ rest
-    → IsNext x (unfinished channel.C (on_link c sys.manager.trace)) (rendered ProbeAck c n (s.block n)) (map (message_of mail s c) rest) queue
-    → P (token ProbeAck n ∷ rest))
-    → ((n : ℕ) (rest : List Token) → (s.link c).c ≡ token Release n ∷ rest
-    → IsNext x (unfinished channel.C (on_link c sys.manager.trace)) (rendered Release c n (s.block n)) (map (message_of mail s c) rest) queue
-    → P (token Release n ∷ rest))
+pub by-first_c : {w : ℕ} (P : List Packet → Type 0) (c : ℕ) (mail : AccessMessages w) (s : State (List ℕ)) (sys : System w) (x : Beat w) (queue : List (Beat w)) → IsFirst channel.C c mail s sys x queue
+    → ((n : ℕ) (rest : List Packet) → (s.link c).c ≡ packet ProbeAck n ∷ rest
+    → IsNext x (unfinished channel.C (on_link c sys.manager.trace)) (block_message ProbeAck c n (s.block n)) (map (message_of mail s c) rest) queue
+    → P (packet ProbeAck n ∷ rest))
+    → ((n : ℕ) (rest : List Packet) → (s.link c).c ≡ packet Release n ∷ rest
+    → IsNext x (unfinished channel.C (on_link c sys.manager.trace)) (block_message Release c n (s.block n)) (map (message_of mail s c) rest) queue
+    → P (packet Release n ∷ rest))
     → P (s.link c).c
 by-first_c {w} P c mail s sys x queue at report release = subst P (sym at.tokens) (go at.kind at.own at.tokens at.next)
   where
     Next : Kind → Type 0
     Next k = IsNext x (unfinished channel.C (on_link c sys.manager.trace)) (message_of_kind k mail s c at.number) (map (message_of mail s c) at.rest) queue
 
-    go : (k : Kind) → is_on channel.C k ≡ true → (s.link c).c ≡ token k at.number ∷ at.rest → Next k → P (token k at.number ∷ at.rest)
+    go : (k : Kind) → is_on channel.C k ≡ true → (s.link c).c ≡ packet k at.number ∷ at.rest → Next k → P (packet k at.number ∷ at.rest)
     go ProbeAck e first next = report at.number at.rest first next
     go Release e first next = release at.number at.rest first next
     go Request e first next = absurd cc
@@ -80,17 +80,17 @@ by-first_c {w} P c mail s sys x queue at report release = subst P (sym at.tokens
     go GrantAck e first next = absurd cc
 
 -- or a GrantAck
-pub by-first_e : {w : ℕ} (P : List Token → Type 0) (c : ℕ) (mail : Mail w) (s : State (List ℕ)) (sys : System w) (x : Beat w) (queue : List (Beat w)) → IsFirst channel.E c mail s sys x queue
-    → ((n : ℕ) (rest : List Token) → (s.link c).e ≡ token GrantAck n ∷ rest
-    → IsNext x (unfinished channel.E (on_link c sys.manager.trace)) (rendered GrantAck c n (s.block n)) (map (message_of mail s c) rest) queue
-    → P (token GrantAck n ∷ rest))
+pub by-first_e : {w : ℕ} (P : List Packet → Type 0) (c : ℕ) (mail : AccessMessages w) (s : State (List ℕ)) (sys : System w) (x : Beat w) (queue : List (Beat w)) → IsFirst channel.E c mail s sys x queue
+    → ((n : ℕ) (rest : List Packet) → (s.link c).e ≡ packet GrantAck n ∷ rest
+    → IsNext x (unfinished channel.E (on_link c sys.manager.trace)) (block_message GrantAck c n (s.block n)) (map (message_of mail s c) rest) queue
+    → P (packet GrantAck n ∷ rest))
     → P (s.link c).e
 by-first_e {w} P c mail s sys x queue at ack = subst P (sym at.tokens) (go at.kind at.own at.tokens at.next)
   where
     Next : Kind → Type 0
     Next k = IsNext x (unfinished channel.E (on_link c sys.manager.trace)) (message_of_kind k mail s c at.number) (map (message_of mail s c) at.rest) queue
 
-    go : (k : Kind) → is_on channel.E k ≡ true → (s.link c).e ≡ token k at.number ∷ at.rest → Next k → P (token k at.number ∷ at.rest)
+    go : (k : Kind) → is_on channel.E k ≡ true → (s.link c).e ≡ packet k at.number ∷ at.rest → Next k → P (packet k at.number ∷ at.rest)
     go GrantAck e first next = ack at.number at.rest first next
     go ProbeAck e first next = absurd cc
     go Release e first next = absurd cc
@@ -162,7 +162,7 @@ by_place profile m (suc k) t rest first = later-legal profile (message.C m) k t 
 
 pub report-order : {w : ℕ} (config : Config) (caching : ℕ → Bool) (request : ℕ → MessageA w) (c n k : ℕ) (r : Report) (truth : List ℕ) (carries : Bool)
     (m : MessageC w) (s : State (List ℕ)) (e : End w) → IsInvariant caching s
-    → IsManaged request s e.trace → AreServed request s e.trace → IsKept config e → ((s.block n).pair c).probing ≡ Answered r → IsAbout true n (report_code r) carries truth m
+    → ManagerRelation request s e.trace → ServedSourceRelation request s e.trace → IsKept config e → ((s.block n).pair c).probing ≡ ProbeAnswered r → IsAbout true n (report_code r) carries truth m
     → unfinished channel.C (on_link c e.trace) ≡ begun (message.C m) k → broken_in_order config.profile (beat.C (c_beat_of m k)) (on_link c e.trace) ≡ None
 report-order {w} config caching request c n k r truth carries m s e inv managed served kept answered about rest = by_place config.profile m k t rest first
   where
@@ -199,22 +199,22 @@ pruned prune.TtoN p e = e
 pruned prune.BtoN p e = e
 
 -- a Release that is first has no ProbeAck of its block behind it
-pub unanswered : (caching : ℕ → Bool) (c n : ℕ) (rest : List Token) (s : State (List ℕ)) → IsInvariant caching s → (s.link c).c ≡ token Release n ∷ rest
+pub unanswered : (caching : ℕ → Bool) (c n : ℕ) (rest : List Packet) (s : State (List ℕ)) → IsInvariant caching s → (s.link c).c ≡ packet Release n ∷ rest
     → is_answered ((s.block n).pair c).probing ≡ false
 unfolding count
 unanswered caching c n rest s inv first =
-    let behind = ordered-first n (s.link c).c rest (token Release n) first (rw (same_number n) refl) (inv.ordered c n) in
-    let all : count ProbeAck n (token Release n ∷ rest) ≡ one_if (is_answered ((s.block n).pair c).probing) = rw first at (inv.transfers c ProbeAck refl n) in
-    let release : one_if (is ProbeAck n (token Release n)) ≡ 0 = refl in
+    let behind = ordered-first n (s.link c).c rest (packet Release n) first (rw (same_number n) refl) (inv.ordered c n) in
+    let all : count ProbeAck n (packet Release n ∷ rest) ≡ one_if (is_answered ((s.block n).pair c).probing) = rw first at (inv.transfers c ProbeAck refl n) in
+    let release : one_if (is ProbeAck n (packet Release n)) ≡ 0 = refl in
     none (is_answered ((s.block n).pair c).probing) (omega (arith, all, behind, release))
   where
     none : (b : Bool) → one_if b ≡ 0 → b ≡ false
     none true e = absurd (omega (arith, e))
     none false e = refl
 
-pub release-order : {w : ℕ} (config : Config) (caching : ℕ → Bool) (request : ℕ → MessageA w) (c n k : ℕ) (r : Prune) (rest : List Token) (truth : List ℕ)
+pub release-order : {w : ℕ} (config : Config) (caching : ℕ → Bool) (request : ℕ → MessageA w) (c n k : ℕ) (r : Prune) (rest : List Packet) (truth : List ℕ)
     (carries : Bool) (m : MessageC w) (s : State (List ℕ)) (e : End w) → IsInvariant caching s
-    → IsManaged request s e.trace → IsKept config e → (s.link c).c ≡ token Release n ∷ rest → ((s.block n).pair c).letting ≡ Releasing r → IsAbout false n (prune_code r) carries truth m
+    → ManagerRelation request s e.trace → IsKept config e → (s.link c).c ≡ packet Release n ∷ rest → ((s.block n).pair c).letting ≡ ReleaseSent r → IsAbout false n (prune_code r) carries truth m
     → unfinished channel.C (on_link c e.trace) ≡ begun (message.C m) k → broken_in_order config.profile (beat.C (c_beat_of m k)) (on_link c e.trace) ≡ None
 unfolding broken_order
 release-order {w} config caching request c n k r rest truth carries m s e inv managed kept tokens releasing about before = by_place config.profile m k t before first
@@ -228,7 +228,7 @@ release-order {w} config caching request c n k r rest truth carries m s e inv ma
     not_own : (x : View) → view b.service c ≡ x → is_own x ≡ false
     not_own Own f =
         let alone = own_alone (b.pair c) (view b.service c) ((inv.blocks n).phases c) f in
-        let held_back : is_kept (b.pair c).letting ≡ true = and_left (is_kept (b.pair c).letting) _ (and_right (is_quiet (b.pair c).probing) _ alone) in
+        let held_back : is_unreleased (b.pair c).letting ≡ true = and_left (is_unreleased (b.pair c).letting) _ (and_right (is_unprobed (b.pair c).probing) _ alone) in
         absurd (let no : false ≡ true = rw releasing at held_back in cc)
     not_own x f = refl
 
@@ -251,7 +251,7 @@ ack_rule : (pends coming : Bool) → pends ≡ true → coming ≡ false → fir
 ack_rule pends coming e f = rw (e, f) refl
 
 pub ack-order : {w : ℕ} (config : Config) (request : ℕ → MessageA w) (c n : ℕ) (x : BeatE) (s : State (List ℕ)) (e : End w) → AreNamed s
-    → AreServed request s e.trace → IsKept config e → (s.block n).service ≡ GrantTaken c
+    → ServedSourceRelation request s e.trace → IsKept config e → (s.block n).service ≡ GrantTaken c
     → x.sink ≡ (s.block n).tracker → (pending (key.GrantSink x.sink) (on_link c e.trace) ≡ true) × (broken_in_order {w = w} config.profile (beat.E x) (on_link c e.trace) ≡ None)
 unfolding broken_order
 ack-order {w} config request c n x s e named served kept taken_is sink =

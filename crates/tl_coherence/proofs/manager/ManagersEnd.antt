@@ -7,26 +7,26 @@ use Rattle.tl_manager.specs.code.Kept.{IsKept}
 use Rattle.tl_manager.specs.statement.End.{End}
 use Rattle.tl_coherence.specs.protocol.Invariant.{IsInvariant}
 use Rattle.tl_coherence.specs.statement.Log.{Log}
-use Rattle.tl_coherence.specs.refinement.Managed.{IsManaged}
+use Rattle.tl_coherence.specs.refinement.ManagerRelation.{ManagerRelation}
 use Rattle.tl_coherence.specs.protocol.Protocol.{Service, Free, Waits, GrantSent, GrantTaken, State}
-use Rattle.tl_coherence.specs.refinement.Render.{Mail}
-use Rattle.tl_coherence.specs.refinement.Sources.{AreServed}
+use Rattle.tl_coherence.specs.refinement.PacketMessages.{AccessMessages}
+use Rattle.tl_coherence.specs.refinement.SourceRelation.{ServedSourceRelation}
 use Rattle.tl_coherence.specs.statement.System.{System}
-use Rattle.tl_coherence.specs.refinement.Whole.{IsMatched, IsServedWith}
+use Rattle.tl_coherence.specs.refinement.SimulationRelation.{SimulationRelation, IsServedWith}
 use Rattle.tl_coherence.proofs.manager.Accounts.{IsTraced, managed-traced, are_served-traced, traced-known}
 use Rattle.tl_coherence.proofs.manager.Traces.{IsSameToManager, SameService, traced-same}
 
 -- all that is kept of the manager's end
-pub record IsAtManager {w : ℕ} (config : Config) (mail : Mail w) (request : ℕ → MessageA w) (s : State (List ℕ)) (e : End w) : Type 0 where
-  pub managed : IsManaged request s e.trace
-  pub served : AreServed request s e.trace
+pub record IsAtManager {w : ℕ} (config : Config) (mail : AccessMessages w) (request : ℕ → MessageA w) (s : State (List ℕ)) (e : End w) : Type 0 where
+  pub managed : ManagerRelation request s e.trace
+  pub served : ServedSourceRelation request s e.trace
   pub served_with : (n : ℕ) → IsServedWith mail (s.block n).service (request n)
   pub manager_kept : IsKept config e
   pub memory : (n : ℕ) → bytes_from e.memory (64 * n) 64 ≡ (s.block n).memory
   pub all_live : e.closed ≡ []
 
-pub at_manager-matched : {w : ℕ} (config : Config) (log : Log w) (mail : Mail w) (request : ℕ → MessageA w) (s : State (List ℕ)) (sys : System w)
-    → IsMatched config log mail request s sys → IsAtManager config mail request s sys.manager
+pub at_manager-matched : {w : ℕ} (config : Config) (log : Log w) (mail : AccessMessages w) (request : ℕ → MessageA w) (s : State (List ℕ)) (sys : System w)
+    → SimulationRelation config log mail request s sys → IsAtManager config mail request s sys.manager
 at_manager-matched config log mail request s sys is = record {
   managed = is.managed;
   served = is.served;
@@ -37,7 +37,7 @@ at_manager-matched config log mail request s sys is = record {
 }
 
 -- the values of the trace give all else
-pub at_manager-traced : {w : ℕ} (caching : ℕ → Bool) (config : Config) (mail : Mail w) (request : ℕ → MessageA w) (s : State (List ℕ)) (e : End w)
+pub at_manager-traced : {w : ℕ} (caching : ℕ → Bool) (config : Config) (mail : AccessMessages w) (request : ℕ → MessageA w) (s : State (List ℕ)) (e : End w)
     → IsInvariant caching s → IsKept config e → IsTraced request s e.trace
     → ((n : ℕ) → IsServedWith mail (s.block n).service (request n)) → ((n : ℕ) → bytes_from e.memory (64 * n) 64 ≡ (s.block n).memory) → e.closed ≡ [] → IsAtManager config mail request s e
 at_manager-traced caching config mail request s e inv kept is with memory live = record {
@@ -51,7 +51,7 @@ at_manager-traced caching config mail request s e inv kept is with memory live =
 
 -- ---- events that the manager doesn't see
 
-same_with : {w : ℕ} (mail : Mail w) (service after : Service) (m : MessageA w) → SameService service after → IsServedWith mail service m → IsServedWith mail after m
+same_with : {w : ℕ} (mail : AccessMessages w) (service after : Service) (m : MessageA w) → SameService service after → IsServedWith mail service m → IsServedWith mail after m
 same_with mail (GrantSent q d k) (GrantTaken r) m e ok = tt
 same_with mail (GrantSent q d k) Free m e ok = tt
 same_with mail (GrantSent q d k) (Waits r own source j) m e ok = absurd cc
@@ -61,7 +61,7 @@ same_with mail (Waits r own source k) after m e ok = rw e ok
 same_with mail (GrantTaken r) after m e ok = rw e ok
 
 -- what the manager's end knows stays, where the blocks are the same to it
-pub at_manager-same : {w : ℕ} (caching : ℕ → Bool) (config : Config) (mail : Mail w) (request : ℕ → MessageA w) (s u : State (List ℕ)) (e : End w)
+pub at_manager-same : {w : ℕ} (caching : ℕ → Bool) (config : Config) (mail : AccessMessages w) (request : ℕ → MessageA w) (s u : State (List ℕ)) (e : End w)
     → IsInvariant caching u → IsSameToManager s u → ((n : ℕ) → (u.block n).memory ≡ (s.block n).memory)
     → IsAtManager config mail request s e → IsAtManager config mail request u e
 at_manager-same caching config mail request s u e inv same memory is = at_manager-traced caching config mail request u e inv is.manager_kept

@@ -12,7 +12,7 @@ use Rattle.tl_rules.proofs.Bursts.{control_of_legal, control_aligned}
 use Rattle.tl_rules.proofs.Local.{after-local, reply-local, bytes_same}
 use Rattle.tl_rules.proofs.Rooms.{room_in_block}
 use Rattle.tl_manager.specs.code.Kept.{illegal_message_at}
-use Rattle.tl_coherence.specs.refinement.Follow.{bytes_at, performs}
+use Rattle.tl_coherence.specs.refinement.AbstractStep.{bytes_at, performs}
 
 -- the bytes of a block that no byte of is changed
 pub block-same : (f g : Memory) (n : ℕ) → SameBlock n f g → bytes_from f (64 * n) 64 ≡ bytes_from g (64 * n) 64

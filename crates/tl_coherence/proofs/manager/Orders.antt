@@ -19,7 +19,7 @@ use Rattle.tl_params.specs.declared.rule.Rule.TheVariants.{H1, H4, H5, H10, H11,
 use Rattle.tl_params.specs.statement.Param.{report_code, report_at}
 use Rattle.tl_rules.specs.statement.Conformance.{broken_order, broken_in_order, answers_wrong_probe, misreports, grows_from}
 use Rattle.tl_rules.specs.statement.History.{block_at, is_acquire, is_probe_ack, is_release, held, pending, probe_of}
-use Rattle.tl_coherence.specs.refinement.Render.{probe_beat}
+use Rattle.tl_coherence.specs.refinement.PacketMessages.{probe_beat}
 use Rattle.tl_coherence.proofs.queues.Tokens.{same_number}
 use Rattle.tl_coherence.proofs.queues.Codes.{cap-again}
 

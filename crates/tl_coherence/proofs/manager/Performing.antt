@@ -23,7 +23,7 @@ use Rattle.tl_rules.specs.statement.Effect.{Memory, effect, answer_of}
 use Rattle.tl_rules.specs.statement.History.{pending, held, block_at, is_acquire, is_grant, request_of, asks_for, capped}
 use Rattle.tl_rules.proofs.Sent.{held-sent_d}
 use Rattle.tl_beat.specs.statement.Width.{IsWidth}
-use Rattle.tl_coherence.specs.protocol.Phase.{Pair, is_quiet}
+use Rattle.tl_coherence.specs.protocol.Phase.{ClientBlock, is_unprobed}
 use Rattle.tl_manager.specs.statement.Handing.{Deed, with_handed, performed, access_answer, grant, is_granted_data, cap_granted}
 use Rattle.tl_manager.specs.statement.Holders as holders
 use Rattle.tl_manager.specs.statement.Holders.{recorded}
@@ -36,9 +36,9 @@ use Rattle.tl_manager.proofs.Performed.{performed-serving}
 use Rattle.tl_manager.proofs.Replies.{reply-quiet, request-reply}
 use Rattle.tl_manager.proofs.Recording.{cap-gives}
 use Rattle.tl_coherence.specs.protocol.PhaseSteps.{after_grant_sent}
-use Rattle.tl_coherence.specs.protocol.Token.{set}
+use Rattle.tl_coherence.specs.protocol.Packet.{set}
 use Rattle.tl_coherence.specs.protocol.Protocol.{Free, Waits, GrantSent, Block, State, performed_block, granted_at_once}
-use Rattle.tl_coherence.specs.refinement.Managed.{client_in, service_with}
+use Rattle.tl_coherence.specs.refinement.ManagerRelation.{client_in, service_with}
 use Rattle.tl_coherence.proofs.manager.Accounts.{IsTraced}
 use Rattle.tl_coherence.proofs.manager.Traces.{traced-at}
 use Rattle.tl_coherence.proofs.manager.Arrivals.{link_of, with_beat, IsComing, service_for, ready-last}
@@ -85,7 +85,7 @@ traced-answered {w} {X} config request c k n f m s u memory e blocks is known = 
   other_requests = λ i ne. refl;
   recorded_here = λ d. recorded_same d n ∙ known.recorded_is d n ∙ sym (ap (λ (b : Block X). (b.pair d).recorded) here);
   recorded_else = λ d i ne. recorded_same d i;
-  probes_here = λ d. missing_same d n ∙ known.probes d n ∙ sym (ap (λ (b : Block X). not (is_quiet (b.pair d).probing)) here);
+  probes_here = λ d. missing_same d n ∙ known.probes d n ∙ sym (ap (λ (b : Block X). not (is_unprobed (b.pair d).probing)) here);
   probes_else = λ d i ne. missing_same d i;
   serving_here = served n ∙ rw (is.access, is.block, same_number n) (sym (ap (λ (b : Block X). service_with (client_in b.service) b.tracker (request n)) here ∙ rw is.free refl));
   serving_else = λ i ne. let differ : n ≡ i → ⊥ = λ g. ne (sym g) in served i ∙ rw (is.access, is.block, ne_eqb n i differ) (serving-others config c k n i m e is.comes is.last is.block ne);
@@ -155,7 +155,7 @@ traced-granted {w} {X} config request c k n b j m s u memory e blocks is known =
   other_requests = λ i ne. set-other n i m request ne;
   recorded_here = λ d. recorded_now d ∙ sym (ap (λ (y : Block X). (y.pair d).recorded) here);
   recorded_else = λ d i ne. recorded_other d i ne;
-  probes_here = λ d. missing_same d n ∙ known.probes d n ∙ sym (ap (λ (y : Block X). not (is_quiet (y.pair d).probing)) here ∙ ap not (quiet_same d));
+  probes_here = λ d. missing_same d n ∙ known.probes d n ∙ sym (ap (λ (y : Block X). not (is_unprobed (y.pair d).probing)) here ∙ ap not (quiet_same d));
   probes_else = λ d i ne. missing_same d i;
   serving_here =
       served n ∙ serving-last config c k n m e is.comes is.last is.block
@@ -210,7 +210,7 @@ traced-granted {w} {X} config request c k n b j m s u memory e blocks is known =
     recorded_now : (d : ℕ) → recorded d n after ≡ (set c (after_grant_sent j ((s.block n).pair c)) (s.block n).pair d).recorded
     recorded_now d = elim (cases_eq d c) [
       | inl same ↦ rw (same, set-same c (after_grant_sent j ((s.block n).pair c)) (s.block n).pair) (recorded_own n ∙ rw (same_number n) refl)
-      | inr ne ↦ recorded_apart d n ne ∙ known.recorded_is d n ∙ ap (λ (p : Pair). p.recorded) (sym (set-other c d (after_grant_sent j ((s.block n).pair c)) (s.block n).pair ne))
+      | inr ne ↦ recorded_apart d n ne ∙ known.recorded_is d n ∙ ap (λ (p : ClientBlock). p.recorded) (sym (set-other c d (after_grant_sent j ((s.block n).pair c)) (s.block n).pair ne))
     ]
 
     recorded_other : (d i : ℕ) → (i ≡ n → ⊥) → recorded d i after ≡ recorded d i e.trace
@@ -225,8 +225,8 @@ traced-granted {w} {X} config request c k n b j m s u memory e blocks is known =
     missing_same d i = ap (λ (v : Trace w). pending (ProbeOf i) (on_link d v)) after_is
         ∙ reply-quiet (ProbeOf i) (link_of c) reply.0 t d is.comes.width (whole c) (λ g. (refl, refl)) ∙ missing-beat c k m e.trace d i
 
-    quiet_same : (d : ℕ) → is_quiet (set c (after_grant_sent j ((s.block n).pair c)) (s.block n).pair d).probing ≡ is_quiet ((s.block n).pair d).probing
-    quiet_same d = set-part (λ (p : Pair). is_quiet p.probing) c (after_grant_sent j ((s.block n).pair c)) (s.block n).pair refl d
+    quiet_same : (d : ℕ) → is_unprobed (set c (after_grant_sent j ((s.block n).pair c)) (s.block n).pair d).probing ≡ is_unprobed ((s.block n).pair d).probing
+    quiet_same d = set-part (λ (p : ClientBlock). is_unprobed p.probing) c (after_grant_sent j ((s.block n).pair c)) (s.block n).pair refl d
 
     asked_same : (r src : ℕ) → request_of src (on_link r after) ≡ request_of src (on_link r t)
     asked_same r src = ap (λ (v : Trace w). request_of src (on_link r v)) after_is ∙ request-reply (link_of c) reply.0 t r src

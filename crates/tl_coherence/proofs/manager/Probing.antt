@@ -27,12 +27,12 @@ use Rattle.tl_manager.proofs.Handed.{whole-taken}
 use Rattle.tl_manager.proofs.Probed.{probes-keep}
 use Rattle.tl_manager.proofs.Probes.{probes-within, probes-beyond, services-probes}
 use Rattle.tl_manager.proofs.Probing.{missing-own_b, missing-else_b, request_of-b}
-use Rattle.tl_coherence.specs.protocol.Phase.{Pair, Sent, is_quiet}
+use Rattle.tl_coherence.specs.protocol.Phase.{ClientBlock, ProbeSent, is_unprobed}
 use Rattle.tl_coherence.specs.protocol.PhaseSteps.{is_above, after_served}
-use Rattle.tl_coherence.specs.protocol.Token.{set}
+use Rattle.tl_coherence.specs.protocol.Packet.{set}
 use Rattle.tl_coherence.specs.protocol.Protocol.{Free, Waits, Block, State, served_pair, served_block}
-use Rattle.tl_coherence.specs.refinement.Managed.{client_in, service_with}
-use Rattle.tl_coherence.specs.refinement.Sources.{IsFor}
+use Rattle.tl_coherence.specs.refinement.ManagerRelation.{client_in, service_with}
+use Rattle.tl_coherence.specs.refinement.SourceRelation.{IsFor}
 use Rattle.tl_coherence.proofs.manager.Accounts.{IsTraced}
 use Rattle.tl_coherence.proofs.manager.Traces.{traced-at}
 use Rattle.tl_coherence.proofs.manager.Arrivals.{link_of, with_beat, IsComing, service_for}
@@ -51,7 +51,7 @@ pub record IsProbing {w : ℕ} {X : Type 0} (config : Config) (c k n : ℕ) (own
   pub last : beats_of (A m) ≡ suc k
   pub for : IsFor (Waits c own source j) n m
   pub free : (s.block n).service ≡ Free
-  pub quiet : (d : ℕ) → is_quiet ((s.block n).pair d).probing ≡ true
+  pub quiet : (d : ℕ) → is_unprobed ((s.block n).pair d).probing ≡ true
   pub beyond : (d : ℕ) → length config.clients.items ≤ d → ((s.block n).pair d).recorded ≡ perm.None
   pub unwaited : IsUnwaited c source s
 
@@ -63,7 +63,7 @@ traced-probing {w} {X} config request c k n own source j m s u e blocks is known
   other_requests = λ i ne. set-other n i m request ne;
   recorded_here = λ d. recorded_same d n ∙ known.recorded_is d n ∙ sym (ap (λ (b : Block X). (b.pair d).recorded) here ∙ spared (own && (d == c)) ((s.block n).pair d));
   recorded_else = λ d i ne. recorded_same d i;
-  probes_here = λ d. missing_now d ∙ sym (ap (λ (b : Block X). not (is_quiet (b.pair d).probing)) here);
+  probes_here = λ d. missing_now d ∙ sym (ap (λ (b : Block X). not (is_unprobed (b.pair d).probing)) here);
   probes_else = λ d i ne.
       let differ : n ≡ i → ⊥ = λ f. ne (sym f) in
       probes-keep (pending (ProbeOf i)) d n j asked_clients t (λ h. missing-else_b i n j h (ne_eqb n i differ)) ∙ missing-beat c k m e.trace d i;
@@ -97,7 +97,7 @@ traced-probing {w} {X} config request c k n own source j m s u e blocks is known
     here : u.block n ≡ new
     here = blocks n ∙ set-same n new s.block
 
-    spared : (b : Bool) (p : Pair) → (if b then p else after_served j p).recorded ≡ p.recorded
+    spared : (b : Bool) (p : ClientBlock) → (if b then p else after_served j p).recorded ≡ p.recorded
     spared true p = refl
     spared false p = refl
 
@@ -133,15 +133,15 @@ traced-probing {w} {X} config request c k n own source j m s u e blocks is known
     probed_or d true = missing-own_b n j (on_link d t) (whole_b d)
     probed_or d false = missing_before d
 
-    quiet_now : (d : ℕ) (b : Bool) → (is_above j ((s.block n).pair d).recorded && not b) ≡ not (is_quiet (if b then (s.block n).pair d else after_served j ((s.block n).pair d)).probing)
+    quiet_now : (d : ℕ) (b : Bool) → (is_above j ((s.block n).pair d).recorded && not b) ≡ not (is_unprobed (if b then (s.block n).pair d else after_served j ((s.block n).pair d)).probing)
     quiet_now d true = and-false (is_above j ((s.block n).pair d).recorded) ∙ sym (ap not (is.quiet d))
     quiet_now d false = sent_or (is_above j ((s.block n).pair d).recorded)
       where
-        sent_or : (b : Bool) → (b && true) ≡ not (is_quiet (if b then Sent j else ((s.block n).pair d).probing))
+        sent_or : (b : Bool) → (b && true) ≡ not (is_unprobed (if b then ProbeSent j else ((s.block n).pair d).probing))
         sent_or true = refl
         sent_or false = sym (ap not (is.quiet d))
 
-    missing_now : (d : ℕ) → pending (ProbeOf n) (on_link d after) ≡ not (is_quiet (served_pair c own j (s.block n).pair d).probing)
+    missing_now : (d : ℕ) → pending (ProbeOf n) (on_link d after) ≡ not (is_unprobed (served_pair c own j (s.block n).pair d).probing)
     missing_now d = elim (cases_lt d (length config.clients.items)) [
       | inl lt ↦
           ap (pending (ProbeOf n)) (probes-within d n j 0 (length config.clients.items) test t (omega arith) (omega (arith, lt))) ∙ probed_or d (test d) ∙ test_is d ∙ quiet_now d (own && (d == c))

@@ -26,18 +26,18 @@ use Rattle.tl_manager.specs.statement.Deed.{deed}
 use Rattle.tl_manager.specs.statement.End.{End}
 use Rattle.tl_manager.specs.statement.Offer.{level_of}
 use Rattle.tl_manager.proofs.Events.{performed-access, performed-acquire}
-use Rattle.tl_coherence.specs.refinement.Follow.{answers, gift, is_unheld, probes_some}
+use Rattle.tl_coherence.specs.refinement.AbstractStep.{answers, gift, is_unheld, probes_some}
 use Rattle.tl_coherence.specs.protocol.Invariant.{IsWell, is_out}
 use Rattle.tl_coherence.specs.statement.Log.{Log}
-use Rattle.tl_coherence.specs.protocol.Phase.{Pair}
+use Rattle.tl_coherence.specs.protocol.Phase.{ClientBlock}
 use Rattle.tl_coherence.specs.protocol.PhaseSteps.{after_grant_sent, is_granted_data}
 use Rattle.tl_coherence.specs.protocol.Protocol.{GrantSent, Block, State, view, is_granting, granted_at_once}
-use Rattle.tl_coherence.specs.refinement.Render.{Mail, grant_of, rendered}
+use Rattle.tl_coherence.specs.refinement.PacketMessages.{AccessMessages, grant_of, block_message}
 use Rattle.tl_coherence.specs.statement.System.{System}
-use Rattle.tl_coherence.specs.protocol.Token.{Grant}
-use Rattle.tl_coherence.specs.refinement.Whole.{IsMatched}
+use Rattle.tl_coherence.specs.protocol.Packet.{Grant}
+use Rattle.tl_coherence.specs.refinement.SimulationRelation.{SimulationRelation}
 use Rattle.tl_coherence.proofs.manager.Arrivals.{link_of, with_beat, IsComing, service_for}
-use Rattle.tl_coherence.proofs.protocol.Fronts.{IsAsked, IsWanted}
+use Rattle.tl_coherence.proofs.protocol.Heads.{IsAsked, IsWanted}
 use Rattle.tl_coherence.proofs.manager.Memories.{performed-reply}
 use Rattle.tl_coherence.proofs.manager.Requests.{recorded-beat}
 use Rattle.tl_coherence.proofs.manager.RequestsTaken.{next_tracker, deed-performed, acquire_wanted, unheld-same}
@@ -46,8 +46,8 @@ use Rattle.tl_coherence.proofs.queues.Codes.{acquires-so, gives-some, data-same}
 
 -- ---- an access that is answered
 
-pub handed-answered : {w : ℕ} (config : Config) (log : Log w) (mail : Mail w) (request : ℕ → MessageA w) (s : State (List ℕ)) (sys : System w) (c source k : ℕ)
-    → IsMatched config log mail request s sys → (asked : IsAsked config c source mail s)
+pub handed-answered : {w : ℕ} (config : Config) (log : Log w) (mail : AccessMessages w) (request : ℕ → MessageA w) (s : State (List ℕ)) (sys : System w) (c source k : ℕ)
+    → SimulationRelation config log mail request s sys → (asked : IsAsked config c source mail s)
     → IsComing config c k asked.request sys.manager → beats_of (message.A asked.request) ≡ suc k
     → probes_some (length config.clients.items) c false (cap_probed asked.request.opcode asked.request.param) (s.block (block_at asked.request.address)).pair ≡ false
     → (deed config (link_of c) (beat.A (a_beat_of asked.request k)) sys.manager).handed ≡ (link_of c, answers asked.request (s.block (block_at asked.request.address)).memory) ∷ []
@@ -95,8 +95,8 @@ grant-is : {w : ℕ} (v : manager.Service w) (q n source tracker : ℕ) (d : Boo
 grant-is v q n source tracker d k f truth sourced tracked block bytes = rw (sourced, tracked, block, payload-same d f n truth bytes) refl
 
 -- the Grant is that of the token, where the block is well afterwards
-pub handed-granted : {w : ℕ} (config : Config) (log : Log w) (mail : Mail w) (request : ℕ → MessageA w) (s : State (List ℕ)) (sys : System w)
-    (caching : ℕ → Bool) (c n k : ℕ) → IsMatched config log mail request s sys → (asked : IsWanted w c n s)
+pub handed-granted : {w : ℕ} (config : Config) (log : Log w) (mail : AccessMessages w) (request : ℕ → MessageA w) (s : State (List ℕ)) (sys : System w)
+    (caching : ℕ → Bool) (c n k : ℕ) → SimulationRelation config log mail request s sys → (asked : IsWanted w c n s)
     → IsComing config c k (acquire_wanted c n s asked) sys.manager → beats_of (message.A (acquire_wanted c n s asked)) ≡ suc k
     → probes_some (length config.clients.items) c true (cap_probed (acquire_wanted {w = w} c n s asked).opcode (acquire_wanted {w = w} c n s asked).param) (s.block n).pair ≡ false
     → IsWell caching (granted_at_once c (next_tracker sys) (is_granted_data asked.whole asked.grow ((s.block n).pair c).recorded)
@@ -104,10 +104,10 @@ pub handed-granted : {w : ℕ} (config : Config) (log : Log w) (mail : Mail w) (
     → (deed config (link_of c) (beat.A (a_beat_of (acquire_wanted c n s asked) k)) sys.manager).handed
     ≡ (
       link_of c,
-      rendered Grant c n (granted_at_once c (next_tracker sys) (is_granted_data asked.whole asked.grow ((s.block n).pair c).recorded)
+      block_message Grant c n (granted_at_once c (next_tracker sys) (is_granted_data asked.whole asked.grow ((s.block n).pair c).recorded)
           (gift config.profile asked.whole asked.grow (is_unheld (length config.clients.items) (s.block n).pair)) (s.block n)),
     ) ∷ []
-unfolding rendered
+unfolding block_message
 handed-granted {w} config log mail request s sys caching c n k is asked comes last none well =
     ap (λ (d : Deed w). d.handed) (deed-performed config log mail request s sys c k n true m is comes last (acquires-so asked.whole) (same_block n) none
     ∙ performed-acquire config (service_for c m e.trace) u e.memory (acquires-so asked.whole))
@@ -141,7 +141,7 @@ handed-granted {w} config log mail request s sys caching c n k is asked comes la
     new = granted_at_once c (next_tracker sys) data_too gift_is b
 
     recorded_now : (new.pair c).recorded ≡ cap_right gift_is
-    recorded_now = ap (λ (p : Pair). p.recorded) (set-same c (after_grant_sent gift_is (b.pair c)) b.pair)
+    recorded_now = ap (λ (p : ClientBlock). p.recorded) (set-same c (after_grant_sent gift_is (b.pair c)) b.pair)
 
     given : cap_granted config.profile m.opcode m.param (holders.is_unheld config (block_at m.address) u) ≡ gift_is
     given = ap (λ i. cap_granted config.profile m.opcode m.param (holders.is_unheld config i u)) (same_block n)

@@ -27,24 +27,24 @@ use Rattle.tl_manager.specs.statement.Deed.{deed}
 use Rattle.tl_manager.specs.statement.End.{End}
 use Rattle.tl_manager.specs.statement.Offer.{must_wait}
 use Rattle.tl_manager.proofs.Events.{deed-unprobed, deed-intent}
-use Rattle.tl_coherence.specs.refinement.Follow.{Shadow, some_below, probes_some, access_taken, request_taken, acquire_opcode, is_unheld, gift, acquire_taken, kind_taken}
+use Rattle.tl_coherence.specs.refinement.AbstractStep.{AbstractState, some_below, probes_some, access_taken, request_taken, acquire_opcode, is_unheld, gift, acquire_taken, kind_taken}
 use Rattle.tl_coherence.specs.protocol.Invariant.{IsInvariant, cap_asked}
 use Rattle.tl_coherence.specs.statement.Log.{Log}
-use Rattle.tl_coherence.specs.protocol.Phase.{Pair, Acquiring, Wants, is_quiet}
+use Rattle.tl_coherence.specs.protocol.Phase.{ClientBlock, AcquirePhase, AcquireOpen, is_unprobed}
 use Rattle.tl_coherence.specs.protocol.PhaseSteps.{is_above, is_granted_data}
-use Rattle.tl_coherence.specs.protocol.Protocol.{Service, Free, Waits, GrantSent, GrantTaken, Block, State, Asked, InService, Acquires, on, token, view, is_probed, acquire_served, acquire_granted}
-use Rattle.tl_coherence.specs.refinement.Render.{Mail}
-use Rattle.tl_coherence.specs.refinement.Sources.{IsFor}
+use Rattle.tl_coherence.specs.protocol.Protocol.{Service, Free, Waits, GrantSent, GrantTaken, Block, State, Asked, InService, Acquires, on, packet, view, is_probed, acquire_served, acquire_granted}
+use Rattle.tl_coherence.specs.refinement.PacketMessages.{AccessMessages}
+use Rattle.tl_coherence.specs.refinement.SourceRelation.{IsFor}
 use Rattle.tl_coherence.specs.statement.System.{System}
-use Rattle.tl_coherence.specs.protocol.Token.{Kind, Request, Acquire, Token, set}
-use Rattle.tl_coherence.specs.refinement.Whole.{IsMatched, IsServedWith, is_caching}
+use Rattle.tl_coherence.specs.protocol.Packet.{Kind, Request, Acquire, Packet, set}
+use Rattle.tl_coherence.specs.refinement.SimulationRelation.{SimulationRelation, IsServedWith, is_caching}
 use Rattle.tl_coherence.proofs.manager.Admitted.{unserved-free, free-untracked}
 use Rattle.tl_coherence.proofs.manager.Arrivals.{link_of, with_beat, IsComing, ends-coming, service_for, served-last}
 use Rattle.tl_coherence.proofs.manager.AtRequests.{end_after, at_manager-probing, at_manager-answered, at_manager-granted}
 use Rattle.tl_coherence.proofs.manager.Choices.{nobody-same, no-clients, plain-past, waits-used}
 use Rattle.tl_coherence.proofs.queues.Facts.{quiet_at_rest}
 use Rattle.tl_coherence.proofs.protocol.FollowKept.{IsReady, IsServing, kind_taken-kept}
-use Rattle.tl_coherence.proofs.protocol.Fronts.{IsAsked, IsWanted}
+use Rattle.tl_coherence.proofs.protocol.Heads.{IsAsked, IsWanted}
 use Rattle.tl_coherence.proofs.manager.ManagedServed.{same_above}
 use Rattle.tl_coherence.proofs.manager.ManagersEnd.{IsAtManager, at_manager-matched}
 use Rattle.tl_coherence.proofs.manager.Performing.{IsAnswering}
@@ -58,8 +58,8 @@ use Rattle.tl_coherence.proofs.manager.ManagerAfter.{IsManagerOf}
 abbrev pub next_tracker : {w : ℕ} → System w → ℕ
 next_tracker sys = least_untaken (trackers_of (services sys.manager.trace))
 
-pub free-last : {w : ℕ} (config : Config) (log : Log w) (mail : Mail w) (request : ℕ → MessageA w) (s : State (List ℕ)) (sys : System w) (c k : ℕ) (m : MessageA w)
-    → IsMatched config log mail request s sys → IsComing config c k m sys.manager → beats_of (message.A m) ≡ suc k → must_wait config (link_of c) (beat.A (a_beat_of m k)) sys.manager.trace ≡ false
+pub free-last : {w : ℕ} (config : Config) (log : Log w) (mail : AccessMessages w) (request : ℕ → MessageA w) (s : State (List ℕ)) (sys : System w) (c k : ℕ) (m : MessageA w)
+    → SimulationRelation config log mail request s sys → IsComing config c k m sys.manager → beats_of (message.A m) ≡ suc k → must_wait config (link_of c) (beat.A (a_beat_of m k)) sys.manager.trace ≡ false
     → (s.block (block_at m.address)).service ≡ Free
 free-last {w} config log mail request s sys c k m is comes last moves =
     let ended : ends (beat.A (a_beat_of m k)) (on_link c sys.manager.trace) ≡ true = ends-coming config c k m sys.manager comes ∙ rw last (is_last k (suc k) (omega arith)) in
@@ -67,8 +67,8 @@ free-last {w} config log mail request s sys c k m is comes last moves =
     (or_parts (is_in_service (block_at m.address) (services sys.manager.trace)) (nat_le config.trackers (length (services sys.manager.trace)))
     (rw ended at moves)).0
 
-pub untracked-next : {w : ℕ} (config : Config) (log : Log w) (mail : Mail w) (request : ℕ → MessageA w) (s : State (List ℕ)) (sys : System w)
-    → IsMatched config log mail request s sys → s.tracked (next_tracker sys) ≡ None
+pub untracked-next : {w : ℕ} (config : Config) (log : Log w) (mail : AccessMessages w) (request : ℕ → MessageA w) (s : State (List ℕ)) (sys : System w)
+    → SimulationRelation config log mail request s sys → s.tracked (next_tracker sys) ≡ None
 untracked-next config log mail request s sys is = free-untracked (is_caching config) request s sys.manager.trace is.invariant is.managed
 
 -- the access that has a block in service
@@ -79,13 +79,13 @@ serving-for (Waits r false source k) n m for = (for.0, for.3)
 serving-for (GrantSent q d k) n m for = tt
 serving-for (GrantTaken q) n m for = tt
 
-pub serving-matched : {w : ℕ} (config : Config) (log : Log w) (mail : Mail w) (request : ℕ → MessageA w) (s : State (List ℕ)) (sys : System w)
-    → IsMatched config log mail request s sys → (n : ℕ) → IsServing (s.block n).service (request n)
+pub serving-matched : {w : ℕ} (config : Config) (log : Log w) (mail : AccessMessages w) (request : ℕ → MessageA w) (s : State (List ℕ)) (sys : System w)
+    → SimulationRelation config log mail request s sys → (n : ℕ) → IsServing (s.block n).service (request n)
 serving-matched config log mail request s sys is n = serving-for (s.block n).service n (request n) (is.served.requests n)
 
 -- the invariant is kept
-pub invariant-taken : {w : ℕ} (config : Config) (log : Log w) (h : Shadow w) (sys : System w) (c : ℕ) (k : Kind) (i : ℕ) (rest : List Token) → IsMatched config log h.mail h.request h.state sys
-    → on k (h.state.link c) ≡ token k i ∷ rest → IsReady (next_tracker sys) c k i h → IsInvariant (is_caching config) (kind_taken config (next_tracker sys) c k i rest h).state
+pub invariant-taken : {w : ℕ} (config : Config) (log : Log w) (h : AbstractState w) (sys : System w) (c : ℕ) (k : Kind) (i : ℕ) (rest : List Packet) → SimulationRelation config log h.mail h.request h.state sys
+    → on k (h.state.link c) ≡ packet k i ∷ rest → IsReady (next_tracker sys) c k i h → IsInvariant (is_caching config) (kind_taken config (next_tracker sys) c k i rest h).state
 invariant-taken config log h sys c k i rest is first ready =
     kind_taken-kept (is_caching config) config (next_tracker sys) c k i rest h is.invariant (plain-past config) (λ n. (is.sized n).truth)
     (serving-matched config log h.mail h.request h.state sys is) first ready
@@ -93,8 +93,8 @@ invariant-taken config log h sys c k i rest is first ready =
 -- ---- who is probed
 
 -- somebody is probed, as the manager's record says, where the protocol says so
-pub probed-some : {w : ℕ} (config : Config) (log : Log w) (mail : Mail w) (request : ℕ → MessageA w) (s : State (List ℕ)) (sys : System w) (c k n : ℕ) (own : Bool) (j : Cap) (m : MessageA w)
-    → IsMatched config log mail request s sys → is_acquire m.opcode ≡ own → block_at m.address ≡ n
+pub probed-some : {w : ℕ} (config : Config) (log : Log w) (mail : AccessMessages w) (request : ℕ → MessageA w) (s : State (List ℕ)) (sys : System w) (c k n : ℕ) (own : Bool) (j : Cap) (m : MessageA w)
+    → SimulationRelation config log mail request s sys → is_acquire m.opcode ≡ own → block_at m.address ≡ n
     → is_nobody (probed config (service_for c m sys.manager.trace) j (with_beat c m k sys.manager.trace))
     ≡ not (some_below (length config.clients.items) (λ d. is_probed c own j ((s.block n).pair d).recorded d))
 probed-some {w} config log mail request s sys c k n own j m is kind block =
@@ -109,28 +109,28 @@ copies_so perm.Branch = refl
 copies_so perm.Trunk = refl
 
 -- nobody has a copy, as the manager's record says, where the protocol says so
-pub unheld-same : {w : ℕ} (config : Config) (log : Log w) (mail : Mail w) (request : ℕ → MessageA w) (s : State (List ℕ)) (sys : System w) (c k n : ℕ)
-    (m : MessageA w) → IsMatched config log mail request s sys
+pub unheld-same : {w : ℕ} (config : Config) (log : Log w) (mail : AccessMessages w) (request : ℕ → MessageA w) (s : State (List ℕ)) (sys : System w) (c k n : ℕ)
+    (m : MessageA w) → SimulationRelation config log mail request s sys
     → holders.is_unheld config n (with_beat c m k sys.manager.trace) ≡ is_unheld (length config.clients.items) (s.block n).pair
 unheld-same {w} config log mail request s sys c k n m is =
     nobody-same config (λ d. holders.has_copy (recorded d n (with_beat c m k sys.manager.trace))) (λ d. not (same_perm ((s.block n).pair d).recorded perm.None))
     (λ d. rw (recorded-beat c k m sys.manager.trace d n, is.managed.recorded_is d n) (copies_so ((s.block n).pair d).recorded))
 
 -- nothing is under way of a block that is free
-quiet-free : {w : ℕ} (config : Config) (log : Log w) (mail : Mail w) (request : ℕ → MessageA w) (s : State (List ℕ)) (sys : System w) (n : ℕ)
-    → IsMatched config log mail request s sys → (s.block n).service ≡ Free
-    → (d : ℕ) → is_quiet ((s.block n).pair d).probing ≡ true
+quiet-free : {w : ℕ} (config : Config) (log : Log w) (mail : AccessMessages w) (request : ℕ → MessageA w) (s : State (List ℕ)) (sys : System w) (n : ℕ)
+    → SimulationRelation config log mail request s sys → (s.block n).service ≡ Free
+    → (d : ℕ) → is_unprobed ((s.block n).pair d).probing ≡ true
 quiet-free config log mail request s sys n is free d = quiet_at_rest ((s.block n).pair d) (view (s.block n).service d) ((is.invariant.blocks n).phases d) (rw free refl)
 
-pub beyond-none : {w : ℕ} (config : Config) (log : Log w) (mail : Mail w) (request : ℕ → MessageA w) (s : State (List ℕ)) (sys : System w) (n : ℕ) → IsMatched config log mail request s sys
+pub beyond-none : {w : ℕ} (config : Config) (log : Log w) (mail : AccessMessages w) (request : ℕ → MessageA w) (s : State (List ℕ)) (sys : System w) (n : ℕ) → SimulationRelation config log mail request s sys
     → (d : ℕ) → length config.clients.items ≤ d → ((s.block n).pair d).recorded ≡ perm.None
-beyond-none config log mail request s sys n is d past = ap (λ (p : Pair). p.recorded) ((is.invariant.blocks n).outside d (plain-past config d past))
+beyond-none config log mail request s sys n is d past = ap (λ (p : ClientBlock). p.recorded) ((is.invariant.blocks n).outside d (plain-past config d past))
 
 -- ---- what is done
 
 -- nobody is probed: the request is performed
-pub deed-performed : {w : ℕ} (config : Config) (log : Log w) (mail : Mail w) (request : ℕ → MessageA w) (s : State (List ℕ)) (sys : System w) (c k n : ℕ)
-    (own : Bool) (m : MessageA w) → IsMatched config log mail request s sys
+pub deed-performed : {w : ℕ} (config : Config) (log : Log w) (mail : AccessMessages w) (request : ℕ → MessageA w) (s : State (List ℕ)) (sys : System w) (c k n : ℕ)
+    (own : Bool) (m : MessageA w) → SimulationRelation config log mail request s sys
     → IsComing config c k m sys.manager → beats_of (message.A m) ≡ suc k → is_acquire m.opcode ≡ own → block_at m.address ≡ n
     → probes_some (length config.clients.items) c own (cap_probed m.opcode m.param) (s.block n).pair ≡ false
     → deed config (link_of c) (beat.A (a_beat_of m k)) sys.manager ≡ performed config (service_for c m sys.manager.trace) (with_beat c m k sys.manager.trace) sys.manager.memory
@@ -148,8 +148,8 @@ deed-performed {w} config log mail request s sys c k n own m is comes last kind 
         (no-clients (probed config (service_for c m e.trace) j (with_beat c m k e.trace)) nobody)
 
 -- somebody is, with this cap
-pub somebody-probed : {w : ℕ} (config : Config) (log : Log w) (mail : Mail w) (request : ℕ → MessageA w) (s : State (List ℕ)) (sys : System w) (c k n : ℕ)
-    (own : Bool) (m : MessageA w) → IsMatched config log mail request s sys
+pub somebody-probed : {w : ℕ} (config : Config) (log : Log w) (mail : AccessMessages w) (request : ℕ → MessageA w) (s : State (List ℕ)) (sys : System w) (c k n : ℕ)
+    (own : Bool) (m : MessageA w) → SimulationRelation config log mail request s sys
     → is_acquire m.opcode ≡ own → block_at m.address ≡ n → probes_some (length config.clients.items) c own (cap_probed m.opcode m.param) (s.block n).pair ≡ true
     → (j : Cap) × (cap_probed m.opcode m.param ≡ Some j) × (is_nobody (probed config (service_for c m sys.manager.trace) j (with_beat c m k sys.manager.trace)) ≡ false)
 somebody-probed {w} config log mail request s sys c k n own m is kind block some = go (cap_probed m.opcode m.param) refl
@@ -161,8 +161,8 @@ somebody-probed {w} config log mail request s sys c k n own m is kind block some
 
 -- ---- an access
 
-pub unwaited-asked : {w : ℕ} (config : Config) (log : Log w) (mail : Mail w) (request : ℕ → MessageA w) (s : State (List ℕ)) (sys : System w) (c source : ℕ)
-    → IsMatched config log mail request s sys → s.uses c source ≡ Asked → IsUnwaited c source s
+pub unwaited-asked : {w : ℕ} (config : Config) (log : Log w) (mail : AccessMessages w) (request : ℕ → MessageA w) (s : State (List ℕ)) (sys : System w) (c source : ℕ)
+    → SimulationRelation config log mail request s sys → s.uses c source ≡ Asked → IsUnwaited c source s
 unwaited-asked {w} config log mail request s sys c source is used i src own j e same = go own (waits-used (is_caching config) s i c src own j is.invariant e)
   where
     here : s.uses c src ≡ Asked
@@ -172,7 +172,7 @@ unwaited-asked {w} config log mail request s sys c source is used i src own j e 
     go true f = let no : Asked ≡ Acquires i = sym here ∙ f in cc
     go false f = let no : Asked ≡ InService i = sym here ∙ f in cc
 
-with-same : {w : ℕ} (mail after : Mail w) (service : Service) (m : MessageA w) → after.request ≡ mail.request → IsServedWith mail service m → IsServedWith after service m
+with-same : {w : ℕ} (mail after : AccessMessages w) (service : Service) (m : MessageA w) → after.request ≡ mail.request → IsServedWith mail service m → IsServedWith after service m
 with-same mail after Free m same ok = tt
 with-same mail after (Waits r true source k) m same ok = tt
 with-same {w} mail after (Waits r false source k) m same ok = ap (λ (f : ℕ → ℕ → Message w). f r source) same ∙ ok
@@ -180,7 +180,7 @@ with-same mail after (GrantSent q d k) m same ok = tt
 with-same mail after (GrantTaken q) m same ok = tt
 
 -- other answers change nothing
-pub at_manager-answers : {w : ℕ} (config : Config) (mail after : Mail w) (request : ℕ → MessageA w) (s : State (List ℕ)) (e : End w)
+pub at_manager-answers : {w : ℕ} (config : Config) (mail after : AccessMessages w) (request : ℕ → MessageA w) (s : State (List ℕ)) (e : End w)
     → after.request ≡ mail.request → IsAtManager config mail request s e → IsAtManager config after request s e
 at_manager-answers config mail after request s e same is = record {
   managed = is.managed;
@@ -191,7 +191,7 @@ at_manager-answers config mail after request s e same is = record {
   all_live = is.all_live;
 }
 
-pub ready-request : {w : ℕ} (config : Config) (log : Log w) (h : Shadow w) (sys : System w) (c source k : ℕ) → IsMatched config log h.mail h.request h.state sys
+pub ready-request : {w : ℕ} (config : Config) (log : Log w) (h : AbstractState w) (sys : System w) (c source k : ℕ) → SimulationRelation config log h.mail h.request h.state sys
     → (asked : IsAsked config c source h.mail h.state)
     → IsComing config c k asked.request sys.manager → beats_of (message.A asked.request) ≡ suc k → must_wait config (link_of c) (beat.A (a_beat_of asked.request k)) sys.manager.trace ≡ false
     → IsReady (next_tracker sys) c Request source h
@@ -199,8 +199,8 @@ ready-request config log h sys c source k is asked comes last moves =
     (asked.request, asked.is_it, asked.access, free-last config log h.mail h.request h.state sys c k asked.request is comes last moves, untracked-next config log h.mail h.request h.state sys is)
 
 -- after the last beat of an access that was taken
-pub at_manager-request_taken : {w : ℕ} (config : Config) (log : Log w) (h : Shadow w) (sys : System w) (c source k : ℕ) (rest : List Token) → IsMatched config log h.mail h.request h.state sys
-    → (h.state.link c).a ≡ token Request source ∷ rest → (asked : IsAsked config c source h.mail h.state)
+pub at_manager-request_taken : {w : ℕ} (config : Config) (log : Log w) (h : AbstractState w) (sys : System w) (c source k : ℕ) (rest : List Packet) → SimulationRelation config log h.mail h.request h.state sys
+    → (h.state.link c).a ≡ packet Request source ∷ rest → (asked : IsAsked config c source h.mail h.state)
     → IsComing config c k asked.request sys.manager → beats_of (message.A asked.request) ≡ suc k → must_wait config (link_of c) (beat.A (a_beat_of asked.request k)) sys.manager.trace ≡ false
     → IsManagerOf config (kind_taken config (next_tracker sys) c Request source rest h) (end_after config c k asked.request sys.manager)
 at_manager-request_taken {w} config log h sys c source k rest is first asked comes last moves =
@@ -246,9 +246,9 @@ at_manager-request_taken {w} config log h sys c source k rest is first asked com
         → deed config (link_of c) (beat.A (a_beat_of m k)) e ≡ performed config (service_for c m e.trace) (with_beat c m k e.trace) e.memory
         → IsManagerOf config (access_taken c source m tracker p o rest h) after
     answered p o kept same done =
-        subst (λ (i : Shadow w). IsManagerOf config i after) (sym same)
+        subst (λ (i : AbstractState w). IsManagerOf config i after) (sym same)
         (at_manager-answered (is_caching config) config (access_taken c source m tracker false None rest h).mail h.request c k n m h.state (access_taken c source m tracker false None rest h).state e
-        (subst (λ (i : Shadow w). IsInvariant (is_caching config) i.state) same kept) (λ i. refl) answering asked.lawful done
+        (subst (λ (i : AbstractState w). IsInvariant (is_caching config) i.state) same kept) (λ i. refl) answering asked.lawful done
         (at_manager-answers config h.mail (access_taken c source m tracker false None rest h).mail h.request h.state e refl (at_manager-matched config log h.mail h.request h.state sys is)))
 
     done : probes_some clients c false (cap_probed m.opcode m.param) b.pair ≡ false
@@ -280,8 +280,8 @@ at_manager-request_taken {w} config log h sys c source k rest is first asked com
 
 -- ---- an Acquire
 
-unwaited-acquires : {w : ℕ} (config : Config) (log : Log w) (mail : Mail w) (request : ℕ → MessageA w) (s : State (List ℕ)) (sys : System w) (c source n : ℕ)
-    → IsMatched config log mail request s sys → s.uses c source ≡ Acquires n
+unwaited-acquires : {w : ℕ} (config : Config) (log : Log w) (mail : AccessMessages w) (request : ℕ → MessageA w) (s : State (List ℕ)) (sys : System w) (c source n : ℕ)
+    → SimulationRelation config log mail request s sys → s.uses c source ≡ Acquires n
     → (s.block n).service ≡ Free → IsUnwaited c source s
 unwaited-acquires {w} config log mail request s sys c source n is used free i src own j e same = go own e (waits-used (is_caching config) s i c src own j is.invariant e)
   where
@@ -297,7 +297,7 @@ unwaited-acquires {w} config log mail request s sys c source n is used free i sr
 
 pub caps_asked : (w : ℕ) (whole : Bool) (g : Grow) (source n : ℕ)
     → cap_probed (acquisition {w = w} (acquire_opcode whole) g source n).opcode (acquisition {w = w} (acquire_opcode whole) g source n).param ≡ Some
-    (cap_asked (Wants whole g))
+    (cap_asked (AcquireOpen whole g))
 caps_asked w true grow.NtoB source n = refl
 caps_asked w true grow.NtoT source n = refl
 caps_asked w true grow.BtoT source n = refl
@@ -309,7 +309,7 @@ caps_asked w false grow.BtoT source n = refl
 abbrev pub acquire_wanted : {w : ℕ} (c n : ℕ) (s : State (List ℕ)) → IsWanted w c n s → MessageA w
 acquire_wanted c n s is = acquisition (acquire_opcode is.whole) is.grow ((s.block n).source c) n
 
-pub ready-acquire : {w : ℕ} (config : Config) (log : Log w) (h : Shadow w) (sys : System w) (c n k : ℕ) → IsMatched config log h.mail h.request h.state sys → (asked : IsWanted w c n h.state)
+pub ready-acquire : {w : ℕ} (config : Config) (log : Log w) (h : AbstractState w) (sys : System w) (c n k : ℕ) → SimulationRelation config log h.mail h.request h.state sys → (asked : IsWanted w c n h.state)
     → IsComing config c k (acquire_wanted c n h.state asked) sys.manager → beats_of (message.A (acquire_wanted c n h.state asked)) ≡ suc k
     → must_wait config (link_of c) (beat.A (a_beat_of (acquire_wanted c n h.state asked) k)) sys.manager.trace ≡ false
     → IsReady (next_tracker sys) c Acquire n h
@@ -320,15 +320,15 @@ ready-acquire config log h sys c n k is asked comes last moves = (
 )
 
 -- after an Acquire that was taken
-pub at_manager-acquire_taken : {w : ℕ} (config : Config) (log : Log w) (h : Shadow w) (sys : System w) (c n k : ℕ) (rest : List Token) → IsMatched config log h.mail h.request h.state sys
-    → (h.state.link c).a ≡ token Acquire n ∷ rest → (asked : IsWanted w c n h.state)
+pub at_manager-acquire_taken : {w : ℕ} (config : Config) (log : Log w) (h : AbstractState w) (sys : System w) (c n k : ℕ) (rest : List Packet) → SimulationRelation config log h.mail h.request h.state sys
+    → (h.state.link c).a ≡ packet Acquire n ∷ rest → (asked : IsWanted w c n h.state)
     → IsComing config c k (acquire_wanted c n h.state asked) sys.manager → beats_of (message.A (acquire_wanted c n h.state asked)) ≡ suc k
     → must_wait config (link_of c) (beat.A (a_beat_of (acquire_wanted c n h.state asked) k)) sys.manager.trace ≡ false
     → IsManagerOf config (kind_taken config (next_tracker sys) c Acquire n rest h) (end_after config c k (acquire_wanted c n h.state asked) sys.manager)
 at_manager-acquire_taken {w} config log h sys c n k rest is first asked comes last moves =
-    subst (λ (i : Acquiring). IsManagerOf config (acquire_taken clients config.profile c n i tracker rest h) after) (sym asked.wants)
+    subst (λ (i : AcquirePhase). IsManagerOf config (acquire_taken clients config.profile c n i tracker rest h) after) (sym asked.wants)
     (go (some_below clients (λ d. is_probed c true j (b.pair d).recorded d)) refl
-    (subst (λ (i : Acquiring). IsInvariant (is_caching config) (acquire_taken clients config.profile c n i tracker rest h).state) asked.wants inv))
+    (subst (λ (i : AcquirePhase). IsInvariant (is_caching config) (acquire_taken clients config.profile c n i tracker rest h).state) asked.wants inv))
   where
     b : Block (List ℕ)
     b = h.state.block n
@@ -349,7 +349,7 @@ at_manager-acquire_taken {w} config log h sys c n k rest is first asked comes la
     tracker = next_tracker sys
 
     j : Cap
-    j = cap_asked (Wants asked.whole asked.grow)
+    j = cap_asked (AcquireOpen asked.whole asked.grow)
 
     ready : IsReady tracker c Acquire n h
     ready = ready-acquire config log h sys c n k is asked comes last moves

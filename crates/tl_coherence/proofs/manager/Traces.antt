@@ -9,10 +9,10 @@ use Rattle.tl_rules.specs.statement.Conformance.{Trace, on_link}
 use Rattle.tl_rules.specs.statement.History.{pending, request_of}
 use Rattle.tl_manager.specs.statement.Holders.{recorded}
 use Rattle.tl_manager.specs.statement.Service.{services, service_of_block}
-use Rattle.tl_coherence.specs.protocol.Phase.{is_quiet, ok}
+use Rattle.tl_coherence.specs.protocol.Phase.{is_unprobed, ok}
 use Rattle.tl_coherence.specs.protocol.Protocol.{Service, Free, Waits, GrantSent, GrantTaken, Block, State}
-use Rattle.tl_coherence.specs.refinement.Managed.{client_in, service_with}
-use Rattle.tl_coherence.specs.refinement.Sources.{IsFor}
+use Rattle.tl_coherence.specs.refinement.ManagerRelation.{client_in, service_with}
+use Rattle.tl_coherence.specs.refinement.SourceRelation.{IsFor}
 use Rattle.tl_coherence.proofs.manager.Accounts.{IsTraced}
 
 -- ---- one block changes
@@ -23,7 +23,7 @@ pub record IsTracedAt {w : ℕ} {X : Type 0} (n : ℕ) (request after : ℕ → 
   pub other_requests : (i : ℕ) → (i ≡ n → ⊥) → after i ≡ request i
   pub recorded_here : (c : ℕ) → recorded c n v ≡ ((u.block n).pair c).recorded
   pub recorded_else : (c i : ℕ) → (i ≡ n → ⊥) → recorded c i v ≡ recorded c i t
-  pub probes_here : (c : ℕ) → pending (ProbeOf n) (on_link c v) ≡ not (is_quiet ((u.block n).pair c).probing)
+  pub probes_here : (c : ℕ) → pending (ProbeOf n) (on_link c v) ≡ not (is_unprobed ((u.block n).pair c).probing)
   pub probes_else : (c i : ℕ) → (i ≡ n → ⊥) → pending (ProbeOf i) (on_link c v) ≡ pending (ProbeOf i) (on_link c t)
   pub serving_here : service_of_block n (services v) ≡ service_with (client_in (u.block n).service) (u.block n).tracker (after n)
   pub serving_else : (i : ℕ) → (i ≡ n → ⊥) → service_of_block i (services v) ≡ service_of_block i (services t)
@@ -39,7 +39,7 @@ traced-at {w} {X} n request after s u t v at is = record {
   ];
   probes = λ c i. elim (cases_eq i n) [
     | inl same ↦ rw same (at.probes_here c)
-    | inr other ↦ at.probes_else c i other ∙ is.probes c i ∙ ap (λ (b : Block X). not (is_quiet (b.pair c).probing)) (sym (at.other_blocks i other))
+    | inr other ↦ at.probes_else c i other ∙ is.probes c i ∙ ap (λ (b : Block X). not (is_unprobed (b.pair c).probing)) (sym (at.other_blocks i other))
   ];
   serving_is = λ i. elim (cases_eq i n) [
     | inl same ↦ rw same at.serving_here
@@ -69,7 +69,7 @@ SameService service after = after ≡ service
 -- the parts of the blocks that the manager knows of are the same
 pub record IsSameToManager {X : Type 0} (s u : State X) : Type 0 where
   pub recorded_same : (c n : ℕ) → ((u.block n).pair c).recorded ≡ ((s.block n).pair c).recorded
-  pub quiet_same : (c n : ℕ) → is_quiet ((u.block n).pair c).probing ≡ is_quiet ((s.block n).pair c).probing
+  pub quiet_same : (c n : ℕ) → is_unprobed ((u.block n).pair c).probing ≡ is_unprobed ((s.block n).pair c).probing
   pub tracker_same : (n : ℕ) → (u.block n).tracker ≡ (s.block n).tracker
   pub service_same : (n : ℕ) → SameService (s.block n).service (u.block n).service
 

@@ -16,16 +16,16 @@ use Rattle.tl_client.specs.declared.reply.Reply.TheVariants as reply
 use Rattle.tl_client.specs.statement.Ask.{copy_stored, whole_grow}
 use Rattle.tl_client.specs.statement.Send.{access}
 use Rattle.tl_manager.specs.statement.End.{End}
-use Rattle.tl_coherence.specs.refinement.Follow.{Shadow, asked, is_whole, taken_by_client, kind_taken}
+use Rattle.tl_coherence.specs.refinement.AbstractStep.{AbstractState, asked, is_whole, taken_by_client, kind_taken}
 use Rattle.tl_coherence.specs.protocol.Invariant.{IsInvariant}
-use Rattle.tl_coherence.specs.protocol.Phase.{Pair, Sent, is_quiet}
+use Rattle.tl_coherence.specs.protocol.Phase.{ClientBlock, ProbeSent, is_unprobed}
 use Rattle.tl_coherence.specs.protocol.PhaseSteps.{after_acquire, after_release, after_probe, after_grant, after_release_ack}
-use Rattle.tl_coherence.specs.protocol.Protocol.{Service, Free, Waits, GrantSent, GrantTaken, Block, State, Closed, InService, on, token, shown, view, is_granting}
+use Rattle.tl_coherence.specs.protocol.Protocol.{Service, Free, Waits, GrantSent, GrantTaken, Block, State, SourceFree, InService, on, packet, shown, view, is_granting}
 use Rattle.tl_coherence.specs.protocol.Protocol.{acquiring_block, releasing_block, stored_block, probed_block, taken_block, let_go_block, access_asked, acquire_asked}
 use Rattle.tl_coherence.specs.protocol.Protocol.{release_asked, block_stored, probe_taken, answer_taken, grant_taken, release_ack_taken}
-use Rattle.tl_coherence.specs.refinement.Render.{Mail, cap_sent}
-use Rattle.tl_coherence.specs.protocol.Token.{Kind, Request, Acquire, Probe, ProbeAck, Release, Answer, Grant, ReleaseAck, GrantAck, Token, set, set_at}
-use Rattle.tl_coherence.specs.refinement.Whole.{IsServedWith}
+use Rattle.tl_coherence.specs.refinement.PacketMessages.{AccessMessages, cap_sent}
+use Rattle.tl_coherence.specs.protocol.Packet.{Kind, Request, Acquire, Probe, ProbeAck, Release, Answer, Grant, ReleaseAck, GrantAck, Packet, set, set_at}
+use Rattle.tl_coherence.specs.refinement.SimulationRelation.{IsServedWith}
 use Rattle.tl_coherence.proofs.manager.Traces.{IsSameToManager, SameService}
 use Rattle.tl_coherence.proofs.manager.Choices.{waits-used}
 use Rattle.tl_coherence.proofs.protocol.FollowKept.{IsAskable, asked-kept}
@@ -45,7 +45,7 @@ same-again (GrantTaken q) = refl
 -- the block is the same to the manager
 pub record IsSameBlock {X : Type 0} (b new : Block X) : Type 0 where
   pub recorded_same : (c : ℕ) → (new.pair c).recorded ≡ (b.pair c).recorded
-  pub quiet_same : (c : ℕ) → is_quiet (new.pair c).probing ≡ is_quiet (b.pair c).probing
+  pub quiet_same : (c : ℕ) → is_unprobed (new.pair c).probing ≡ is_unprobed (b.pair c).probing
   pub tracker_same : new.tracker ≡ b.tracker
   pub service_same : SameService b.service new.service
   pub memory_same : new.memory ≡ b.memory
@@ -55,7 +55,7 @@ pub same-blocks : {X : Type 0} (n : ℕ) (new : Block X) (s u : State X) → ((i
 same-blocks {X} n new s u blocks is = (
   record {
     recorded_same = λ c i. same (λ (b : Block X). (b.pair c).recorded) (is.recorded_same c) i;
-    quiet_same = λ c i. same (λ (b : Block X). is_quiet (b.pair c).probing) (is.quiet_same c) i;
+    quiet_same = λ c i. same (λ (b : Block X). is_unprobed (b.pair c).probing) (is.quiet_same c) i;
     tracker_same = λ i. same (λ (b : Block X). b.tracker) is.tracker_same i;
     service_same = λ i. elim (cases_eq i n) [
       | inl e ↦ rw (e, blocks n, set-same n new s.block) is.service_same
@@ -69,7 +69,7 @@ same-blocks {X} n new s u blocks is = (
     same part e i = ap part (blocks i) ∙ set-part part n new s.block e i
 
 -- and what is kept of the manager's end stays
-pub at_manager-unseen : {w : ℕ} (caching : ℕ → Bool) (config : Config) (mail : Mail w) (request : ℕ → MessageA w) (n : ℕ) (new : Block (List ℕ))
+pub at_manager-unseen : {w : ℕ} (caching : ℕ → Bool) (config : Config) (mail : AccessMessages w) (request : ℕ → MessageA w) (n : ℕ) (new : Block (List ℕ))
     (s u : State (List ℕ)) (e : End w) → IsInvariant caching u
     → ((i : ℕ) → u.block i ≡ set n new s.block i) → IsSameBlock (s.block n) new → IsAtManager config mail request s e → IsAtManager config mail request u e
 at_manager-unseen caching config mail request n new s u e inv blocks same is =
@@ -77,26 +77,26 @@ at_manager-unseen caching config mail request n new s u e inv blocks same is =
     at_manager-same caching config mail request s u e inv all.0 all.1 is
 
 -- where no block changes at all
-pub at_manager-untouched : {w : ℕ} (caching : ℕ → Bool) (config : Config) (mail : Mail w) (request : ℕ → MessageA w) (s u : State (List ℕ)) (e : End w)
+pub at_manager-untouched : {w : ℕ} (caching : ℕ → Bool) (config : Config) (mail : AccessMessages w) (request : ℕ → MessageA w) (s u : State (List ℕ)) (e : End w)
     → IsInvariant caching u → ((i : ℕ) → u.block i ≡ s.block i)
     → IsAtManager config mail request s e → IsAtManager config mail request u e
 at_manager-untouched caching config mail request s u e inv blocks is =
     at_manager-same caching config mail request s u e inv
     (record {
       recorded_same = λ c i. ap (λ (b : Block (List ℕ)). (b.pair c).recorded) (blocks i);
-      quiet_same = λ c i. ap (λ (b : Block (List ℕ)). is_quiet (b.pair c).probing) (blocks i);
+      quiet_same = λ c i. ap (λ (b : Block (List ℕ)). is_unprobed (b.pair c).probing) (blocks i);
       tracker_same = λ i. ap (λ (b : Block (List ℕ)). b.tracker) (blocks i);
       service_same = λ i. rw (blocks i) (same-again (s.block i).service);
     })
     (λ i. ap (λ (b : Block (List ℕ)). b.memory) (blocks i)) is
 
 -- a client's pair in place of one that is the same to the manager
-same-pair : {X : Type 0} (c : ℕ) (p : Pair) (b : Block X) → p.recorded ≡ (b.pair c).recorded → is_quiet p.probing ≡ is_quiet (b.pair c).probing
+same-pair : {X : Type 0} (c : ℕ) (p : ClientBlock) (b : Block X) → p.recorded ≡ (b.pair c).recorded → is_unprobed p.probing ≡ is_unprobed (b.pair c).probing
     → (new : Block X) → new.pair ≡ set c p b.pair → new.tracker ≡ b.tracker
     → SameService b.service new.service → new.memory ≡ b.memory → IsSameBlock b new
 same-pair c p b recorded quiet new pairs tracker service memory = record {
-  recorded_same = λ d. ap (λ (f : ℕ → Pair). (f d).recorded) pairs ∙ set-part (λ (q : Pair). q.recorded) c p b.pair recorded d;
-  quiet_same = λ d. ap (λ (f : ℕ → Pair). is_quiet (f d).probing) pairs ∙ set-part (λ (q : Pair). is_quiet q.probing) c p b.pair quiet d;
+  recorded_same = λ d. ap (λ (f : ℕ → ClientBlock). (f d).recorded) pairs ∙ set-part (λ (q : ClientBlock). q.recorded) c p b.pair recorded d;
+  quiet_same = λ d. ap (λ (f : ℕ → ClientBlock). is_unprobed (f d).probing) pairs ∙ set-part (λ (q : ClientBlock). is_unprobed q.probing) c p b.pair quiet d;
   tracker_same = tracker;
   service_same = service;
   memory_same = memory;
@@ -111,8 +111,8 @@ same-releasing c source r b = same-pair c (after_release r (b.pair c)) b refl re
 same-stored : {X : Type 0} (c : ℕ) (bytes : X) (b : Block X) → IsSameBlock b (stored_block c bytes b)
 same-stored c bytes b = record { recorded_same = λ d. refl; quiet_same = λ d. refl; tracker_same = refl; service_same = same-again b.service; memory_same = refl }
 
-same-probed : {X : Type 0} (c : ℕ) (k j : Cap) (b : Block X) → (b.pair c).probing ≡ Sent j → IsSameBlock b (probed_block c k b)
-same-probed c k j b sent = same-pair c (after_probe k (b.pair c)) b refl (sym (ap is_quiet sent)) (probed_block c k b) refl refl (same-again b.service) refl
+same-probed : {X : Type 0} (c : ℕ) (k j : Cap) (b : Block X) → (b.pair c).probing ≡ ProbeSent j → IsSameBlock b (probed_block c k b)
+same-probed c k j b sent = same-pair c (after_probe k (b.pair c)) b refl (sym (ap is_unprobed sent)) (probed_block c k b) refl refl (same-again b.service) refl
 
 same-taken : {X : Type 0} (c : ℕ) (whole d : Bool) (k j : Cap) (b : Block X) → b.service ≡ GrantSent c d j → IsSameBlock b (taken_block c whole d k b)
 same-taken c whole d k j b sent = same-pair c (after_grant k (b.pair c)) b refl refl (taken_block c whole d k b) refl refl (rw sent refl) refl
@@ -123,14 +123,14 @@ same-let_go c b = same-pair c (after_release_ack (b.pair c)) b refl refl (let_go
 -- ---- a client is asked
 
 -- an access that starts has a source of which no request waits
-asked_with : {w : ℕ} (caching : ℕ → Bool) (c source n : ℕ) (i : Message w) (mail : Mail w) (s : State (List ℕ)) (m : MessageA w) → IsInvariant caching s → s.uses c source ≡ Closed
+asked_with : {w : ℕ} (caching : ℕ → Bool) (c source n : ℕ) (i : Message w) (mail : AccessMessages w) (s : State (List ℕ)) (m : MessageA w) → IsInvariant caching s → s.uses c source ≡ SourceFree
     → (service : Service) → (s.block n).service ≡ service → IsServedWith mail service m → IsServedWith (record { request = set_at c source i mail.request; answer = mail.answer }) service m
 asked_with caching c source n i mail s m inv closed Free e ok = tt
 asked_with caching c source n i mail s m inv closed (Waits r true src k) e ok = tt
 asked_with {w} caching c source n i mail s m inv closed (Waits r false src k) e ok = elim (cases_eq r c) [
   | inl client ↦ elim (cases_eq src source) [
     | inl number ↦
-        absurd (let used : s.uses r src ≡ InService n = waits-used caching s n r src false k inv e in let no : Closed ≡ InService n = sym closed ∙ ap₂ s.uses (sym client) (sym number) ∙ used in cc)
+        absurd (let used : s.uses r src ≡ InService n = waits-used caching s n r src false k inv e in let no : SourceFree ≡ InService n = sym closed ∙ ap₂ s.uses (sym client) (sym number) ∙ used in cc)
     | inr other ↦
         rw client (ap (λ (f : ℕ → Message w). f src) (set-same c (set source i (mail.request c)) mail.request) ∙ set-other source src i (mail.request c) other
         ∙ ap (λ j. mail.request j src) (sym client) ∙ ok)
@@ -140,8 +140,8 @@ asked_with {w} caching c source n i mail s m inv closed (Waits r false src k) e 
 asked_with caching c source n i mail s m inv closed (GrantSent q d k) e ok = tt
 asked_with caching c source n i mail s m inv closed (GrantTaken q) e ok = tt
 
-at_manager-access : {w : ℕ} (caching : ℕ → Bool) (config : Config) (c source : ℕ) (m : MessageA w) (h : Shadow w) (e : End w) → IsInvariant caching h.state
-    → h.state.uses c source ≡ Closed → IsInvariant caching (access_asked c source h.state)
+at_manager-access : {w : ℕ} (caching : ℕ → Bool) (config : Config) (c source : ℕ) (m : MessageA w) (h : AbstractState w) (e : End w) → IsInvariant caching h.state
+    → h.state.uses c source ≡ SourceFree → IsInvariant caching (access_asked c source h.state)
     → IsManagerOf config h e → IsManagerOf config (asked c (op.Access (message.A m)) (reply.Started source) h) e
 at_manager-access {w} caching config c source m h e inv closed after is =
     let now : IsAtManager config h.mail h.request (access_asked c source h.state) e =
@@ -156,7 +156,7 @@ at_manager-access {w} caching config c source m h e inv closed after is =
     }
 
 -- what is kept of the manager's end stays as a client is asked
-pub at_manager-asked : {w : ℕ} (caching : ℕ → Bool) (config : Config) (c : ℕ) (o : Op w) (r : Reply) (h : Shadow w) (e : End w) → IsInvariant caching h.state
+pub at_manager-asked : {w : ℕ} (caching : ℕ → Bool) (config : Config) (c : ℕ) (o : Op w) (r : Reply) (h : AbstractState w) (e : End w) → IsInvariant caching h.state
     → IsAskable caching c o r h → IsManagerOf config h e → IsManagerOf config (asked c o r h) e
 at_manager-asked {w} caching config c o r h e inv may is = go o r may (asked-kept caching c o r h inv may)
   where
@@ -215,9 +215,9 @@ is_to_clients ReleaseAck = true
 is_to_clients _ = false
 
 -- what is kept of the manager's end stays as a client takes a message
-pub at_manager-client_taken : {w : ℕ} (caching : ℕ → Bool) (config : Config) (tracker c : ℕ) (kind : Kind) (n : ℕ) (rest : List Token) (h : Shadow w)
+pub at_manager-client_taken : {w : ℕ} (caching : ℕ → Bool) (config : Config) (tracker c : ℕ) (kind : Kind) (n : ℕ) (rest : List Packet) (h : AbstractState w)
     (e : End w) → is_to_clients kind ≡ true → IsInvariant caching h.state
-    → on kind (h.state.link c) ≡ token kind n ∷ rest → IsInvariant caching (kind_taken config tracker c kind n rest h).state → IsManagerOf config h e
+    → on kind (h.state.link c) ≡ packet kind n ∷ rest → IsInvariant caching (kind_taken config tracker c kind n rest h).state → IsManagerOf config h e
     → IsManagerOf config (kind_taken config tracker c kind n rest h) e
 at_manager-client_taken caching config tracker c Request n rest h e kind inv first after is = absurd cc
 at_manager-client_taken caching config tracker c Acquire n rest h e kind inv first after is = absurd cc
@@ -226,7 +226,7 @@ at_manager-client_taken caching config tracker c Release n rest h e kind inv fir
 at_manager-client_taken caching config tracker c GrantAck n rest h e kind inv first after is = absurd cc
 at_manager-client_taken caching config tracker c Probe n rest h e kind inv first after is =
     let k = cap_sent ((h.state.block n).pair c).probing in
-    let sent = sent-is ((h.state.block n).pair c).probing (holds-first Probe (h.state.link c).b rest (token Probe n) (λ i. shown Probe c (h.state.block i)) first refl (inv.transfers c Probe refl)) in
+    let sent = sent-is ((h.state.block n).pair c).probing (holds-first Probe (h.state.link c).b rest (packet Probe n) (λ i. shown Probe c (h.state.block i)) first refl (inv.transfers c Probe refl)) in
     at_manager-unseen caching config h.mail h.request n (probed_block c k (h.state.block n)) h.state (probe_taken c n k rest h.state) e after (λ i. refl) (same-probed c k k (h.state.block n) sent) is
 at_manager-client_taken caching config tracker c Answer n rest h e kind inv first after is =
     at_manager-untouched caching config h.mail h.request h.state (answer_taken c n rest h.state) e after (λ i. refl) is
@@ -240,7 +240,7 @@ at_manager-client_taken {w} caching config tracker c Grant n rest h e kind inv f
     go (GrantTaken q) f kept = is
     go (GrantSent q d k) f kept =
         let seen : is_granting (view (GrantSent q d k) c) ≡ true =
-        rw f at (holds-first Grant (h.state.link c).d rest (token Grant n) (λ i. shown Grant c (h.state.block i)) first refl
+        rw f at (holds-first Grant (h.state.link c).d rest (packet Grant n) (λ i. shown Grant c (h.state.block i)) first refl
         (inv.transfers c Grant refl)) in
         let same : c ≡ q = eqb-true c q (granting-own (c == q) d k seen) in
         let whole = is_whole ((h.state.block n).pair c).acquiring in

@@ -21,17 +21,17 @@ use Rattle.tl_coherence.specs.declared.event.Event.{Event}
 use Rattle.tl_coherence.specs.declared.event.Event.TheVariants.{Ask, Deliver}
 use Rattle.tl_coherence.specs.declared.event.Outcome.TheVariants as outcome
 use Rattle.tl_coherence.specs.statement.Draining.{is_moving}
-use Rattle.tl_coherence.specs.refinement.Follow as follow
-use Rattle.tl_coherence.specs.refinement.Follow.{Shadow, followed_by, is_last, kind_taken, token_taken, delivered, followed}
+use Rattle.tl_coherence.specs.refinement.AbstractStep as follow
+use Rattle.tl_coherence.specs.refinement.AbstractStep.{AbstractState, abstract_step_by, is_last, kind_taken, packet_taken, delivered, abstract_step}
 use Rattle.tl_coherence.specs.protocol.Invariant.{IsInvariant}
 use Rattle.tl_coherence.specs.statement.Log.{Log}
-use Rattle.tl_coherence.specs.refinement.Matched.{receiver}
+use Rattle.tl_coherence.specs.refinement.ChannelRelation.{receiver}
 use Rattle.tl_coherence.specs.protocol.Protocol as protocol
-use Rattle.tl_coherence.specs.protocol.Protocol.{token, tokens_on, is_on, on}
+use Rattle.tl_coherence.specs.protocol.Protocol.{packet, packets_on, is_on, on}
 use Rattle.tl_coherence.specs.statement.Step.{Step, handed_by, judged, is_to_client, client_of, stepped}
 use Rattle.tl_coherence.specs.statement.System.{System, terms_at, with_client, with_channel}
-use Rattle.tl_coherence.specs.protocol.Token.{Kind, Request, Acquire, Probe, ProbeAck, Release, Answer, Grant, ReleaseAck, GrantAck, Token}
-use Rattle.tl_coherence.specs.refinement.Whole.{IsMatched, is_caching}
+use Rattle.tl_coherence.specs.protocol.Packet.{Kind, Request, Acquire, Probe, ProbeAck, Release, Answer, Grant, ReleaseAck, GrantAck, Packet}
+use Rattle.tl_coherence.specs.refinement.SimulationRelation.{SimulationRelation, is_caching}
 use Rattle.tl_coherence.proofs.manager.Admitted.{first_counts}
 use Rattle.tl_coherence.proofs.protocol.FollowKept.{IsAskable}
 use Rattle.tl_coherence.proofs.manager.ManagersEnd.{at_manager-matched}
@@ -42,25 +42,25 @@ use Rattle.tl_coherence.proofs.manager.ManagerAfter.{IsManagerOf}
 
 -- ---- there is no client of this number
 
-pub at_manager-nobody : {w : ℕ} (config : Config) (log : Log w) (h : Shadow w) (sys : System w) (event : Event w)
-    → IsMatched config log h.mail h.request h.state sys → terms_at config (client_of event) ≡ None
-    → IsManagerOf config (followed config event sys h) (stepped config event sys).after.manager
+pub at_manager-nobody : {w : ℕ} (config : Config) (log : Log w) (h : AbstractState w) (sys : System w) (event : Event w)
+    → SimulationRelation config log h.mail h.request h.state sys → terms_at config (client_of event) ≡ None
+    → IsManagerOf config (abstract_step config event sys h) (stepped config event sys).after.manager
 unfolding stepped
 at_manager-nobody {w} config log h sys event is none = rw none (go event)
   where
-    go : (event : Event w) → IsManagerOf config (followed_by config event outcome.NoSuchClient sys h) sys.manager
+    go : (event : Event w) → IsManagerOf config (abstract_step_by config event outcome.NoSuchClient sys h) sys.manager
     go (Ask c o) = at_manager-matched config log h.mail h.request h.state sys is
     go (Deliver link ch) = at_manager-matched config log h.mail h.request h.state sys is
 
 -- ---- a client is asked
 
-pub at_manager-ask : {w : ℕ} (config : Config) (log : Log w) (h : Shadow w) (sys : System w) (c : ℕ) (o : Op w) (terms : client.Terms)
-    → IsMatched config log h.mail h.request h.state sys → terms_at config c ≡ Some terms
+pub at_manager-ask : {w : ℕ} (config : Config) (log : Log w) (h : AbstractState w) (sys : System w) (c : ℕ) (o : Op w) (terms : client.Terms)
+    → SimulationRelation config log h.mail h.request h.state sys → terms_at config c ≡ Some terms
     → IsAskable (is_caching config) c o (client_ask.asked terms o (sys.clients c)).reply h
-    → IsManagerOf config (followed config (Ask c o) sys h) (stepped config (Ask c o) sys).after.manager
+    → IsManagerOf config (abstract_step config (Ask c o) sys h) (stepped config (Ask c o) sys).after.manager
 at_manager-ask {w} config log h sys c o terms is there may =
     let a = client_ask.asked terms o (sys.clients c) in
-    subst (λ (s : Step w). IsManagerOf config (followed_by config (Ask c o) s.outcome sys h) s.after.manager) (sym (stepped-asked config c o sys terms there))
+    subst (λ (s : Step w). IsManagerOf config (abstract_step_by config (Ask c o) s.outcome sys h) s.after.manager) (sym (stepped-asked config c o sys terms there))
     (subst (IsManagerOf config (follow.asked c o a.reply h)) (sym (manager-with_messages (handed_by c a.message) (with_client c a.after sys)))
     (at_manager-asked (is_caching config) config c o a.reply h sys.manager is.invariant may (at_manager-matched config log h.mail h.request h.state sys is)))
 
@@ -108,7 +108,7 @@ to_clients channel.C k up on_it = absurd cc
 to_clients channel.E k up on_it = absurd cc
 
 -- such a kind is on its channel
-on-channel : (ch : Channel) (k : Kind) (l : protocol.Link) → is_on ch k ≡ true → on k l ≡ tokens_on ch l
+on-channel : (ch : Channel) (k : Kind) (l : protocol.Link) → is_on ch k ≡ true → on k l ≡ packets_on ch l
 on-channel channel.A Request l e = refl
 on-channel channel.A Acquire l e = refl
 on-channel channel.B Probe l e = refl
@@ -121,12 +121,12 @@ on-channel channel.E GrantAck l e = refl
 on-channel ch k l e = absurd cc
 
 -- where the invariant is kept, so is what is kept of the manager's end
-pub at_manager-to_client : {w : ℕ} (config : Config) (log : Log w) (h : Shadow w) (sys : System w) (link : Link) (ch : Channel) (terms : client.Terms)
-    → IsMatched config log h.mail h.request h.state sys → terms_at config link.0 ≡ Some terms → is_to_client ch ≡ true
-    → IsInvariant (is_caching config) (followed config (Deliver link ch) sys h).state
-    → IsManagerOf config (followed config (Deliver link ch) sys h) (stepped config (Deliver link ch) sys).after.manager
+pub at_manager-to_client : {w : ℕ} (config : Config) (log : Log w) (h : AbstractState w) (sys : System w) (link : Link) (ch : Channel) (terms : client.Terms)
+    → SimulationRelation config log h.mail h.request h.state sys → terms_at config link.0 ≡ Some terms → is_to_client ch ≡ true
+    → IsInvariant (is_caching config) (abstract_step config (Deliver link ch) sys h).state
+    → IsManagerOf config (abstract_step config (Deliver link ch) sys h) (stepped config (Deliver link ch) sys).after.manager
 at_manager-to_client {w} config log h sys link ch terms is there up kept =
-    subst (IsManagerOf config (followed config (Deliver link ch) sys h)) (sym (manager-to-client config link ch sys terms there up))
+    subst (IsManagerOf config (abstract_step config (Deliver link ch) sys h)) (sym (manager-to-client config link ch sys terms there up))
     (go (is_moving (stepped config (Deliver link ch) sys).outcome && is_last (sys.channels c ch) (unfinished ch (receiver ch c sys))) kept)
   where
     c : ℕ
@@ -135,8 +135,8 @@ at_manager-to_client {w} config log h sys link ch terms is there up kept =
     known : IsManagerOf config h sys.manager
     known = at_manager-matched config log h.mail h.request h.state sys is
 
-    taken : (xs : List Token) → tokens_on ch (h.state.link c) ≡ xs → IsInvariant (is_caching config) (token_taken config (next_tracker sys) c xs h).state
-        → IsManagerOf config (token_taken config (next_tracker sys) c xs h) sys.manager
+    taken : (xs : List Packet) → packets_on ch (h.state.link c) ≡ xs → IsInvariant (is_caching config) (packet_taken config (next_tracker sys) c xs h).state
+        → IsManagerOf config (packet_taken config (next_tracker sys) c xs h) sys.manager
     taken [] e inv = known
     taken (y ∷ ys) e inv =
         at_manager-client_taken (is_caching config) config (next_tracker sys) c y.kind y.number ys h sys.manager (to_clients ch y.kind up here) is.invariant first inv known
@@ -144,10 +144,10 @@ at_manager-to_client {w} config log h sys link ch terms is there up kept =
         here : is_on ch y.kind ≡ false → ⊥
         here off = first_counts y ys (rw e at (is.invariant.own_kinds c ch y.kind y.number off))
 
-        first : on y.kind (h.state.link c) ≡ token y.kind y.number ∷ ys
+        first : on y.kind (h.state.link c) ≡ packet y.kind y.number ∷ ys
         first = on-channel ch y.kind (h.state.link c) (true_from_ne_false (is_on ch y.kind) here) ∙ e
 
-    go : (b : Bool) → IsInvariant (is_caching config) (if b then token_taken config (next_tracker sys) c (tokens_on ch (h.state.link c)) h else h).state
-        → IsManagerOf config (if b then token_taken config (next_tracker sys) c (tokens_on ch (h.state.link c)) h else h) sys.manager
-    go true inv = taken (tokens_on ch (h.state.link c)) refl inv
+    go : (b : Bool) → IsInvariant (is_caching config) (if b then packet_taken config (next_tracker sys) c (packets_on ch (h.state.link c)) h else h).state
+        → IsManagerOf config (if b then packet_taken config (next_tracker sys) c (packets_on ch (h.state.link c)) h else h) sys.manager
+    go true inv = taken (packets_on ch (h.state.link c)) refl inv
     go false inv = known

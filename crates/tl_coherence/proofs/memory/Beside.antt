@@ -5,12 +5,12 @@ use Rattle.std.proofs.lemmas.Bool.{cases_eq, ne_eqb}
 use Rattle.tl_burst.specs.declared.message.Message.{Message}
 use Rattle.tl_rules.specs.statement.Effect.{IsBlock, effect}
 use Rattle.tl_client.specs.declared.operation.Op.TheVariants as op
-use Rattle.tl_coherence.specs.refinement.Beside.{IsAccess, Answers, IsOpened, IsLet, IsBeside}
+use Rattle.tl_coherence.specs.refinement.MemoryRelation.{IsAccess, Answers, IsOpened, IsLet, MemoryRelation}
 use Rattle.tl_coherence.specs.statement.Machine.{Machine, Open, Pool, Requests, Releases, same_pool, with_open, with_memory, performed}
-use Rattle.tl_coherence.specs.protocol.Protocol.{State, Use, Closed, Asked, InService, Replied, Acquires}
-use Rattle.tl_coherence.specs.statement.Remembered.{performing}
-use Rattle.tl_coherence.specs.refinement.Render.{Mail}
-use Rattle.tl_coherence.specs.protocol.Token.{set_at}
+use Rattle.tl_coherence.specs.protocol.Protocol.{State, SourceState, SourceFree, Asked, InService, Replied, Acquires}
+use Rattle.tl_coherence.specs.statement.OneMemory.{performing}
+use Rattle.tl_coherence.specs.refinement.PacketMessages.{AccessMessages}
+use Rattle.tl_coherence.specs.protocol.Packet.{set_at}
 use Rattle.tl_coherence.proofs.queues.Tokens.{same_number, set_at-same}
 
 -- ---- one place of two numbers
@@ -73,19 +73,19 @@ open-requests {w} c source o m d i = go (d == c)
 -- ---- what is open with a source
 
 -- the Acquire that a source is of is as before
-abbrev pub IsSameAcquire : ℕ → State (List ℕ) → State (List ℕ) → Use → Type 0
+abbrev pub IsSameAcquire : ℕ → State (List ℕ) → State (List ℕ) → SourceState → Type 0
 IsSameAcquire c s s' (Acquires n) = (((s'.block n).pair c).acquiring ≡ ((s.block n).pair c).acquiring) × ((s'.block n).waiting c ≡ (s.block n).waiting c)
 IsSameAcquire c s s' u = ⊤
 
 -- an answer is as before, where there is one
-abbrev pub IsSameAnswer : {w : ℕ} → Use → Message w → Message w → Type 0
+abbrev pub IsSameAnswer : {w : ℕ} → SourceState → Message w → Message w → Type 0
 IsSameAnswer Replied x y = y ≡ x
 IsSameAnswer u x y = ⊤
 
-pub opened-still : {w : ℕ} (c source : ℕ) (mail mail' : Mail w) (s s' : State (List ℕ)) (u : Use) (o : Option (Open w))
+pub opened-still : {w : ℕ} (c source : ℕ) (mail mail' : AccessMessages w) (s s' : State (List ℕ)) (u : SourceState) (o : Option (Open w))
     → mail'.request c source ≡ mail.request c source → IsSameAnswer u (mail.answer c source) (mail'.answer c source)
     → IsSameAcquire c s s' u → IsOpened c source mail s u o → IsOpened c source mail' s' u o
-opened-still c source mail mail' s s' Closed o request answer acquire h = h
+opened-still c source mail mail' s s' SourceFree o request answer acquire h = h
 opened-still {w} c source mail mail' s s' Asked o request answer acquire h = subst (λ (m : Message w). IsAccess source m None o) (sym request) h
 opened-still {w} c source mail mail' s s' (InService n) o request answer acquire h = subst (λ (m : Message w). IsAccess source m None o) (sym request) h
 opened-still {w} c source mail mail' s s' Replied o request answer acquire h = (
@@ -98,36 +98,36 @@ opened-still {w} c source mail mail' s s' (Acquires n) o request answer acquire 
 -- ---- events
 
 -- what an event leaves that changes no source
-pub record IsStill {w : ℕ} (mail : Mail w) (s s' : State (List ℕ)) (m m' : Machine w) : Type 0 where
+pub record IsStill {w : ℕ} (mail : AccessMessages w) (s s' : State (List ℕ)) (m m' : Machine w) : Type 0 where
   pub memory : (n : ℕ) → IsBlock m'.memory n (s'.block n).truth
   pub uses : (d i : ℕ) → s'.uses d i ≡ s.uses d i
   pub lets : (d i : ℕ) → s'.lets d i ≡ s.lets d i
   pub opened : (d : ℕ) (pool : Pool) (i : ℕ) → m'.opened d pool i ≡ m.opened d pool i
   pub acquires : (d n : ℕ) → (((s'.block n).pair d).acquiring ≡ ((s.block n).pair d).acquiring) × ((s'.block n).waiting d ≡ (s.block n).waiting d)
 
-pub same_acquire : (c : ℕ) (s s' : State (List ℕ)) (u : Use)
+pub same_acquire : (c : ℕ) (s s' : State (List ℕ)) (u : SourceState)
     → ((n : ℕ) → (((s'.block n).pair c).acquiring ≡ ((s.block n).pair c).acquiring) × ((s'.block n).waiting c ≡ (s.block n).waiting c))
     → IsSameAcquire c s s' u
-same_acquire c s s' Closed e = tt
+same_acquire c s s' SourceFree e = tt
 same_acquire c s s' Asked e = tt
 same_acquire c s s' (InService n) e = tt
 same_acquire c s s' Replied e = tt
 same_acquire c s s' (Acquires n) e = e n
 
-same_answer : {w : ℕ} (u : Use) (x : Message w) → IsSameAnswer u x x
-same_answer Closed x = tt
+same_answer : {w : ℕ} (u : SourceState) (x : Message w) → IsSameAnswer u x x
+same_answer SourceFree x = tt
 same_answer Asked x = tt
 same_answer (InService n) x = tt
 same_answer Replied x = refl
 same_answer (Acquires n) x = tt
 
-moved_opened : {w : ℕ} (c source : ℕ) (mail : Mail w) (s : State (List ℕ)) (u v : Use) (o p : Option (Open w)) → v ≡ u → p ≡ o → IsOpened c source mail s u o → IsOpened c source mail s v p
+moved_opened : {w : ℕ} (c source : ℕ) (mail : AccessMessages w) (s : State (List ℕ)) (u v : SourceState) (o p : Option (Open w)) → v ≡ u → p ≡ o → IsOpened c source mail s u o → IsOpened c source mail s v p
 moved_opened c source mail s u v o p e f h = rw (e, f) h
 
 moved_let : {w : ℕ} (u v : Option ℕ) (o p : Option (Open w)) → v ≡ u → p ≡ o → IsLet u o → IsLet v p
 moved_let u v o p e f h = rw (e, f) h
 
-pub beside-still : {w : ℕ} (mail : Mail w) (s s' : State (List ℕ)) (m m' : Machine w) → IsStill mail s s' m m' → IsBeside mail s m → IsBeside mail s' m'
+pub beside-still : {w : ℕ} (mail : AccessMessages w) (s s' : State (List ℕ)) (m m' : Machine w) → IsStill mail s s' m m' → MemoryRelation mail s m → MemoryRelation mail s' m'
 beside-still {w} mail s s' m m' is h = record {
   memory = is.memory;
   requests = λ d i.
@@ -138,7 +138,7 @@ beside-still {w} mail s s' m m' is h = record {
 }
 
 -- what an event leaves that changes one A source
-pub record IsUsed {w : ℕ} (c source : ℕ) (u : Use) (mail mail' : Mail w) (s s' : State (List ℕ)) (m m' : Machine w) : Type 0 where
+pub record IsUsed {w : ℕ} (c source : ℕ) (u : SourceState) (mail mail' : AccessMessages w) (s s' : State (List ℕ)) (m m' : Machine w) : Type 0 where
   pub memory : (n : ℕ) → IsBlock m'.memory n (s'.block n).truth
   pub uses : (d i : ℕ) → s'.uses d i ≡ set_at c source u s.uses d i
   pub lets : (d i : ℕ) → s'.lets d i ≡ s.lets d i
@@ -149,14 +149,14 @@ pub record IsUsed {w : ℕ} (c source : ℕ) (u : Use) (mail mail' : Mail w) (s 
   pub answers : (d i : ℕ) → IsElsewhere c source d i → mail'.answer d i ≡ mail.answer d i
   pub acquires : (d i : ℕ) → IsElsewhere c source d i → IsSameAcquire d s s' (s.uses d i)
 
-answer_as : {w : ℕ} (u : Use) (x y : Message w) → y ≡ x → IsSameAnswer u x y
-answer_as Closed x y e = tt
+answer_as : {w : ℕ} (u : SourceState) (x y : Message w) → y ≡ x → IsSameAnswer u x y
+answer_as SourceFree x y e = tt
 answer_as Asked x y e = tt
 answer_as (InService n) x y e = tt
 answer_as Replied x y e = e
 answer_as (Acquires n) x y e = tt
 
-pub beside-used : {w : ℕ} (c source : ℕ) (u : Use) (mail mail' : Mail w) (s s' : State (List ℕ)) (m m' : Machine w) → IsUsed c source u mail mail' s s' m m' → IsBeside mail s m → IsBeside mail' s' m'
+pub beside-used : {w : ℕ} (c source : ℕ) (u : SourceState) (mail mail' : AccessMessages w) (s s' : State (List ℕ)) (m m' : Machine w) → IsUsed c source u mail mail' s s' m m' → MemoryRelation mail s m → MemoryRelation mail' s' m'
 beside-used {w} c source u mail mail' s s' m m' is h = record {
   memory = is.memory;
   requests = λ d i. elim (place-cases c source d i) [
@@ -171,7 +171,7 @@ beside-used {w} c source u mail mail' s s' m m' is h = record {
 }
 
 -- what an event leaves that changes one C source
-pub record IsLetGo {w : ℕ} (c source : ℕ) (l : Option ℕ) (mail : Mail w) (s s' : State (List ℕ)) (m m' : Machine w) : Type 0 where
+pub record IsLetGo {w : ℕ} (c source : ℕ) (l : Option ℕ) (mail : AccessMessages w) (s s' : State (List ℕ)) (m m' : Machine w) : Type 0 where
   pub memory : (n : ℕ) → IsBlock m'.memory n (s'.block n).truth
   pub uses : (d i : ℕ) → s'.uses d i ≡ s.uses d i
   pub lets : (d i : ℕ) → s'.lets d i ≡ set_at c source l s.lets d i
@@ -180,7 +180,7 @@ pub record IsLetGo {w : ℕ} (c source : ℕ) (l : Option ℕ) (mail : Mail w) (
   pub requests : (d i : ℕ) → m'.opened d Requests i ≡ m.opened d Requests i
   pub acquires : (d n : ℕ) → (((s'.block n).pair d).acquiring ≡ ((s.block n).pair d).acquiring) × ((s'.block n).waiting d ≡ (s.block n).waiting d)
 
-pub beside-let : {w : ℕ} (c source : ℕ) (l : Option ℕ) (mail : Mail w) (s s' : State (List ℕ)) (m m' : Machine w) → IsLetGo c source l mail s s' m m' → IsBeside mail s m → IsBeside mail s' m'
+pub beside-let : {w : ℕ} (c source : ℕ) (l : Option ℕ) (mail : AccessMessages w) (s s' : State (List ℕ)) (m m' : Machine w) → IsLetGo c source l mail s s' m m' → MemoryRelation mail s m → MemoryRelation mail s' m'
 beside-let {w} c source l mail s s' m m' is h = record {
   memory = is.memory;
   requests = λ d i.

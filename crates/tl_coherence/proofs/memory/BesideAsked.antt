@@ -17,17 +17,17 @@ use Rattle.tl_client.specs.declared.reply.Reply.TheVariants as reply
 use Rattle.tl_client.specs.statement.Ask.{copy_stored, is_word, whole_grow}
 use Rattle.tl_client.specs.statement.Send.{access}
 use Rattle.tl_client.proofs.Stores.{word_room}
-use Rattle.tl_coherence.specs.refinement.Beside.{op_of, IsBeside}
-use Rattle.tl_coherence.specs.refinement.Follow.{Shadow, asked}
+use Rattle.tl_coherence.specs.refinement.MemoryRelation.{op_of, MemoryRelation}
+use Rattle.tl_coherence.specs.refinement.AbstractStep.{AbstractState, asked}
 use Rattle.tl_coherence.specs.protocol.Invariant.{acquires_of, IsInvariant}
 use Rattle.tl_coherence.specs.statement.Machine.{Machine, Open, Requests, Releases, with_open, with_number, after_reply}
-use Rattle.tl_coherence.specs.protocol.Phase.{Pair, Acquiring, Calm, Wants}
+use Rattle.tl_coherence.specs.protocol.Phase.{ClientBlock, AcquirePhase, NoAcquire, AcquireOpen}
 use Rattle.tl_coherence.specs.protocol.PhaseSteps.{after_acquire, after_release}
-use Rattle.tl_coherence.specs.protocol.Protocol.{Block, State, Use, Closed, Asked, InService, Replied, Acquires, is_wanting, access_asked, acquiring_block, acquire_asked}
+use Rattle.tl_coherence.specs.protocol.Protocol.{Block, State, SourceState, SourceFree, Asked, InService, Replied, Acquires, is_wanting, access_asked, acquiring_block, acquire_asked}
 use Rattle.tl_coherence.specs.protocol.Protocol.{releasing_block, release_asked, stored_block, block_stored}
-use Rattle.tl_coherence.specs.refinement.Render.{Mail}
-use Rattle.tl_coherence.specs.protocol.Token.{set, set_at}
-use Rattle.tl_coherence.specs.refinement.Whole.{AreSized}
+use Rattle.tl_coherence.specs.refinement.PacketMessages.{AccessMessages}
+use Rattle.tl_coherence.specs.protocol.Packet.{set, set_at}
+use Rattle.tl_coherence.specs.refinement.SimulationRelation.{AreSized}
 use Rattle.tl_coherence.proofs.memory.Beside.{IsElsewhere, IsSameAcquire, set_at-there, open-here, open-there, open-releases, open-requests, beside-still, beside-used, beside-let}
 use Rattle.tl_coherence.proofs.protocol.FollowKept.{IsAskable}
 use Rattle.tl_coherence.proofs.memory.OneMemory.{block-stored, block-unstored}
@@ -39,7 +39,7 @@ use Rattle.tl_coherence.proofs.queues.Perms.{trunk-some}
 
 -- what other sources acquire is as before, where one client's part of a block changes, and it acquires the block with
 -- no other source
-pub acquires-else : (c n source : ℕ) (new : Block (List ℕ)) (p : Pair) (s s' : State (List ℕ)) → ((i : ℕ) → s'.block i ≡ set n new s.block i) → ((d : ℕ) → new.pair d ≡ set c p (s.block n).pair d)
+pub acquires-else : (c n source : ℕ) (new : Block (List ℕ)) (p : ClientBlock) (s s' : State (List ℕ)) → ((i : ℕ) → s'.block i ≡ set n new s.block i) → ((d : ℕ) → new.pair d ≡ set c p (s.block n).pair d)
     → ((d : ℕ) → (d ≡ c → ⊥) → new.waiting d ≡ (s.block n).waiting d) → ((i : ℕ) → (i ≡ source → ⊥) → s.uses c i ≡ Acquires n → ⊥)
     → (d i : ℕ) → IsElsewhere c source d i → IsSameAcquire d s s' (s.uses d i)
 acquires-else c n source new p s s' blocks pairs waits alone d i else_ = go (s.uses d i) refl
@@ -47,7 +47,7 @@ acquires-else c n source new p s s' blocks pairs waits alone d i else_ = go (s.u
     here : (d ≡ c → ⊥) → (((s'.block n).pair d).acquiring ≡ ((s.block n).pair d).acquiring) × ((s'.block n).waiting d ≡ (s.block n).waiting d)
     here ne =
         let at : s'.block n ≡ new = blocks n ∙ set-same n new s.block in (
-          ap (λ (b : Block (List ℕ)). (b.pair d).acquiring) at ∙ ap (λ (q : Pair). q.acquiring) (pairs d ∙ set-other c d p (s.block n).pair ne),
+          ap (λ (b : Block (List ℕ)). (b.pair d).acquiring) at ∙ ap (λ (q : ClientBlock). q.acquiring) (pairs d ∙ set-other c d p (s.block n).pair ne),
           ap (λ (b : Block (List ℕ)). b.waiting d) at ∙ waits d ne,
         )
 
@@ -59,8 +59,8 @@ acquires-else c n source new p s s' blocks pairs waits alone d i else_ = go (s.u
     apart : (k : ℕ) → s.uses d i ≡ Acquires k → k ≡ n → d ≡ c → ⊥
     apart k e same at = alone i (λ f. else_ at f) (rw (at, same) at e)
 
-    go : (u : Use) → s.uses d i ≡ u → IsSameAcquire d s s' u
-    go Closed e = tt
+    go : (u : SourceState) → s.uses d i ≡ u → IsSameAcquire d s s' u
+    go SourceFree e = tt
     go Asked e = tt
     go (InService k) e = tt
     go Replied e = tt
@@ -70,11 +70,11 @@ acquires-else c n source new p s s' blocks pairs waits alone d i else_ = go (s.u
     ]
 
 -- who acquires nothing of a block has no source for it
-pub calm-none : (caching : ℕ → Bool) (s : State (List ℕ)) (c n i : ℕ) → IsInvariant caching s → ((s.block n).pair c).acquiring ≡ Calm → s.uses c i ≡ Acquires n → ⊥
+pub calm-none : (caching : ℕ → Bool) (s : State (List ℕ)) (c n i : ℕ) → IsInvariant caching s → ((s.block n).pair c).acquiring ≡ NoAcquire → s.uses c i ≡ Acquires n → ⊥
 calm-none caching s c n i inv calm e =
     let named = inv.named.acquires c i n in
     let yes : acquires_of n (s.uses c i) ≡ true = ap (acquires_of n) e ∙ same_number n in
-    let no : (is_wanting ((s.block n).pair c).acquiring && (i == (s.block n).source c)) ≡ false = ap (λ (x : Acquiring). is_wanting x && (i == (s.block n).source c)) calm in
+    let no : (is_wanting ((s.block n).pair c).acquiring && (i == (s.block n).source c)) ≡ false = ap (λ (x : AcquirePhase). is_wanting x && (i == (s.block n).source c)) calm in
     let differ : true ≡ false = sym yes ∙ named ∙ no in cc
 
 -- ---- what is asked
@@ -92,9 +92,9 @@ IsReply o r = ⊤
 truth_as : (f : Memory) (n i : ℕ) (new : Block (List ℕ)) (block : ℕ → Block (List ℕ)) → new.truth ≡ (block n).truth → IsBlock f i (block i).truth → IsBlock f i (set n new block i).truth
 truth_as f n i new block e h = subst (λ (bytes : List ℕ). IsBlock f i bytes) (sym (set-part (λ (b : Block (List ℕ)). b.truth) n new block e i)) h
 
-pub beside-acquire_asked : {w : ℕ} (caching : ℕ → Bool) (c n source : ℕ) (whole : Bool) (g : Grow) (bytes : List ℕ) (o : Op w) (mail : Mail w)
-    (s : State (List ℕ)) (m : Machine w) → IsInvariant caching s → ((s.block n).pair c).acquiring ≡ Calm
-    → op_of (Wants whole g) n bytes ≡ o → IsBeside mail s m → IsBeside mail (acquire_asked c n source whole g bytes s) (with_open c Requests source (Some (record { asked = o; answer = None })) m)
+pub beside-acquire_asked : {w : ℕ} (caching : ℕ → Bool) (c n source : ℕ) (whole : Bool) (g : Grow) (bytes : List ℕ) (o : Op w) (mail : AccessMessages w)
+    (s : State (List ℕ)) (m : Machine w) → IsInvariant caching s → ((s.block n).pair c).acquiring ≡ NoAcquire
+    → op_of (AcquireOpen whole g) n bytes ≡ o → MemoryRelation mail s m → MemoryRelation mail (acquire_asked c n source whole g bytes s) (with_open c Requests source (Some (record { asked = o; answer = None })) m)
 beside-acquire_asked {w} caching c n source whole g bytes o mail s m inv calm is h = beside-used c source (Acquires n) mail mail s s' m m' (record {
   memory = λ i. truth_as m.memory n i new s.block refl (h.memory i);
   uses = λ d i. refl;
@@ -103,8 +103,8 @@ beside-acquire_asked {w} caching c n source whole g bytes o mail s m inv calm is
       open-here c Requests source (Some (record { asked = o; answer = None })) m
       ∙ ap (λ (y : Op w). Some (record { asked = y; answer = None })) (sym is)
       ∙ sym (ap (λ (b : Block (List ℕ)). opened_as (b.pair c).acquiring (b.waiting c)) (set-same n new s.block)
-      ∙ ap (λ (p : Pair). opened_as p.acquiring (set c bytes (s.block n).waiting c)) (set-same c after (s.block n).pair)
-      ∙ ap (opened_as (Wants whole g)) (set-same c bytes (s.block n).waiting));
+      ∙ ap (λ (p : ClientBlock). opened_as p.acquiring (set c bytes (s.block n).waiting c)) (set-same c after (s.block n).pair)
+      ∙ ap (opened_as (AcquireOpen whole g)) (set-same c bytes (s.block n).waiting));
   there = λ d i else_. open-there c Requests source (Some (record { asked = o; answer = None })) m d i else_;
   releases = λ d i. open-releases c source (Some (record { asked = o; answer = None })) m d i;
   requests = λ d i else_. refl;
@@ -112,7 +112,7 @@ beside-acquire_asked {w} caching c n source whole g bytes o mail s m inv calm is
   acquires = acquires-else c n source new after s s' (λ i. refl) (λ d. refl) (λ d ne. set-other c d bytes (s.block n).waiting ne) (λ i ne e. calm-none caching s c n i inv calm e);
 }) h
   where
-    after : Pair
+    after : ClientBlock
     after = after_acquire whole g ((s.block n).pair c)
 
     new : Block (List ℕ)
@@ -124,11 +124,11 @@ beside-acquire_asked {w} caching c n source whole g bytes o mail s m inv calm is
     m' : Machine w
     m' = with_open c Requests source (Some (record { asked = o; answer = None })) m
 
-    opened_as : Acquiring → List ℕ → Option (Open w)
+    opened_as : AcquirePhase → List ℕ → Option (Open w)
     opened_as x y = Some (record { asked = op_of x n y; answer = None })
 
-pub beside-release_asked : {w : ℕ} (c n source : ℕ) (r : Prune) (mail : Mail w) (s : State (List ℕ)) (m : Machine w) → IsBeside mail s m
-    → IsBeside mail (release_asked c n source r s) (with_open c Releases source (Some (record { asked = op.Release n r; answer = None })) m)
+pub beside-release_asked : {w : ℕ} (c n source : ℕ) (r : Prune) (mail : AccessMessages w) (s : State (List ℕ)) (m : Machine w) → MemoryRelation mail s m
+    → MemoryRelation mail (release_asked c n source r s) (with_open c Releases source (Some (record { asked = op.Release n r; answer = None })) m)
 beside-release_asked {w} c n source r mail s m h =
     beside-let c source (Some n) mail s (release_asked c n source r s) m
     (with_open c Releases source (Some (record { asked = op.Release n r; answer = None })) m) (record {
@@ -140,7 +140,7 @@ beside-release_asked {w} c n source r mail s m h =
       requests = λ d i. open-requests c source (Some (record { asked = op.Release n r; answer = None })) m d i;
       acquires = λ d i. (
         set-part (λ (b : Block (List ℕ)). (b.pair d).acquiring) n new s.block
-            (set-part (λ (p : Pair). p.acquiring) c (after_release r ((s.block n).pair c)) (s.block n).pair refl d) i,
+            (set-part (λ (p : ClientBlock). p.acquiring) c (after_release r ((s.block n).pair c)) (s.block n).pair refl d) i,
         set-part (λ (b : Block (List ℕ)). b.waiting d) n new s.block refl i,
       );
     }) h
@@ -148,8 +148,8 @@ beside-release_asked {w} c n source r mail s m h =
     new : Block (List ℕ)
     new = releasing_block c source r (s.block n)
 
-pub beside-access_asked : {w : ℕ} (c source : ℕ) (a : MessageA w) (mail : Mail w) (s : State (List ℕ)) (m : Machine w) → IsBeside mail s m
-    → IsBeside (record { request = set_at c source (access source a) mail.request; answer = mail.answer }) (access_asked c source s)
+pub beside-access_asked : {w : ℕ} (c source : ℕ) (a : MessageA w) (mail : AccessMessages w) (s : State (List ℕ)) (m : Machine w) → MemoryRelation mail s m
+    → MemoryRelation (record { request = set_at c source (access source a) mail.request; answer = mail.answer }) (access_asked c source s)
     (with_open c Requests source (Some (record { asked = op.Access (message.A a); answer = None })) m)
 beside-access_asked {w} c source a mail s m h =
     beside-used c source Asked mail (record { request = set_at c source (access source a) mail.request; answer = mail.answer }) s (access_asked c source s) m
@@ -165,17 +165,17 @@ beside-access_asked {w} c source a mail s m h =
       acquires = λ d i else_. same_blocks d (s.uses d i);
     }) h
   where
-    same_blocks : (d : ℕ) (u : Use) → IsSameAcquire d s (access_asked c source s) u
-    same_blocks d Closed = tt
+    same_blocks : (d : ℕ) (u : SourceState) → IsSameAcquire d s (access_asked c source s) u
+    same_blocks d SourceFree = tt
     same_blocks d Asked = tt
     same_blocks d (InService n) = tt
     same_blocks d Replied = tt
     same_blocks d (Acquires n) = (refl, refl)
 
-pub beside-block_stored : {w : ℕ} (caching : ℕ → Bool) (c address size value : ℕ) (mail : Mail w) (s : State (List ℕ)) (m : Machine w) → IsInvariant caching s
+pub beside-block_stored : {w : ℕ} (caching : ℕ → Bool) (c address size value : ℕ) (mail : AccessMessages w) (s : State (List ℕ)) (m : Machine w) → IsInvariant caching s
     → AreSized (s.block (block_at address)) → is_word address size ≡ true
-    → same_perm ((s.block (block_at address)).pair c).held perm.Trunk ≡ true → IsBeside mail s m
-    → IsBeside mail (block_stored c (block_at address) (copy_stored address size value ((s.block (block_at address)).copy c)) s) (record m { memory = with_number address size value m.memory })
+    → same_perm ((s.block (block_at address)).pair c).held perm.Trunk ≡ true → MemoryRelation mail s m
+    → MemoryRelation mail (block_stored c (block_at address) (copy_stored address size value ((s.block (block_at address)).copy c)) s) (record m { memory = with_number address size value m.memory })
 beside-block_stored {w} caching c address size value mail s m inv sized word trunk h =
     beside-still mail s s' m (record m { memory = with_number address size value m.memory }) (record {
       memory = λ i. bytes i (cases_eq i n);
@@ -211,9 +211,9 @@ beside-block_stored {w} caching c address size value mail s m inv sized word tru
         subst (λ (b : Block (List ℕ)). IsBlock (with_number address size value m.memory) i b.truth) (sym (set-other n i new s.block other))
         (block-unstored address size value i (s.block i).truth m.memory (word_room address size word) other (h.memory i))
 
-pub beside-asked : {w : ℕ} (caching : ℕ → Bool) (c : ℕ) (o : Op w) (r : Reply) (h : Shadow w) (m : Machine w) → IsInvariant caching h.state
+pub beside-asked : {w : ℕ} (caching : ℕ → Bool) (c : ℕ) (o : Op w) (r : Reply) (h : AbstractState w) (m : Machine w) → IsInvariant caching h.state
     → ((n : ℕ) → AreSized (h.state.block n)) → IsReply o r → IsAskable caching c o r h → IsSizedAsk c o r h
-    → IsBeside h.mail h.state m → IsBeside (asked c o r h).mail (asked c o r h).state (after_reply c o r m)
+    → MemoryRelation h.mail h.state m → MemoryRelation (asked c o r h).mail (asked c o r h).state (after_reply c o r m)
 beside-asked caching c (op.Load address size) (reply.Value v) h m inv sized is may word b = b
 beside-asked caching c (op.Load address size) reply.Stored h m inv sized is may word b = b
 beside-asked caching c (op.Load address size) reply.Miss h m inv sized is may word b = b

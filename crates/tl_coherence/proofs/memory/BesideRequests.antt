@@ -19,24 +19,24 @@ use Rattle.tl_manager.specs.statement.Holders.{recorded, cap_probed, probed}
 use Rattle.tl_manager.specs.statement.Service.{Service, is_access_answer}
 use Rattle.tl_manager.specs.statement.Deed.{deed}
 use Rattle.tl_manager.proofs.Events.{performed-acquire}
-use Rattle.tl_coherence.specs.refinement.Beside.{IsAccess, IsBeside}
-use Rattle.tl_coherence.specs.refinement.Follow.{Shadow, bytes_at, probes_some, some_below, request_taken, kind_taken}
+use Rattle.tl_coherence.specs.refinement.MemoryRelation.{IsAccess, MemoryRelation}
+use Rattle.tl_coherence.specs.refinement.AbstractStep.{AbstractState, bytes_at, probes_some, some_below, request_taken, kind_taken}
 use Rattle.tl_coherence.specs.protocol.Invariant.{cap_asked}
 use Rattle.tl_coherence.specs.statement.Log.{Log}
 use Rattle.tl_coherence.specs.statement.Machine.{Machine, Performs, Requests}
-use Rattle.tl_coherence.specs.protocol.Phase.{Wants}
+use Rattle.tl_coherence.specs.protocol.Phase.{AcquireOpen}
 use Rattle.tl_coherence.specs.protocol.Protocol.{Block, is_probed}
-use Rattle.tl_coherence.specs.statement.Remembered.{accesses_answered, performing}
+use Rattle.tl_coherence.specs.statement.OneMemory.{accesses_answered, performing}
 use Rattle.tl_coherence.specs.statement.System.{System}
-use Rattle.tl_coherence.specs.protocol.Token.{Request, Acquire, Token}
-use Rattle.tl_coherence.specs.refinement.Whole.{IsMatched, is_caching}
+use Rattle.tl_coherence.specs.protocol.Packet.{Request, Acquire, Packet}
+use Rattle.tl_coherence.specs.refinement.SimulationRelation.{SimulationRelation, is_caching}
 use Rattle.tl_coherence.proofs.manager.Arrivals.{link_of, with_beat, IsComing, service_for}
 use Rattle.tl_coherence.proofs.manager.AtRequests.{deed-probing}
 use Rattle.tl_coherence.proofs.memory.Beside.{done_at, performed-open, performing-one}
 use Rattle.tl_coherence.proofs.memory.BesideKinds.{access_list, beside-request, beside-acquire}
 use Rattle.tl_coherence.proofs.memory.BesideTaken.{IsPerformed}
 use Rattle.tl_coherence.proofs.manager.Choices.{plain-past}
-use Rattle.tl_coherence.proofs.protocol.Fronts.{IsAsked, IsWanted}
+use Rattle.tl_coherence.proofs.protocol.Heads.{IsAsked, IsWanted}
 use Rattle.tl_coherence.proofs.manager.RequestsHanded.{handed-answered}
 use Rattle.tl_coherence.proofs.manager.RequestsTaken.{next_tracker, probed-some, deed-performed, caps_asked, acquire_wanted}
 use Rattle.tl_coherence.proofs.queues.Codes.{acquires-so}
@@ -68,10 +68,10 @@ accesses-grant config c v t memory = go (is_granted_data v.request.opcode v.requ
 -- ---- an access
 
 -- at most one access is answered, and it can be performed
-abbrev pub IsOnce : {w : ℕ} → List (ℕ × ℕ) → Shadow w → Machine w → Type 0
+abbrev pub IsOnce : {w : ℕ} → List (ℕ × ℕ) → AbstractState w → Machine w → Type 0
 IsOnce l h m = (l ≡ []) ⊎ ((q : ℕ) × (source : ℕ) × (l ≡ (q, source) ∷ []) × IsAccess source (h.mail.request q source) None (m.opened q Requests source))
 
-pub once-performs : {w : ℕ} (l : List (ℕ × ℕ)) (h : Shadow w) (m : Machine w) → IsOnce l h m → Performs l m (performing l m)
+pub once-performs : {w : ℕ} (l : List (ℕ × ℕ)) (h : AbstractState w) (m : Machine w) → IsOnce l h m → Performs l m (performing l m)
 unfolding Performs performing
 once-performs l h m (inl none) = rw none refl
 once-performs l h m (inr (q, source, one, opened)) =
@@ -81,8 +81,8 @@ once-performs l h m (inr (q, source, one, opened)) =
       performing-one q source (message.A opened.0) m opened.2,
     )
 
-pub request-accesses : {w : ℕ} (config : Config) (log : Log w) (h : Shadow w) (sys : System w) (c source k : ℕ)
-    → IsMatched config log h.mail h.request h.state sys → (asked : IsAsked config c source h.mail h.state)
+pub request-accesses : {w : ℕ} (config : Config) (log : Log w) (h : AbstractState w) (sys : System w) (c source k : ℕ)
+    → SimulationRelation config log h.mail h.request h.state sys → (asked : IsAsked config c source h.mail h.state)
     → IsComing config c k asked.request sys.manager → beats_of (message.A asked.request) ≡ suc k
     → accesses_answered (deed config (link_of c) (beat.A (a_beat_of asked.request k)) sys.manager).handed
     ≡ access_list c source (probes_some (length config.clients.items) c false (cap_probed asked.request.opcode asked.request.param)
@@ -119,9 +119,9 @@ request-accesses {w} config log h sys c source k is asked comes last = accesses 
         (probed-some config log h.mail h.request h.state sys c k n false j m is asked.access refl ∙ ap not some))
         ∙ accesses-probes w n j (probed config (service_for c m sys.manager.trace) j (with_beat c m k sys.manager.trace))
 
-pub request-once : {w : ℕ} (config : Config) (log : Log w) (h : Shadow w) (sys : System w) (c source k : ℕ) (machine : Machine w)
-    → IsMatched config log h.mail h.request h.state sys → (asked : IsAsked config c source h.mail h.state)
-    → IsComing config c k asked.request sys.manager → beats_of (message.A asked.request) ≡ suc k → IsBeside h.mail h.state machine
+pub request-once : {w : ℕ} (config : Config) (log : Log w) (h : AbstractState w) (sys : System w) (c source k : ℕ) (machine : Machine w)
+    → SimulationRelation config log h.mail h.request h.state sys → (asked : IsAsked config c source h.mail h.state)
+    → IsComing config c k asked.request sys.manager → beats_of (message.A asked.request) ≡ suc k → MemoryRelation h.mail h.state machine
     → IsOnce (accesses_answered (deed config (link_of c) (beat.A (a_beat_of asked.request k)) sys.manager).handed) h machine
 request-once {w} config log h sys c source k machine is asked comes last beside =
     go (probes_some (length config.clients.items) c false (cap_probed asked.request.opcode asked.request.param)
@@ -138,15 +138,15 @@ request-once {w} config log h sys c source k machine is asked comes last beside 
     go false (Some j) e = inr (c, source, e, opened)
     go false None e = inr (c, source, e, opened)
 
-pub beside-request_taken : {w : ℕ} (config : Config) (log : Log w) (h : Shadow w) (sys : System w) (c source k : ℕ) (rest : List Token) (machine : Machine w)
-    → IsMatched config log h.mail h.request h.state sys → (asked : IsAsked config c source h.mail h.state)
-    → IsComing config c k asked.request sys.manager → beats_of (message.A asked.request) ≡ suc k → IsBeside h.mail h.state machine
-    → IsBeside (kind_taken config (next_tracker sys) c Request source rest h).mail (kind_taken config (next_tracker sys) c Request source rest h).state
+pub beside-request_taken : {w : ℕ} (config : Config) (log : Log w) (h : AbstractState w) (sys : System w) (c source k : ℕ) (rest : List Packet) (machine : Machine w)
+    → SimulationRelation config log h.mail h.request h.state sys → (asked : IsAsked config c source h.mail h.state)
+    → IsComing config c k asked.request sys.manager → beats_of (message.A asked.request) ≡ suc k → MemoryRelation h.mail h.state machine
+    → MemoryRelation (kind_taken config (next_tracker sys) c Request source rest h).mail (kind_taken config (next_tracker sys) c Request source rest h).state
     (performing (accesses_answered (deed config (link_of c) (beat.A (a_beat_of asked.request k)) sys.manager).handed) machine)
 beside-request_taken {w} config log h sys c source k rest machine is asked comes last beside =
-    subst (λ (i : Message w). IsBeside (request_taken clients c source i tracker rest h).mail (request_taken clients c source i tracker rest h).state
+    subst (λ (i : Message w). MemoryRelation (request_taken clients c source i tracker rest h).mail (request_taken clients c source i tracker rest h).state
     (performing (accesses_answered done) machine)) (sym asked.is_it)
-    (subst (λ (l : List (ℕ × ℕ)). IsBeside (request_taken clients c source (message.A m) tracker rest h).mail
+    (subst (λ (l : List (ℕ × ℕ)). MemoryRelation (request_taken clients c source (message.A m) tracker rest h).mail
     (request_taken clients c source (message.A m) tracker rest h).state (performing l machine))
     (sym (request-accesses config log h sys c source k is asked comes last))
     (beside-request (is_caching config) config c source tracker m rest h machine is.invariant (plain-past config) performed_so beside))
@@ -181,7 +181,7 @@ beside-request_taken {w} config log h sys c source k rest machine is asked comes
 
 -- ---- an Acquire
 
-pub acquire-accesses : {w : ℕ} (config : Config) (log : Log w) (h : Shadow w) (sys : System w) (c n k : ℕ) → IsMatched config log h.mail h.request h.state sys → (asked : IsWanted w c n h.state)
+pub acquire-accesses : {w : ℕ} (config : Config) (log : Log w) (h : AbstractState w) (sys : System w) (c n k : ℕ) → SimulationRelation config log h.mail h.request h.state sys → (asked : IsWanted w c n h.state)
     → IsComing config c k (acquire_wanted c n h.state asked) sys.manager → beats_of (message.A (acquire_wanted c n h.state asked)) ≡ suc k
     → accesses_answered (deed config (link_of c) (beat.A (a_beat_of (acquire_wanted c n h.state asked) k)) sys.manager).handed ≡ []
 acquire-accesses {w} config log h sys c n k is asked comes last = none (some_below clients (λ d. is_probed c true j (b.pair d).recorded d)) refl
@@ -196,7 +196,7 @@ acquire-accesses {w} config log h sys c n k is asked comes last = none (some_bel
     clients = length config.clients.items
 
     j : Cap
-    j = cap_asked (Wants asked.whole asked.grow)
+    j = cap_asked (AcquireOpen asked.whole asked.grow)
 
     caps : cap_probed m.opcode m.param ≡ Some j
     caps = caps_asked w asked.whole asked.grow (b.source c) n
@@ -213,10 +213,10 @@ acquire-accesses {w} config log h sys c n k is asked comes last = none (some_bel
         ∙ performed-acquire config (service_for c m sys.manager.trace) (with_beat c m k sys.manager.trace) sys.manager.memory (acquires-so asked.whole))
         ∙ accesses-grant config c (service_for c m sys.manager.trace) (with_beat c m k sys.manager.trace) sys.manager.memory
 
-pub beside-acquire_taken : {w : ℕ} (config : Config) (log : Log w) (h : Shadow w) (sys : System w) (c n k : ℕ) (rest : List Token) (machine : Machine w)
-    → IsMatched config log h.mail h.request h.state sys → (asked : IsWanted w c n h.state)
-    → IsComing config c k (acquire_wanted c n h.state asked) sys.manager → beats_of (message.A (acquire_wanted c n h.state asked)) ≡ suc k → IsBeside h.mail h.state machine
-    → IsBeside (kind_taken config (next_tracker sys) c Acquire n rest h).mail (kind_taken config (next_tracker sys) c Acquire n rest h).state
+pub beside-acquire_taken : {w : ℕ} (config : Config) (log : Log w) (h : AbstractState w) (sys : System w) (c n k : ℕ) (rest : List Packet) (machine : Machine w)
+    → SimulationRelation config log h.mail h.request h.state sys → (asked : IsWanted w c n h.state)
+    → IsComing config c k (acquire_wanted c n h.state asked) sys.manager → beats_of (message.A (acquire_wanted c n h.state asked)) ≡ suc k → MemoryRelation h.mail h.state machine
+    → MemoryRelation (kind_taken config (next_tracker sys) c Acquire n rest h).mail (kind_taken config (next_tracker sys) c Acquire n rest h).state
     (performing (accesses_answered (deed config (link_of c) (beat.A (a_beat_of (acquire_wanted c n h.state asked) k)) sys.manager).handed) machine)
 unfolding performing
 beside-acquire_taken {w} config log h sys c n k rest machine is asked comes last beside =

@@ -26,17 +26,17 @@ use Rattle.tl_manager.specs.statement.Handing.{access_answer}
 use Rattle.tl_manager.specs.statement.Holders.{cap_probed}
 use Rattle.tl_manager.specs.statement.Offer.{level_of}
 use Rattle.tl_manager.proofs.Filled.{length-bytes}
-use Rattle.tl_coherence.specs.refinement.Beside.{IsAccess, IsReach, Answers, IsBeside}
-use Rattle.tl_coherence.specs.refinement.Follow.{some_below, bytes_at, performs, answers}
+use Rattle.tl_coherence.specs.refinement.MemoryRelation.{IsAccess, IsReach, Answers, MemoryRelation}
+use Rattle.tl_coherence.specs.refinement.AbstractStep.{some_below, bytes_at, performs, answers}
 use Rattle.tl_coherence.specs.protocol.Invariant.{IsWell}
 use Rattle.tl_coherence.specs.statement.Machine.{Machine, Open, Requests, with_memory}
-use Rattle.tl_coherence.specs.protocol.Phase.{Pair, View, Probing, Quiet, Sent, Answered, ok, same_cap, is_quiet}
+use Rattle.tl_coherence.specs.protocol.Phase.{ClientBlock, View, ProbePhase, NoProbe, ProbeSent, ProbeAnswered, ok, same_cap, is_unprobed}
 use Rattle.tl_coherence.specs.protocol.PhaseSteps.{is_above}
-use Rattle.tl_coherence.specs.protocol.Protocol.{Waits, Block, State, Use, Closed, Asked, InService, Replied, Acquires, view, is_sent, is_probed, written}
-use Rattle.tl_coherence.specs.statement.Remembered.{performing}
-use Rattle.tl_coherence.specs.refinement.Render.{Mail, report_told}
-use Rattle.tl_coherence.specs.protocol.Token.{set_at}
-use Rattle.tl_coherence.specs.refinement.Whole.{IsRequest}
+use Rattle.tl_coherence.specs.protocol.Protocol.{Waits, Block, State, SourceState, SourceFree, Asked, InService, Replied, Acquires, view, is_sent, is_probed, written}
+use Rattle.tl_coherence.specs.statement.OneMemory.{performing}
+use Rattle.tl_coherence.specs.refinement.PacketMessages.{AccessMessages, report_told}
+use Rattle.tl_coherence.specs.protocol.Packet.{set_at}
+use Rattle.tl_coherence.specs.refinement.SimulationRelation.{IsRequest}
 use Rattle.tl_coherence.proofs.memory.Beside.{IsSameAcquire, done_at, set_at-there, open-here, open-there, open-releases, performing-one, beside-used}
 use Rattle.tl_coherence.proofs.queues.Facts.{is_other}
 use Rattle.tl_coherence.proofs.protocol.FollowKept.{some-none}
@@ -65,14 +65,14 @@ memory-unprobed clients caching c k b plain well low none = well.memory (λ d. n
       | inr le ↦ rw (well.outside d (plain d le)) (nothing-above k)
     ]
 
-low_test : Pair → View → Bool
+low_test : ClientBlock → View → Bool
 low_test p v = implies (is_other v && (not (same_perm (report_left (report_told p.probing)) perm.Trunk) && not (is_sent p.probing))) (not (same_perm p.recorded perm.Trunk))
 
 low_all : each_phase low_test ≡ true
 unfolding each_phase low_test
 low_all = refl
 
-low_recorded : (p : Pair) (v : View) → ok p v ≡ true
+low_recorded : (p : ClientBlock) (v : View) → ok p v ≡ true
     → (is_other v && (not (same_perm (report_left (report_told p.probing)) perm.Trunk) && not (is_sent p.probing))) ≡ true
     → not (same_perm p.recorded perm.Trunk) ≡ true
 unfolding low_test
@@ -81,17 +81,17 @@ low_recorded p v h e = implies_is (is_other v && (not (same_perm (report_left (r
 
 -- the last report has been told
 pub memory-reported : (caching : ℕ → Bool) (c q source : ℕ) (r : Report) (k : Cap) (b : Block (List ℕ)) → IsWell caching b → b.service ≡ Waits q false source k
-    → (b.pair c).probing ≡ Answered r → ((d : ℕ) → (d ≡ c → ⊥) → is_quiet (b.pair d).probing ≡ true)
+    → (b.pair c).probing ≡ ProbeAnswered r → ((d : ℕ) → (d ≡ c → ⊥) → is_unprobed (b.pair d).probing ≡ true)
     → written r b.truth b.memory ≡ b.truth
 memory-reported caching c q source r k b well waits answered settled = go (same_perm (report_left r) perm.Trunk) refl
   where
     seen : (d : ℕ) → is_other (view b.service d) ≡ true
     seen d = rw waits refl
 
-    quiet_low : (x : Probing) → is_quiet x ≡ true → (not (same_perm (report_left (report_told x)) perm.Trunk) && not (is_sent x)) ≡ true
-    quiet_low Quiet e = refl
-    quiet_low (Sent j) e = absurd cc
-    quiet_low (Answered j) e = absurd cc
+    quiet_low : (x : ProbePhase) → is_unprobed x ≡ true → (not (same_perm (report_left (report_told x)) perm.Trunk) && not (is_sent x)) ≡ true
+    quiet_low NoProbe e = refl
+    quiet_low (ProbeSent j) e = absurd cc
+    quiet_low (ProbeAnswered j) e = absurd cc
 
     told_low : same_perm (report_left r) perm.Trunk ≡ false → (not (same_perm (report_left (report_told (b.pair c).probing)) perm.Trunk) && not (is_sent (b.pair c).probing)) ≡ true
     told_low e = rw (answered, e) refl
@@ -110,7 +110,7 @@ memory-reported caching c q source r k b well waits answered settled = go (same_
 -- ---- an access is performed
 
 -- an access that waits or is asked: its request, what is open with its source, and its bytes
-pub record IsPerformed {w : ℕ} (config : Config) (c source : ℕ) (a : MessageA w) (mail : Mail w) (s : State (List ℕ)) (m : Machine w) : Type 0 where
+pub record IsPerformed {w : ℕ} (config : Config) (c source : ℕ) (a : MessageA w) (mail : AccessMessages w) (s : State (List ℕ)) (m : Machine w) : Type 0 where
   pub width : IsWidth w
   pub request : mail.request c source ≡ message.A a
   pub sent : IsRequest config c source (message.A a)
@@ -141,16 +141,16 @@ reply_reach {w} x f = go x.opcode
     go a.AcquirePerm = tt
 
 -- the machine after it
-pub beside-performed : {w : ℕ} (config : Config) (c source : ℕ) (a : MessageA w) (bytes : List ℕ) (mail : Mail w) (s s' : State (List ℕ)) (m : Machine w) → IsPerformed config c source a mail s m
+pub beside-performed : {w : ℕ} (config : Config) (c source : ℕ) (a : MessageA w) (bytes : List ℕ) (mail : AccessMessages w) (s s' : State (List ℕ)) (m : Machine w) → IsPerformed config c source a mail s m
     → ((f : Memory) → IsBlock f (block_at a.address) (s.block (block_at a.address)).truth
     → (effect (message.A a) (bytes_at (block_at a.address) (s.block (block_at a.address)).truth)).1
     ≡ (effect (message.A a) (bytes_at (block_at a.address) bytes)).1)
     → ((i : ℕ) → (i ≡ block_at a.address → ⊥) → (s'.block i).truth ≡ (s.block i).truth) → (s'.block (block_at a.address)).truth ≡ performs a (s.block (block_at a.address)).truth
     → ((d i : ℕ) → s'.uses d i ≡ set_at c source Replied s.uses d i) → ((d i : ℕ) → s'.lets d i ≡ s.lets d i)
     → ((d n : ℕ) → (((s'.block n).pair d).acquiring ≡ ((s.block n).pair d).acquiring) × ((s'.block n).waiting d ≡ (s.block n).waiting d))
-    → IsBeside mail s m → IsBeside (record { request = mail.request; answer = set_at c source (answers a bytes) mail.answer }) s' (performing ((c, source) ∷ []) m)
+    → MemoryRelation mail s m → MemoryRelation (record { request = mail.request; answer = set_at c source (answers a bytes) mail.answer }) s' (performing ((c, source) ∷ []) m)
 beside-performed {w} config c source a bytes mail s s' m is same_reply others changed uses lets acquires h =
-    subst (λ (z : Machine w). IsBeside mail' s' z) (sym (performing-one c source (message.A is.opened.0) m is.opened.2))
+    subst (λ (z : Machine w). MemoryRelation mail' s' z) (sym (performing-one c source (message.A is.opened.0) m is.opened.2))
     (beside-used c source Replied mail mail' s s' m (done_at c source (message.A is.opened.0) m) (record {
       memory = λ i. block_now i (cases_eq i n);
       uses = uses;
@@ -175,7 +175,7 @@ beside-performed {w} config c source a bytes mail s s' m is same_reply others ch
     n : ℕ
     n = block_at a.address
 
-    mail' : Mail w
+    mail' : AccessMessages w
     mail' = record { request = mail.request; answer = set_at c source (answers a bytes) mail.answer }
 
     now : Open w
@@ -206,8 +206,8 @@ beside-performed {w} config c source a bytes mail s s' m is same_reply others ch
     reaches : IsReach a (effect (message.A is.opened.0) m.memory).1
     reaches = subst (λ (y : Memory × memory.AccessResult). IsReach a y.1) (sym effect_is) (reply_reach a m.memory)
 
-    same_acquires : (d : ℕ) (u : Use) → IsSameAcquire d s s' u
-    same_acquires d Closed = tt
+    same_acquires : (d : ℕ) (u : SourceState) → IsSameAcquire d s s' u
+    same_acquires d SourceFree = tt
     same_acquires d Asked = tt
     same_acquires d (InService k) = tt
     same_acquires d Replied = tt

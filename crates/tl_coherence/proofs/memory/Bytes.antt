@@ -25,11 +25,11 @@ use Rattle.tl_coherence.specs.declared.event.Event.{Event}
 use Rattle.tl_coherence.specs.declared.event.Event.TheVariants.{Ask, Deliver}
 use Rattle.tl_coherence.specs.declared.event.Outcome.{Outcome}
 use Rattle.tl_coherence.specs.declared.event.Outcome.TheVariants as outcome
-use Rattle.tl_coherence.specs.statement.Log.{Log, after}
+use Rattle.tl_coherence.specs.statement.Log.{Log, system_after}
 use Rattle.tl_coherence.specs.statement.Machine.{Machine, Open, Pool, Requests, after_end, after_reply, first, memory_after, moved, performed, performed_op, performed_open}
 use Rattle.tl_coherence.specs.statement.Machine.{pool_of, pool_of_op, same_pool, with_memory, with_open}
 use Rattle.tl_coherence.specs.statement.Ranged.{AreBytes, AreRanged, IsRanged, IsRangedOp}
-use Rattle.tl_coherence.specs.statement.Remembered.{accesses_answered, performing, remembered}
+use Rattle.tl_coherence.specs.statement.OneMemory.{accesses_answered, performing, one_memory_after}
 use Rattle.tl_coherence.specs.statement.Step.{stepped}
 
 -- ---- bytes
@@ -223,9 +223,9 @@ unfolding performing
 performing-ranged [] m was = was
 performing-ranged (x ∷ accesses) m was = performing-ranged accesses (unwrap_or (performed x.0 x.1 m) m) (one-ranged x.0 x.1 m (m.opened x.0 Requests x.1) (was.opened x.0 Requests x.1) was)
 
-pub remembered-ranged : {w : ℕ} (config : Config) (log : Log w) → AreRanged log → IsRangedMachine (remembered config log)
-unfolding remembered AreRanged
+pub remembered-ranged : {w : ℕ} (config : Config) (log : Log w) → AreRanged log → IsRangedMachine (one_memory_after config log)
+unfolding one_memory_after AreRanged
 remembered-ranged config [] ranged = first-ranged
 remembered-ranged config (x ∷ log) ranged =
-    performing-ranged (accesses_answered (stepped config x.0 (after config log)).handed) (moved x.0 x.1 (remembered config log))
-    (moved-ranged x.0 x.1 (remembered config log) ranged.0 (remembered-ranged config log ranged.1))
+    performing-ranged (accesses_answered (stepped config x.0 (system_after config log)).handed) (moved x.0 x.1 (one_memory_after config log))
+    (moved-ranged x.0 x.1 (one_memory_after config log) ranged.0 (remembered-ranged config log ranged.1))

@@ -20,15 +20,15 @@ use Rattle.tl_coherence.specs.declared.event.Event.TheVariants.{Ask, Deliver}
 use Rattle.tl_coherence.specs.declared.event.Outcome.{Outcome}
 use Rattle.tl_coherence.specs.declared.event.Outcome.TheVariants as outcome
 use Rattle.tl_coherence.specs.statement.Coherent.{started_at, started, IsCoherent}
-use Rattle.tl_coherence.specs.statement.Log.{Log, after}
+use Rattle.tl_coherence.specs.statement.Log.{Log, system_after}
 use Rattle.tl_coherence.specs.statement.Machine.{Machine, Open, Pool, Requests, Releases, same_pool, pool_of, with_open, with_memory, memory_after, after_reply, after_end}
 use Rattle.tl_coherence.specs.statement.Machine.{moved, performed, performed_op, performed_open}
 use Rattle.tl_coherence.specs.protocol.Phase.{perm_le}
 use Rattle.tl_coherence.specs.protocol.Protocol.{State, view}
-use Rattle.tl_coherence.specs.statement.Remembered.{remembered, performing, accesses_answered}
-use Rattle.tl_coherence.specs.refinement.Render.{Mail}
+use Rattle.tl_coherence.specs.statement.OneMemory.{one_memory_after, performing, accesses_answered}
+use Rattle.tl_coherence.specs.refinement.PacketMessages.{AccessMessages}
 use Rattle.tl_coherence.specs.statement.Step.{stepped}
-use Rattle.tl_coherence.specs.refinement.Whole.{IsMatched}
+use Rattle.tl_coherence.specs.refinement.SimulationRelation.{SimulationRelation}
 use Rattle.tl_coherence.proofs.queues.Facts.{held_at_most}
 use Rattle.tl_coherence.proofs.queues.Perms.{held-some}
 
@@ -152,12 +152,12 @@ performing_opened [] m c pool source = refl
 performing_opened (x ∷ accesses) m c pool source = performing_opened accesses (unwrap_or (performed x.0 x.1 m) m) c pool source ∙ one_opened x.0 x.1 m c pool source
 
 -- the open operations are those that were started and aren't done
-pub opened-started : {w : ℕ} (config : Config) (log : Log w) (c : ℕ) (pool : Pool) (source : ℕ) → option_map (λ o. o.asked) ((remembered config log).opened c pool source) ≡ started c pool source log
-unfolding remembered started
+pub opened-started : {w : ℕ} (config : Config) (log : Log w) (c : ℕ) (pool : Pool) (source : ℕ) → option_map (λ o. o.asked) ((one_memory_after config log).opened c pool source) ≡ started c pool source log
+unfolding one_memory_after started
 opened-started config [] c pool source = refl
 opened-started {w} config (x ∷ log) c pool source =
-    performing_opened (accesses_answered (stepped config x.0 (after config log)).handed) (moved x.0 x.1 (remembered config log)) c pool source
-    ∙ moved_opened x.0 x.1 (remembered config log) c pool source
+    performing_opened (accesses_answered (stepped config x.0 (system_after config log)).handed) (moved x.0 x.1 (one_memory_after config log)) c pool source
+    ∙ moved_opened x.0 x.1 (one_memory_after config log) c pool source
     ∙ ap (started_at x.0 x.1 c pool source) (opened-started config log c pool source)
 
 -- ---- coherent copies
@@ -178,8 +178,8 @@ none_is perm.Branch perm.Trunk e f = absurd cc
 none_is perm.Trunk perm.Branch e f = absurd cc
 none_is perm.Trunk perm.Trunk e f = absurd cc
 
-pub coherent-matched : {w : ℕ} (config : Config) (log : Log w) (mail : Mail w) (request : ℕ → MessageA w) (s : State (List ℕ))
-    → IsMatched config log mail request s (after config log) → IsCoherent (after config log) log (remembered config log)
+pub coherent-matched : {w : ℕ} (config : Config) (log : Log w) (mail : AccessMessages w) (request : ℕ → MessageA w) (s : State (List ℕ))
+    → SimulationRelation config log mail request s (system_after config log) → IsCoherent (system_after config log) log (one_memory_after config log)
 coherent-matched {w} config log mail request s h = record {
   one_writer = λ c d n differ writes.
       let top = trunk_is ((s.block n).pair c).held ((s.block n).pair c).recorded (sym ((h.known c).held_is n) ∙ writes)
@@ -190,7 +190,7 @@ coherent-matched {w} config log mail request s h = record {
       let some : same_perm ((s.block n).pair c).held perm.None ≡ false =
       held-some ((s.block n).pair c).held (sym (sym (ap is_some copy) ∙ (h.kept c).copies_held n ∙ ap holds ((h.known c).held_is n))) in
       let same : (s.block n).truth ≡ bytes = sym ((h.invariant.blocks n).copies c some) ∙ some_is ((s.block n).copy c) bytes (sym (h.copies c n some) ∙ copy) in
-      subst (λ (b : List ℕ). IsBlock (remembered config log).memory n b) same (h.beside.memory n);
+      subst (λ (b : List ℕ). IsBlock (one_memory_after config log).memory n b) same (h.beside.memory n);
   kept = λ c n. (h.kept c).copies_held n;
   opened = λ c pool source. opened-started config log c pool source;
 }

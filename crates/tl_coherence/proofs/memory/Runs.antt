@@ -21,7 +21,7 @@ use Rattle.tl_coherence.specs.statement.Headline.{Continues}
 use Rattle.tl_coherence.specs.statement.Log.{Log}
 use Rattle.tl_coherence.specs.statement.Machine.{Run}
 use Rattle.tl_coherence.specs.statement.Movable.{stalls}
-use Rattle.tl_coherence.specs.statement.Remembered.{remembered}
+use Rattle.tl_coherence.specs.statement.OneMemory.{one_memory_after}
 use Rattle.tl_coherence.specs.statement.Step.{delivered, is_to_client, judged, manager_took}
 use Rattle.tl_coherence.specs.statement.System.{System}
 
@@ -32,10 +32,10 @@ unfoldable pub AllContinue : {w : ℕ} → Config → Log w → Type 0
 AllContinue config [] = ⊤
 AllContinue config (x ∷ log) = Continues config x log × AllContinue config log
 
-pub run-continued : {w : ℕ} (config : Config) (log : Log w) → AllContinue config log → Run config log (remembered config log)
-unfolding Run remembered AllContinue
+pub run-continued : {w : ℕ} (config : Config) (log : Log w) → AllContinue config log → Run config log (one_memory_after config log)
+unfolding Run one_memory_after AllContinue
 run-continued config [] all = refl
-run-continued config (x ∷ log) all = (remembered config log, all.0.0, all.0.1, run-continued config log all.1, all.0.2, all.0.3)
+run-continued config (x ∷ log) all = (one_memory_after config log, all.0.0, all.0.1, run-continued config log all.1, all.0.2, all.0.3)
 
 -- ---- stalls: a delivery that isn't refused is stalled exactly where the channel holds a beat that isn't movable
 

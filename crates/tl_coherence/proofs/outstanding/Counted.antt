@@ -5,14 +5,14 @@ use Rattle.tl_beat.specs.statement.Width.{IsWidth}
 use Rattle.tl_params.specs.declared.config.Config.{Config}
 use Rattle.tl_coherence.specs.declared.event.Event.{Event}
 use Rattle.tl_coherence.specs.declared.event.Outcome.{Outcome}
-use Rattle.tl_coherence.specs.refinement.Follow.{Shadow, first_state, followed}
+use Rattle.tl_coherence.specs.refinement.AbstractStep.{AbstractState, first_state, abstract_step}
 use Rattle.tl_coherence.specs.statement.Load.{starts_request, starts_release, ends_request, ends_release, number, requests, releases, outstanding, load}
-use Rattle.tl_coherence.specs.statement.Log.{Log, after}
-use Rattle.tl_coherence.specs.bound.Potential.{total, open_requests, open_releases}
+use Rattle.tl_coherence.specs.statement.Log.{Log, system_after}
+use Rattle.tl_coherence.specs.bound.Rank.{total, open_requests, open_releases}
 use Rattle.tl_coherence.specs.protocol.Protocol.{State}
 use Rattle.tl_coherence.specs.statement.Step.{stepped}
-use Rattle.tl_coherence.specs.protocol.Token.{one_if}
-use Rattle.tl_coherence.specs.refinement.Whole.{IsMatched}
+use Rattle.tl_coherence.specs.protocol.Packet.{one_if}
+use Rattle.tl_coherence.specs.refinement.SimulationRelation.{SimulationRelation}
 use Rattle.tl_coherence.proofs.protocol.OpenCounts.{clients_in, sources_in, IsBalance}
 use Rattle.tl_coherence.proofs.outstanding.Outstanding.{counted-followed}
 use Rattle.tl_coherence.proofs.queues.Sums.{total-zero}
@@ -48,11 +48,11 @@ counted-balance config log s s' event o is before = record {
 }
 
 -- and every event keeps it
-pub counted-next : {w : ℕ} (config : Config) (log : Log w) (h : Shadow w) (event : Event w) → IsWidth w
-    → IsMatched config log h.mail h.request h.state (after config log) → AreCounted config log h.state
-    → AreCounted config ((event, (stepped config event (after config log)).outcome) ∷ log) (followed config event (after config log) h).state
+pub counted-next : {w : ℕ} (config : Config) (log : Log w) (h : AbstractState w) (event : Event w) → IsWidth w
+    → SimulationRelation config log h.mail h.request h.state (system_after config log) → AreCounted config log h.state
+    → AreCounted config ((event, (stepped config event (system_after config log)).outcome) ∷ log) (abstract_step config event (system_after config log) h).state
 counted-next config log h event width matched before =
-    counted-balance config log h.state (followed config event (after config log) h).state event (stepped config event (after config log)).outcome
+    counted-balance config log h.state (abstract_step config event (system_after config log) h).state event (stepped config event (system_after config log)).outcome
     (counted-followed config log h width matched event) before
 
 -- what is outstanding is what is open

@@ -12,15 +12,15 @@ use Rattle.tl_params.specs.declared.config.Config.{Config}
 use Rattle.tl_client.specs.statement.End.{Terms}
 use Rattle.tl_coherence.specs.statement.Coherent.{IsCoherent}
 use Rattle.tl_coherence.specs.statement.Load.{outstanding}
-use Rattle.tl_coherence.specs.statement.Log.{Log, after}
+use Rattle.tl_coherence.specs.statement.Log.{Log, system_after}
 use Rattle.tl_coherence.specs.statement.Movable.{next_delivery}
-use Rattle.tl_coherence.specs.bound.Potential.{total, is_used, is_let, open_requests, open_releases}
-use Rattle.tl_coherence.specs.protocol.Protocol.{State, Use, Closed, Asked, InService, Replied, Acquires}
-use Rattle.tl_coherence.specs.statement.Remembered.{remembered}
-use Rattle.tl_coherence.specs.refinement.Render.{Mail}
+use Rattle.tl_coherence.specs.bound.Rank.{total, is_used, is_let, open_requests, open_releases}
+use Rattle.tl_coherence.specs.protocol.Protocol.{State, SourceState, SourceFree, Asked, InService, Replied, Acquires}
+use Rattle.tl_coherence.specs.statement.OneMemory.{one_memory_after}
+use Rattle.tl_coherence.specs.refinement.PacketMessages.{AccessMessages}
 use Rattle.tl_coherence.specs.statement.System.{terms_at}
-use Rattle.tl_coherence.specs.protocol.Token.{Token, one_if}
-use Rattle.tl_coherence.specs.refinement.Whole.{IsMatched}
+use Rattle.tl_coherence.specs.protocol.Packet.{Packet, one_if}
+use Rattle.tl_coherence.specs.refinement.SimulationRelation.{SimulationRelation}
 use Rattle.tl_coherence.proofs.simulation.Bounded.{matched-bounded}
 use Rattle.tl_coherence.proofs.protocol.Capacities.{AreBounded}
 use Rattle.tl_coherence.proofs.outstanding.Counted.{AreCounted, outstanding-open}
@@ -28,8 +28,8 @@ use Rattle.tl_coherence.proofs.outstanding.Moving.{bare-when-standing, closed-wh
 use Rattle.tl_coherence.proofs.protocol.OpenCounts.{clients_in, sources_in}
 use Rattle.tl_coherence.proofs.simulation.Owned.{sources-own}
 use Rattle.tl_coherence.proofs.links.Stalling.{IsFirst}
-use Rattle.tl_coherence.proofs.queues.Standing.{client_below}
-use Rattle.tl_coherence.proofs.protocol.Still.{IsClosed}
+use Rattle.tl_coherence.proofs.queues.QuiescentQueues.{client_below}
+use Rattle.tl_coherence.proofs.protocol.QuiescentProtocol.{IsClosed}
 use Rattle.tl_coherence.proofs.simulation.Strangers as strangers
 use Rattle.tl_coherence.proofs.queues.Sums.{total-zero}
 
@@ -43,8 +43,8 @@ total-none (suc n) f e i lt = go (cases_eq i n) (total-none n f (omega (arith, e
     go (inl same) rest = let last : f i ≡ f n = ap f same in omega (arith, last, e)
     go (inr differs) rest = rest (omega (arith, lt, differs))
 
-not_used : (u : Use) → one_if (is_used u) ≡ 0 → u ≡ Closed
-not_used Closed e = refl
+not_used : (u : SourceState) → one_if (is_used u) ≡ 0 → u ≡ SourceFree
+not_used SourceFree e = refl
 not_used Asked e = absurd (omega (arith, e))
 not_used (InService n) e = absurd (omega (arith, e))
 not_used Replied e = absurd (omega (arith, e))
@@ -54,7 +54,7 @@ not_let : (o : Option ℕ) → one_if (is_let o) ≡ 0 → o ≡ None
 not_let None e = refl
 not_let (Some n) e = absurd (omega (arith, e))
 
-nothing_in : (xs : List Token) → length xs ≡ 0 → xs ≡ []
+nothing_in : (xs : List Packet) → length xs ≡ 0 → xs ≡ []
 nothing_in [] e = refl
 nothing_in (x ∷ xs) e = absurd (omega (arith, e))
 
@@ -63,14 +63,14 @@ pub none-counted : {X : Type 0} (config : Config) (s : State X) → IsClosed s �
 none-counted config s closed no_acks =
     let requests : open_requests config s ≡ 0 = total-zero (clients_in config) (λ c. total (sources_in config c) (λ i. one_if (is_used (s.uses c i))) + length (s.link c).e) (λ c few.
     let uses : total (sources_in config c) (λ i. one_if (is_used (s.uses c i))) ≡ 0 =
-    total-zero (sources_in config c) (λ i. one_if (is_used (s.uses c i))) (λ i lt. ap (λ (u : Use). one_if (is_used u)) (closed.uses c i)) in
+    total-zero (sources_in config c) (λ i. one_if (is_used (s.uses c i))) (λ i lt. ap (λ (u : SourceState). one_if (is_used u)) (closed.uses c i)) in
     let acks : length (s.link c).e ≡ 0 = ap length (no_acks c) in
     omega (arith, uses, acks)) in
     let releases : open_releases config s ≡ 0 = total-zero (clients_in config) (λ c. total (sources_in config c) (λ i. one_if (is_let (s.lets c i)))) (λ c few.
     total-zero (sources_in config c) (λ i. one_if (is_let (s.lets c i))) (λ i lt. ap (λ (o : Option ℕ). one_if (is_let o)) (closed.lets c i))) in
     omega (arith, requests, releases)
 
-module _ {w : ℕ} (config : Config) (log : Log w) (mail : Mail w) (request : ℕ → MessageA w) (s : State (List ℕ)) (matched : IsMatched config log mail request s (after config log))
+module _ {w : ℕ} (config : Config) (log : Log w) (mail : AccessMessages w) (request : ℕ → MessageA w) (s : State (List ℕ)) (matched : SimulationRelation config log mail request s (system_after config log))
     (width : IsWidth w) (none : open_requests config s + open_releases config s ≡ 0) where
   -- the two sums of one client
   of_client : (c : ℕ) → c < clients_in config → (total (sources_in config c) (λ i. one_if (is_used (s.uses c i))) + length (s.link c).e ≡ 0)
@@ -81,9 +81,9 @@ module _ {w : ℕ} (config : Config) (log : Log w) (mail : Mail w) (request : �
   )
 
   bounds : (c : ℕ) → AreBounded c (sources_in config c) config.trackers s
-  bounds c = matched-bounded config log mail request s (after config log) matched c (sources-own config log c width)
+  bounds c = matched-bounded config log mail request s (system_after config log) matched c (sources-own config log c width)
 
-  closed_use : (c source : ℕ) (terms : Terms) → terms_at config c ≡ Some terms → s.uses c source ≡ Closed
+  closed_use : (c source : ℕ) (terms : Terms) → terms_at config c ≡ Some terms → s.uses c source ≡ SourceFree
   closed_use c source terms at = go (s.uses c source) refl
     where
       zero_there : source < sources_in config c → one_if (is_used (s.uses c source)) ≡ 0
@@ -91,11 +91,11 @@ module _ {w : ℕ} (config : Config) (log : Log w) (mail : Mail w) (request : �
           let both = (of_client c (client_below config c terms at)).0 in
           total-none (sources_in config c) (λ i. one_if (is_used (s.uses c i))) (omega (arith, both)) source lt
 
-      used : (u : Use) → s.uses c source ≡ u → (u ≡ Closed → ⊥) → s.uses c source ≡ Closed
+      used : (u : SourceState) → s.uses c source ≡ u → (u ≡ SourceFree → ⊥) → s.uses c source ≡ SourceFree
       used u e open_ = not_used (s.uses c source) (zero_there ((bounds c).requests source (λ closed. open_ (sym e ∙ closed))))
 
-      go : (u : Use) → s.uses c source ≡ u → s.uses c source ≡ Closed
-      go Closed e = e
+      go : (u : SourceState) → s.uses c source ≡ u → s.uses c source ≡ SourceFree
+      go SourceFree e = e
       go Asked e = used Asked e (λ f. absurd cc)
       go (InService n) e = used (InService n) e (λ f. absurd cc)
       go Replied e = used Replied e (λ f. absurd cc)
@@ -115,7 +115,7 @@ module _ {w : ℕ} (config : Config) (log : Log w) (mail : Mail w) (request : �
   pub closed-when-counted : IsClosed s
   closed-when-counted = record { uses = λ c source. use_is c source (terms_at config c) refl; lets = λ c source. let_is c source (terms_at config c) refl }
     where
-      use_is : (c source : ℕ) (o : Option Terms) → terms_at config c ≡ o → s.uses c source ≡ Closed
+      use_is : (c source : ℕ) (o : Option Terms) → terms_at config c ≡ o → s.uses c source ≡ SourceFree
       use_is c source None at = matched.strangers c source at
       use_is c source (Some terms) at = closed_use c source terms at
 
@@ -131,12 +131,12 @@ module _ {w : ℕ} (config : Config) (log : Log w) (mail : Mail w) (request : �
       go (Some terms) at = no_ack c terms at
 
 -- A delivery is next exactly while something is outstanding.
-pub next-while-outstanding : {w : ℕ} (config : Config) (log : Log w) (mail : Mail w) (request : ℕ → MessageA w) (s : State (List ℕ)) (matched : IsMatched config log mail request s (after config log))
-    → IsCoherent (after config log) log (remembered config log) → 0 < config.trackers
-    → ((c : ℕ) (terms : Terms) (ch : Channel) (x : Beat w) (rest : List (Beat w)) → terms_at config c ≡ Some terms → (after config log).channels c ch ≡ x ∷ rest
-    → IsFirst config terms c ch x (after config log))
-    → IsWidth w → AreCounted config log s → is_none (next_delivery config (after config log)) ≡ (outstanding log == 0)
-next-while-outstanding {w} config log mail request s matched coherent trackers firsts width counted = go (next_delivery config (after config log)) refl (outstanding log == 0) refl
+pub next-while-outstanding : {w : ℕ} (config : Config) (log : Log w) (mail : AccessMessages w) (request : ℕ → MessageA w) (s : State (List ℕ)) (matched : SimulationRelation config log mail request s (system_after config log))
+    → IsCoherent (system_after config log) log (one_memory_after config log) → 0 < config.trackers
+    → ((c : ℕ) (terms : Terms) (ch : Channel) (x : Beat w) (rest : List (Beat w)) → terms_at config c ≡ Some terms → (system_after config log).channels c ch ≡ x ∷ rest
+    → IsFirst config terms c ch x (system_after config log))
+    → IsWidth w → AreCounted config log s → is_none (next_delivery config (system_after config log)) ≡ (outstanding log == 0)
+next-while-outstanding {w} config log mail request s matched coherent trackers firsts width counted = go (next_delivery config (system_after config log)) refl (outstanding log == 0) refl
   where
     sum : outstanding log ≡ open_requests config s + open_releases config s
     sum = outstanding-open config log s counted
@@ -144,7 +144,7 @@ next-while-outstanding {w} config log mail request s matched coherent trackers f
     zero_is : (n : ℕ) → n ≡ 0 → (n == 0) ≡ true
     zero_is n e = rw e refl
 
-    go : (o : Option (Link × Channel)) → next_delivery config (after config log) ≡ o → (b : Bool) → (outstanding log == 0) ≡ b → is_none o ≡ b
+    go : (o : Option (Link × Channel)) → next_delivery config (system_after config log) ≡ o → (b : Bool) → (outstanding log == 0) ≡ b → is_none o ≡ b
     go None e true f = refl
     go None e false f =
         let bare = bare-when-standing config log mail request s matched coherent trackers firsts e width in
@@ -158,6 +158,6 @@ next-while-outstanding {w} config log mail request s matched coherent trackers f
         absurd (let both : Some d ≡ None = sym e ∙ stands in cc)
 
 -- where no delivery is next, nothing is outstanding
-pub none-outstanding : {w : ℕ} (config : Config) (log : Log w) → is_none (next_delivery config (after config log)) ≡ (outstanding log == 0)
-    → next_delivery config (after config log) ≡ None → outstanding log ≡ 0
+pub none-outstanding : {w : ℕ} (config : Config) (log : Log w) → is_none (next_delivery config (system_after config log)) ≡ (outstanding log == 0)
+    → next_delivery config (system_after config log) ≡ None → outstanding log ≡ 0
 none-outstanding config log moving none = eqb-true (outstanding log) 0 (sym moving ∙ ap is_none none)

@@ -22,26 +22,26 @@ use Rattle.tl_manager.specs.statement.Service.{services, service_of_block}
 use Rattle.tl_coherence.specs.refinement.Carried.{IsCarried}
 use Rattle.tl_coherence.specs.statement.Coherent.{IsCoherent}
 use Rattle.tl_coherence.specs.statement.Delivery.{Moves}
-use Rattle.tl_coherence.specs.statement.Log.{Log, after}
-use Rattle.tl_coherence.specs.refinement.Managed.{client_in, service_with}
-use Rattle.tl_coherence.specs.refinement.Matched.{receiver}
+use Rattle.tl_coherence.specs.statement.Log.{Log, system_after}
+use Rattle.tl_coherence.specs.refinement.ManagerRelation.{client_in, service_with}
+use Rattle.tl_coherence.specs.refinement.ChannelRelation.{receiver}
 use Rattle.tl_coherence.specs.statement.Movable.{is_movable, next_delivery}
-use Rattle.tl_coherence.specs.protocol.Phase.{Letting, Kept, Releasing, Acked, is_kept}
-use Rattle.tl_coherence.specs.protocol.Protocol.{Service, State, tokens_on, shown}
-use Rattle.tl_coherence.specs.statement.Remembered.{remembered}
-use Rattle.tl_coherence.specs.refinement.Render.{Mail, message_of, messages_on}
+use Rattle.tl_coherence.specs.protocol.Phase.{ReleasePhase, NoRelease, ReleaseSent, ReleaseAcked, is_unreleased}
+use Rattle.tl_coherence.specs.protocol.Protocol.{Service, State, packets_on, shown}
+use Rattle.tl_coherence.specs.statement.OneMemory.{one_memory_after}
+use Rattle.tl_coherence.specs.refinement.PacketMessages.{AccessMessages, message_of, messages_on}
 use Rattle.tl_coherence.specs.statement.System.{terms_at}
-use Rattle.tl_coherence.specs.protocol.Token.{Token, Release, ReleaseAck, one_if, count}
-use Rattle.tl_coherence.specs.refinement.Whole.{IsMatched}
+use Rattle.tl_coherence.specs.protocol.Packet.{Packet, Release, ReleaseAck, one_if, count}
+use Rattle.tl_coherence.specs.refinement.SimulationRelation.{SimulationRelation}
 use Rattle.tl_coherence.proofs.queues.Carried.{carried-none}
-use Rattle.tl_coherence.proofs.protocol.Quiet.{IsSilent, free-when_silent}
+use Rattle.tl_coherence.proofs.protocol.QuiescentBlock.{IsSilent, free-when_silent}
 use Rattle.tl_coherence.proofs.links.Stalling.{IsFirst, exact, started-releasing}
-use Rattle.tl_coherence.proofs.queues.Standing.{nothing-moves, no-next, empty-still}
+use Rattle.tl_coherence.proofs.queues.QuiescentQueues.{nothing-moves, no-next, empty-still}
 use Rattle.tl_coherence.proofs.simulation.Strangers as strangers
 use Rattle.tl_coherence.proofs.queues.Tokens.{same_number}
-use Rattle.tl_coherence.proofs.protocol.Still.{IsBare, IsClosed, bare-when-closed, closed-when_bare}
+use Rattle.tl_coherence.proofs.protocol.QuiescentProtocol.{IsBare, IsClosed, bare-when-closed, closed-when_bare}
 
-no_tokens : {w : ℕ} (f : Token → Message w) (xs : List Token) → map f xs ≡ [] → xs ≡ []
+no_tokens : {w : ℕ} (f : Packet → Message w) (xs : List Packet) → map f xs ≡ [] → xs ≡ []
 no_tokens f [] e = refl
 no_tokens f (x ∷ xs) e = absurd cc
 
@@ -56,59 +56,59 @@ none_served (s ∷ ss) none =
 few_test : (n : ℕ) → 0 < n → nat_le n 0 ≡ false
 few_test n lt = grind (arith, nat_tests, lt)
 
-module _ {w : ℕ} (config : Config) (log : Log w) (mail : Mail w) (request : ℕ → MessageA w) (s : State (List ℕ)) (matched : IsMatched config log mail request s (after config log))
-    (coherent : IsCoherent (after config log) log (remembered config log)) (trackers : 0 < config.trackers)
+module _ {w : ℕ} (config : Config) (log : Log w) (mail : AccessMessages w) (request : ℕ → MessageA w) (s : State (List ℕ)) (matched : SimulationRelation config log mail request s (system_after config log))
+    (coherent : IsCoherent (system_after config log) log (one_memory_after config log)) (trackers : 0 < config.trackers)
     (firsts : (c : ℕ) (terms : Terms) (ch : Channel) (x : Beat w) (rest : List (Beat w)) → terms_at config c ≡ Some terms
-    → (after config log).channels c ch ≡ x ∷ rest → IsFirst config terms c ch x (after config log)) where
+    → (system_after config log).channels c ch ≡ x ∷ rest → IsFirst config terms c ch x (system_after config log)) where
   -- a channel without a beat has no message
-  no_message : (c : ℕ) (ch : Channel) → (after config log).channels c ch ≡ [] → tokens_on ch (s.link c) ≡ []
-  no_message c ch none = no_tokens (message_of mail s c) (tokens_on ch (s.link c)) (carried-none _ (messages_on ch mail s c) (rw none at (matched.carried c ch)))
+  no_message : (c : ℕ) (ch : Channel) → (system_after config log).channels c ch ≡ [] → packets_on ch (s.link c) ≡ []
+  no_message c ch none = no_tokens (message_of mail s c) (packets_on ch (s.link c)) (carried-none _ (messages_on ch mail s c) (rw none at (matched.carried c ch)))
 
   -- and without a message it has no beat
-  no_beat : (c : ℕ) (ch : Channel) → tokens_on ch (s.link c) ≡ [] → (after config log).channels c ch ≡ []
+  no_beat : (c : ℕ) (ch : Channel) → packets_on ch (s.link c) ≡ [] → (system_after config log).channels c ch ≡ []
   no_beat c ch none = go (messages_on ch mail s c) (ap (map (message_of mail s c)) none) (matched.carried c ch)
     where
-      go : (ms : List (Message w)) → ms ≡ [] → IsCarried (unfinished ch (receiver ch c (after config log))) ms ((after config log).channels c ch) → (after config log).channels c ch ≡ []
+      go : (ms : List (Message w)) → ms ≡ [] → IsCarried (unfinished ch (receiver ch c (system_after config log))) ms ((system_after config log).channels c ch) → (system_after config log).channels c ch ≡ []
       go [] e h = h.1
       go (m ∷ ms) e h = absurd cc
 
   -- a channel whose first beat is movable, if there is one, is empty where no delivery is next
-  module _ (none : next_delivery config (after config log) ≡ None) where
+  module _ (none : next_delivery config (system_after config log) ≡ None) where
     nothing_first : (c : ℕ) (terms : Terms) (ch : Channel) → terms_at config c ≡ Some terms
-        → ((x : Beat w) (rest : List (Beat w)) → (after config log).channels c ch ≡ x ∷ rest → is_movable config c ch (after config log) ≡ true) → (after config log).channels c ch ≡ []
-    nothing_first c terms ch is moves = go ((after config log).channels c ch) refl
+        → ((x : Beat w) (rest : List (Beat w)) → (system_after config log).channels c ch ≡ x ∷ rest → is_movable config c ch (system_after config log) ≡ true) → (system_after config log).channels c ch ≡ []
+    nothing_first c terms ch is moves = go ((system_after config log).channels c ch) refl
       where
-        go : (beats : List (Beat w)) → (after config log).channels c ch ≡ beats → beats ≡ []
+        go : (beats : List (Beat w)) → (system_after config log).channels c ch ≡ beats → beats ≡ []
         go [] e = refl
-        go (x ∷ rest) e = absurd (let both : true ≡ false = sym (moves x rest e) ∙ nothing-moves config (after config log) c terms ch is none in cc)
+        go (x ∷ rest) e = absurd (let both : true ≡ false = sym (moves x rest e) ∙ nothing-moves config (system_after config log) c terms ch is none in cc)
 
-    moving : (c : ℕ) (terms : Terms) (ch : Channel) (x : Beat w) (rest : List (Beat w)) → terms_at config c ≡ Some terms → (after config log).channels c ch ≡ x ∷ rest → Moves config log c x
+    moving : (c : ℕ) (terms : Terms) (ch : Channel) (x : Beat w) (rest : List (Beat w)) → terms_at config c ≡ Some terms → (system_after config log).channels c ch ≡ x ∷ rest → Moves config log c x
     moving c terms ch x rest is e = (exact config log mail request s matched coherent c terms is ch (λ y more f. firsts c terms ch y more is f)).moves x rest e
 
-    empty_e : (c : ℕ) (terms : Terms) → terms_at config c ≡ Some terms → (after config log).channels c channel.E ≡ []
+    empty_e : (c : ℕ) (terms : Terms) → terms_at config c ≡ Some terms → (system_after config log).channels c channel.E ≡ []
     empty_e c terms is = nothing_first c terms channel.E is (λ x rest e. go x (firsts c terms channel.E x rest is e) (moving c terms channel.E x rest is e))
       where
-        go : (x : Beat w) → IsFirst config terms c channel.E x (after config log) → Moves config log c x → is_movable config c channel.E (after config log) ≡ true
+        go : (x : Beat w) → IsFirst config terms c channel.E x (system_after config log) → Moves config log c x → is_movable config c channel.E (system_after config log) ≡ true
         go (beat.E y) first m = m
         go (beat.A y) first m = absurd (let on = first.on in cc)
         go (beat.B y) first m = absurd (let on = first.on in cc)
         go (beat.C y) first m = absurd (let on = first.on in cc)
         go (beat.D y) first m = absurd (let on = first.on in cc)
 
-    empty_d : (c : ℕ) (terms : Terms) → terms_at config c ≡ Some terms → (after config log).channels c channel.D ≡ []
+    empty_d : (c : ℕ) (terms : Terms) → terms_at config c ≡ Some terms → (system_after config log).channels c channel.D ≡ []
     empty_d c terms is = nothing_first c terms channel.D is (λ x rest e. go x (firsts c terms channel.D x rest is e) (moving c terms channel.D x rest is e))
       where
-        go : (x : Beat w) → IsFirst config terms c channel.D x (after config log) → Moves config log c x → is_movable config c channel.D (after config log) ≡ true
+        go : (x : Beat w) → IsFirst config terms c channel.D x (system_after config log) → Moves config log c x → is_movable config c channel.D (system_after config log) ≡ true
         go (beat.D y) first m = m
         go (beat.A y) first m = absurd (let on = first.on in cc)
         go (beat.B y) first m = absurd (let on = first.on in cc)
         go (beat.C y) first m = absurd (let on = first.on in cc)
         go (beat.E y) first m = absurd (let on = first.on in cc)
 
-    empty_c : (c : ℕ) (terms : Terms) → terms_at config c ≡ Some terms → (after config log).channels c channel.C ≡ []
+    empty_c : (c : ℕ) (terms : Terms) → terms_at config c ≡ Some terms → (system_after config log).channels c channel.C ≡ []
     empty_c c terms is = nothing_first c terms channel.C is (λ x rest e. go x (firsts c terms channel.C x rest is e) (moving c terms channel.C x rest is e))
       where
-        go : (x : Beat w) → IsFirst config terms c channel.C x (after config log) → Moves config log c x → is_movable config c channel.C (after config log) ≡ true
+        go : (x : Beat w) → IsFirst config terms c channel.C x (system_after config log) → Moves config log c x → is_movable config c channel.C (system_after config log) ≡ true
         go (beat.C y) first m = m
         go (beat.A y) first m = absurd (let on = first.on in cc)
         go (beat.B y) first m = absurd (let on = first.on in cc)
@@ -116,33 +116,33 @@ module _ {w : ℕ} (config : Config) (log : Log w) (mail : Mail w) (request : �
         go (beat.E y) first m = absurd (let on = first.on in cc)
 
     -- no Release is outstanding, since neither it nor its ReleaseAck is on its way
-    none_releasing : (c n : ℕ) (terms : Terms) → terms_at config c ≡ Some terms → pending (ReleaseOf n) ((after config log).clients c).past ≡ false
+    none_releasing : (c n : ℕ) (terms : Terms) → terms_at config c ≡ Some terms → pending (ReleaseOf n) ((system_after config log).clients c).past ≡ false
     unfolding count
     none_releasing c n terms is = (matched.known c).releases n ∙ go ((s.block n).pair c).letting refl
       where
-        no_c : tokens_on channel.C (s.link c) ≡ []
+        no_c : packets_on channel.C (s.link c) ≡ []
         no_c = no_message c channel.C (empty_c c terms is)
 
-        no_d : tokens_on channel.D (s.link c) ≡ []
+        no_d : packets_on channel.D (s.link c) ≡ []
         no_d = no_message c channel.D (empty_d c terms is)
 
         none_shown : (b : Bool) → 0 ≡ one_if b → b ≡ false
         none_shown true e = absurd (omega (arith, e))
         none_shown false e = refl
 
-        go : (x : Letting) → ((s.block n).pair c).letting ≡ x → not (is_kept x) ≡ false
-        go Kept e = refl
-        go (Releasing r) e =
+        go : (x : ReleasePhase) → ((s.block n).pair c).letting ≡ x → not (is_unreleased x) ≡ false
+        go NoRelease e = refl
+        go (ReleaseSent r) e =
             let no = none_shown (shown Release c (s.block n)) (rw no_c at (matched.invariant.transfers c Release refl n)) in
             absurd (let it : shown Release c (s.block n) ≡ true = rw e refl in let both : true ≡ false = sym it ∙ no in cc)
-        go Acked e =
+        go ReleaseAcked e =
             let no = none_shown (shown ReleaseAck c (s.block n)) (rw no_d at (matched.invariant.transfers c ReleaseAck refl n)) in
             absurd (let it : shown ReleaseAck c (s.block n) ≡ true = rw e refl in let both : true ≡ false = sym it ∙ no in cc)
 
-    empty_b : (c : ℕ) (terms : Terms) → terms_at config c ≡ Some terms → (after config log).channels c channel.B ≡ []
+    empty_b : (c : ℕ) (terms : Terms) → terms_at config c ≡ Some terms → (system_after config log).channels c channel.B ≡ []
     empty_b c terms is = nothing_first c terms channel.B is (λ x rest e. go x (firsts c terms channel.B x rest is e) (moving c terms channel.B x rest is e))
       where
-        go : (x : Beat w) → IsFirst config terms c channel.B x (after config log) → Moves config log c x → is_movable config c channel.B (after config log) ≡ true
+        go : (x : Beat w) → IsFirst config terms c channel.B x (system_after config log) → Moves config log c x → is_movable config c channel.B (system_after config log) ≡ true
         go (beat.B y) first m = true_from_ne_false _ (λ still.
             let p = started-releasing config log mail request s matched coherent c (block_at y.address) (m.0 still) in
             absurd (let both : true ≡ false = sym p ∙ none_releasing c (block_at y.address) terms is in cc))
@@ -153,27 +153,27 @@ module _ {w : ℕ} (config : Config) (log : Log w) (mail : Mail w) (request : �
 
     -- so no block is in service, and each request finds a tracker
     module _ (width : IsWidth w) where
-      by_client : (ch : Channel) → ((c : ℕ) (terms : Terms) → terms_at config c ≡ Some terms → (after config log).channels c ch ≡ []) → (c : ℕ) → tokens_on ch (s.link c) ≡ []
+      by_client : (ch : Channel) → ((c : ℕ) (terms : Terms) → terms_at config c ≡ Some terms → (system_after config log).channels c ch ≡ []) → (c : ℕ) → packets_on ch (s.link c) ≡ []
       by_client ch empties c = go (terms_at config c) refl
         where
-          go : (o : Option Terms) → terms_at config c ≡ o → tokens_on ch (s.link c) ≡ []
+          go : (o : Option Terms) → terms_at config c ≡ o → packets_on ch (s.link c) ≡ []
           go None is = strangers.no_tokens config log mail request s matched width c is ch
           go (Some terms) is = no_message c ch (empties c terms is)
 
       silent : IsSilent s
       silent = record { b = by_client channel.B empty_b; c = by_client channel.C empty_c; d = by_client channel.D empty_d; e = by_client channel.E empty_e }
 
-      none_in_service : services (after config log).manager.trace ≡ []
-      none_in_service = none_served (services (after config log).manager.trace) (λ n.
+      none_in_service : services (system_after config log).manager.trace ≡ []
+      none_in_service = none_served (services (system_after config log).manager.trace) (λ n.
           matched.managed.serving_is n ∙ ap (λ (x : Service). service_with (client_in x) (s.block n).tracker (request n)) (free-when_silent _ s n matched.invariant silent))
 
-      empty_a : (c : ℕ) (terms : Terms) → terms_at config c ≡ Some terms → (after config log).channels c channel.A ≡ []
+      empty_a : (c : ℕ) (terms : Terms) → terms_at config c ≡ Some terms → (system_after config log).channels c channel.A ≡ []
       empty_a c terms is = nothing_first c terms channel.A is (λ x rest e. go x (firsts c terms channel.A x rest is e) (moving c terms channel.A x rest is e))
         where
-          go : (x : Beat w) → IsFirst config terms c channel.A x (after config log) → Moves config log c x → is_movable config c channel.A (after config log) ≡ true
+          go : (x : Beat w) → IsFirst config terms c channel.A x (system_after config log) → Moves config log c x → is_movable config c channel.A (system_after config log) ≡ true
           go (beat.A y) first m =
               let free : nat_le config.trackers 0 ≡ false = few_test config.trackers trackers in
-              m ∙ rw (none_in_service, free) (rw (and-false (ends (beat.A y) (on_link c (after config log).manager.trace))) refl)
+              m ∙ rw (none_in_service, free) (rw (and-false (ends (beat.A y) (on_link c (system_after config log).manager.trace))) refl)
           go (beat.B y) first m = absurd (let on = first.on in cc)
           go (beat.C y) first m = absurd (let on = first.on in cc)
           go (beat.D y) first m = absurd (let on = first.on in cc)
@@ -183,15 +183,15 @@ module _ {w : ℕ} (config : Config) (log : Log w) (mail : Mail w) (request : �
       bare-when-standing = record { a = by_client channel.A empty_a; silent = silent }
 
   -- where no delivery is next, nothing is open
-  pub closed-when-standing : IsWidth w → next_delivery config (after config log) ≡ None → IsClosed s
+  pub closed-when-standing : IsWidth w → next_delivery config (system_after config log) ≡ None → IsClosed s
   closed-when-standing width none = closed-when_bare _ s matched.invariant (bare-when-standing none width)
 
   -- where nothing is open, and no GrantAck is on its way, no delivery is next
-  pub standing-when-closed : IsClosed s → ((c : ℕ) → (s.link c).e ≡ []) → next_delivery config (after config log) ≡ None
-  standing-when-closed closed no_acks = no-next config (after config log)
-      (λ c ch. empty-still config (after config log) c ch (no_beat c ch (bare_on ch c (bare-when-closed _ s matched.invariant closed no_acks))))
+  pub standing-when-closed : IsClosed s → ((c : ℕ) → (s.link c).e ≡ []) → next_delivery config (system_after config log) ≡ None
+  standing-when-closed closed no_acks = no-next config (system_after config log)
+      (λ c ch. empty-still config (system_after config log) c ch (no_beat c ch (bare_on ch c (bare-when-closed _ s matched.invariant closed no_acks))))
     where
-      bare_on : (ch : Channel) (c : ℕ) → IsBare s → tokens_on ch (s.link c) ≡ []
+      bare_on : (ch : Channel) (c : ℕ) → IsBare s → packets_on ch (s.link c) ≡ []
       bare_on channel.A c bare = bare.a c
       bare_on channel.B c bare = bare.silent.b c
       bare_on channel.C c bare = bare.silent.c c

@@ -21,33 +21,33 @@ use Rattle.tl_client.proofs.Free.{least_free-some}
 use Rattle.tl_coherence.specs.declared.event.Event.TheVariants.{Ask}
 use Rattle.tl_coherence.specs.declared.event.Outcome.TheVariants as outcome
 use Rattle.tl_coherence.specs.statement.Delivery.{sources_of}
-use Rattle.tl_coherence.specs.refinement.Follow.{Shadow, asked}
+use Rattle.tl_coherence.specs.refinement.AbstractStep.{AbstractState, asked}
 use Rattle.tl_coherence.specs.statement.Load.{starts_request, starts_release}
 use Rattle.tl_coherence.specs.statement.Log.{Log}
-use Rattle.tl_coherence.specs.bound.Potential.{is_used, is_let}
-use Rattle.tl_coherence.specs.protocol.Protocol.{State, Use, Closed, Asked, Acquires, token, with_a, with_c, access_asked, acquire_asked, release_asked}
+use Rattle.tl_coherence.specs.bound.Rank.{is_used, is_let}
+use Rattle.tl_coherence.specs.protocol.Protocol.{State, SourceState, SourceFree, Asked, Acquires, packet, with_a, with_c, access_asked, acquire_asked, release_asked}
 use Rattle.tl_coherence.specs.statement.System.{System, terms_at}
-use Rattle.tl_coherence.specs.protocol.Token.{Request, Acquire, Release, one_if}
-use Rattle.tl_coherence.specs.refinement.Whole.{IsMatched, is_caching}
+use Rattle.tl_coherence.specs.protocol.Packet.{Request, Acquire, Release, one_if}
+use Rattle.tl_coherence.specs.refinement.SimulationRelation.{SimulationRelation, is_caching}
 use Rattle.tl_coherence.proofs.client.Askable.{askable}
 use Rattle.tl_coherence.proofs.protocol.FollowKept.{IsAskable}
 use Rattle.tl_coherence.proofs.protocol.OpenCounts.{marked-set, acks-same, clients_in, sources_in, IsBalance, requests-split}
 use Rattle.tl_coherence.proofs.queues.Tokens.{set-part}
 
 module _ {X : Type 0} (config : Config) (s : State X) where
-  access-asked : (c source : ℕ) → c < clients_in config → source < sources_in config c → s.uses c source ≡ Closed → IsBalance config s (access_asked c source s) true false false false
+  access-asked : (c source : ℕ) → c < clients_in config → source < sources_in config c → s.uses c source ≡ SourceFree → IsBalance config s (access_asked c source s) true false false false
   access-asked c source few lt free =
       let u = marked-set is_used (clients_in config) (sources_in config) c source Asked s.uses few lt in
-      let was : one_if (is_used (s.uses c source)) ≡ 0 = ap (λ (x : Use). one_if (is_used x)) free in
-      let a = acks-same (clients_in config) (access_asked c source s).link s.link (λ d. set-part (λ x. x.e) c (with_a (token Request source) (s.link c)) s.link refl d) in
+      let was : one_if (is_used (s.uses c source)) ≡ 0 = ap (λ (x : SourceState). one_if (is_used x)) free in
+      let a = acks-same (clients_in config) (access_asked c source s).link s.link (λ d. set-part (λ x. x.e) c (with_a (packet Request source) (s.link c)) s.link refl d) in
       record { requests = omega (arith, u, was, a, requests-split config s, requests-split config (access_asked c source s)); releases = refl }
 
-  acquire-asked : (c n source : ℕ) (whole : Bool) (g : Grow) (bytes : X) → c < clients_in config → source < sources_in config c → s.uses c source ≡ Closed
+  acquire-asked : (c n source : ℕ) (whole : Bool) (g : Grow) (bytes : X) → c < clients_in config → source < sources_in config c → s.uses c source ≡ SourceFree
       → IsBalance config s (acquire_asked c n source whole g bytes s) true false false false
   acquire-asked c n source whole g bytes few lt free =
       let u = marked-set is_used (clients_in config) (sources_in config) c source (Acquires n) s.uses few lt in
-      let was : one_if (is_used (s.uses c source)) ≡ 0 = ap (λ (x : Use). one_if (is_used x)) free in
-      let a = acks-same (clients_in config) (acquire_asked c n source whole g bytes s).link s.link (λ d. set-part (λ x. x.e) c (with_a (token Acquire n) (s.link c)) s.link refl d) in
+      let was : one_if (is_used (s.uses c source)) ≡ 0 = ap (λ (x : SourceState). one_if (is_used x)) free in
+      let a = acks-same (clients_in config) (acquire_asked c n source whole g bytes s).link s.link (λ d. set-part (λ x. x.e) c (with_a (packet Acquire n) (s.link c)) s.link refl d) in
       record { requests = omega (arith, u, was, a, requests-split config s, requests-split config (acquire_asked c n source whole g bytes s)); releases = refl }
 
   release-asked : (c n source : ℕ) (r : Prune) → c < clients_in config → source < sources_in config c → s.lets c source ≡ None
@@ -55,10 +55,10 @@ module _ {X : Type 0} (config : Config) (s : State X) where
   release-asked c n source r few lt free =
       let l = marked-set is_let (clients_in config) (sources_in config) c source (Some n) s.lets few lt in
       let was : one_if (is_let (s.lets c source)) ≡ 0 = ap (λ (x : Option ℕ). one_if (is_let x)) free in
-      let a = acks-same (clients_in config) (release_asked c n source r s).link s.link (λ d. set-part (λ x. x.e) c (with_c (token Release n) (s.link c)) s.link refl d) in
+      let a = acks-same (clients_in config) (release_asked c n source r s).link s.link (λ d. set-part (λ x. x.e) c (with_c (packet Release n) (s.link c)) s.link refl d) in
       record { requests = omega (arith, a, requests-split config s, requests-split config (release_asked c n source r s)); releases = omega (arith, l, was) }
 
-module _ {w : ℕ} (config : Config) (c : ℕ) (h : Shadow w) where
+module _ {w : ℕ} (config : Config) (c : ℕ) (h : AbstractState w) where
   -- what is open after this operation had this reply
   abbrev IsOpenAfter : Op w → Reply → Type 0
   IsOpenAfter o r = IsBalance config h.state (asked c o r h).state (starts_request (Ask c o) (outcome.Replied r)) false (starts_release (Ask c o) (outcome.Replied r)) false
@@ -108,8 +108,8 @@ module _ {w : ℕ} (config : Config) (c : ℕ) (h : Shadow w) where
     done-opens (op.Access (message.E m)) free may = record { requests = refl; releases = refl }
 
 -- What is open after a client is asked.
-pub balance-asked : {w : ℕ} (config : Config) (log : Log w) (h : Shadow w) (sys : System w) (terms : Terms) (c : ℕ) (o : Op w)
-    → IsMatched config log h.mail h.request h.state sys → terms_at config c ≡ Some terms → c < clients_in config
+pub balance-asked : {w : ℕ} (config : Config) (log : Log w) (h : AbstractState w) (sys : System w) (terms : Terms) (c : ℕ) (o : Op w)
+    → SimulationRelation config log h.mail h.request h.state sys → terms_at config c ≡ Some terms → c < clients_in config
     → IsBalance config h.state (asked c o (ask.asked terms o (sys.clients c)).reply h).state
     (starts_request (Ask c o) (outcome.Replied (ask.asked terms o (sys.clients c)).reply)) false
     (starts_release (Ask c o) (outcome.Replied (ask.asked terms o (sys.clients c)).reply)) false

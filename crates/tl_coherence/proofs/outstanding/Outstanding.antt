@@ -32,33 +32,33 @@ use Rattle.tl_coherence.specs.declared.event.Event.TheVariants.{Ask, Deliver}
 use Rattle.tl_coherence.specs.declared.event.Outcome.{Outcome}
 use Rattle.tl_coherence.specs.declared.event.Outcome.TheVariants as outcome
 use Rattle.tl_coherence.specs.statement.Draining.{is_moving}
-use Rattle.tl_coherence.specs.refinement.Follow.{Shadow, followed, followed_by, kind_taken, token_taken}
+use Rattle.tl_coherence.specs.refinement.AbstractStep.{AbstractState, abstract_step, abstract_step_by, kind_taken, packet_taken}
 use Rattle.tl_coherence.specs.statement.Load.{starts_request, starts_release, ends_request, ends_release}
-use Rattle.tl_coherence.specs.statement.Log.{Log, after}
-use Rattle.tl_coherence.specs.refinement.Matched.{receiver}
-use Rattle.tl_coherence.specs.bound.Potential.{open_requests, open_releases}
-use Rattle.tl_coherence.specs.protocol.Protocol.{Block, token, is_on, on}
-use Rattle.tl_coherence.specs.refinement.Render.{message_of, message_of_kind, rendered}
+use Rattle.tl_coherence.specs.statement.Log.{Log, system_after}
+use Rattle.tl_coherence.specs.refinement.ChannelRelation.{receiver}
+use Rattle.tl_coherence.specs.bound.Rank.{open_requests, open_releases}
+use Rattle.tl_coherence.specs.protocol.Protocol.{Block, packet, is_on, on}
+use Rattle.tl_coherence.specs.refinement.PacketMessages.{message_of, message_of_kind, block_message}
 use Rattle.tl_coherence.specs.statement.Step.{Step, is_to_client, outcome_of, stepped, stepped_at, delivered}
 use Rattle.tl_coherence.specs.statement.System.{System, terms_at}
-use Rattle.tl_coherence.specs.protocol.Token.{Kind, Request, Acquire, Probe, ProbeAck, Release, Answer, Grant, ReleaseAck, GrantAck, Token, one_if}
-use Rattle.tl_coherence.specs.refinement.Whole.{IsMatched, is_caching}
+use Rattle.tl_coherence.specs.protocol.Packet.{Kind, Request, Acquire, Probe, ProbeAck, Release, Answer, Grant, ReleaseAck, GrantAck, Packet, one_if}
+use Rattle.tl_coherence.specs.refinement.SimulationRelation.{SimulationRelation, is_caching}
 use Rattle.tl_coherence.proofs.simulation.Bounded.{matched-bounded}
 use Rattle.tl_coherence.proofs.protocol.Capacities.{AreBounded}
 use Rattle.tl_coherence.proofs.queues.Carried.{IsNext}
 use Rattle.tl_coherence.proofs.client.ClientStep.{on_same}
-use Rattle.tl_coherence.proofs.protocol.Due.{answer-due, grant-due, grant_message, ack_message, grant-rendered}
+use Rattle.tl_coherence.proofs.protocol.HeadOfD.{answer-due, grant-due, grant_message, ack_message, grant-rendered}
 use Rattle.tl_coherence.proofs.queues.FirstToken.{IsFirst, first-token}
-use Rattle.tl_coherence.proofs.client.Heard.{finish_at, answer-last, answer-part, same_answers, acked}
-use Rattle.tl_coherence.proofs.deliveries.HeardAll.{rendered_release_ack}
-use Rattle.tl_coherence.proofs.deliveries.HeardAfter.{followed-moving, followed-still}
+use Rattle.tl_coherence.proofs.client.DeliverD.{finish_at, answer-last, answer-part, same_answers, acked}
+use Rattle.tl_coherence.proofs.deliveries.DeliverDWhole.{rendered_release_ack}
+use Rattle.tl_coherence.proofs.deliveries.DeliverDAfter.{followed-moving, followed-still}
 use Rattle.tl_coherence.proofs.deliveries.ManagersAfter.{IsAtManager, at-manager}
 use Rattle.tl_coherence.proofs.simulation.Moved.{IsTakenByClient, client-moves}
 use Rattle.tl_coherence.proofs.outstanding.OpenAsks.{balance-asked}
 use Rattle.tl_coherence.proofs.protocol.OpenCounts.{clients_in, sources_in, IsBalance}
 use Rattle.tl_coherence.proofs.outstanding.OpenKinds.{is_ending, is_letting_go, balance-kind}
 use Rattle.tl_coherence.proofs.simulation.Owned.{sources-own}
-use Rattle.tl_coherence.proofs.queues.Standing.{client_below}
+use Rattle.tl_coherence.proofs.queues.QuiescentQueues.{client_below}
 use Rattle.tl_coherence.proofs.manager.RequestsTaken.{next_tracker}
 use Rattle.tl_coherence.proofs.queues.Codes.{access_kind}
 
@@ -130,8 +130,8 @@ manager-kind channel.B k down own = absurd cc
 manager-kind channel.D k down own = absurd cc
 
 -- a GrantAck is one beat
-ack_whole : (w c n : ℕ) (b : Block (List ℕ)) → beats_of (rendered {w = w} GrantAck c n b) ≡ 1
-unfolding rendered
+ack_whole : (w c n : ℕ) (b : Block (List ℕ)) → beats_of (block_message {w = w} GrantAck c n b) ≡ 1
+unfolding block_message
 ack_whole w c n b = refl
 
 one_whole : (k n : ℕ) → n ≡ 1 → k < n → (k + 1 == n) ≡ true
@@ -142,8 +142,8 @@ grant_kind : (b : Bool) → (is_access_answer (grant_opcode b) ≡ false) × (is
 grant_kind true = (refl, refl)
 grant_kind false = (refl, refl)
 
-probe_on_b : (w c n k : ℕ) (b : Block (List ℕ)) → channel_of (beat_of (rendered {w = w} Probe c n b) k) ≡ channel.B
-unfolding rendered
+probe_on_b : (w c n k : ℕ) (b : Block (List ℕ)) → channel_of (beat_of (block_message {w = w} Probe c n b) k) ≡ channel.B
+unfolding block_message
 probe_on_b w c n k b = refl
 
 -- a Probe ends nothing
@@ -165,7 +165,7 @@ probe-ends {w} x e v m of_b answer =
     subst (λ (u : Verdict). Ends (outcome_of x u) false false) (sym (probe-verdict x e v m of_b answer)) (ends.0 ∙ ap is_e of_b, ends.1)
 
 -- the first beat of channel B is one of a Probe
-first-probe : {w : ℕ} (c : ℕ) (h : Shadow w) (sys : System w) (x : Beat w) (queue : List (Beat w)) (first : IsFirst channel.B c h.mail h.state sys x queue)
+first-probe : {w : ℕ} (c : ℕ) (h : AbstractState w) (sys : System w) (x : Beat w) (queue : List (Beat w)) (first : IsFirst channel.B c h.mail h.state sys x queue)
     → (channel_of x ≡ channel.B) × ((is_ending first.kind ≡ false) × (is_letting_go first.kind ≡ false))
 first-probe {w} c h sys x queue first = go first.kind first.own first.next
   where
@@ -202,15 +202,15 @@ first-moved {w} config link ch sys moving = go (terms_at config link.0) refl mov
 
 -- ---- one event
 
-module _ {w : ℕ} (config : Config) (log : Log w) (h : Shadow w) (width : IsWidth w) (matched : IsMatched config log h.mail h.request h.state (after config log)) where
+module _ {w : ℕ} (config : Config) (log : Log w) (h : AbstractState w) (width : IsWidth w) (matched : SimulationRelation config log h.mail h.request h.state (system_after config log)) where
   -- what this event, with this outcome, starts and ends is what is opened and closed
-  abbrev pub IsCounted : Event w → Outcome w → Shadow w → Type 0
+  abbrev pub IsCounted : Event w → Outcome w → AbstractState w → Type 0
   IsCounted event o h' = IsBalance config h.state h'.state (starts_request event o) (ends_request o) (starts_release event o) (ends_release o)
 
   bounds : (c : ℕ) → AreBounded c (sources_in config c) config.trackers h.state
-  bounds c = matched-bounded config log h.mail h.request h.state (after config log) matched c (sources-own config log c width)
+  bounds c = matched-bounded config log h.mail h.request h.state (system_after config log) matched c (sources-own config log c width)
 
-  counted-as : (link : Link) (ch : Channel) (o : Outcome w) (h' : Shadow w) (ends lets : Bool) → Ends o ends lets
+  counted-as : (link : Link) (ch : Channel) (o : Outcome w) (h' : AbstractState w) (ends lets : Bool) → Ends o ends lets
       → IsBalance config h.state h'.state false ends false lets → IsCounted (Deliver link ch) o h'
   counted-as link ch o h' ends lets e b = record {
     requests = ap (λ (x : Bool). open_requests config h'.state + one_if x) e.0 ∙ b.requests;
@@ -221,11 +221,11 @@ module _ {w : ℕ} (config : Config) (log : Log w) (h : Shadow w) (width : IsWid
   unopened = record { requests = refl; releases = refl }
 
   -- the last beat of a message, or another one
-  counted-either : (link : Link) (ch : Channel) (o : Outcome w) (tracker : ℕ) (k : Kind) (i : ℕ) (rest : List Token) (b : Bool) → link.0 < clients_in config
-      → on k (h.state.link link.0) ≡ token k i ∷ rest
+  counted-either : (link : Link) (ch : Channel) (o : Outcome w) (tracker : ℕ) (k : Kind) (i : ℕ) (rest : List Packet) (b : Bool) → link.0 < clients_in config
+      → on k (h.state.link link.0) ≡ packet k i ∷ rest
       → (b ≡ true → Ends o (is_ending k) (is_letting_go k)) → (b ≡ false → Ends o false false) → IsCounted (Deliver link ch) o (if b then kind_taken config tracker link.0 k i rest h else h)
   counted-either link ch o tracker k i rest true few first last part = counted-as link ch o (kind_taken config tracker link.0 k i rest h) (is_ending k)
-      (is_letting_go k) (last refl) (balance-kind config log tracker link.0 k i rest h (after config log) matched few (bounds link.0) first)
+      (is_letting_go k) (last refl) (balance-kind config log tracker link.0 k i rest h (system_after config log) matched few (bounds link.0) first)
   counted-either link ch o tracker k i rest false few first last part = counted-as link ch o h false false (part refl) unopened
 
   -- ---- what the manager takes
@@ -241,8 +241,8 @@ module _ {w : ℕ} (config : Config) (log : Log w) (h : Shadow w) (width : IsWid
   whole_e c Grant n on_it = absurd cc
   whole_e c ReleaseAck n on_it = absurd cc
 
-  part_apart : (ch : Channel) (c : ℕ) (x : Beat w) (queue : List (Beat w)) → IsFirst ch c h.mail h.state (after config log) x queue
-      → completes x (unfinished ch (receiver ch c (after config log))) ≡ false → is_e ch ≡ false
+  part_apart : (ch : Channel) (c : ℕ) (x : Beat w) (queue : List (Beat w)) → IsFirst ch c h.mail h.state (system_after config log) x queue
+      → completes x (unfinished ch (receiver ch c (system_after config log))) ≡ false → is_e ch ≡ false
   part_apart channel.A c x queue first part = refl
   part_apart channel.B c x queue first part = refl
   part_apart channel.C c x queue first part = refl
@@ -253,14 +253,14 @@ module _ {w : ℕ} (config : Config) (log : Log w) (h : Shadow w) (width : IsWid
       absurd (let both : true ≡ false = sym yes ∙ part in cc)
 
   counted-manager : (link : Link) (ch : Channel) (terms : Terms) (x : Beat w) (queue : List (Beat w)) → terms_at config link.0 ≡ Some terms
-      → is_to_client ch ≡ false → (after config log).channels link.0 ch ≡ x ∷ queue
-      → is_moving (stepped config (Deliver link ch) (after config log)).outcome ≡ true
-      → IsCounted (Deliver link ch) (stepped config (Deliver link ch) (after config log)).outcome (followed config (Deliver link ch) (after config log) h)
+      → is_to_client ch ≡ false → (system_after config log).channels link.0 ch ≡ x ∷ queue
+      → is_moving (stepped config (Deliver link ch) (system_after config log)).outcome ≡ true
+      → IsCounted (Deliver link ch) (stepped config (Deliver link ch) (system_after config log)).outcome (abstract_step config (Deliver link ch) (system_after config log) h)
   counted-manager link ch terms x queue known down beats moving =
-      subst (λ (o : Outcome w). IsCounted (Deliver link ch) o (followed config (Deliver link ch) (after config log) h)) (sym (ap (λ (y : Step w). y.outcome) at.step_is))
-      (subst (λ (z : Shadow w). IsCounted (Deliver link ch) (outcome.Moved x) z) (sym at.follows)
-      (counted-either link ch (outcome.Moved x) (next_tracker (after config log)) at.first.kind at.first.number at.first.rest
-      (completes x (unfinished ch (receiver ch link.0 (after config log)))) (client_below config link.0 terms known)
+      subst (λ (o : Outcome w). IsCounted (Deliver link ch) o (abstract_step config (Deliver link ch) (system_after config log) h)) (sym (ap (λ (y : Step w). y.outcome) at.step_is))
+      (subst (λ (z : AbstractState w). IsCounted (Deliver link ch) (outcome.Moved x) z) (sym at.follows)
+      (counted-either link ch (outcome.Moved x) (next_tracker (system_after config log)) at.first.kind at.first.number at.first.rest
+      (completes x (unfinished ch (receiver ch link.0 (system_after config log)))) (client_below config link.0 terms known)
       (on_same ch at.first.kind (h.state.link link.0) at.first.own ∙ at.first.tokens)
       (λ last. (ends.0 ∙ sym kinds.0, ends.1 ∙ sym kinds.1)) (λ part. (ends.0 ∙ part_apart ch link.0 x queue at.first part, ends.1))))
     where
@@ -276,51 +276,51 @@ module _ {w : ℕ} (config : Config) (log : Log w) (h : Shadow w) (width : IsWid
   -- ---- what a client takes
 
   -- the first token of the channel, and what its message ends
-  counted-client : (link : Link) (ch : Channel) (terms : Terms) (x : Beat w) (queue : List (Beat w)) → terms_at config link.0 ≡ Some terms → (after config log).channels link.0 ch ≡ x ∷ queue
-      → is_moving (stepped config (Deliver link ch) (after config log)).outcome ≡ true → (first : IsFirst ch link.0 h.mail h.state (after config log) x queue)
-      → IsTakenByClient terms link.0 ch x queue (after config log) (stepped config (Deliver link ch) (after config log))
-      → ((v : Verdict) (m : Option (Message w)) → (offer.taken x ((after config log).clients link.0)).answer ≡ Ok (v, m)
-      → (completes x (unfinished ch (receiver ch link.0 (after config log))) ≡ true → Ends (outcome_of x v) (is_ending first.kind) (is_letting_go first.kind))
-      × (completes x (unfinished ch (receiver ch link.0 (after config log))) ≡ false → Ends (outcome_of x v) false false))
-      → IsCounted (Deliver link ch) (stepped config (Deliver link ch) (after config log)).outcome (followed config (Deliver link ch) (after config log) h)
+  counted-client : (link : Link) (ch : Channel) (terms : Terms) (x : Beat w) (queue : List (Beat w)) → terms_at config link.0 ≡ Some terms → (system_after config log).channels link.0 ch ≡ x ∷ queue
+      → is_moving (stepped config (Deliver link ch) (system_after config log)).outcome ≡ true → (first : IsFirst ch link.0 h.mail h.state (system_after config log) x queue)
+      → IsTakenByClient terms link.0 ch x queue (system_after config log) (stepped config (Deliver link ch) (system_after config log))
+      → ((v : Verdict) (m : Option (Message w)) → (offer.taken x ((system_after config log).clients link.0)).answer ≡ Ok (v, m)
+      → (completes x (unfinished ch (receiver ch link.0 (system_after config log))) ≡ true → Ends (outcome_of x v) (is_ending first.kind) (is_letting_go first.kind))
+      × (completes x (unfinished ch (receiver ch link.0 (system_after config log))) ≡ false → Ends (outcome_of x v) false false))
+      → IsCounted (Deliver link ch) (stepped config (Deliver link ch) (system_after config log)).outcome (abstract_step config (Deliver link ch) (system_after config log) h)
   counted-client link ch terms x queue known beats moving first t ends =
-      subst (λ (o : Outcome w). IsCounted (Deliver link ch) o (followed config (Deliver link ch) (after config log) h)) (sym (ap (λ (y : Step w). y.outcome) t.step_is))
-      (subst (λ (z : Shadow w). IsCounted (Deliver link ch) (outcome_of x t.verdict_is) z) (sym follows)
-      (counted-either link ch (outcome_of x t.verdict_is) (next_tracker (after config log)) first.kind first.number first.rest done (client_below config link.0 terms known)
+      subst (λ (o : Outcome w). IsCounted (Deliver link ch) o (abstract_step config (Deliver link ch) (system_after config log) h)) (sym (ap (λ (y : Step w). y.outcome) t.step_is))
+      (subst (λ (z : AbstractState w). IsCounted (Deliver link ch) (outcome_of x t.verdict_is) z) (sym follows)
+      (counted-either link ch (outcome_of x t.verdict_is) (next_tracker (system_after config log)) first.kind first.number first.rest done (client_below config link.0 terms known)
       (on_same ch first.kind (h.state.link link.0) first.own ∙ first.tokens) (ends t.verdict_is t.message t.answer).0 (ends t.verdict_is t.message t.answer).1))
     where
       done : Bool
-      done = completes x (unfinished ch (receiver ch link.0 (after config log)))
+      done = completes x (unfinished ch (receiver ch link.0 (system_after config log)))
 
-      follows : followed config (Deliver link ch) (after config log) h ≡ (if done then kind_taken config (next_tracker (after config log)) link.0 first.kind first.number first.rest h else h)
+      follows : abstract_step config (Deliver link ch) (system_after config log) h ≡ (if done then kind_taken config (next_tracker (system_after config log)) link.0 first.kind first.number first.rest h else h)
       follows =
-          followed-moving config link ch (after config log) h x queue moving beats
-          ∙ ap (λ (l : List Token). if done then token_taken config (next_tracker (after config log)) link.0 l h else h) first.tokens
+          followed-moving config link ch (system_after config log) h x queue moving beats
+          ∙ ap (λ (l : List Packet). if done then packet_taken config (next_tracker (system_after config log)) link.0 l h else h) first.tokens
 
-  counted-b : (link : Link) (terms : Terms) (x : Beat w) (queue : List (Beat w)) → terms_at config link.0 ≡ Some terms → (after config log).channels link.0 channel.B ≡ x ∷ queue
-      → is_moving (stepped config (Deliver link channel.B) (after config log)).outcome ≡ true
-      → IsCounted (Deliver link channel.B) (stepped config (Deliver link channel.B) (after config log)).outcome
-      (followed config (Deliver link channel.B) (after config log) h)
+  counted-b : (link : Link) (terms : Terms) (x : Beat w) (queue : List (Beat w)) → terms_at config link.0 ≡ Some terms → (system_after config log).channels link.0 channel.B ≡ x ∷ queue
+      → is_moving (stepped config (Deliver link channel.B) (system_after config log)).outcome ≡ true
+      → IsCounted (Deliver link channel.B) (stepped config (Deliver link channel.B) (system_after config log)).outcome
+      (abstract_step config (Deliver link channel.B) (system_after config log) h)
   counted-b link terms x queue known beats moving =
-      counted-client link channel.B terms x queue known beats moving first (client-moves config link channel.B (after config log) terms x queue known beats refl moving) (λ v m answer.
-      let none = probe-ends x ((after config log).clients link.0) v m probe.0 answer in
+      counted-client link channel.B terms x queue known beats moving first (client-moves config link channel.B (system_after config log) terms x queue known beats refl moving) (λ v m answer.
+      let none = probe-ends x ((system_after config log).clients link.0) v m probe.0 answer in
       (λ last. (none.0 ∙ sym probe.1.0, none.1 ∙ sym probe.1.1), λ part. none))
     where
-      first : IsFirst channel.B link.0 h.mail h.state (after config log) x queue
-      first = first-token (is_caching config) channel.B link.0 h.mail h.state (after config log) x queue width matched.invariant matched.carried beats
+      first : IsFirst channel.B link.0 h.mail h.state (system_after config log) x queue
+      first = first-token (is_caching config) channel.B link.0 h.mail h.state (system_after config log) x queue width matched.invariant matched.carried beats
 
       probe : (channel_of x ≡ channel.B) × ((is_ending first.kind ≡ false) × (is_letting_go first.kind ≡ false))
-      probe = first-probe link.0 h (after config log) x queue first
+      probe = first-probe link.0 h (system_after config log) x queue first
 
   -- a response, by the opcode of its message
   response-ends : (c : ℕ) (k : Kind) (mm : MessageD w) (i : ℕ) (x : Beat w) → x ≡ beat.D (d_beat_of mm i) → is_access_answer mm.opcode ≡ is_ending k → is_release_ack mm.opcode ≡ is_letting_go k
-      → (v : Verdict) (m : Option (Message w)) → (offer.taken x ((after config log).clients c)).answer ≡ Ok (v, m)
-      → (completes x (unfinished channel.D ((after config log).clients c).past) ≡ true → Ends (outcome_of x v) (is_ending k) (is_letting_go k))
-      × (completes x (unfinished channel.D ((after config log).clients c).past) ≡ false → Ends (outcome_of x v) false false)
+      → (v : Verdict) (m : Option (Message w)) → (offer.taken x ((system_after config log).clients c)).answer ≡ Ok (v, m)
+      → (completes x (unfinished channel.D ((system_after config log).clients c).past) ≡ true → Ends (outcome_of x v) (is_ending k) (is_letting_go k))
+      × (completes x (unfinished channel.D ((system_after config log).clients c).past) ≡ false → Ends (outcome_of x v) false false)
   response-ends c k mm i x x_is access ack v m answer = (last, part)
     where
       e : client.End w
-      e = (after config log).clients c
+      e = (system_after config log).clients c
 
       y : BeatD w
       y = d_beat_of mm i
@@ -341,27 +341,27 @@ module _ {w : ℕ} (config : Config) (log : Log w) (h : Shadow w) (width : IsWid
           let ends = moved-ends x in
           subst (λ (u : Verdict). Ends (outcome_of x u) false false) (sym same) (ends.0 ∙ ap (λ (z : Beat w). is_e (channel_of z)) x_is, ends.1)
 
-  counted-d : (link : Link) (terms : Terms) (x : Beat w) (queue : List (Beat w)) → terms_at config link.0 ≡ Some terms → (after config log).channels link.0 channel.D ≡ x ∷ queue
-      → is_moving (stepped config (Deliver link channel.D) (after config log)).outcome ≡ true
-      → IsCounted (Deliver link channel.D) (stepped config (Deliver link channel.D) (after config log)).outcome
-      (followed config (Deliver link channel.D) (after config log) h)
+  counted-d : (link : Link) (terms : Terms) (x : Beat w) (queue : List (Beat w)) → terms_at config link.0 ≡ Some terms → (system_after config log).channels link.0 channel.D ≡ x ∷ queue
+      → is_moving (stepped config (Deliver link channel.D) (system_after config log)).outcome ≡ true
+      → IsCounted (Deliver link channel.D) (stepped config (Deliver link channel.D) (system_after config log)).outcome
+      (abstract_step config (Deliver link channel.D) (system_after config log) h)
   counted-d link terms x queue known beats moving =
       counted-client link channel.D terms x queue known beats moving first
-      (client-moves config link channel.D (after config log) terms x queue known beats refl moving) (kinds first.kind first.tokens first.own first.next)
+      (client-moves config link channel.D (system_after config log) terms x queue known beats refl moving) (kinds first.kind first.tokens first.own first.next)
     where
       c : ℕ
       c = link.0
 
-      first : IsFirst channel.D c h.mail h.state (after config log) x queue
-      first = first-token (is_caching config) channel.D c h.mail h.state (after config log) x queue width matched.invariant matched.carried beats
+      first : IsFirst channel.D c h.mail h.state (system_after config log) x queue
+      first = first-token (is_caching config) channel.D c h.mail h.state (system_after config log) x queue width matched.invariant matched.carried beats
 
       Here : Kind → Type 0
-      Here k = (v : Verdict) (m : Option (Message w)) → (offer.taken x ((after config log).clients c)).answer ≡ Ok (v, m)
-          → (completes x (unfinished channel.D ((after config log).clients c).past) ≡ true → Ends (outcome_of x v) (is_ending k) (is_letting_go k))
-          × (completes x (unfinished channel.D ((after config log).clients c).past) ≡ false → Ends (outcome_of x v) false false)
+      Here k = (v : Verdict) (m : Option (Message w)) → (offer.taken x ((system_after config log).clients c)).answer ≡ Ok (v, m)
+          → (completes x (unfinished channel.D ((system_after config log).clients c).past) ≡ true → Ends (outcome_of x v) (is_ending k) (is_letting_go k))
+          × (completes x (unfinished channel.D ((system_after config log).clients c).past) ≡ false → Ends (outcome_of x v) false false)
 
-      kinds : (k : Kind) → (h.state.link c).d ≡ token k first.number ∷ first.rest → is_on channel.D k ≡ true
-          → IsNext x (unfinished channel.D (receiver channel.D c (after config log))) (message_of_kind k h.mail h.state c first.number) (map (message_of h.mail h.state c) first.rest) queue → Here k
+      kinds : (k : Kind) → (h.state.link c).d ≡ packet k first.number ∷ first.rest → is_on channel.D k ≡ true
+          → IsNext x (unfinished channel.D (receiver channel.D c (system_after config log))) (message_of_kind k h.mail h.state c first.number) (map (message_of h.mail h.state c) first.rest) queue → Here k
       kinds Answer tokens own next =
           let due = answer-due (is_caching config) c first.number first.rest h.mail h.state matched.invariant (matched.answered c first.number) tokens in
           response-ends c Answer due.answer next.k x (next.beat_is ∙ ap (λ (m : Message w). beat_of m next.k) due.answer_is) due.answers_access (access_kind due.answer.opcode due.answers_access).1
@@ -381,17 +381,17 @@ module _ {w : ℕ} (config : Config) (log : Log w) (h : Shadow w) (width : IsWid
 
   -- ---- any event
 
-  counted-delivery : (link : Link) (ch : Channel) (b : Bool) → is_moving (stepped config (Deliver link ch) (after config log)).outcome ≡ b
-      → IsCounted (Deliver link ch) (stepped config (Deliver link ch) (after config log)).outcome (followed config (Deliver link ch) (after config log) h)
+  counted-delivery : (link : Link) (ch : Channel) (b : Bool) → is_moving (stepped config (Deliver link ch) (system_after config log)).outcome ≡ b
+      → IsCounted (Deliver link ch) (stepped config (Deliver link ch) (system_after config log)).outcome (abstract_step config (Deliver link ch) (system_after config log) h)
   counted-delivery link ch false still =
-      subst (λ (z : Shadow w). IsCounted (Deliver link ch) (stepped config (Deliver link ch) (after config log)).outcome z) (sym (followed-still config link ch (after config log) h still))
-      (counted-as link ch (stepped config (Deliver link ch) (after config log)).outcome h false false (still-ends (stepped config (Deliver link ch) (after config log)).outcome still) unopened)
-  counted-delivery link ch true moving = go ch (first-moved config link ch (after config log) moving) moving
+      subst (λ (z : AbstractState w). IsCounted (Deliver link ch) (stepped config (Deliver link ch) (system_after config log)).outcome z) (sym (followed-still config link ch (system_after config log) h still))
+      (counted-as link ch (stepped config (Deliver link ch) (system_after config log)).outcome h false false (still-ends (stepped config (Deliver link ch) (system_after config log)).outcome still) unopened)
+  counted-delivery link ch true moving = go ch (first-moved config link ch (system_after config log) moving) moving
     where
       go : (i : Channel) → ((x : Beat w) × (queue : List (Beat w)) × (terms : Terms)
-          × (((after config log).channels link.0 i ≡ x ∷ queue) × (terms_at config link.0 ≡ Some terms)))
-          → is_moving (stepped config (Deliver link i) (after config log)).outcome ≡ true
-          → IsCounted (Deliver link i) (stepped config (Deliver link i) (after config log)).outcome (followed config (Deliver link i) (after config log) h)
+          × (((system_after config log).channels link.0 i ≡ x ∷ queue) × (terms_at config link.0 ≡ Some terms)))
+          → is_moving (stepped config (Deliver link i) (system_after config log)).outcome ≡ true
+          → IsCounted (Deliver link i) (stepped config (Deliver link i) (system_after config log)).outcome (abstract_step config (Deliver link i) (system_after config log) h)
       go channel.A p m = counted-manager link channel.A p.2 p.0 p.1 p.3.1 refl p.3.0 m
       go channel.B p m = counted-b link p.2 p.0 p.1 p.3.1 p.3.0 m
       go channel.C p m = counted-manager link channel.C p.2 p.0 p.1 p.3.1 refl p.3.0 m
@@ -399,12 +399,12 @@ module _ {w : ℕ} (config : Config) (log : Log w) (h : Shadow w) (width : IsWid
       go channel.E p m = counted-manager link channel.E p.2 p.0 p.1 p.3.1 refl p.3.0 m
 
   -- What an event starts and ends is what it opens and closes.
-  pub counted-followed : (event : Event w) → IsCounted event (stepped config event (after config log)).outcome (followed config event (after config log) h)
+  pub counted-followed : (event : Event w) → IsCounted event (stepped config event (system_after config log)).outcome (abstract_step config event (system_after config log) h)
   unfolding stepped
-  counted-followed (Deliver link ch) = counted-delivery link ch (is_moving (stepped config (Deliver link ch) (after config log)).outcome) refl
+  counted-followed (Deliver link ch) = counted-delivery link ch (is_moving (stepped config (Deliver link ch) (system_after config log)).outcome) refl
   counted-followed (Ask c o) = go (terms_at config c) refl
     where
-      go : (t : Option Terms) → terms_at config c ≡ t → IsCounted (Ask c o) (stepped_at config t (Ask c o) (after config log)).outcome
-          (followed_by config (Ask c o) (stepped_at config t (Ask c o) (after config log)).outcome (after config log) h)
+      go : (t : Option Terms) → terms_at config c ≡ t → IsCounted (Ask c o) (stepped_at config t (Ask c o) (system_after config log)).outcome
+          (abstract_step_by config (Ask c o) (stepped_at config t (Ask c o) (system_after config log)).outcome (system_after config log) h)
       go None e = record { requests = refl; releases = refl }
-      go (Some terms) e = balance-asked config log h (after config log) terms c o matched e (client_below config c terms e)
+      go (Some terms) e = balance-asked config log h (system_after config log) terms c o matched e (client_below config c terms e)

@@ -8,14 +8,14 @@ use Rattle.tl_params.specs.declared.config.Config.{Config}
 use Rattle.tl_params.specs.statement.Config.{config_fault, blocks_fit, trackers_fit, all_sources_fit}
 use Rattle.tl_params.specs.statement.Range.{is_from_to}
 use Rattle.tl_coherence.specs.declared.event.Outcome.{Outcome}
-use Rattle.tl_coherence.specs.refinement.Follow.{followed}
+use Rattle.tl_coherence.specs.refinement.AbstractStep.{abstract_step}
 use Rattle.tl_coherence.specs.statement.Headline.{AreTyped, IsGiven}
 use Rattle.tl_coherence.specs.statement.Load.{outstanding}
-use Rattle.tl_coherence.specs.statement.Log.{Log, IsLog, after}
+use Rattle.tl_coherence.specs.statement.Log.{Log, IsLog, system_after}
 use Rattle.tl_coherence.specs.statement.Movable.{next_delivery}
 use Rattle.tl_coherence.proofs.outstanding.Counted.{AreCounted, counted-first, counted-next}
-use Rattle.tl_coherence.proofs.links.Firsts.{first-of}
-use Rattle.tl_coherence.proofs.links.Given.{coherent, matched-given}
+use Rattle.tl_coherence.proofs.links.HeadsOfLinks.{first-of}
+use Rattle.tl_coherence.proofs.links.FromInvariant.{coherent, matched-given}
 use Rattle.tl_coherence.proofs.deliveries.Matching.{shadow, matched}
 use Rattle.tl_coherence.proofs.outstanding.Movement.{next-while-outstanding}
 use Rattle.tl_coherence.proofs.queues.Limits.{limits-fit}
@@ -25,7 +25,7 @@ pub counted : {w : ℕ} (config : Config) (log : Log w) → IsWidth w → AreTyp
 unfolding shadow AreTyped IsLog
 counted config [] width typed is = counted-first config
 counted {w} config (x ∷ log) width typed is =
-    subst (λ (o : Outcome w). AreCounted config ((x.0, o) ∷ log) (followed config x.0 (after config log) (shadow config log)).state) (sym is.0)
+    subst (λ (o : Outcome w). AreCounted config ((x.0, o) ∷ log) (abstract_step config x.0 (system_after config log) (shadow config log)).state) (sym is.0)
     (counted-next config log (shadow config log) x.0 width (matched config log width typed.1 is.1) (counted config log width typed.1 is.1))
 
 -- a configuration without a fault has a tracker
@@ -37,7 +37,7 @@ tracked config e = some_tracker config.trackers (limits-fit (is_from_to 1 16 (le
     (trackers_fit config.trackers) (all_sources_fit config.clients.items) e).2
 
 -- a delivery is next exactly while something is outstanding
-pub moving : {w : ℕ} (config : Config) (log : Log w) → IsGiven config log → is_none (next_delivery config (after config log)) ≡ (outstanding log == 0)
+pub moving : {w : ℕ} (config : Config) (log : Log w) → IsGiven config log → is_none (next_delivery config (system_after config log)) ≡ (outstanding log == 0)
 moving config log given =
     next-while-outstanding config log (shadow config log).mail (shadow config log).request (shadow config log).state (matched-given config log given)
     (coherent config log given) (tracked config given.fits)

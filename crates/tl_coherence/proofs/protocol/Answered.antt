@@ -5,8 +5,8 @@ use Rattle.tl_beat.specs.declared.channel.Channel.{Channel}
 use Rattle.tl_beat.specs.declared.channel.Channel.TheVariants as channel
 use Rattle.tl_params.specs.declared.perm.Perm.TheVariants as perm
 use Rattle.tl_rules.specs.statement.Conformance.{same_perm}
-use Rattle.tl_coherence.specs.protocol.Token.{Kind, Request, Acquire, Probe, ProbeAck, Release, Answer, Grant, ReleaseAck, GrantAck, Token, set}
-use Rattle.tl_coherence.specs.protocol.Protocol.{Block, State, Link, Closed, Asked, Replied, view, token, shown, is_transfer, performed_block, answered_link, access_answered, answer_taken}
+use Rattle.tl_coherence.specs.protocol.Packet.{Kind, Request, Acquire, Probe, ProbeAck, Release, Answer, Grant, ReleaseAck, GrantAck, Packet, set}
+use Rattle.tl_coherence.specs.protocol.Protocol.{Block, State, Link, SourceFree, Asked, Replied, view, packet, shown, is_transfer, performed_block, answered_link, access_answered, answer_taken}
 use Rattle.tl_coherence.specs.refinement.Move.{Move, Stays, Pushes, Pops, AreMoved, is_own_move, channel_for}
 use Rattle.tl_coherence.specs.protocol.Invariant.{is_of, acquires_of, serves_of, acquires_with, serves_with, releases_with, tracks_with, IsWell, IsInvariant}
 use Rattle.tl_coherence.proofs.queues.Moves.{moves_at, event-at, bare-elsewhere, spares, spared-agrees, invariant-moved_access, names-block, names-set_at, invariant-moved_use}
@@ -57,7 +57,7 @@ answer_spared source Grant t = refl
 answer_spared source ReleaseAck t = refl
 answer_spared source GrantAck t = refl
 
-pub access_answered-kept : {X : Type 0} (caching : ℕ → Bool) (c n source : ℕ) (f : X → X) (rest : List Token) (s : State X) → IsInvariant caching s → (s.link c).a ≡ token Request source ∷ rest
+pub access_answered-kept : {X : Type 0} (caching : ℕ → Bool) (c n source : ℕ) (f : X → X) (rest : List Packet) (s : State X) → IsInvariant caching s → (s.link c).a ≡ packet Request source ∷ rest
     → s.uses c source ≡ Asked
     → Spares f (s.block n) → IsInvariant caching (access_answered c n source f rest s)
 access_answered-kept {X} caching c n source f rest s inv first asked spared =
@@ -84,7 +84,7 @@ access_answered-kept {X} caching c n source f rest s inv first asked spared =
     new = performed_block f (s.block n)
 
     here : Link
-    here = answered_link (token Answer source) rest (s.link c)
+    here = answered_link (packet Answer source) rest (s.link c)
 
     moved : AreMoved (answer_moves source) (s.link c) here
     moved channel.A = first
@@ -116,10 +116,10 @@ done_spared source Grant t = refl
 done_spared source ReleaseAck t = refl
 done_spared source GrantAck t = refl
 
-pub answer_taken-kept : {X : Type 0} (caching : ℕ → Bool) (c source : ℕ) (rest : List Token) (s : State X) → IsInvariant caching s → (s.link c).d ≡ token Answer source ∷ rest
+pub answer_taken-kept : {X : Type 0} (caching : ℕ → Bool) (c source : ℕ) (rest : List Packet) (s : State X) → IsInvariant caching s → (s.link c).d ≡ packet Answer source ∷ rest
     → s.uses c source ≡ Replied
     → IsInvariant caching (answer_taken c source rest s)
-answer_taken-kept caching c source rest s inv first replied = invariant-moved_access caching c source Closed here (done_moves source) s inv (record {
+answer_taken-kept caching c source rest s inv first replied = invariant-moved_access caching c source SourceFree here (done_moves source) s inv (record {
   moved = moved;
   own = own;
   spared = done_spared source;

@@ -11,10 +11,10 @@ use Rattle.tl_params.specs.declared.perm.Perm.{Perm}
 use Rattle.tl_params.specs.declared.perm.Perm.TheVariants as perm
 use Rattle.tl_params.specs.statement.Param.{prune_left}
 use Rattle.tl_rules.specs.statement.Conformance.{same_perm}
-use Rattle.tl_coherence.specs.protocol.Phase.{Pair, View, Own, Kept, Calm, Wants, is_calm, is_quiet, grow_fits}
+use Rattle.tl_coherence.specs.protocol.Phase.{ClientBlock, View, Own, NoRelease, NoAcquire, AcquireOpen, is_unacquired, is_unprobed, grow_fits}
 use Rattle.tl_coherence.specs.protocol.PhaseSteps.{after_acquire, after_release}
-use Rattle.tl_coherence.specs.protocol.Token.{Kind, Request, Acquire, Probe, ProbeAck, Release, Answer, Grant, ReleaseAck, GrantAck, set, set_at}
-use Rattle.tl_coherence.specs.protocol.Protocol.{Block, State, Link, Closed, Asked, Acquires, view, token, shows, shown, is_transfer, is_wanting, is_unserved, is_sent}
+use Rattle.tl_coherence.specs.protocol.Packet.{Kind, Request, Acquire, Probe, ProbeAck, Release, Answer, Grant, ReleaseAck, GrantAck, set, set_at}
+use Rattle.tl_coherence.specs.protocol.Protocol.{Block, State, Link, SourceFree, Asked, Acquires, view, packet, shows, shown, is_transfer, is_wanting, is_unserved, is_sent}
 use Rattle.tl_coherence.specs.protocol.Protocol.{is_answered, is_releasing, is_acked, is_granting, is_acknowledging, with_a, with_c, acquiring_block, releasing_block}
 use Rattle.tl_coherence.specs.protocol.Protocol.{stored_block, access_asked, acquire_asked, release_asked, block_stored}
 use Rattle.tl_coherence.specs.refinement.Move.{Move, Stays, Pushes, AreMoved, agrees, is_own_move, channel_for}
@@ -29,19 +29,19 @@ use Rattle.tl_coherence.proofs.queues.Perms.{nothing_below}
 
 -- ---- blocks
 
-pub acquiring-block : {X : Type 0} (caching : ℕ → Bool) (c source : ℕ) (whole : Bool) (g : Grow) (bytes : X) (b : Block X) → IsWell caching b → caching c ≡ true → (b.pair c).acquiring ≡ Calm
-    → (b.pair c).letting ≡ Kept
-    → grow_fits (b.pair c).held (Wants whole g) ≡ true → IsWell caching (acquiring_block c source whole g bytes b)
+pub acquiring-block : {X : Type 0} (caching : ℕ → Bool) (c source : ℕ) (whole : Bool) (g : Grow) (bytes : X) (b : Block X) → IsWell caching b → caching c ≡ true → (b.pair c).acquiring ≡ NoAcquire
+    → (b.pair c).letting ≡ NoRelease
+    → grow_fits (b.pair c).held (AcquireOpen whole g) ≡ true → IsWell caching (acquiring_block c source whole g bytes b)
 acquiring-block caching c source whole g bytes b h inside calm kept fits =
-    let after : Pair = after_acquire whole g (b.pair c) in
-    let held_same = set-part (λ (p : Pair). p.held) c after b.pair refl in
-    let recorded_same = set-part (λ (p : Pair). p.recorded) c after b.pair refl in
+    let after : ClientBlock = after_acquire whole g (b.pair c) in
+    let held_same = set-part (λ (p : ClientBlock). p.held) c after b.pair refl in
+    let recorded_same = set-part (λ (p : ClientBlock). p.recorded) c after b.pair refl in
     record {
       phases = λ d. elim (cases_eq d c) [
         | inl same ↦ rw (same, set-same c after b.pair) (acquire-ok whole g (b.pair c) (view b.service c) (h.phases c) calm kept fits)
         | inr other ↦ rw (set-other c d after b.pair other) (h.phases d)
       ];
-      awaited = awaited-same b.service b.pair (set c after b.pair) (set-part (λ (p : Pair). is_quiet p.probing) c after b.pair refl) h.awaited;
+      awaited = awaited-same b.service b.pair (set c after b.pair) (set-part (λ (p : ClientBlock). is_unprobed p.probing) c after b.pair refl) h.awaited;
       asked_cap = asked_cap-other b.service c after b.pair (λ e. not_own e) h.asked_cap;
       own_source = own_source-other b.service c source b.source (λ e. not_own e) h.own_source;
       alone = alone-set c after b.pair (gentle-same (b.pair c) after refl refl) h.alone;
@@ -52,7 +52,7 @@ acquiring-block caching c source whole g bytes b h inside calm kept fits =
     }
   where
     not_own : view b.service c ≡ Own → ⊥
-    not_own e = let f : not (is_calm (b.pair c).acquiring) ≡ true = own_wants (b.pair c) (view b.service c) (h.phases c) e in let g : false ≡ true = rw calm at f in absurd cc
+    not_own e = let f : not (is_unacquired (b.pair c).acquiring) ≡ true = own_wants (b.pair c) (view b.service c) (h.phases c) e in let g : false ≡ true = rw calm at f in absurd cc
 
 -- what is given up was held
 left_some : (r : Prune) (p : Perm) → same_perm p (prune_left r) ≡ true → same_perm p perm.None ≡ false
@@ -62,18 +62,18 @@ left_some prune.BtoN perm.None e = absurd cc
 left_some r perm.Branch e = refl
 left_some r perm.Trunk e = refl
 
-pub releasing-block : {X : Type 0} (caching : ℕ → Bool) (c source : ℕ) (r : Prune) (b : Block X) → IsWell caching b → caching c ≡ true → (b.pair c).acquiring ≡ Calm → (b.pair c).letting ≡ Kept
+pub releasing-block : {X : Type 0} (caching : ℕ → Bool) (c source : ℕ) (r : Prune) (b : Block X) → IsWell caching b → caching c ≡ true → (b.pair c).acquiring ≡ NoAcquire → (b.pair c).letting ≡ NoRelease
     → same_perm (b.pair c).held (prune_left r) ≡ true → IsWell caching (releasing_block c source r b)
 releasing-block caching c source r b h inside calm kept fits =
-    let after : Pair = after_release r (b.pair c) in
-    let recorded_same = set-part (λ (p : Pair). p.recorded) c after b.pair refl in
+    let after : ClientBlock = after_release r (b.pair c) in
+    let recorded_same = set-part (λ (p : ClientBlock). p.recorded) c after b.pair refl in
     record {
       phases = λ d. elim (cases_eq d c) [
         | inl same ↦ rw (same, set-same c after b.pair) (release-ok r (b.pair c) (view b.service c) (h.phases c) calm kept fits)
         | inr other ↦ rw (set-other c d after b.pair other) (h.phases d)
       ];
-      awaited = awaited-same b.service b.pair (set c after b.pair) (set-part (λ (p : Pair). is_quiet p.probing) c after b.pair refl) h.awaited;
-      asked_cap = asked_cap-same b.service b.pair (set c after b.pair) (set-part (λ (p : Pair). p.acquiring) c after b.pair refl) h.asked_cap;
+      awaited = awaited-same b.service b.pair (set c after b.pair) (set-part (λ (p : ClientBlock). is_unprobed p.probing) c after b.pair refl) h.awaited;
+      asked_cap = asked_cap-same b.service b.pair (set c after b.pair) (set-part (λ (p : ClientBlock). p.acquiring) c after b.pair refl) h.asked_cap;
       own_source = h.own_source;
       alone = alone-set c after b.pair (gentle-same (b.pair c) after refl refl) h.alone;
       one_owner = owned-set c after b.pair (gentle-same (b.pair c) after refl refl) h.one_owner;
@@ -126,8 +126,8 @@ access_spared source Grant t = refl
 access_spared source ReleaseAck t = refl
 access_spared source GrantAck t = refl
 
-pub access_asked-kept : {X : Type 0} (caching : ℕ → Bool) (c source : ℕ) (s : State X) → IsInvariant caching s → s.uses c source ≡ Closed → IsInvariant caching (access_asked c source s)
-access_asked-kept caching c source s inv closed = invariant-moved_access caching c source Asked (with_a (token Request source) (s.link c)) (access_moves source) s inv (record {
+pub access_asked-kept : {X : Type 0} (caching : ℕ → Bool) (c source : ℕ) (s : State X) → IsInvariant caching s → s.uses c source ≡ SourceFree → IsInvariant caching (access_asked c source s)
+access_asked-kept caching c source s inv closed = invariant-moved_access caching c source Asked (with_a (packet Request source) (s.link c)) (access_moves source) s inv (record {
   moved = moved;
   own = own;
   spared = access_spared source;
@@ -138,7 +138,7 @@ access_asked-kept caching c source s inv closed = invariant-moved_access caching
   serves = λ m. rw closed refl;
 })
   where
-    moved : AreMoved (access_moves source) (s.link c) (with_a (token Request source) (s.link c))
+    moved : AreMoved (access_moves source) (s.link c) (with_a (packet Request source) (s.link c))
     moved channel.A = refl
     moved channel.B = refl
     moved channel.C = refl
@@ -158,7 +158,7 @@ acquire_moves n channel.A = Pushes Acquire n
 acquire_moves n _ = Stays
 
 -- the client's Acquire isn't served before it is open
-acquire_shows : (n : ℕ) (k : Kind) (whole : Bool) (g : Grow) (p : Pair) (v : View) → is_transfer k ≡ true → p.acquiring ≡ Calm → is_unserved v ≡ true
+acquire_shows : (n : ℕ) (k : Kind) (whole : Bool) (g : Grow) (p : ClientBlock) (v : View) → is_transfer k ≡ true → p.acquiring ≡ NoAcquire → is_unserved v ≡ true
     → agrees (acquire_moves n (channel_for k)) k n (shows k p v) (shows k (after_acquire whole g p) v) ≡ true
 acquire_shows n Request whole g p v t calm out = absurd cc
 acquire_shows n Answer whole g p v t calm out = absurd cc
@@ -170,8 +170,8 @@ acquire_shows n Grant whole g p v t calm out = same_again (is_granting v)
 acquire_shows n ReleaseAck whole g p v t calm out = same_again (is_acked p.letting)
 acquire_shows n GrantAck whole g p v t calm out = same_again (is_acknowledging v)
 
-pub acquire_asked-kept : {X : Type 0} (caching : ℕ → Bool) (c n source : ℕ) (whole : Bool) (g : Grow) (bytes : X) (s : State X) → IsInvariant caching s → caching c ≡ true → s.uses c source ≡ Closed
-    → ((s.block n).pair c).acquiring ≡ Calm → ((s.block n).pair c).letting ≡ Kept → grow_fits ((s.block n).pair c).held (Wants whole g) ≡ true
+pub acquire_asked-kept : {X : Type 0} (caching : ℕ → Bool) (c n source : ℕ) (whole : Bool) (g : Grow) (bytes : X) (s : State X) → IsInvariant caching s → caching c ≡ true → s.uses c source ≡ SourceFree
+    → ((s.block n).pair c).acquiring ≡ NoAcquire → ((s.block n).pair c).letting ≡ NoRelease → grow_fits ((s.block n).pair c).held (AcquireOpen whole g) ≡ true
     → IsInvariant caching (acquire_asked c n source whole g bytes s)
 acquire_asked-kept {X} caching c n source whole g bytes s inv inside closed calm kept fits =
     invariant-moved_use caching n new (set c here s.link) (moves_at c (acquire_moves n)) c source (Acquires n) s.tracked s inv
@@ -181,7 +181,7 @@ acquire_asked-kept {X} caching c n source whole g bytes s inv inside closed calm
       own = own;
       fits = λ k t. rw (set-same c after old) (acquire_shows n k whole g (old c) (view (s.block n).service c) t calm
           (unserved_calm (old c) (view (s.block n).service c) ((inv.blocks n).phases c) calm));
-      others = λ d ne k t. ap (λ (p : Pair). shows k p (view (s.block n).service d)) (set-other c d after old ne);
+      others = λ d ne k t. ap (λ (p : ClientBlock). shows k p (view (s.block n).service d)) (set-other c d after old ne);
       in_order = λ m e. absurd (let f : Stays ≡ Pushes ProbeAck m = e in cc);
     }))
     (rw (same_number c, closed) refl) (rw (same_number c, closed) refl) (bare-elsewhere c (acquire_moves n))
@@ -192,21 +192,21 @@ acquire_asked-kept {X} caching c n source whole g bytes s inv inside closed calm
           (λ d i ne. rw (set-other c d after old ne, set-other c d source (s.block n).source ne) refl) inv.named.acquires;
       serves = names-set_at serves_of serves_with c source (Acquires n) s.uses n new s.block (rw closed at (inv.named.serves c source n))
           (λ m ne. rw closed refl) (λ i ne. refl) (λ d i ne. refl) inv.named.serves;
-      releases = λ d. names-block is_of (releases_with d) (s.lets d) n new s.block (λ i. rw (set-part (λ (p : Pair). p.letting) c after old refl d) refl) (inv.named.releases d);
+      releases = λ d. names-block is_of (releases_with d) (s.lets d) n new s.block (λ i. rw (set-part (λ (p : ClientBlock). p.letting) c after old refl d) refl) (inv.named.releases d);
       trackers = names-block is_of tracks_with s.tracked n new s.block (λ i. refl) inv.named.trackers;
     })
   where
-    old : ℕ → Pair
+    old : ℕ → ClientBlock
     old = (s.block n).pair
 
-    after : Pair
+    after : ClientBlock
     after = after_acquire whole g (old c)
 
     new : Block X
     new = acquiring_block c source whole g bytes (s.block n)
 
     here : Link
-    here = with_a (token Acquire n) (s.link c)
+    here = with_a (packet Acquire n) (s.link c)
 
     moved : AreMoved (acquire_moves n) (s.link c) here
     moved channel.A = refl
@@ -227,7 +227,7 @@ abbrev pub release_moves : ℕ → Channel → Move
 release_moves n channel.C = Pushes Release n
 release_moves n _ = Stays
 
-release_shows : (n : ℕ) (k : Kind) (r : Prune) (p : Pair) (v : View) → is_transfer k ≡ true → p.letting ≡ Kept
+release_shows : (n : ℕ) (k : Kind) (r : Prune) (p : ClientBlock) (v : View) → is_transfer k ≡ true → p.letting ≡ NoRelease
     → agrees (release_moves n (channel_for k)) k n (shows k p v) (shows k (after_release r p) v) ≡ true
 release_shows n Request r p v t kept = absurd cc
 release_shows n Answer r p v t kept = absurd cc
@@ -240,7 +240,7 @@ release_shows n ReleaseAck r p v t kept = rw kept refl
 release_shows n GrantAck r p v t kept = same_again (is_acknowledging v)
 
 pub release_asked-kept : {X : Type 0} (caching : ℕ → Bool) (c n source : ℕ) (r : Prune) (s : State X) → IsInvariant caching s → caching c ≡ true → s.lets c source ≡ None
-    → ((s.block n).pair c).acquiring ≡ Calm → ((s.block n).pair c).letting ≡ Kept → same_perm ((s.block n).pair c).held (prune_left r) ≡ true → IsInvariant caching (release_asked c n source r s)
+    → ((s.block n).pair c).acquiring ≡ NoAcquire → ((s.block n).pair c).letting ≡ NoRelease → same_perm ((s.block n).pair c).held (prune_left r) ≡ true → IsInvariant caching (release_asked c n source r s)
 release_asked-kept {X} caching c n source r s inv inside closed calm kept fits =
     invariant-moved caching n new (set c here s.link) (moves_at c (release_moves n)) (set_at c source (Some n) s.lets) s.tracked s inv
     (event-at caching c n new here (release_moves n) s (record {
@@ -248,12 +248,12 @@ release_asked-kept {X} caching c n source r s inv inside closed calm kept fits =
       moved = moved;
       own = own;
       fits = λ k t. rw (set-same c after old) (release_shows n k r (old c) (view (s.block n).service c) t kept);
-      others = λ d ne k t. ap (λ (p : Pair). shows k p (view (s.block n).service d)) (set-other c d after old ne);
+      others = λ d ne k t. ap (λ (p : ClientBlock). shows k p (view (s.block n).service d)) (set-other c d after old ne);
       in_order = λ m e. absurd (let f : Pushes Release n ≡ Pushes ProbeAck m = e in cc);
     }))
     (bare-at c (release_moves n) refl refl)
     (record {
-      acquires = λ d. names-block acquires_of (acquires_with d) (s.uses d) n new s.block (λ i. rw (set-part (λ (p : Pair). p.acquiring) c after old refl d) refl) (inv.named.acquires d);
+      acquires = λ d. names-block acquires_of (acquires_with d) (s.uses d) n new s.block (λ i. rw (set-part (λ (p : ClientBlock). p.acquiring) c after old refl d) refl) (inv.named.acquires d);
       serves = λ d. names-block serves_of (serves_with d) (s.uses d) n new s.block (λ i. refl) (inv.named.serves d);
       releases = names-set_at is_of releases_with c source (Some n) s.lets n new s.block
           (rw (same_number n, set-same c after old, set-same c source (s.block n).release_source, same_number source) refl)
@@ -262,17 +262,17 @@ release_asked-kept {X} caching c n source r s inv inside closed calm kept fits =
       trackers = names-block is_of tracks_with s.tracked n new s.block (λ i. refl) inv.named.trackers;
     })
   where
-    old : ℕ → Pair
+    old : ℕ → ClientBlock
     old = (s.block n).pair
 
-    after : Pair
+    after : ClientBlock
     after = after_release r (old c)
 
     new : Block X
     new = releasing_block c source r (s.block n)
 
     here : Link
-    here = with_c (token Release n) (s.link c)
+    here = with_c (packet Release n) (s.link c)
 
     moved : AreMoved (release_moves n) (s.link c) here
     moved channel.A = refl

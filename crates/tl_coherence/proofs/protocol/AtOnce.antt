@@ -12,10 +12,10 @@ use Rattle.tl_params.specs.declared.perm.Perm.{Perm}
 use Rattle.tl_params.specs.declared.perm.Perm.TheVariants as perm
 use Rattle.tl_params.specs.statement.Param.{cap_right}
 use Rattle.tl_rules.specs.statement.Conformance.{same_perm}
-use Rattle.tl_coherence.specs.protocol.Phase.{Pair, Idle, Granting, GrantedOther, Wants, same_cap, is_calm, is_quiet, cap_fits}
+use Rattle.tl_coherence.specs.protocol.Phase.{ClientBlock, Idle, Granting, GrantedOther, AcquireOpen, same_cap, is_unacquired, is_unprobed, cap_fits}
 use Rattle.tl_coherence.specs.protocol.PhaseSteps.{is_above, is_granted_data, after_grant_sent}
-use Rattle.tl_coherence.specs.protocol.Token.{Kind, Request, Acquire, Probe, ProbeAck, Release, Answer, Grant, ReleaseAck, GrantAck, Token, set}
-use Rattle.tl_coherence.specs.protocol.Protocol.{Free, Block, State, Link, view, token, shows, is_transfer, is_wanting, is_sent, is_answered, is_releasing, is_acked}
+use Rattle.tl_coherence.specs.protocol.Packet.{Kind, Request, Acquire, Probe, ProbeAck, Release, Answer, Grant, ReleaseAck, GrantAck, Packet, set}
+use Rattle.tl_coherence.specs.protocol.Protocol.{Free, Block, State, Link, view, packet, shows, is_transfer, is_wanting, is_sent, is_answered, is_releasing, is_acked}
 use Rattle.tl_coherence.specs.protocol.Protocol.{granted_at_once, answered_link, acquire_granted}
 use Rattle.tl_coherence.specs.refinement.Move.{Move, Stays, Pushes, Pops, AreMoved, agrees, is_own_move, channel_for}
 use Rattle.tl_coherence.specs.protocol.Invariant.{is_of, acquires_of, serves_of, acquires_with, serves_with, releases_with, tracks_with, IsWell, IsInvariant}
@@ -33,7 +33,7 @@ use Rattle.tl_coherence.proofs.queues.Perms.{not_out}
 -- the block isn't in service, nobody else is recorded with Trunk, and nobody at all where Trunk is granted
 pub record IsGrantable {X : Type 0} (r : ℕ) (whole : Bool) (g : Grow) (gift : Cap) (b : Block X) : Type 0 where
   pub free : b.service ≡ Free
-  pub wants : (b.pair r).acquiring ≡ Wants whole g
+  pub wants : (b.pair r).acquiring ≡ AcquireOpen whole g
   pub fits : cap_fits whole g gift ≡ true
   pub low : (d : ℕ) → (d ≡ r → ⊥) → same_perm (b.pair d).recorded perm.Trunk ≡ false
   pub room : same_cap gift cap.ToT ≡ true → (d : ℕ) → (d ≡ r → ⊥) → same_perm (b.pair d).recorded perm.None ≡ true
@@ -50,25 +50,25 @@ granted_at_once-block caching r tracker whole g gift b h is = record {
   own_source = tt;
   alone = λ i j trunk probed ne. rw (quiet_same j) (quiet j);
   one_owner = λ i j trunk ne. owner (gives whole g gift is.fits) i j trunk ne;
-  outside = outside-set caching r after b.pair (busy-inside caching r b.pair (λ p. not (is_calm p.acquiring)) refl (rw is.wants refl) h.outside) h.outside;
+  outside = outside-set caching r after b.pair (busy-inside caching r b.pair (λ p. not (is_unacquired p.acquiring)) refl (rw is.wants refl) h.outside) h.outside;
   copies = λ d some. h.copies d (rw (held_same d) at some);
   memory = λ none. h.memory (λ d. not_out (b.pair d) (view b.service d) (low d (cases_eq d r)));
 }
   where
-    after : Pair
+    after : ClientBlock
     after = after_grant_sent gift (b.pair r)
 
     idle : (d : ℕ) → view b.service d ≡ Idle
     idle d = rw is.free refl
 
-    quiet : (d : ℕ) → is_quiet (b.pair d).probing ≡ true
+    quiet : (d : ℕ) → is_unprobed (b.pair d).probing ≡ true
     quiet d = quiet_at_rest (b.pair d) (view b.service d) (h.phases d) (idle d)
 
-    quiet_same : (d : ℕ) → is_quiet (set r after b.pair d).probing ≡ is_quiet (b.pair d).probing
-    quiet_same = set-part (λ (p : Pair). is_quiet p.probing) r after b.pair refl
+    quiet_same : (d : ℕ) → is_unprobed (set r after b.pair d).probing ≡ is_unprobed (b.pair d).probing
+    quiet_same = set-part (λ (p : ClientBlock). is_unprobed p.probing) r after b.pair refl
 
     held_same : (d : ℕ) → (set r after b.pair d).held ≡ (b.pair d).held
-    held_same = set-part (λ (p : Pair). p.held) r after b.pair refl
+    held_same = set-part (λ (p : ClientBlock). p.held) r after b.pair refl
 
     low : (d : ℕ) → (d ≡ r) ⊎ (d ≡ r → ⊥) → same_perm (b.pair d).recorded perm.Trunk ≡ false
     low d (inl same) = rw same (asked_low whole g (b.pair r) (view b.service r) (h.phases r) (idle r) is.wants)
@@ -86,7 +86,7 @@ granted_at_once-block caching r tracker whole g gift b h is = record {
     ]
 
 -- nobody is to be probed with the cap that an Acquire asks for: so nobody has Trunk
-pub low-unprobed : (whole : Bool) (g : Grow) (p : Perm) → is_above (cap_asked (Wants whole g)) p ≡ false → same_perm p perm.Trunk ≡ false
+pub low-unprobed : (whole : Bool) (g : Grow) (p : Perm) → is_above (cap_asked (AcquireOpen whole g)) p ≡ false → same_perm p perm.Trunk ≡ false
 low-unprobed whole g perm.None e = refl
 low-unprobed whole g perm.Branch e = refl
 low-unprobed whole grow.NtoB perm.Trunk e = absurd cc
@@ -94,7 +94,7 @@ low-unprobed whole grow.NtoT perm.Trunk e = absurd cc
 low-unprobed whole grow.BtoT perm.Trunk e = absurd cc
 
 -- and nobody is recorded where it asks for Trunk
-pub none-unprobed : (whole : Bool) (g : Grow) (p : Perm) → grows_to_trunk g ≡ true → is_above (cap_asked (Wants whole g)) p ≡ false → same_perm p perm.None ≡ true
+pub none-unprobed : (whole : Bool) (g : Grow) (p : Perm) → grows_to_trunk g ≡ true → is_above (cap_asked (AcquireOpen whole g)) p ≡ false → same_perm p perm.None ≡ true
 none-unprobed whole g perm.None t e = refl
 none-unprobed whole grow.NtoB p t e = absurd cc
 none-unprobed whole grow.NtoT perm.Branch t e = absurd cc
@@ -109,7 +109,7 @@ once_moves n channel.A = Pops Acquire n
 once_moves n channel.D = Pushes Grant n
 once_moves n _ = Stays
 
-once_shows : (n : ℕ) (k : Kind) (p : Pair) (d : Bool) (gift : Cap) → is_transfer k ≡ true → is_wanting p.acquiring ≡ true
+once_shows : (n : ℕ) (k : Kind) (p : ClientBlock) (d : Bool) (gift : Cap) → is_transfer k ≡ true → is_wanting p.acquiring ≡ true
     → agrees (once_moves n (channel_for k)) k n (shows k p Idle) (shows k (after_grant_sent gift p) (Granting d gift)) ≡ true
 once_shows n Request p d gift t e = absurd cc
 once_shows n Answer p d gift t e = absurd cc
@@ -121,7 +121,7 @@ once_shows n Grant p d gift t e = rw (same_number n) refl
 once_shows n ReleaseAck p d gift t e = same_again (is_acked p.letting)
 once_shows n GrantAck p d gift t e = refl
 
-beside_shows : (k : Kind) (p : Pair) → shows k p GrantedOther ≡ shows k p Idle
+beside_shows : (k : Kind) (p : ClientBlock) → shows k p GrantedOther ≡ shows k p Idle
 beside_shows Request p = refl
 beside_shows Answer p = refl
 beside_shows Acquire p = refl
@@ -132,8 +132,8 @@ beside_shows Grant p = refl
 beside_shows ReleaseAck p = refl
 beside_shows GrantAck p = refl
 
-pub acquire_granted-kept : {X : Type 0} (caching : ℕ → Bool) (r n tracker : ℕ) (whole : Bool) (g : Grow) (gift : Cap) (rest : List Token) (s : State X) → IsInvariant caching s
-    → (s.link r).a ≡ token Acquire n ∷ rest
+pub acquire_granted-kept : {X : Type 0} (caching : ℕ → Bool) (r n tracker : ℕ) (whole : Bool) (g : Grow) (gift : Cap) (rest : List Packet) (s : State X) → IsInvariant caching s
+    → (s.link r).a ≡ packet Acquire n ∷ rest
     → IsGrantable r whole g gift (s.block n) → s.tracked tracker ≡ None → IsInvariant caching (acquire_granted r n tracker (is_granted_data whole g ((s.block n).pair r).recorded) gift rest s)
 acquire_granted-kept {X} caching r n tracker whole g gift rest s inv first is unused =
     invariant-moved caching n new (set r here s.link) (moves_at r (once_moves n)) s.lets (set tracker (Some n) s.tracked) s inv
@@ -147,9 +147,9 @@ acquire_granted-kept {X} caching r n tracker whole g gift rest s inv first is un
     }))
     (bare-at r (once_moves n) refl refl)
     (record {
-      acquires = λ d. names-block acquires_of (acquires_with d) (s.uses d) n new s.block (λ i. rw (set-part (λ (p : Pair). p.acquiring) r after old refl d) refl) (inv.named.acquires d);
+      acquires = λ d. names-block acquires_of (acquires_with d) (s.uses d) n new s.block (λ i. rw (set-part (λ (p : ClientBlock). p.acquiring) r after old refl d) refl) (inv.named.acquires d);
       serves = λ d. names-block serves_of (serves_with d) (s.uses d) n new s.block (λ i. rw is.free refl) (inv.named.serves d);
-      releases = λ d. names-block is_of (releases_with d) (s.lets d) n new s.block (λ i. rw (set-part (λ (p : Pair). p.letting) r after old refl d) refl) (inv.named.releases d);
+      releases = λ d. names-block is_of (releases_with d) (s.lets d) n new s.block (λ i. rw (set-part (λ (p : ClientBlock). p.letting) r after old refl d) refl) (inv.named.releases d);
       trackers = names-set is_of tracks_with s.tracked tracker (Some n) n new s.block (rw (same_number n, same_number tracker) refl)
           (λ m ne. rw unused (ne_eqb m n ne)) (λ i ne. rw (is.free, ne_eqb i tracker ne) refl) inv.named.trackers;
     })
@@ -157,17 +157,17 @@ acquire_granted-kept {X} caching r n tracker whole g gift rest s inv first is un
     with_data : Bool
     with_data = is_granted_data whole g ((s.block n).pair r).recorded
 
-    old : ℕ → Pair
+    old : ℕ → ClientBlock
     old = (s.block n).pair
 
-    after : Pair
+    after : ClientBlock
     after = after_grant_sent gift (old r)
 
     new : Block X
     new = granted_at_once r tracker with_data gift (s.block n)
 
     here : Link
-    here = answered_link (token Grant n) rest (s.link r)
+    here = answered_link (packet Grant n) rest (s.link r)
 
     moved : AreMoved (once_moves n) (s.link r) here
     moved channel.A = first

@@ -5,11 +5,11 @@ use Rattle.std.proofs.lemmas.Bool.{eqb-true}
 use Rattle.tl_params.specs.declared.param.Cap.{Cap}
 use Rattle.tl_params.specs.declared.param.Grow.{Grow}
 use Rattle.tl_coherence.specs.protocol.Invariant.{is_asked, is_replied, is_of, acquires_of, serves_of}
-use Rattle.tl_coherence.specs.protocol.Phase.{View, Own, Other, Granting, Acknowledging, GrantedOther, is_calm, Probing, Quiet, Sent, Answered, Letting, Kept, Releasing}
-use Rattle.tl_coherence.specs.protocol.Phase.{Acked, Acquiring, Calm, Wants, is_quiet, is_kept}
-use Rattle.tl_coherence.specs.protocol.Protocol.{Service, Free, Waits, GrantSent, GrantTaken, Use, Closed, Asked, InService, Replied, Acquires, view, is_wanting, is_sent}
+use Rattle.tl_coherence.specs.protocol.Phase.{View, Own, Other, Granting, Acknowledging, GrantedOther, is_unacquired, ProbePhase, NoProbe, ProbeSent, ProbeAnswered, ReleasePhase, NoRelease, ReleaseSent}
+use Rattle.tl_coherence.specs.protocol.Phase.{ReleaseAcked, AcquirePhase, NoAcquire, AcquireOpen, is_unprobed, is_unreleased}
+use Rattle.tl_coherence.specs.protocol.Protocol.{Service, Free, Waits, GrantSent, GrantTaken, SourceState, SourceFree, Asked, InService, Replied, Acquires, view, is_wanting, is_sent}
 use Rattle.tl_coherence.specs.protocol.Protocol.{is_answered, is_releasing, is_acked, is_granting, is_acknowledging}
-use Rattle.tl_coherence.specs.refinement.Render.{cap_sent, report_told, prune_told}
+use Rattle.tl_coherence.specs.refinement.PacketMessages.{cap_sent, report_told, prune_told}
 use Rattle.tl_coherence.proofs.queues.Facts.{is_other}
 
 -- ---- numbers and uses
@@ -19,111 +19,111 @@ pub is_of-is : (n : ℕ) (o : Option ℕ) → is_of n o ≡ true → o ≡ Some 
 is_of-is n None e = absurd cc
 is_of-is n (Some m) e = rw (eqb-true n m e) refl
 
-pub acquires_of-is : (n : ℕ) (u : Use) → acquires_of n u ≡ true → u ≡ Acquires n
+pub acquires_of-is : (n : ℕ) (u : SourceState) → acquires_of n u ≡ true → u ≡ Acquires n
 acquires_of-is n (Acquires m) e = rw (eqb-true n m e) refl
-acquires_of-is n Closed e = absurd cc
+acquires_of-is n SourceFree e = absurd cc
 acquires_of-is n Asked e = absurd cc
 acquires_of-is n (InService m) e = absurd cc
 acquires_of-is n Replied e = absurd cc
 
-pub serves_of-is : (n : ℕ) (u : Use) → serves_of n u ≡ true → u ≡ InService n
+pub serves_of-is : (n : ℕ) (u : SourceState) → serves_of n u ≡ true → u ≡ InService n
 serves_of-is n (InService m) e = rw (eqb-true n m e) refl
-serves_of-is n Closed e = absurd cc
+serves_of-is n SourceFree e = absurd cc
 serves_of-is n Asked e = absurd cc
 serves_of-is n Replied e = absurd cc
 serves_of-is n (Acquires m) e = absurd cc
 
-pub is_asked-is : (u : Use) → is_asked u ≡ true → u ≡ Asked
+pub is_asked-is : (u : SourceState) → is_asked u ≡ true → u ≡ Asked
 is_asked-is Asked e = refl
-is_asked-is Closed e = absurd cc
+is_asked-is SourceFree e = absurd cc
 is_asked-is (InService n) e = absurd cc
 is_asked-is Replied e = absurd cc
 is_asked-is (Acquires n) e = absurd cc
 
-pub is_replied-is : (u : Use) → is_replied u ≡ true → u ≡ Replied
+pub is_replied-is : (u : SourceState) → is_replied u ≡ true → u ≡ Replied
 is_replied-is Replied e = refl
-is_replied-is Closed e = absurd cc
+is_replied-is SourceFree e = absurd cc
 is_replied-is Asked e = absurd cc
 is_replied-is (InService n) e = absurd cc
 is_replied-is (Acquires n) e = absurd cc
 
 -- ---- what is wanted
 
-pub wanting-is : (x : Acquiring) → is_wanting x ≡ true → (whole : Bool) × (g : Grow) × (x ≡ Wants whole g)
-wanting-is Calm e = absurd cc
-wanting-is (Wants whole g) e = (whole, g, refl)
+pub wanting-is : (x : AcquirePhase) → is_wanting x ≡ true → (whole : Bool) × (g : Grow) × (x ≡ AcquireOpen whole g)
+wanting-is NoAcquire e = absurd cc
+wanting-is (AcquireOpen whole g) e = (whole, g, refl)
 
-pub not-calm : (x : Acquiring) → not (is_calm x) ≡ true → is_wanting x ≡ true
-not-calm Calm e = absurd cc
-not-calm (Wants whole g) e = refl
+pub not-calm : (x : AcquirePhase) → not (is_unacquired x) ≡ true → is_wanting x ≡ true
+not-calm NoAcquire e = absurd cc
+not-calm (AcquireOpen whole g) e = refl
 
-pub calm-is : (a : Acquiring) → is_wanting a ≡ false → a ≡ Calm
-calm-is Calm e = refl
-calm-is (Wants whole g) e = absurd cc
+pub calm-is : (a : AcquirePhase) → is_wanting a ≡ false → a ≡ NoAcquire
+calm-is NoAcquire e = refl
+calm-is (AcquireOpen whole g) e = absurd cc
 
 -- ---- Probes
 
-pub quiet-is : (x : Probing) → is_quiet x ≡ true → x ≡ Quiet
-quiet-is Quiet e = refl
-quiet-is (Sent k) e = absurd cc
-quiet-is (Answered r) e = absurd cc
+pub quiet-is : (x : ProbePhase) → is_unprobed x ≡ true → x ≡ NoProbe
+quiet-is NoProbe e = refl
+quiet-is (ProbeSent k) e = absurd cc
+quiet-is (ProbeAnswered r) e = absurd cc
 
-pub sent-is : (x : Probing) → is_sent x ≡ true → x ≡ Sent (cap_sent x)
-sent-is Quiet e = absurd cc
-sent-is (Sent k) e = refl
-sent-is (Answered r) e = absurd cc
+pub sent-is : (x : ProbePhase) → is_sent x ≡ true → x ≡ ProbeSent (cap_sent x)
+sent-is NoProbe e = absurd cc
+sent-is (ProbeSent k) e = refl
+sent-is (ProbeAnswered r) e = absurd cc
 
-pub answered-is : (x : Probing) → is_answered x ≡ true → x ≡ Answered (report_told x)
-answered-is Quiet e = absurd cc
-answered-is (Sent k) e = absurd cc
-answered-is (Answered r) e = refl
+pub answered-is : (x : ProbePhase) → is_answered x ≡ true → x ≡ ProbeAnswered (report_told x)
+answered-is NoProbe e = absurd cc
+answered-is (ProbeSent k) e = absurd cc
+answered-is (ProbeAnswered r) e = refl
 
-pub not-sent : (x : Probing) → is_sent x ≡ true → is_quiet x ≡ false
-not-sent (Sent k) e = refl
-not-sent Quiet e = absurd cc
-not-sent (Answered r) e = absurd cc
+pub not-sent : (x : ProbePhase) → is_sent x ≡ true → is_unprobed x ≡ false
+not-sent (ProbeSent k) e = refl
+not-sent NoProbe e = absurd cc
+not-sent (ProbeAnswered r) e = absurd cc
 
-pub not-answered : (x : Probing) → is_answered x ≡ true → is_quiet x ≡ false
-not-answered (Answered r) e = refl
-not-answered Quiet e = absurd cc
-not-answered (Sent k) e = absurd cc
+pub not-answered : (x : ProbePhase) → is_answered x ≡ true → is_unprobed x ≡ false
+not-answered (ProbeAnswered r) e = refl
+not-answered NoProbe e = absurd cc
+not-answered (ProbeSent k) e = absurd cc
 
-pub quiet_unanswered : (x : Probing) → is_quiet x ≡ true → is_answered x ≡ false
-quiet_unanswered Quiet e = refl
-quiet_unanswered (Sent k) e = refl
-quiet_unanswered (Answered r) e = absurd cc
+pub quiet_unanswered : (x : ProbePhase) → is_unprobed x ≡ true → is_answered x ≡ false
+quiet_unanswered NoProbe e = refl
+quiet_unanswered (ProbeSent k) e = refl
+quiet_unanswered (ProbeAnswered r) e = absurd cc
 
 -- ---- Releases
 
-pub kept-is : (x : Letting) → is_kept x ≡ true → x ≡ Kept
-kept-is Kept e = refl
-kept-is (Releasing r) e = absurd cc
-kept-is Acked e = absurd cc
+pub kept-is : (x : ReleasePhase) → is_unreleased x ≡ true → x ≡ NoRelease
+kept-is NoRelease e = refl
+kept-is (ReleaseSent r) e = absurd cc
+kept-is ReleaseAcked e = absurd cc
 
-pub kept-letting : (l : Letting) → not (is_kept l) ≡ false → l ≡ Kept
-kept-letting Kept e = refl
-kept-letting (Releasing r) e = absurd cc
-kept-letting Acked e = absurd cc
+pub kept-letting : (l : ReleasePhase) → not (is_unreleased l) ≡ false → l ≡ NoRelease
+kept-letting NoRelease e = refl
+kept-letting (ReleaseSent r) e = absurd cc
+kept-letting ReleaseAcked e = absurd cc
 
-pub releasing-is : (x : Letting) → is_releasing x ≡ true → x ≡ Releasing (prune_told x)
-releasing-is Kept e = absurd cc
-releasing-is (Releasing r) e = refl
-releasing-is Acked e = absurd cc
+pub releasing-is : (x : ReleasePhase) → is_releasing x ≡ true → x ≡ ReleaseSent (prune_told x)
+releasing-is NoRelease e = absurd cc
+releasing-is (ReleaseSent r) e = refl
+releasing-is ReleaseAcked e = absurd cc
 
-pub acked-is : (x : Letting) → is_acked x ≡ true → x ≡ Acked
-acked-is Kept e = absurd cc
-acked-is (Releasing r) e = absurd cc
-acked-is Acked e = refl
+pub acked-is : (x : ReleasePhase) → is_acked x ≡ true → x ≡ ReleaseAcked
+acked-is NoRelease e = absurd cc
+acked-is (ReleaseSent r) e = absurd cc
+acked-is ReleaseAcked e = refl
 
-pub releasing-open : (x : Letting) → is_releasing x ≡ true → is_kept x ≡ false
-releasing-open (Releasing r) e = refl
-releasing-open Kept e = absurd cc
-releasing-open Acked e = absurd cc
+pub releasing-open : (x : ReleasePhase) → is_releasing x ≡ true → is_unreleased x ≡ false
+releasing-open (ReleaseSent r) e = refl
+releasing-open NoRelease e = absurd cc
+releasing-open ReleaseAcked e = absurd cc
 
-pub acked-open : (x : Letting) → is_acked x ≡ true → is_kept x ≡ false
-acked-open Acked e = refl
-acked-open Kept e = absurd cc
-acked-open (Releasing r) e = absurd cc
+pub acked-open : (x : ReleasePhase) → is_acked x ≡ true → is_unreleased x ≡ false
+acked-open ReleaseAcked e = refl
+acked-open NoRelease e = absurd cc
+acked-open (ReleaseSent r) e = absurd cc
 
 -- ---- services and views
 

@@ -4,9 +4,9 @@ use Rattle.std.specs.Prelude.{◌||◌, not, length, Option, Some, None}
 use Rattle.std.proofs.lemmas.Bool.{and_parts}
 use Rattle.tl_beat.specs.declared.channel.Channel.{Channel}
 use Rattle.tl_beat.specs.declared.channel.Channel.TheVariants as channel
-use Rattle.tl_coherence.specs.protocol.Phase.{Pair, View, Other, Idle, Own, Granting, Acknowledging, GrantedOther, is_kept, is_quiet, is_idle, ok}
-use Rattle.tl_coherence.specs.protocol.Token.{Kind, Request, Acquire, Probe, ProbeAck, Release, Answer, Grant, ReleaseAck, GrantAck, Token, same_kind, is, one_if, count}
-use Rattle.tl_coherence.specs.protocol.Protocol.{Service, Free, Waits, GrantSent, GrantTaken, State, Use, Closed, Asked, Replied, Acquires, token, view, on, tokens_on}
+use Rattle.tl_coherence.specs.protocol.Phase.{ClientBlock, View, Other, Idle, Own, Granting, Acknowledging, GrantedOther, is_unreleased, is_unprobed, is_idle, ok}
+use Rattle.tl_coherence.specs.protocol.Packet.{Kind, Request, Acquire, Probe, ProbeAck, Release, Answer, Grant, ReleaseAck, GrantAck, Packet, same_kind, is, one_if, count}
+use Rattle.tl_coherence.specs.protocol.Protocol.{Service, Free, Waits, GrantSent, GrantTaken, State, SourceState, SourceFree, Asked, Replied, Acquires, packet, view, on, packets_on}
 use Rattle.tl_coherence.specs.protocol.Protocol.{is_on, is_wanting, is_granting, is_acknowledging, shown}
 use Rattle.tl_coherence.specs.protocol.Invariant.{IsInvariant, is_asked, is_replied, is_busy}
 use Rattle.tl_coherence.proofs.queues.Distinct.{passing, pass-or-not, all-pass, few, IsThere}
@@ -18,7 +18,7 @@ use Rattle.tl_rules.proofs.Takeable.{part_bit}
 
 -- what is used is below these bounds
 pub record AreBounded {X : Type 0} (c sources trackers : ℕ) (s : State X) : Type 0 where
-  pub requests : (source : ℕ) → (s.uses c source ≡ Closed → ⊥) → source < sources
+  pub requests : (source : ℕ) → (s.uses c source ≡ SourceFree → ⊥) → source < sources
   pub releases : (source n : ℕ) → s.lets c source ≡ Some n → source < sources
   pub tracked : (i n : ℕ) → s.tracked i ≡ Some n → i < trackers
 
@@ -37,7 +37,7 @@ not_there n e lt = absurd (omega (arith, e, lt))
 
 -- how often a token of the kind stands on the channel
 once_of : {X : Type 0} (caching : ℕ → Bool) (s : State X) (c : ℕ) (ch : Channel) (k : Kind) (n : ℕ) → IsInvariant caching s → is_on ch k ≡ true
-    → tokens_on ch (s.link c) ≡ on k (s.link c) → count k n (tokens_on ch (s.link c)) ≤ 1
+    → packets_on ch (s.link c) ≡ on k (s.link c) → count k n (packets_on ch (s.link c)) ≤ 1
 once_of caching s c ch Request n inv on_it is = at_most_one _ (is_asked (s.uses c n)) (rw is (inv.requests c n))
 once_of caching s c ch Answer n inv on_it is = at_most_one _ (is_replied (s.uses c n)) (rw is (inv.answers c n))
 once_of caching s c ch Acquire n inv on_it is = at_most_one _ (shown Acquire c (s.block n)) (rw is (inv.transfers c Acquire refl n))
@@ -49,15 +49,15 @@ once_of caching s c ch ReleaseAck n inv on_it is = at_most_one _ (shown ReleaseA
 once_of caching s c ch GrantAck n inv on_it is = at_most_one _ (shown GrantAck c (s.block n)) (rw is (inv.transfers c GrantAck refl n))
 
 -- no token stands twice on a channel
-pub once : {X : Type 0} (caching : ℕ → Bool) (s : State X) (c : ℕ) (ch : Channel) → IsInvariant caching s → (k : Kind) (n : ℕ) → count k n (tokens_on ch (s.link c)) ≤ 1
+pub once : {X : Type 0} (caching : ℕ → Bool) (s : State X) (c : ℕ) (ch : Channel) → IsInvariant caching s → (k : Kind) (n : ℕ) → count k n (packets_on ch (s.link c)) ≤ 1
 once caching s c ch inv k n = go (is_on ch k) refl
   where
-    go : (b : Bool) → is_on ch k ≡ b → count k n (tokens_on ch (s.link c)) ≤ 1
+    go : (b : Bool) → is_on ch k ≡ b → count k n (packets_on ch (s.link c)) ≤ 1
     go true e = once_of caching s c ch k n inv e (on_same ch k (s.link c) e)
-    go false e = let none : count k n (tokens_on ch (s.link c)) ≡ 0 = inv.own_kinds c ch k n e in omega (arith, none)
+    go false e = let none : count k n (packets_on ch (s.link c)) ≡ 0 = inv.own_kinds c ch k n e in omega (arith, none)
 
 -- a token is of a kind of its channel
-pub kind_there : {X : Type 0} (caching : ℕ → Bool) (s : State X) (c : ℕ) (ch : Channel) (x : Token) → IsInvariant caching s → IsThere x (tokens_on ch (s.link c)) → is_on ch x.kind ≡ true
+pub kind_there : {X : Type 0} (caching : ℕ → Bool) (s : State X) (c : ℕ) (ch : Channel) (x : Packet) → IsInvariant caching s → IsThere x (packets_on ch (s.link c)) → is_on ch x.kind ≡ true
 kind_there caching s c ch x inv there = go (is_on ch x.kind) refl
   where
     go : (b : Bool) → is_on ch x.kind ≡ b → b ≡ true
@@ -71,7 +71,7 @@ shows_it s c Answer n = is_replied (s.uses c n)
 shows_it s c k n = shown k c (s.block n)
 
 pub shown_there : {X : Type 0} (caching : ℕ → Bool) (s : State X) (c : ℕ) (ch : Channel) (k : Kind) (n : ℕ) → IsInvariant caching s → is_on ch k ≡ true
-    → 0 < count k n (tokens_on ch (s.link c)) → shows_it s c k n ≡ true
+    → 0 < count k n (packets_on ch (s.link c)) → shows_it s c k n ≡ true
 shown_there caching s c ch k n inv on_it there = go k refl
   where
     on_k : 0 < count k n (on k (s.link c))
@@ -90,23 +90,23 @@ shown_there caching s c ch k n inv on_it there = go k refl
 
 -- ---- which token a source, or a tracker, is of
 
-token-is : (x : Token) (k : Kind) → x.kind ≡ k → token k x.number ≡ x
-token-is x k e = ap (λ (j : Kind). token j x.number) (sym e)
+token-is : (x : Packet) (k : Kind) → x.kind ≡ k → packet k x.number ≡ x
+token-is x k e = ap (λ (j : Kind). packet j x.number) (sym e)
 
 -- a request on A, and the response to it on D
-abbrev pub asked_by : ℕ → Use → Option Token
-asked_by i Asked = Some (token Request i)
-asked_by i (Acquires n) = Some (token Acquire n)
+abbrev pub asked_by : ℕ → SourceState → Option Packet
+asked_by i Asked = Some (packet Request i)
+asked_by i (Acquires n) = Some (packet Acquire n)
 asked_by i _ = None
 
-abbrev pub answered_by : ℕ → Use → Option Token
-answered_by i Replied = Some (token Answer i)
-answered_by i (Acquires n) = Some (token Grant n)
+abbrev pub answered_by : ℕ → SourceState → Option Packet
+answered_by i Replied = Some (packet Answer i)
+answered_by i (Acquires n) = Some (packet Grant n)
 answered_by i _ = None
 
-abbrev pub of_block : Kind → Option ℕ → Option Token
+abbrev pub of_block : Kind → Option ℕ → Option Packet
 of_block k None = None
-of_block k (Some n) = Some (token k n)
+of_block k (Some n) = Some (packet k n)
 
 -- by which source or tracker a token goes
 abbrev pub name : {X : Type 0} → State X → ℕ → Kind → ℕ → ℕ
@@ -124,7 +124,7 @@ pub source_of_acquire : {X : Type 0} (caching : ℕ → Bool) (s : State X) (c n
 source_of_acquire caching s c n inv wants =
     acquires_of-is n (s.uses c ((s.block n).source c)) (inv.named.acquires c ((s.block n).source c) n ∙ rw (wants, same_number ((s.block n).source c)) refl)
 
-pub source_of_release : {X : Type 0} (caching : ℕ → Bool) (s : State X) (c n : ℕ) → IsInvariant caching s → is_kept ((s.block n).pair c).letting ≡ false
+pub source_of_release : {X : Type 0} (caching : ℕ → Bool) (s : State X) (c n : ℕ) → IsInvariant caching s → is_unreleased ((s.block n).pair c).letting ≡ false
     → s.lets c ((s.block n).release_source c) ≡ Some n
 source_of_release caching s c n inv lets =
     is_of-is n (s.lets c ((s.block n).release_source c)) (inv.named.releases c ((s.block n).release_source c) n ∙ rw (lets, same_number ((s.block n).release_source c)) refl)
@@ -142,24 +142,24 @@ busy_unless_idle (Waits r own source k) c e = refl
 busy_unless_idle (GrantSent q d k) c e = refl
 busy_unless_idle (GrantTaken q) c e = refl
 
-asks_for_grant : Pair → View → Bool
+asks_for_grant : ClientBlock → View → Bool
 asks_for_grant p v = not (is_granting v) || is_wanting p.acquiring
 
-probes_in_service : Pair → View → Bool
-probes_in_service p v = is_quiet p.probing || not (is_idle v)
+probes_in_service : ClientBlock → View → Bool
+probes_in_service p v = is_unprobed p.probing || not (is_idle v)
 
 unless : (a b : Bool) → (a || not b) ≡ true → a ≡ false → b ≡ false
 unless true b e f = absurd cc
 unless false true e f = absurd cc
 unless false false e f = refl
 
-grants_ask : (p : Pair) (v : View) → ok p v ≡ true → is_granting v ≡ true → is_wanting p.acquiring ≡ true
+grants_ask : (p : ClientBlock) (v : View) → ok p v ≡ true → is_granting v ≡ true → is_wanting p.acquiring ≡ true
 unfolding each_phase asks_for_grant
 grants_ask p v h = part_bit (is_granting v) (is_wanting p.acquiring) (of_phase asks_for_grant refl p v h)
 
-probes_serve : (p : Pair) (v : View) → ok p v ≡ true → is_quiet p.probing ≡ false → is_idle v ≡ false
+probes_serve : (p : ClientBlock) (v : View) → ok p v ≡ true → is_unprobed p.probing ≡ false → is_idle v ≡ false
 unfolding each_phase probes_in_service
-probes_serve p v h = unless (is_quiet p.probing) (is_idle v) (of_phase probes_in_service refl p v h)
+probes_serve p v h = unless (is_unprobed p.probing) (is_idle v) (of_phase probes_in_service refl p v h)
 
 -- ---- each token is the one of its source, or of its tracker
 
@@ -182,7 +182,7 @@ module _ {X : Type 0} (caching : ℕ → Bool) (s : State X) (c n : ℕ) (inv : 
   pub release_ack_named : shown ReleaseAck c (s.block n) ≡ true → s.lets c ((s.block n).release_source c) ≡ Some n
   release_ack_named e = source_of_release caching s c n inv (acked-open ((s.block n).pair c).letting e)
 
-  tracked_probing : is_quiet ((s.block n).pair c).probing ≡ false → s.tracked (s.block n).tracker ≡ Some n
+  tracked_probing : is_unprobed ((s.block n).pair c).probing ≡ false → s.tracked (s.block n).tracker ≡ Some n
   tracked_probing e =
       tracker_of_service caching s n inv (busy_unless_idle (s.block n).service c (probes_serve ((s.block n).pair c) (view (s.block n).service c) ((inv.blocks n).phases c) e))
 
@@ -219,21 +219,21 @@ is_tracked GrantAck = true
 is_tracked _ = false
 
 -- a request that isn't free is below the bound, and so on
-used_below : {X : Type 0} {c sources trackers : ℕ} {s : State X} → AreBounded c sources trackers s → (i : ℕ) (u : Use) → s.uses c i ≡ u → (u ≡ Closed → ⊥) → i < sources
+used_below : {X : Type 0} {c sources trackers : ℕ} {s : State X} → AreBounded c sources trackers s → (i : ℕ) (u : SourceState) → s.uses c i ≡ u → (u ≡ SourceFree → ⊥) → i < sources
 used_below bounds i u e open_use = bounds.requests i (λ none. open_use (sym e ∙ none))
 
 module _ {X : Type 0} (caching : ℕ → Bool) (s : State X) (c sources trackers : ℕ) (inv : IsInvariant caching s) (bounds : AreBounded c sources trackers s) where
   -- what is asked on A
-  asked_token : (x : Token) → IsThere x (s.link c).a → (asked_by (name s c x.kind x.number) (s.uses c (name s c x.kind x.number)) ≡ Some x) × (name s c x.kind x.number < sources)
+  asked_token : (x : Packet) → IsThere x (s.link c).a → (asked_by (name s c x.kind x.number) (s.uses c (name s c x.kind x.number)) ≡ Some x) × (name s c x.kind x.number < sources)
   asked_token x there = go x.kind refl (kind_there caching s c channel.A x inv there)
     where
       go : (k : Kind) → x.kind ≡ k → is_on channel.A k ≡ true → (asked_by (name s c k x.number) (s.uses c (name s c k x.number)) ≡ Some x) × (name s c k x.number < sources)
       go Request e on_it =
           let used = request_named caching s c x.number inv (shown_there caching s c channel.A Request x.number inv refl (rw e at there)) in
-          (rw used (ap (λ (y : Token). Some y) (token-is x Request e)), used_below bounds x.number Asked used (λ h. absurd cc))
+          (rw used (ap (λ (y : Packet). Some y) (token-is x Request e)), used_below bounds x.number Asked used (λ h. absurd cc))
       go Acquire e on_it =
           let used = acquire_named caching s c x.number inv (shown_there caching s c channel.A Acquire x.number inv refl (rw e at there)) in
-          (rw used (ap (λ (y : Token). Some y) (token-is x Acquire e)), used_below bounds ((s.block x.number).source c) (Acquires x.number) used (λ h. absurd cc))
+          (rw used (ap (λ (y : Packet). Some y) (token-is x Acquire e)), used_below bounds ((s.block x.number).source c) (Acquires x.number) used (λ h. absurd cc))
       go Probe e on_it = absurd cc
       go ProbeAck e on_it = absurd cc
       go Release e on_it = absurd cc
@@ -249,7 +249,7 @@ module _ {X : Type 0} (caching : ℕ → Bool) (s : State X) (c sources trackers
       rw (all-pass (s.link c).a) at all
 
   -- what is answered on D, the ReleaseAcks aside
-  answered_token : (x : Token) → IsThere x (s.link c).d → not (same_kind x.kind ReleaseAck) ≡ true
+  answered_token : (x : Packet) → IsThere x (s.link c).d → not (same_kind x.kind ReleaseAck) ≡ true
       → (answered_by (name s c x.kind x.number) (s.uses c (name s c x.kind x.number)) ≡ Some x) × (name s c x.kind x.number < sources)
   answered_token x there = go x.kind refl (kind_there caching s c channel.D x inv there)
     where
@@ -257,10 +257,10 @@ module _ {X : Type 0} (caching : ℕ → Bool) (s : State X) (c sources trackers
           → (answered_by (name s c k x.number) (s.uses c (name s c k x.number)) ≡ Some x) × (name s c k x.number < sources)
       go Answer e on_it pass =
           let used = answer_named caching s c x.number inv (shown_there caching s c channel.D Answer x.number inv refl (rw e at there)) in
-          (rw used (ap (λ (y : Token). Some y) (token-is x Answer e)), used_below bounds x.number Replied used (λ h. absurd cc))
+          (rw used (ap (λ (y : Packet). Some y) (token-is x Answer e)), used_below bounds x.number Replied used (λ h. absurd cc))
       go Grant e on_it pass =
           let used = grant_named caching s c x.number inv (shown_there caching s c channel.D Grant x.number inv refl (rw e at there)) in
-          (rw used (ap (λ (y : Token). Some y) (token-is x Grant e)), used_below bounds ((s.block x.number).source c) (Acquires x.number) used (λ h. absurd cc))
+          (rw used (ap (λ (y : Packet). Some y) (token-is x Grant e)), used_below bounds ((s.block x.number).source c) (Acquires x.number) used (λ h. absurd cc))
       go Request e on_it pass = absurd cc
       go Acquire e on_it pass = absurd cc
       go Probe e on_it pass = absurd cc
@@ -270,42 +270,42 @@ module _ {X : Type 0} (caching : ℕ → Bool) (s : State X) (c sources trackers
       go GrantAck e on_it pass = absurd cc
 
   -- a Release by its source, and its ReleaseAck
-  released_token : (ch : Channel) (x : Token) (k : Kind) → x.kind ≡ k → is_on ch k ≡ true → IsThere x (tokens_on ch (s.link c)) → is_let k ≡ true
+  released_token : (ch : Channel) (x : Packet) (k : Kind) → x.kind ≡ k → is_on ch k ≡ true → IsThere x (packets_on ch (s.link c)) → is_let k ≡ true
       → (of_block k (s.lets c (name s c k x.number)) ≡ Some x) × (name s c k x.number < sources)
   released_token ch x Release e on_it there which =
       let let_by = release_named caching s c x.number inv (shown_there caching s c ch Release x.number inv on_it (rw e at there)) in
-      (rw let_by (ap (λ (y : Token). Some y) (token-is x Release e)), bounds.releases _ x.number let_by)
+      (rw let_by (ap (λ (y : Packet). Some y) (token-is x Release e)), bounds.releases _ x.number let_by)
   released_token ch x ReleaseAck e on_it there which =
       let let_by = release_ack_named caching s c x.number inv (shown_there caching s c ch ReleaseAck x.number inv on_it (rw e at there)) in
-      (rw let_by (ap (λ (y : Token). Some y) (token-is x ReleaseAck e)), bounds.releases _ x.number let_by)
+      (rw let_by (ap (λ (y : Packet). Some y) (token-is x ReleaseAck e)), bounds.releases _ x.number let_by)
   released_token ch x k e on_it there which = absurd cc
 
-  released_there : (ch : Channel) (k : Kind) (x : Token) → is_on ch k ≡ true → is_let k ≡ true → IsThere x (tokens_on ch (s.link c)) → x.kind ≡ k
+  released_there : (ch : Channel) (k : Kind) (x : Packet) → is_on ch k ≡ true → is_let k ≡ true → IsThere x (packets_on ch (s.link c)) → x.kind ≡ k
       → (of_block k (s.lets c (name s c x.kind x.number)) ≡ Some x) × (name s c x.kind x.number < sources)
   released_there ch k x on_it which there e =
       subst (λ (j : Kind). (of_block k (s.lets c (name s c j x.number)) ≡ Some x) × (name s c j x.number < sources)) (sym e) (released_token ch x k e on_it there which)
 
   -- what goes by its tracker
-  tracked_token : (ch : Channel) (x : Token) (k : Kind) → x.kind ≡ k → is_on ch k ≡ true → IsThere x (tokens_on ch (s.link c)) → is_tracked k ≡ true
+  tracked_token : (ch : Channel) (x : Packet) (k : Kind) → x.kind ≡ k → is_on ch k ≡ true → IsThere x (packets_on ch (s.link c)) → is_tracked k ≡ true
       → (of_block k (s.tracked (name s c k x.number)) ≡ Some x) × (name s c k x.number < trackers)
   tracked_token ch x Probe e on_it there which =
       let by = probe_named caching s c x.number inv (shown_there caching s c ch Probe x.number inv on_it (rw e at there)) in
-      (rw by (ap (λ (y : Token). Some y) (token-is x Probe e)), bounds.tracked _ x.number by)
+      (rw by (ap (λ (y : Packet). Some y) (token-is x Probe e)), bounds.tracked _ x.number by)
   tracked_token ch x ProbeAck e on_it there which =
       let by = report_named caching s c x.number inv (shown_there caching s c ch ProbeAck x.number inv on_it (rw e at there)) in
-      (rw by (ap (λ (y : Token). Some y) (token-is x ProbeAck e)), bounds.tracked _ x.number by)
+      (rw by (ap (λ (y : Packet). Some y) (token-is x ProbeAck e)), bounds.tracked _ x.number by)
   tracked_token ch x GrantAck e on_it there which =
       let by = grant_ack_named caching s c x.number inv (shown_there caching s c ch GrantAck x.number inv on_it (rw e at there)) in
-      (rw by (ap (λ (y : Token). Some y) (token-is x GrantAck e)), bounds.tracked _ x.number by)
+      (rw by (ap (λ (y : Packet). Some y) (token-is x GrantAck e)), bounds.tracked _ x.number by)
   tracked_token ch x k e on_it there which = absurd cc
 
-  tracked_there : (ch : Channel) (k : Kind) (x : Token) → is_on ch k ≡ true → is_tracked k ≡ true → IsThere x (tokens_on ch (s.link c)) → x.kind ≡ k
+  tracked_there : (ch : Channel) (k : Kind) (x : Packet) → is_on ch k ≡ true → is_tracked k ≡ true → IsThere x (packets_on ch (s.link c)) → x.kind ≡ k
       → (of_block k (s.tracked (name s c x.kind x.number)) ≡ Some x) × (name s c x.kind x.number < trackers)
   tracked_there ch k x on_it which there e =
       subst (λ (j : Kind). (of_block k (s.tracked (name s c j x.number)) ≡ Some x) × (name s c j x.number < trackers)) (sym e) (tracked_token ch x k e on_it there which)
 
   -- a kind of the channel that isn't the one is the other
-  only_kind : (ch : Channel) (x : Token) → IsThere x (tokens_on ch (s.link c)) → is_on ch x.kind ≡ true
+  only_kind : (ch : Channel) (x : Packet) → IsThere x (packets_on ch (s.link c)) → is_on ch x.kind ≡ true
   only_kind ch x there = kind_there caching s c ch x inv there
 
   kind_is : (k j : Kind) → same_kind k j ≡ true → k ≡ j

@@ -10,10 +10,10 @@ use Rattle.tl_params.specs.declared.param.Report.{Report}
 use Rattle.tl_params.specs.declared.perm.Perm.TheVariants as perm
 use Rattle.tl_params.specs.statement.Param.{report_left, report_right}
 use Rattle.tl_rules.specs.statement.Conformance.{same_perm}
-use Rattle.tl_coherence.specs.protocol.Phase.{Pair, Idle, Other, Answered, ok, same_cap, is_quiet}
+use Rattle.tl_coherence.specs.protocol.Phase.{ClientBlock, Idle, Other, ProbeAnswered, ok, same_cap, is_unprobed}
 use Rattle.tl_coherence.specs.protocol.PhaseSteps.{after_report}
-use Rattle.tl_coherence.specs.protocol.Token.{Kind, Request, Acquire, Probe, ProbeAck, Release, Answer, Grant, ReleaseAck, GrantAck, Token, set}
-use Rattle.tl_coherence.specs.protocol.Protocol.{Waits, Block, State, Link, InService, Replied, view, token, tokens_on, shows, shown, is_transfer, is_wanting, is_sent}
+use Rattle.tl_coherence.specs.protocol.Packet.{Kind, Request, Acquire, Probe, ProbeAck, Release, Answer, Grant, ReleaseAck, GrantAck, Packet, set}
+use Rattle.tl_coherence.specs.protocol.Protocol.{Waits, Block, State, Link, InService, Replied, view, packet, packets_on, shows, shown, is_transfer, is_wanting, is_sent}
 use Rattle.tl_coherence.specs.protocol.Protocol.{is_answered, is_releasing, is_acked, written, with_d, popped_link, ended_block, ended_link, report_answers}
 use Rattle.tl_coherence.specs.refinement.Move.{Move, Stays, Pushes, Pops, IsMoved, agrees, is_own_move, channel_for}
 use Rattle.tl_coherence.specs.protocol.Invariant.{is_out, is_of, acquires_of, serves_of, acquires_with, serves_with, releases_with, tracks_with, IsWell, IsInvariant}
@@ -32,8 +32,8 @@ use Rattle.tl_coherence.proofs.queues.Perms.{nothing_below, not_out}
 -- c's ProbeAck is the last one that an access of q waits for, and the access leaves the bytes as they are, or probed all
 pub record IsLastOf {X : Type 0} (c q : ℕ) (r : Report) (f : X → X) (source : ℕ) (k : Cap) (b : Block X) : Type 0 where
   pub waits : b.service ≡ Waits q false source k
-  pub answered : (b.pair c).probing ≡ Answered r
-  pub settled : (d : ℕ) → (d ≡ c → ⊥) → is_quiet (b.pair d).probing ≡ true
+  pub answered : (b.pair c).probing ≡ ProbeAnswered r
+  pub settled : (d : ℕ) → (d ≡ c → ⊥) → is_unprobed (b.pair d).probing ≡ true
   pub spares : (f b.truth ≡ b.truth) ⊎ (k ≡ cap.ToN)
 
 pub ended-block : {X : Type 0} (caching : ℕ → Bool) (c q : ℕ) (r : Report) (f : X → X) (source : ℕ) (k : Cap) (b : Block X) → IsWell caching b → IsLastOf c q r f source k b
@@ -50,7 +50,7 @@ ended-block {X} caching c q r f source k b h last = record {
   memory = λ none. ap f (memory_is (same_perm (report_left r) perm.Trunk) refl);
 }
   where
-    after : Pair
+    after : ClientBlock
     after = after_report r (b.pair c)
 
     other : (d : ℕ) → view b.service d ≡ Other k
@@ -69,7 +69,7 @@ ended-block {X} caching c q r f source k b h last = record {
     ]
 
     held_same : (d : ℕ) → (set c after b.pair d).held ≡ (b.pair d).held
-    held_same = set-part (λ (p : Pair). p.held) c after b.pair refl
+    held_same = set-part (λ (p : ClientBlock). p.held) c after b.pair refl
 
     -- where all were probed, nobody is recorded any more
     nobody : k ≡ cap.ToN → (d : ℕ) → same_perm (set c after b.pair d).recorded perm.None ≡ true
@@ -104,7 +104,7 @@ ended_move x y n source channel.C = if x then Pops ProbeAck n else Stays
 ended_move x y n source channel.D = if y then Pushes Answer source else Stays
 ended_move x y n source _ = Stays
 
-ended_shows : (n source : ℕ) (j : Kind) (x y : Bool) (r : Report) (k : Cap) (p : Pair) → is_transfer j ≡ true → (x ≡ true → p.probing ≡ Answered r)
+ended_shows : (n source : ℕ) (j : Kind) (x y : Bool) (r : Report) (k : Cap) (p : ClientBlock) → is_transfer j ≡ true → (x ≡ true → p.probing ≡ ProbeAnswered r)
     → agrees (ended_move x y n source (channel_for j)) j n (shows j p (Other k)) (shows j (if x then after_report r p else p) Idle) ≡ true
 ended_shows n source Request x y r k p t e = absurd cc
 ended_shows n source Answer x y r k p t e = absurd cc
@@ -133,9 +133,9 @@ ended_own channel.D x true n source = refl
 ended_own channel.D x false n source = refl
 ended_own channel.E x y n source = refl
 
-pub ended_moved : (ch : Channel) (x y : Bool) (n source : ℕ) (l : Link) (rest : List Token) → (x ≡ true → l.c ≡ token ProbeAck n ∷ rest)
-    → IsMoved (ended_move x y n source ch) (tokens_on ch l)
-    (tokens_on ch (if y then with_d (token Answer source) (if x then record l { c = rest } else l) else (if x then record l { c = rest } else l)))
+pub ended_moved : (ch : Channel) (x y : Bool) (n source : ℕ) (l : Link) (rest : List Packet) → (x ≡ true → l.c ≡ packet ProbeAck n ∷ rest)
+    → IsMoved (ended_move x y n source ch) (packets_on ch l)
+    (packets_on ch (if y then with_d (packet Answer source) (if x then record l { c = rest } else l) else (if x then record l { c = rest } else l)))
 ended_moved channel.A true true n source l rest e = refl
 ended_moved channel.A true false n source l rest e = refl
 ended_moved channel.A false true n source l rest e = refl
@@ -159,8 +159,8 @@ ended_moved channel.E false false n source l rest e = refl
 
 -- ---- the whole
 
-pub report_answers-kept : {X : Type 0} (caching : ℕ → Bool) (c q n : ℕ) (r : Report) (f : X → X) (source : ℕ) (k : Cap) (rest : List Token) (s : State X) → IsInvariant caching s
-    → (s.link c).c ≡ token ProbeAck n ∷ rest → IsLastOf c q r f source k (s.block n) → IsInvariant caching (report_answers c q n source r f rest s)
+pub report_answers-kept : {X : Type 0} (caching : ℕ → Bool) (c q n : ℕ) (r : Report) (f : X → X) (source : ℕ) (k : Cap) (rest : List Packet) (s : State X) → IsInvariant caching s
+    → (s.link c).c ≡ packet ProbeAck n ∷ rest → IsLastOf c q r f source k (s.block n) → IsInvariant caching (report_answers c q n source r f rest s)
 report_answers-kept {X} caching c q n r f source k rest s inv first last =
     invariant-moved_use caching n new links (λ d. ended_move (d == c) (d == q) n source) q source Replied (set tracker None s.tracked) s inv (record {
       well = ended-block caching c q r f source k (s.block n) (inv.blocks n) last;
@@ -175,22 +175,22 @@ report_answers-kept {X} caching c q n r f source k rest s inv first last =
           (λ i ne. acquires_same q i) (λ d i ne. acquires_same d i) inv.named.acquires;
       serves = names-set_at serves_of serves_with q source Replied s.uses n new s.block refl (λ m ne. rw used (sym (ne_eqb m n ne)))
           (λ i ne. rw (last.waits, same_number q, ne_eqb i source ne) refl) (λ d i ne. rw (last.waits, ne_eqb d q ne) refl) inv.named.serves;
-      releases = λ d. names-block is_of (releases_with d) (s.lets d) n new s.block (λ i. rw (set-part (λ (p : Pair). p.letting) c after old refl d) refl) (inv.named.releases d);
+      releases = λ d. names-block is_of (releases_with d) (s.lets d) n new s.block (λ i. rw (set-part (λ (p : ClientBlock). p.letting) c after old refl d) refl) (inv.named.releases d);
       trackers = names-set is_of tracks_with s.tracked tracker None n new s.block refl (λ m ne. rw tracked (sym (ne_eqb m n ne)))
           (λ i ne. rw (last.waits, ne_eqb i tracker ne) refl) inv.named.trackers;
     })
   where
-    old : ℕ → Pair
+    old : ℕ → ClientBlock
     old = (s.block n).pair
 
-    after : Pair
+    after : ClientBlock
     after = after_report r (old c)
 
     new : Block X
     new = ended_block c r f (s.block n)
 
     links : ℕ → Link
-    links = ended_link c q (token Answer source) rest s.link
+    links = ended_link c q (packet Answer source) rest s.link
 
     tracker : ℕ
     tracker = (s.block n).tracker
@@ -202,16 +202,16 @@ report_answers-kept {X} caching c q n r f source k rest s inv first last =
     tracked = is_of-is n (s.tracked tracker) (inv.named.trackers tracker n ∙ rw (last.waits, same_number tracker) refl)
 
     acquires_same : (d i : ℕ) → acquires_with d i new ≡ acquires_with d i (s.block n)
-    acquires_same d i = rw (set-part (λ (p : Pair). p.acquiring) c after old refl d) refl
+    acquires_same d i = rw (set-part (λ (p : ClientBlock). p.acquiring) c after old refl d) refl
 
     never_pushed : (x : Bool) (m : ℕ) → (if x then Pops ProbeAck n else Stays) ≡ Pushes ProbeAck m → ⊥
     never_pushed true m e = cc
     never_pushed false m e = cc
 
-    first_at : (d : ℕ) → (d == c) ≡ true → (s.link d).c ≡ token ProbeAck n ∷ rest
+    first_at : (d : ℕ) → (d == c) ≡ true → (s.link d).c ≡ packet ProbeAck n ∷ rest
     first_at d e = rw (eqb-true d c e) first
 
-    answered_at : (d : ℕ) → (d == c) ≡ true → (old d).probing ≡ Answered r
+    answered_at : (d : ℕ) → (d == c) ≡ true → (old d).probing ≡ ProbeAnswered r
     answered_at d e = rw (eqb-true d c e) last.answered
 
     -- the link and the pair of a client, by whether it is c
@@ -222,11 +222,11 @@ report_answers-kept {X} caching c q n r f source k rest s inv first last =
     ]
 
     by_link : (d : ℕ) (ch : Channel)
-        → IsMoved (ended_move (d == c) (d == q) n source ch) (tokens_on ch (s.link d))
-        (tokens_on ch (if d == q then with_d (token Answer source) (if d == c then record (s.link d) { c = rest } else s.link d) else (if d == c then record (s.link d) { c = rest } else s.link d)))
-        → IsMoved (ended_move (d == c) (d == q) n source ch) (tokens_on ch (s.link d)) (tokens_on ch (links d))
+        → IsMoved (ended_move (d == c) (d == q) n source ch) (packets_on ch (s.link d))
+        (packets_on ch (if d == q then with_d (packet Answer source) (if d == c then record (s.link d) { c = rest } else s.link d) else (if d == c then record (s.link d) { c = rest } else s.link d)))
+        → IsMoved (ended_move (d == c) (d == q) n source ch) (packets_on ch (s.link d)) (packets_on ch (links d))
     by_link d ch h =
-        subst (λ (l : Link). IsMoved (ended_move (d == c) (d == q) n source ch) (tokens_on ch (s.link d)) (tokens_on ch (if d == q then with_d (token Answer source) l else l))) (sym (popped d)) h
+        subst (λ (l : Link). IsMoved (ended_move (d == c) (d == q) n source ch) (packets_on ch (s.link d)) (packets_on ch (if d == q then with_d (packet Answer source) l else l))) (sym (popped d)) h
 
     pair_is : (d : ℕ) → set c after old d ≡ (if d == c then after_report r (old d) else old d)
     pair_is d = elim (cases_eq d c) [
@@ -238,4 +238,4 @@ report_answers-kept {X} caching c q n r f source k rest s inv first last =
         → agrees m j n (shown j d (s.block n)) (shown j d new) ≡ true
     by_pair d j m h =
         let seen : view (s.block n).service d ≡ Other k = rw last.waits refl in
-        rw seen (subst (λ (p : Pair). agrees m j n (shows j (old d) (Other k)) (shows j p Idle) ≡ true) (sym (pair_is d)) h)
+        rw seen (subst (λ (p : ClientBlock). agrees m j n (shows j (old d) (Other k)) (shows j p Idle) ≡ true) (sym (pair_is d)) h)

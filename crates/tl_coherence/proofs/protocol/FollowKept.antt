@@ -29,15 +29,15 @@ use Rattle.tl_client.specs.declared.reply.Reply.TheVariants as reply
 use Rattle.tl_client.specs.statement.Ask.{copy_stored, whole_grow}
 use Rattle.tl_manager.specs.statement.Holders.{cap_probed}
 use Rattle.tl_manager.proofs.Written.{bytes_are}
-use Rattle.tl_coherence.specs.refinement.Follow.{Shadow, with_state, asked, some_below, bytes_at, performs, probes_some, access_taken, request_taken, is_unheld, gift}
-use Rattle.tl_coherence.specs.refinement.Follow.{acquire_taken, granted_after, last_taken, ack_taken, is_whole, taken_by_client, kind_taken}
+use Rattle.tl_coherence.specs.refinement.AbstractStep.{AbstractState, with_state, asked, some_below, bytes_at, performs, probes_some, access_taken, request_taken, is_unheld, gift}
+use Rattle.tl_coherence.specs.refinement.AbstractStep.{acquire_taken, granted_after, last_taken, ack_taken, is_whole, taken_by_client, kind_taken}
 use Rattle.tl_coherence.specs.protocol.Invariant.{cap_asked, is_asked, is_replied, IsInvariant, AreOutside}
-use Rattle.tl_coherence.specs.protocol.Phase.{Pair, View, Own, Other, Granting, Acknowledging, GrantedOther, Answered, Kept, Acquiring, Calm, Wants, same_cap, is_quiet, cap_fits, grow_fits}
+use Rattle.tl_coherence.specs.protocol.Phase.{ClientBlock, View, Own, Other, Granting, Acknowledging, GrantedOther, ProbeAnswered, NoRelease, AcquirePhase, NoAcquire, AcquireOpen, same_cap, is_unprobed, cap_fits, grow_fits}
 use Rattle.tl_coherence.specs.protocol.PhaseSteps.{is_above, is_granted_data, after_report}
-use Rattle.tl_coherence.specs.protocol.Protocol.{Service, Free, Waits, GrantSent, GrantTaken, Block, Closed, Asked, view, token, shown, is_wanting, is_unserved, is_granting}
+use Rattle.tl_coherence.specs.protocol.Protocol.{Service, Free, Waits, GrantSent, GrantTaken, Block, SourceFree, Asked, view, packet, shown, is_wanting, is_unserved, is_granting}
 use Rattle.tl_coherence.specs.protocol.Protocol.{is_answered, is_probed, on, acquire_served, acquire_granted, report_taken, grant_taken}
-use Rattle.tl_coherence.specs.refinement.Render.{cap_sent, report_told, prune_told}
-use Rattle.tl_coherence.specs.protocol.Token.{Kind, Request, Acquire, Probe, ProbeAck, Release, Answer, Grant, ReleaseAck, GrantAck, Token, set}
+use Rattle.tl_coherence.specs.refinement.PacketMessages.{cap_sent, report_told, prune_told}
+use Rattle.tl_coherence.specs.protocol.Packet.{Kind, Request, Acquire, Probe, ProbeAck, Release, Answer, Grant, ReleaseAck, GrantAck, Packet, set}
 use Rattle.tl_coherence.proofs.queues.Phases.{and_left, and_right}
 use Rattle.tl_coherence.proofs.queues.Facts.{acquire_fits, answered_other, own_wants, granting_asks, is_other}
 use Rattle.tl_coherence.proofs.queues.Tokens.{same_number, holds-first}
@@ -81,18 +81,18 @@ some-one (suc n) test e = go (test n) refl e (λ f. some-one n test f)
     go false f g h = h g
 
 -- who isn't a client has nothing, and isn't probed
-unprobed : (clients : ℕ) (caching : ℕ → Bool) (c : ℕ) (own : Bool) (k : Cap) (pair : ℕ → Pair) → ((d : ℕ) → clients ≤ d → caching d ≡ false) → AreOutside caching pair
+unprobed : (clients : ℕ) (caching : ℕ → Bool) (c : ℕ) (own : Bool) (k : Cap) (pair : ℕ → ClientBlock) → ((d : ℕ) → clients ≤ d → caching d ≡ false) → AreOutside caching pair
     → some_below clients (λ d. is_probed c own k (pair d).recorded d) ≡ false → (d : ℕ) → (own && (d == c)) ≡ false → is_above k (pair d).recorded ≡ false
 unprobed clients caching c own k pair plain outside none d spared = elim (cases_lt d clients) [
   | inl lt ↦ let e : (not (own && (d == c)) && is_above k (pair d).recorded) ≡ false = some-none clients (λ i. is_probed c own k (pair i).recorded i) none d lt in rw spared at e
   | inr le ↦ rw (outside d (plain d le)) (nothing-above k)
 ]
 
-pub settled_all : (clients : ℕ) (caching : ℕ → Bool) (c : ℕ) (pair : ℕ → Pair) → ((d : ℕ) → clients ≤ d → caching d ≡ false) → AreOutside caching pair
-    → some_below clients (λ d. not (d == c) && not (is_quiet (pair d).probing)) ≡ false → (d : ℕ) → (d ≡ c → ⊥) → is_quiet (pair d).probing ≡ true
+pub settled_all : (clients : ℕ) (caching : ℕ → Bool) (c : ℕ) (pair : ℕ → ClientBlock) → ((d : ℕ) → clients ≤ d → caching d ≡ false) → AreOutside caching pair
+    → some_below clients (λ d. not (d == c) && not (is_unprobed (pair d).probing)) ≡ false → (d : ℕ) → (d ≡ c → ⊥) → is_unprobed (pair d).probing ≡ true
 settled_all clients caching c pair plain outside none d ne = elim (cases_lt d clients) [
-  | inl lt ↦ let e : (not (d == c) && not (is_quiet (pair d).probing)) ≡ false =
-      some-none clients (λ i. not (i == c) && not (is_quiet (pair i).probing)) none d lt in not-false (is_quiet (pair d).probing)
+  | inl lt ↦ let e : (not (d == c) && not (is_unprobed (pair d).probing)) ≡ false =
+      some-none clients (λ i. not (i == c) && not (is_unprobed (pair i).probing)) none d lt in not-false (is_unprobed (pair d).probing)
       (rw (ne_eqb d c ne) at e)
   | inr le ↦ rw (outside d (plain d le)) refl
 ]
@@ -125,9 +125,9 @@ leaves-bytes m bytes e long = elim (leaves_memory m (bytes_at (block_at m.addres
 
 -- ---- requests
 
-pub request_taken-kept : {w : ℕ} (caching : ℕ → Bool) (clients c source tracker : ℕ) (m : MessageA w) (rest : List Token) (h : Shadow w) → IsInvariant caching h.state
+pub request_taken-kept : {w : ℕ} (caching : ℕ → Bool) (clients c source tracker : ℕ) (m : MessageA w) (rest : List Packet) (h : AbstractState w) → IsInvariant caching h.state
     → ((d : ℕ) → clients ≤ d → caching d ≡ false)
-    → (h.state.link c).a ≡ token Request source ∷ rest → is_acquire m.opcode ≡ false → length (h.state.block (block_at m.address)).truth ≡ 64
+    → (h.state.link c).a ≡ packet Request source ∷ rest → is_acquire m.opcode ≡ false → length (h.state.block (block_at m.address)).truth ≡ 64
     → (h.state.block (block_at m.address)).service ≡ Free → h.state.tracked tracker ≡ None
     → IsInvariant caching (request_taken clients c source (message.A m) tracker rest h).state
 request_taken-kept {w} caching clients c source tracker m rest h inv plain first access long free unused =
@@ -140,7 +140,7 @@ request_taken-kept {w} caching clients c source tracker m rest h inv plain first
     b = h.state.block n
 
     asked : h.state.uses c source ≡ Asked
-    asked = is_asked-is (h.state.uses c source) (holds-first Request (h.state.link c).a rest (token Request source) (λ i. is_asked (h.state.uses c i)) first refl (inv.requests c))
+    asked = is_asked-is (h.state.uses c source) (holds-first Request (h.state.link c).a rest (packet Request source) (λ i. is_asked (h.state.uses c i)) first refl (inv.requests c))
 
     spares : (o : Option Cap) → cap_probed m.opcode m.param ≡ o → probes_some clients c false o b.pair ≡ false → Spares (performs m) b
     spares o e none = elim (leaves-bytes m b.truth access long) [
@@ -165,7 +165,7 @@ request_taken-kept {w} caching clients c source tracker m rest h inv plain first
 -- ---- Acquires
 
 -- what is granted fits what was asked for
-gift_fits : (p : Profile) (whole : Bool) (g : Grow) (held : Perm) (unheld : Bool) → grow_fits held (Wants whole g) ≡ true → cap_fits whole g (gift p whole g unheld) ≡ true
+gift_fits : (p : Profile) (whole : Bool) (g : Grow) (held : Perm) (unheld : Bool) → grow_fits held (AcquireOpen whole g) ≡ true → cap_fits whole g (gift p whole g unheld) ≡ true
 gift_fits p true grow.NtoB held unheld e = absurd cc
 gift_fits profile.One true grow.NtoT held unheld e = refl
 gift_fits profile.Two true grow.NtoT held unheld e = refl
@@ -182,7 +182,7 @@ gift_fits profile.Two false grow.BtoT held true e = refl
 gift_fits profile.Two false grow.BtoT held false e = refl
 
 -- Trunk is granted to who asked for it, or where nobody has a copy
-gift_trunk : (p : Profile) (whole : Bool) (g : Grow) (held : Perm) (unheld : Bool) → grow_fits held (Wants whole g) ≡ true → same_cap (gift p whole g unheld) cap.ToT ≡ true
+gift_trunk : (p : Profile) (whole : Bool) (g : Grow) (held : Perm) (unheld : Bool) → grow_fits held (AcquireOpen whole g) ≡ true → same_cap (gift p whole g unheld) cap.ToT ≡ true
     → (grows_to_trunk g ≡ true) ⊎ (unheld ≡ true)
 gift_trunk p whole grow.NtoT held unheld e f = inl refl
 gift_trunk p whole grow.BtoT held unheld e f = inl refl
@@ -192,7 +192,7 @@ gift_trunk profile.Two false grow.NtoB held true e f = inr refl
 gift_trunk profile.Two false grow.NtoB held false e f = absurd cc
 
 -- nobody is recorded
-unheld_none : (clients : ℕ) (caching : ℕ → Bool) (pair : ℕ → Pair) → ((d : ℕ) → clients ≤ d → caching d ≡ false) → AreOutside caching pair → is_unheld clients pair ≡ true → (d : ℕ)
+unheld_none : (clients : ℕ) (caching : ℕ → Bool) (pair : ℕ → ClientBlock) → ((d : ℕ) → clients ≤ d → caching d ≡ false) → AreOutside caching pair → is_unheld clients pair ≡ true → (d : ℕ)
     → same_perm (pair d).recorded perm.None ≡ true
 unheld_none clients caching pair plain outside e d = elim (cases_lt d clients) [
   | inl lt ↦ not-false (same_perm (pair d).recorded perm.None)
@@ -201,45 +201,45 @@ unheld_none clients caching pair plain outside e d = elim (cases_lt d clients) [
   | inr le ↦ rw (outside d (plain d le)) refl
 ]
 
-pub acquire_taken-kept : {w : ℕ} (caching : ℕ → Bool) (clients : ℕ) (p : Profile) (c n tracker : ℕ) (rest : List Token) (h : Shadow w) → IsInvariant caching h.state
+pub acquire_taken-kept : {w : ℕ} (caching : ℕ → Bool) (clients : ℕ) (p : Profile) (c n tracker : ℕ) (rest : List Packet) (h : AbstractState w) → IsInvariant caching h.state
     → ((d : ℕ) → clients ≤ d → caching d ≡ false)
-    → (h.state.link c).a ≡ token Acquire n ∷ rest → (h.state.block n).service ≡ Free → h.state.tracked tracker ≡ None
+    → (h.state.link c).a ≡ packet Acquire n ∷ rest → (h.state.block n).service ≡ Free → h.state.tracked tracker ≡ None
     → IsInvariant caching (acquire_taken clients p c n ((h.state.block n).pair c).acquiring tracker rest h).state
 acquire_taken-kept {w} caching clients p c n tracker rest h inv plain first free unused = go wants.0 wants.1 wants.2
   where
     b : Block (List ℕ)
     b = h.state.block n
 
-    wants : (whole : Bool) × (g : Grow) × ((b.pair c).acquiring ≡ Wants whole g)
+    wants : (whole : Bool) × (g : Grow) × ((b.pair c).acquiring ≡ AcquireOpen whole g)
     wants = wanting-is (b.pair c).acquiring (and_left (is_wanting (b.pair c).acquiring) (is_unserved (view b.service c))
-        (holds-first Acquire (h.state.link c).a rest (token Acquire n) (λ i. shown Acquire c (h.state.block i)) first refl (inv.transfers c Acquire refl)))
+        (holds-first Acquire (h.state.link c).a rest (packet Acquire n) (λ i. shown Acquire c (h.state.block i)) first refl (inv.transfers c Acquire refl)))
 
-    go : (whole : Bool) (g : Grow) → (b.pair c).acquiring ≡ Wants whole g → IsInvariant caching (acquire_taken clients p c n (b.pair c).acquiring tracker rest h).state
-    go whole g e = rw e (served (some_below clients (λ d. is_probed c true (cap_asked (Wants whole g)) (b.pair d).recorded d)) refl)
+    go : (whole : Bool) (g : Grow) → (b.pair c).acquiring ≡ AcquireOpen whole g → IsInvariant caching (acquire_taken clients p c n (b.pair c).acquiring tracker rest h).state
+    go whole g e = rw e (served (some_below clients (λ d. is_probed c true (cap_asked (AcquireOpen whole g)) (b.pair d).recorded d)) refl)
       where
-        fits : grow_fits (b.pair c).held (Wants whole g) ≡ true
+        fits : grow_fits (b.pair c).held (AcquireOpen whole g) ≡ true
         fits = acquire_fits whole g (b.pair c) (view b.service c) ((inv.blocks n).phases c) e
 
         given : Cap
         given = gift p whole g (is_unheld clients b.pair)
 
-        low_cap : same_cap (cap_asked (Wants whole g)) (cap_asked (Wants whole g)) ≡ true
-        low_cap = same_again (cap_asked (Wants whole g))
+        low_cap : same_cap (cap_asked (AcquireOpen whole g)) (cap_asked (AcquireOpen whole g)) ≡ true
+        low_cap = same_again (cap_asked (AcquireOpen whole g))
           where
             same_again : (k : Cap) → same_cap k k ≡ true
             same_again cap.ToT = refl
             same_again cap.ToB = refl
             same_again cap.ToN = refl
 
-        served : (x : Bool) → some_below clients (λ d. is_probed c true (cap_asked (Wants whole g)) (b.pair d).recorded d) ≡ x
-            → IsInvariant caching (if x then acquire_served c n (b.source c) tracker (cap_asked (Wants whole g)) rest h.state else acquire_granted c n tracker
+        served : (x : Bool) → some_below clients (λ d. is_probed c true (cap_asked (AcquireOpen whole g)) (b.pair d).recorded d) ≡ x
+            → IsInvariant caching (if x then acquire_served c n (b.source c) tracker (cap_asked (AcquireOpen whole g)) rest h.state else acquire_granted c n tracker
             (is_granted_data whole g (b.pair c).recorded) given rest h.state)
         served true f =
-            let one = some-one clients (λ d. is_probed c true (cap_asked (Wants whole g)) (b.pair d).recorded d) f in
-            acquire_served-kept caching c n (b.source c) tracker whole g (cap_asked (Wants whole g)) rest h.state inv first free e low_cap unused refl one.0 one.1
+            let one = some-one clients (λ d. is_probed c true (cap_asked (AcquireOpen whole g)) (b.pair d).recorded d) f in
+            acquire_served-kept caching c n (b.source c) tracker whole g (cap_asked (AcquireOpen whole g)) rest h.state inv first free e low_cap unused refl one.0 one.1
         served false f =
-            let spared : (d : ℕ) → (d ≡ c → ⊥) → is_above (cap_asked (Wants whole g)) (b.pair d).recorded ≡ false =
-            λ d ne. unprobed clients caching c true (cap_asked (Wants whole g)) b.pair plain (inv.blocks n).outside f d (ne_eqb d c ne) in
+            let spared : (d : ℕ) → (d ≡ c → ⊥) → is_above (cap_asked (AcquireOpen whole g)) (b.pair d).recorded ≡ false =
+            λ d ne. unprobed clients caching c true (cap_asked (AcquireOpen whole g)) b.pair plain (inv.blocks n).outside f d (ne_eqb d c ne) in
             acquire_granted-kept caching c n tracker whole g given rest h.state inv first (record {
               free = free;
               wants = e;
@@ -258,10 +258,10 @@ abbrev pub IsServing : {w : ℕ} → Service → MessageA w → Type 0
 IsServing (Waits q false source k) m = (is_acquire m.opcode ≡ false) × (cap_probed m.opcode m.param ≡ Some k)
 IsServing _ m = ⊤
 
-pub ack_taken-kept : {w : ℕ} (caching : ℕ → Bool) (clients : ℕ) (p : Profile) (c n : ℕ) (rest : List Token) (h : Shadow w) → IsInvariant caching h.state → ((d : ℕ) → clients ≤ d → caching d ≡ false)
-    → (h.state.link c).c ≡ token ProbeAck n ∷ rest → length (h.state.block n).truth ≡ 64 → IsServing (h.state.block n).service (h.request n)
+pub ack_taken-kept : {w : ℕ} (caching : ℕ → Bool) (clients : ℕ) (p : Profile) (c n : ℕ) (rest : List Packet) (h : AbstractState w) → IsInvariant caching h.state → ((d : ℕ) → clients ≤ d → caching d ≡ false)
+    → (h.state.link c).c ≡ packet ProbeAck n ∷ rest → length (h.state.block n).truth ≡ 64 → IsServing (h.state.block n).service (h.request n)
     → IsInvariant caching (ack_taken clients p c n (report_told ((h.state.block n).pair c).probing) rest h).state
-ack_taken-kept {w} caching clients p c n rest h inv plain first long serving = others (some_below clients (λ d. not (d == c) && not (is_quiet (b.pair d).probing))) refl
+ack_taken-kept {w} caching clients p c n rest h inv plain first long serving = others (some_below clients (λ d. not (d == c) && not (is_unprobed (b.pair d).probing))) refl
   where
     b : Block (List ℕ)
     b = h.state.block n
@@ -269,8 +269,8 @@ ack_taken-kept {w} caching clients p c n rest h inv plain first long serving = o
     r : Report
     r = report_told (b.pair c).probing
 
-    answered : (b.pair c).probing ≡ Answered r
-    answered = answered-is (b.pair c).probing (holds-first ProbeAck (h.state.link c).c rest (token ProbeAck n) (λ i. shown ProbeAck c (h.state.block i)) first refl (inv.transfers c ProbeAck refl))
+    answered : (b.pair c).probing ≡ ProbeAnswered r
+    answered = answered-is (b.pair c).probing (holds-first ProbeAck (h.state.link c).c rest (packet ProbeAck n) (λ i. shown ProbeAck c (h.state.block i)) first refl (inv.transfers c ProbeAck refl))
 
     seen : is_other (view b.service c) ≡ true
     seen = answered_other r (b.pair c) (view b.service c) ((inv.blocks n).phases c) answered
@@ -278,16 +278,16 @@ ack_taken-kept {w} caching clients p c n rest h inv plain first long serving = o
     inside : caching c ≡ false → ⊥
     inside = busy-inside caching c b.pair (λ x. is_answered x.probing) refl (rw answered refl) (inv.blocks n).outside
 
-    apart : (d : ℕ) → (not (d == c) && not (is_quiet (b.pair d).probing)) ≡ true → d ≡ c → ⊥
+    apart : (d : ℕ) → (not (d == c) && not (is_unprobed (b.pair d).probing)) ≡ true → d ≡ c → ⊥
     apart d e f = let g : false ≡ true = rw (f, same_number c) at e in cc
 
     -- the last one: what the service is
-    settled : some_below clients (λ d. not (d == c) && not (is_quiet (b.pair d).probing)) ≡ false → (d : ℕ) → (d ≡ c → ⊥) → is_quiet (b.pair d).probing ≡ true
+    settled : some_below clients (λ d. not (d == c) && not (is_unprobed (b.pair d).probing)) ≡ false → (d : ℕ) → (d ≡ c → ⊥) → is_unprobed (b.pair d).probing ≡ true
     settled e = settled_all clients caching c b.pair plain (inv.blocks n).outside e
 
-    granted : (q source : ℕ) (k : Cap) → b.service ≡ Waits q true source k → ((d : ℕ) → (d ≡ c → ⊥) → is_quiet (b.pair d).probing ≡ true) → (whole : Bool) (g : Grow)
-        → (b.pair q).acquiring ≡ Wants whole g
-        → IsInvariant caching (granted_after clients p c q n r (Wants whole g) rest h).state
+    granted : (q source : ℕ) (k : Cap) → b.service ≡ Waits q true source k → ((d : ℕ) → (d ≡ c → ⊥) → is_unprobed (b.pair d).probing ≡ true) → (whole : Bool) (g : Grow)
+        → (b.pair q).acquiring ≡ AcquireOpen whole g
+        → IsInvariant caching (granted_after clients p c q n r (AcquireOpen whole g) rest h).state
     granted q source k waits quiet whole g wants =
         report_grants-kept caching c q n r whole g given source k rest h.state inv first (record {
           waits = waits;
@@ -301,13 +301,13 @@ ack_taken-kept {w} caching clients p c n rest h inv plain first long serving = o
           ];
         })
       where
-        after : ℕ → Pair
+        after : ℕ → ClientBlock
         after = set c (after_report r (b.pair c)) b.pair
 
         given : Cap
         given = gift p whole g (is_unheld clients after)
 
-        fits : grow_fits (b.pair q).held (Wants whole g) ≡ true
+        fits : grow_fits (b.pair q).held (AcquireOpen whole g) ≡ true
         fits = acquire_fits whole g (b.pair q) (view b.service q) ((inv.blocks n).phases q) wants
 
         differ : c ≡ q → ⊥
@@ -316,7 +316,7 @@ ack_taken-kept {w} caching clients p c n rest h inv plain first long serving = o
     own_wanting : (q source : ℕ) (k : Cap) → b.service ≡ Waits q true source k → is_wanting (b.pair q).acquiring ≡ true
     own_wanting q source k waits = not-calm (b.pair q).acquiring (own_wants (b.pair q) (view b.service q) ((inv.blocks n).phases q) (rw (waits, same_number q) refl))
 
-    last : ((d : ℕ) → (d ≡ c → ⊥) → is_quiet (b.pair d).probing ≡ true) → (service : Service) → b.service ≡ service → IsInvariant caching (last_taken clients p c n r service rest h).state
+    last : ((d : ℕ) → (d ≡ c → ⊥) → is_unprobed (b.pair d).probing ≡ true) → (service : Service) → b.service ≡ service → IsInvariant caching (last_taken clients p c n r service rest h).state
     last quiet Free e = absurd (let other : false ≡ true = rw e at seen in cc)
     last quiet (GrantSent q d k) e = absurd (let one : is_other (view (GrantSent q d k) c) ≡ true = rw e at seen in let none =
         not-other (c == q) (Granting d k) GrantedOther refl refl in let no : false ≡ true = sym none ∙ one in cc)
@@ -324,7 +324,7 @@ ack_taken-kept {w} caching clients p c n rest h inv plain first long serving = o
         not-other (c == q) Acknowledging GrantedOther refl refl in let no : false ≡ true = sym none ∙ one in cc)
     last quiet (Waits q true source k) e =
         let wants = wanting-is (b.pair q).acquiring (own_wanting q source k e) in
-        subst (λ (x : Acquiring). IsInvariant caching (granted_after clients p c q n r x rest h).state) (sym wants.2) (granted q source k e quiet wants.0 wants.1 wants.2)
+        subst (λ (x : AcquirePhase). IsInvariant caching (granted_after clients p c q n r x rest h).state) (sym wants.2) (granted q source k e quiet wants.0 wants.1 wants.2)
     last quiet (Waits q false source k) e =
         let for : IsServing (Waits q false source k) (h.request n) = rw e at serving in
         report_answers-kept caching c q n r (performs (h.request n)) source k rest h.state inv first (record {
@@ -337,17 +337,17 @@ ack_taken-kept {w} caching clients p c n rest h inv plain first long serving = o
           ];
         })
 
-    others : (x : Bool) → some_below clients (λ d. not (d == c) && not (is_quiet (b.pair d).probing)) ≡ x
+    others : (x : Bool) → some_below clients (λ d. not (d == c) && not (is_unprobed (b.pair d).probing)) ≡ x
         → IsInvariant caching (if x then with_state (report_taken c n r rest h.state) h else last_taken clients p c n r b.service rest h).state
     others true e =
-        let one = some-one clients (λ d. not (d == c) && not (is_quiet (b.pair d).probing)) e in
+        let one = some-one clients (λ d. not (d == c) && not (is_unprobed (b.pair d).probing)) e in
         report_taken-kept caching c n r rest h.state inv first answered one.0 (apart one.0 one.1)
-        (not-true (is_quiet (b.pair one.0).probing) (and_right (not (one.0 == c)) (not (is_quiet (b.pair one.0).probing)) one.1))
+        (not-true (is_unprobed (b.pair one.0).probing) (and_right (not (one.0 == c)) (not (is_unprobed (b.pair one.0).probing)) one.1))
     others false e = last (settled e) b.service refl
 
 -- ---- Grants
 
-pub grant_followed-kept : {w : ℕ} (caching : ℕ → Bool) (c n : ℕ) (rest : List Token) (h : Shadow w) → IsInvariant caching h.state → (h.state.link c).d ≡ token Grant n ∷ rest
+pub grant_followed-kept : {w : ℕ} (caching : ℕ → Bool) (c n : ℕ) (rest : List Packet) (h : AbstractState w) → IsInvariant caching h.state → (h.state.link c).d ≡ packet Grant n ∷ rest
     → IsInvariant caching (taken_by_client c n (h.state.block n).service rest h).state
 grant_followed-kept {w} caching c n rest h inv first = go b.service refl
   where
@@ -355,7 +355,7 @@ grant_followed-kept {w} caching c n rest h inv first = go b.service refl
     b = h.state.block n
 
     seen : is_granting (view b.service c) ≡ true
-    seen = holds-first Grant (h.state.link c).d rest (token Grant n) (λ i. shown Grant c (h.state.block i)) first refl (inv.transfers c Grant refl)
+    seen = holds-first Grant (h.state.link c).d rest (packet Grant n) (λ i. shown Grant c (h.state.block i)) first refl (inv.transfers c Grant refl)
 
     never : (x : Bool) (u v : View) → is_granting u ≡ false → is_granting v ≡ false → is_granting (if x then u else v) ≡ false
     never true u v e f = e
@@ -379,63 +379,63 @@ grant_followed-kept {w} caching c n rest h inv first = go b.service refl
 -- ---- all messages that are taken
 
 -- what isn't told by the token alone: a request isn't stalled, and has a tracker that no block has; nor is a Probe
-abbrev pub IsReady : {w : ℕ} → ℕ → ℕ → Kind → ℕ → Shadow w → Type 0
+abbrev pub IsReady : {w : ℕ} → ℕ → ℕ → Kind → ℕ → AbstractState w → Type 0
 IsReady {w} tracker c Request source h =
     (m : MessageA w) × (h.mail.request c source ≡ message.A m) × (is_acquire m.opcode ≡ false) × ((h.state.block (block_at m.address)).service ≡ Free) × (h.state.tracked tracker ≡ None)
 IsReady tracker c Acquire n h = ((h.state.block n).service ≡ Free) × (h.state.tracked tracker ≡ None)
-IsReady tracker c Probe n h = ((h.state.block n).pair c).letting ≡ Kept
+IsReady tracker c Probe n h = ((h.state.block n).pair c).letting ≡ NoRelease
 IsReady tracker c _ n h = ⊤
 
-pub kind_taken-kept : {w : ℕ} (caching : ℕ → Bool) (config : Config) (tracker c : ℕ) (k : Kind) (i : ℕ) (rest : List Token) (h : Shadow w) → IsInvariant caching h.state
+pub kind_taken-kept : {w : ℕ} (caching : ℕ → Bool) (config : Config) (tracker c : ℕ) (k : Kind) (i : ℕ) (rest : List Packet) (h : AbstractState w) → IsInvariant caching h.state
     → ((d : ℕ) → length config.clients.items ≤ d → caching d ≡ false) → ((n : ℕ) → length (h.state.block n).truth ≡ 64) → ((n : ℕ) → IsServing (h.state.block n).service (h.request n))
-    → on k (h.state.link c) ≡ token k i ∷ rest → IsReady tracker c k i h → IsInvariant caching (kind_taken config tracker c k i rest h).state
+    → on k (h.state.link c) ≡ packet k i ∷ rest → IsReady tracker c k i h → IsInvariant caching (kind_taken config tracker c k i rest h).state
 kind_taken-kept {w} caching config tracker c Request i rest h inv plain long serving first ready =
     rw ready.1 (request_taken-kept caching (length config.clients.items) c i tracker ready.0 rest h inv plain first ready.2 (long (block_at ready.0.address)) ready.3 ready.4)
 kind_taken-kept caching config tracker c Acquire n rest h inv plain long serving first ready =
     acquire_taken-kept caching (length config.clients.items) config.profile c n tracker rest h inv plain first ready.0 ready.1
 kind_taken-kept caching config tracker c Probe n rest h inv plain long serving first kept =
-    let sent = sent-is ((h.state.block n).pair c).probing (holds-first Probe (h.state.link c).b rest (token Probe n) (λ i. shown Probe c (h.state.block i)) first refl (inv.transfers c Probe refl)) in
+    let sent = sent-is ((h.state.block n).pair c).probing (holds-first Probe (h.state.link c).b rest (packet Probe n) (λ i. shown Probe c (h.state.block i)) first refl (inv.transfers c Probe refl)) in
     probe_taken-kept caching c n (cap_sent ((h.state.block n).pair c).probing) rest h.state inv first sent kept
 kind_taken-kept caching config tracker c ProbeAck n rest h inv plain long serving first ready =
     ack_taken-kept caching (length config.clients.items) config.profile c n rest h inv plain first (long n) (serving n)
 kind_taken-kept caching config tracker c Release n rest h inv plain long serving first ready =
     let releasing = releasing-is ((h.state.block n).pair c).letting
-    (holds-first Release (h.state.link c).c rest (token Release n) (λ i. shown Release c (h.state.block i)) first refl (inv.transfers c Release refl))
+    (holds-first Release (h.state.link c).c rest (packet Release n) (λ i. shown Release c (h.state.block i)) first refl (inv.transfers c Release refl))
     in
     release_taken-kept caching c n (prune_told ((h.state.block n).pair c).letting) rest h.state inv first releasing
 kind_taken-kept caching config tracker c Answer i rest h inv plain long serving first ready =
-    let replied = is_replied-is (h.state.uses c i) (holds-first Answer (h.state.link c).d rest (token Answer i) (λ j. is_replied (h.state.uses c j)) first refl (inv.answers c)) in
+    let replied = is_replied-is (h.state.uses c i) (holds-first Answer (h.state.link c).d rest (packet Answer i) (λ j. is_replied (h.state.uses c j)) first refl (inv.answers c)) in
     answer_taken-kept caching c i rest h.state inv first replied
 kind_taken-kept caching config tracker c Grant n rest h inv plain long serving first ready = grant_followed-kept caching c n rest h inv first
 kind_taken-kept caching config tracker c ReleaseAck n rest h inv plain long serving first ready =
     let acked = acked-is ((h.state.block n).pair c).letting
-    (holds-first ReleaseAck (h.state.link c).d rest (token ReleaseAck n) (λ i. shown ReleaseAck c (h.state.block i)) first refl
+    (holds-first ReleaseAck (h.state.link c).d rest (packet ReleaseAck n) (λ i. shown ReleaseAck c (h.state.block i)) first refl
     (inv.transfers c ReleaseAck refl)) in
     release_ack_taken-kept caching c n rest h.state inv first acked
 kind_taken-kept caching config tracker c GrantAck n rest h inv plain long serving first ready =
     let taken = acknowledging-is (h.state.block n).service c
-    (holds-first GrantAck (h.state.link c).e rest (token GrantAck n) (λ i. shown GrantAck c (h.state.block i)) first refl
+    (holds-first GrantAck (h.state.link c).e rest (packet GrantAck n) (λ i. shown GrantAck c (h.state.block i)) first refl
     (inv.transfers c GrantAck refl)) in
     grant_ack_taken-kept caching c n rest h.state inv first taken
 
 -- ---- operations that are asked
 
 -- what a client's answer says of its end: what it was asked for, it may do
-abbrev pub IsAskable : {w : ℕ} → (ℕ → Bool) → ℕ → Op w → Reply → Shadow w → Type 0
+abbrev pub IsAskable : {w : ℕ} → (ℕ → Bool) → ℕ → Op w → Reply → AbstractState w → Type 0
 IsAskable caching c (op.Store address size value) reply.Stored h = same_perm ((h.state.block (block_at address)).pair c).held perm.Trunk ≡ true
 IsAskable caching c (op.Acquire n g) (reply.Started source) h =
-    (caching c ≡ true) × (h.state.uses c source ≡ Closed) × (((h.state.block n).pair c).acquiring ≡ Calm) × (((h.state.block n).pair c).letting ≡ Kept)
+    (caching c ≡ true) × (h.state.uses c source ≡ SourceFree) × (((h.state.block n).pair c).acquiring ≡ NoAcquire) × (((h.state.block n).pair c).letting ≡ NoRelease)
     × (same_perm (grow_left g) ((h.state.block n).pair c).held ≡ true)
 IsAskable caching c (op.AcquireWhole n bytes) (reply.Started source) h =
-    (caching c ≡ true) × (h.state.uses c source ≡ Closed) × (((h.state.block n).pair c).acquiring ≡ Calm) × (((h.state.block n).pair c).letting ≡ Kept)
+    (caching c ≡ true) × (h.state.uses c source ≡ SourceFree) × (((h.state.block n).pair c).acquiring ≡ NoAcquire) × (((h.state.block n).pair c).letting ≡ NoRelease)
     × (same_perm perm.Trunk ((h.state.block n).pair c).held ≡ false)
 IsAskable caching c (op.Release n r) (reply.Started source) h =
-    (caching c ≡ true) × (h.state.lets c source ≡ None) × (((h.state.block n).pair c).acquiring ≡ Calm) × (((h.state.block n).pair c).letting ≡ Kept)
+    (caching c ≡ true) × (h.state.lets c source ≡ None) × (((h.state.block n).pair c).acquiring ≡ NoAcquire) × (((h.state.block n).pair c).letting ≡ NoRelease)
     × (same_perm ((h.state.block n).pair c).held (prune_left r) ≡ true)
-IsAskable caching c (op.Access m) (reply.Started source) h = h.state.uses c source ≡ Closed
+IsAskable caching c (op.Access m) (reply.Started source) h = h.state.uses c source ≡ SourceFree
 IsAskable caching c o r h = ⊤
 
-begins_fit : (g : Grow) (p : Perm) → same_perm (grow_left g) p ≡ true → grow_fits p (Wants false g) ≡ true
+begins_fit : (g : Grow) (p : Perm) → same_perm (grow_left g) p ≡ true → grow_fits p (AcquireOpen false g) ≡ true
 begins_fit grow.NtoB perm.None e = refl
 begins_fit grow.NtoT perm.None e = refl
 begins_fit grow.BtoT perm.Branch e = refl
@@ -446,12 +446,12 @@ begins_fit grow.NtoT perm.Trunk e = absurd cc
 begins_fit grow.BtoT perm.None e = absurd cc
 begins_fit grow.BtoT perm.Trunk e = absurd cc
 
-whole_fits : (p : Perm) → same_perm perm.Trunk p ≡ false → grow_fits p (Wants true (whole_grow p)) ≡ true
+whole_fits : (p : Perm) → same_perm perm.Trunk p ≡ false → grow_fits p (AcquireOpen true (whole_grow p)) ≡ true
 whole_fits perm.None e = refl
 whole_fits perm.Branch e = refl
 whole_fits perm.Trunk e = absurd cc
 
-pub asked-kept : {w : ℕ} (caching : ℕ → Bool) (c : ℕ) (o : Op w) (r : Reply) (h : Shadow w) → IsInvariant caching h.state → IsAskable caching c o r h → IsInvariant caching (asked c o r h).state
+pub asked-kept : {w : ℕ} (caching : ℕ → Bool) (c : ℕ) (o : Op w) (r : Reply) (h : AbstractState w) → IsInvariant caching h.state → IsAskable caching c o r h → IsInvariant caching (asked c o r h).state
 asked-kept caching c (op.Load address size) r h inv is = inv
 asked-kept caching c (op.Store address size value) reply.Stored h inv may =
     block_stored-kept caching c (block_at address) (copy_stored address size value ((h.state.block (block_at address)).copy c)) h.state inv may

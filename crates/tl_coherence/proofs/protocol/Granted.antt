@@ -11,9 +11,9 @@ use Rattle.tl_params.specs.declared.perm.Perm.{Perm}
 use Rattle.tl_params.specs.declared.perm.Perm.TheVariants as perm
 use Rattle.tl_params.specs.statement.Param.{cap_right, report_left, report_right}
 use Rattle.tl_rules.specs.statement.Conformance.{same_perm}
-use Rattle.tl_coherence.specs.protocol.Phase.{Pair, Own, Other, Granting, GrantedOther, Quiet, Answered, Calm, Wants, ok, same_cap, perm_le, is_quiet, cap_fits}
+use Rattle.tl_coherence.specs.protocol.Phase.{ClientBlock, Own, Other, Granting, GrantedOther, NoProbe, ProbeAnswered, NoAcquire, AcquireOpen, ok, same_cap, perm_le, is_unprobed, cap_fits}
 use Rattle.tl_coherence.specs.protocol.PhaseSteps.{is_granted_data, after_grant_sent, after_report}
-use Rattle.tl_coherence.specs.protocol.Token.{set}
+use Rattle.tl_coherence.specs.protocol.Packet.{set}
 use Rattle.tl_coherence.specs.protocol.Protocol.{Waits, GrantSent, Block, view, written, granted_pair, granted_block}
 use Rattle.tl_coherence.specs.protocol.Invariant.{cap_asked, IsAskedCap, resting, is_out, IsWell}
 use Rattle.tl_coherence.proofs.queues.Tokens.{same_number, set-same, set-other, set-part}
@@ -71,9 +71,9 @@ gives whole g cap.ToN e = inr refl
 -- what the premises say: c's ProbeAck is the last one that q's Acquire waits for
 pub record IsLast {X : Type 0} (c q : ℕ) (r : Report) (whole : Bool) (g : Grow) (gift : Cap) (source : ℕ) (k : Cap) (b : Block X) : Type 0 where
   pub waits : b.service ≡ Waits q true source k
-  pub answered : (b.pair c).probing ≡ Answered r
-  pub settled : (d : ℕ) → (d ≡ c → ⊥) → is_quiet (b.pair d).probing ≡ true
-  pub wants : (b.pair q).acquiring ≡ Wants whole g
+  pub answered : (b.pair c).probing ≡ ProbeAnswered r
+  pub settled : (d : ℕ) → (d ≡ c → ⊥) → is_unprobed (b.pair d).probing ≡ true
+  pub wants : (b.pair q).acquiring ≡ AcquireOpen whole g
   pub fits : cap_fits whole g gift ≡ true
   -- Trunk is granted only where nobody else is recorded
   pub room : same_cap gift cap.ToT ≡ true → (d : ℕ) → (d ≡ q → ⊥) → same_perm (set c (after_report r (b.pair c)) b.pair d).recorded perm.None ≡ true
@@ -105,7 +105,7 @@ granted-block {X} caching c q r whole g gift source k b h last = record {
     with_data : Bool
     with_data = is_granted_data whole g (b.pair q).recorded
 
-    after : Pair
+    after : ClientBlock
     after = after_report r (b.pair c)
 
     own : view b.service q ≡ Own
@@ -116,9 +116,9 @@ granted-block {X} caching c q r whole g gift source k b h last = record {
 
     apart : c ≡ q → ⊥
     apart e =
-        let quiet : is_quiet (b.pair q).probing ≡ true = own_quiet (b.pair q) (view b.service q) (h.phases q) own in
-        let answered : (b.pair q).probing ≡ Answered r = rw e at last.answered in
-        let no : is_quiet (Answered r) ≡ true = rw answered at quiet in
+        let quiet : is_unprobed (b.pair q).probing ≡ true = own_quiet (b.pair q) (view b.service q) (h.phases q) own in
+        let answered : (b.pair q).probing ≡ ProbeAnswered r = rw e at last.answered in
+        let no : is_unprobed (ProbeAnswered r) ≡ true = rw answered at quiet in
         absurd cc
 
     low : same_cap k cap.ToT ≡ false
@@ -137,10 +137,10 @@ granted-block {X} caching c q r whole g gift source k b h last = record {
 
     held_same : (d : ℕ) → (granted_pair c q r gift b.pair d).held ≡ (b.pair d).held
     held_same d =
-        let first : (set c after b.pair q).held ≡ (b.pair q).held = set-part (λ (p : Pair). p.held) c after b.pair refl q in
-        set-part (λ (p : Pair). p.held) q (after_grant_sent gift (b.pair q)) (set c after b.pair) (sym first) d ∙ set-part (λ (p : Pair). p.held) c after b.pair refl d
+        let first : (set c after b.pair q).held ≡ (b.pair q).held = set-part (λ (p : ClientBlock). p.held) c after b.pair refl q in
+        set-part (λ (p : ClientBlock). p.held) q (after_grant_sent gift (b.pair q)) (set c after b.pair) (sym first) d ∙ set-part (λ (p : ClientBlock). p.held) c after b.pair refl d
 
-    all_quiet : (j : ℕ) → is_quiet (granted_pair c q r gift b.pair j).probing ≡ true
+    all_quiet : (j : ℕ) → is_unprobed (granted_pair c q r gift b.pair j).probing ≡ true
     all_quiet j = elim (cases_eq j q) [
       | inl same ↦ rw (same, granted_here) (own_quiet (b.pair q) (view b.service q) (h.phases q) own)
       | inr ne ↦ rw (granted_elsewhere j ne) (elim (cases_eq j c) [
@@ -182,11 +182,11 @@ granted-block {X} caching c q r whole g gift source k b h last = record {
     memory_is true e = rw e refl
     memory_is false e = rw e (h.memory (none_out e))
 
-    not_calm : (p : Pair) → p.acquiring ≡ Wants whole g → p ≡ resting → ⊥
-    not_calm p e f = let i : p.acquiring ≡ Calm = ap (λ (x : Pair). x.acquiring) f in let j : Wants whole g ≡ Calm = sym e ∙ i in absurd cc
+    not_calm : (p : ClientBlock) → p.acquiring ≡ AcquireOpen whole g → p ≡ resting → ⊥
+    not_calm p e f = let i : p.acquiring ≡ NoAcquire = ap (λ (x : ClientBlock). x.acquiring) f in let j : AcquireOpen whole g ≡ NoAcquire = sym e ∙ i in absurd cc
 
-    not_quiet : (p : Pair) → p.probing ≡ Answered r → p ≡ resting → ⊥
-    not_quiet p e f = let i : p.probing ≡ Quiet = ap (λ (x : Pair). x.probing) f in let j : Answered r ≡ Quiet = sym e ∙ i in absurd cc
+    not_quiet : (p : ClientBlock) → p.probing ≡ ProbeAnswered r → p ≡ resting → ⊥
+    not_quiet p e f = let i : p.probing ≡ NoProbe = ap (λ (x : ClientBlock). x.probing) f in let j : ProbeAnswered r ≡ NoProbe = sym e ∙ i in absurd cc
 
 -- ---- the cap of a Grant that gives Trunk
 
@@ -206,15 +206,15 @@ is_none cap.ToT e = absurd cc
 is_none cap.ToB e = absurd cc
 is_none cap.ToN e = refl
 
-asks_none : (k : Cap) (whole : Bool) (g : Grow) → grows_to_trunk g ≡ true → same_cap k (cap_asked (Wants whole g)) ≡ true → k ≡ cap.ToN
+asks_none : (k : Cap) (whole : Bool) (g : Grow) → grows_to_trunk g ≡ true → same_cap k (cap_asked (AcquireOpen whole g)) ≡ true → k ≡ cap.ToN
 asks_none k whole grow.NtoB e f = absurd cc
 asks_none k whole grow.NtoT e f = is_none k f
 asks_none k whole grow.BtoT e f = is_none k f
 
 -- where the Acquire asks for Trunk, all others were probed to None
 pub room-trunk : {X : Type 0} (caching : ℕ → Bool) (c q : ℕ) (r : Report) (whole : Bool) (g : Grow) (source : ℕ) (k : Cap) (b : Block X) → IsWell caching b → b.service ≡ Waits q true source k
-    → (b.pair c).probing ≡ Answered r
-    → ((d : ℕ) → (d ≡ c → ⊥) → is_quiet (b.pair d).probing ≡ true) → (b.pair q).acquiring ≡ Wants whole g → grows_to_trunk g ≡ true → (c ≡ q → ⊥) → (d : ℕ) → (d ≡ q → ⊥)
+    → (b.pair c).probing ≡ ProbeAnswered r
+    → ((d : ℕ) → (d ≡ c → ⊥) → is_unprobed (b.pair d).probing ≡ true) → (b.pair q).acquiring ≡ AcquireOpen whole g → grows_to_trunk g ≡ true → (c ≡ q → ⊥) → (d : ℕ) → (d ≡ q → ⊥)
     → same_perm (set c (after_report r (b.pair c)) b.pair d).recorded perm.None ≡ true
 room-trunk caching c q r whole g source k b h waits answered settled wants trunk apart d ne = elim (cases_eq d c) [
   | inl same ↦ rw (same, set-same c (after_report r (b.pair c)) b.pair) (low_none k (report_right r) cap_is (reported_within k r (b.pair c) (view b.service c) (h.phases c) (seen c apart) answered))

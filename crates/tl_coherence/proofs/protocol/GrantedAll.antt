@@ -8,10 +8,10 @@ use Rattle.tl_beat.specs.declared.channel.Channel.TheVariants as channel
 use Rattle.tl_params.specs.declared.param.Cap.{Cap}
 use Rattle.tl_params.specs.declared.param.Grow.{Grow}
 use Rattle.tl_params.specs.declared.param.Report.{Report}
-use Rattle.tl_coherence.specs.protocol.Phase.{Pair, Own, Other, Granting, GrantedOther, Answered, is_quiet}
+use Rattle.tl_coherence.specs.protocol.Phase.{ClientBlock, Own, Other, Granting, GrantedOther, ProbeAnswered, is_unprobed}
 use Rattle.tl_coherence.specs.protocol.PhaseSteps.{is_granted_data, after_grant_sent, after_report}
-use Rattle.tl_coherence.specs.protocol.Token.{Kind, Request, Acquire, Probe, ProbeAck, Release, Answer, Grant, ReleaseAck, GrantAck, Token, set}
-use Rattle.tl_coherence.specs.protocol.Protocol.{Block, State, Link, view, token, tokens_on, is_transfer, is_wanting, is_sent, is_answered, is_releasing, is_acked, shows}
+use Rattle.tl_coherence.specs.protocol.Packet.{Kind, Request, Acquire, Probe, ProbeAck, Release, Answer, Grant, ReleaseAck, GrantAck, Packet, set}
+use Rattle.tl_coherence.specs.protocol.Protocol.{Block, State, Link, view, packet, packets_on, is_transfer, is_wanting, is_sent, is_answered, is_releasing, is_acked, shows}
 use Rattle.tl_coherence.specs.protocol.Protocol.{shown, granted_block, granted_link, report_grants}
 use Rattle.tl_coherence.specs.refinement.Move.{Move, Stays, Pushes, Pops, IsMoved, agrees, is_own_move, channel_for}
 use Rattle.tl_coherence.specs.protocol.Invariant.{IsInvariant}
@@ -27,7 +27,7 @@ granted_moves n c q d channel.D = if d == q then Pushes Grant n else Stays
 granted_moves n c q d _ = Stays
 
 -- what one shows before and after it, by the parts that the event leaves
-at_sender : (n : ℕ) (k : Kind) (p : Pair) (d : Bool) (gift : Cap) → is_transfer k ≡ true
+at_sender : (n : ℕ) (k : Kind) (p : ClientBlock) (d : Bool) (gift : Cap) → is_transfer k ≡ true
     → agrees (granted_moves n 0 1 1 (channel_for k)) k n (shows k p Own) (shows k (after_grant_sent gift p) (Granting d gift)) ≡ true
 at_sender n Request p d gift t = absurd cc
 at_sender n Answer p d gift t = absurd cc
@@ -43,7 +43,7 @@ at_sender n Grant p d gift t = rw (same_number n) refl
 at_sender n ReleaseAck p d gift t = same_again (is_acked p.letting)
 at_sender n GrantAck p d gift t = refl
 
-at_reporter : (n : ℕ) (k : Kind) (r : Report) (p : Pair) (j : Cap) → is_transfer k ≡ true → p.probing ≡ Answered r
+at_reporter : (n : ℕ) (k : Kind) (r : Report) (p : ClientBlock) (j : Cap) → is_transfer k ≡ true → p.probing ≡ ProbeAnswered r
     → agrees (granted_moves n 1 0 1 (channel_for k)) k n (shows k p (Other j)) (shows k (after_report r p) GrantedOther) ≡ true
 at_reporter n Request r p j t e = absurd cc
 at_reporter n Answer r p j t e = absurd cc
@@ -55,7 +55,7 @@ at_reporter n Grant r p j t e = refl
 at_reporter n ReleaseAck r p j t e = same_again (is_acked p.letting)
 at_reporter n GrantAck r p j t e = refl
 
-at_other : (n : ℕ) (k : Kind) (p : Pair) (j : Cap) → is_transfer k ≡ true → agrees Stays k n (shows k p (Other j)) (shows k p GrantedOther) ≡ true
+at_other : (n : ℕ) (k : Kind) (p : ClientBlock) (j : Cap) → is_transfer k ≡ true → agrees Stays k n (shows k p (Other j)) (shows k p GrantedOther) ≡ true
 at_other n Request p j t = absurd cc
 at_other n Answer p j t = absurd cc
 at_other n Acquire p j t = same_again (is_wanting p.acquiring && true)
@@ -88,9 +88,9 @@ moves_of_other n c q d channel.C o m = rw (ne_eqb d c o) refl
 moves_of_other n c q d channel.D o m = rw (ne_eqb d q m) refl
 moves_of_other n c q d channel.E o m = refl
 
-pub report_grants-kept : {X : Type 0} (caching : ℕ → Bool) (c q n : ℕ) (r : Report) (whole : Bool) (g : Grow) (gift : Cap) (source : ℕ) (k : Cap) (rest : List Token) (s : State X)
+pub report_grants-kept : {X : Type 0} (caching : ℕ → Bool) (c q n : ℕ) (r : Report) (whole : Bool) (g : Grow) (gift : Cap) (source : ℕ) (k : Cap) (rest : List Packet) (s : State X)
     → IsInvariant caching s
-    → (s.link c).c ≡ token ProbeAck n ∷ rest → IsLast c q r whole g gift source k (s.block n)
+    → (s.link c).c ≡ packet ProbeAck n ∷ rest → IsLast c q r whole g gift source k (s.block n)
     → IsInvariant caching (report_grants c q n r (is_granted_data whole g ((s.block n).pair q).recorded) gift rest s)
 report_grants-kept {X} caching c q n r whole g gift source k rest s inv first last =
     invariant-moved caching n new links (granted_moves n c q) s.lets s.tracked s inv (record {
@@ -114,9 +114,9 @@ report_grants-kept {X} caching c q n r whole g gift source k rest s inv first la
     apart : c ≡ q → ⊥
     apart e =
         let own : view (s.block n).service q ≡ Own = rw (last.waits, same_number q) refl in
-        let quiet : is_quiet ((s.block n).pair q).probing ≡ true = own_quiet ((s.block n).pair q) (view (s.block n).service q) ((inv.blocks n).phases q) own in
-        let answered : ((s.block n).pair q).probing ≡ Answered r = rw e at last.answered in
-        let differs : is_quiet (Answered r) ≡ true = rw answered at quiet in
+        let quiet : is_unprobed ((s.block n).pair q).probing ≡ true = own_quiet ((s.block n).pair q) (view (s.block n).service q) ((inv.blocks n).phases q) own in
+        let answered : ((s.block n).pair q).probing ≡ ProbeAnswered r = rw e at last.answered in
+        let differs : is_unprobed (ProbeAnswered r) ≡ true = rw answered at quiet in
         absurd cc
 
     apart_too : q ≡ c → ⊥
@@ -146,7 +146,7 @@ report_grants-kept {X} caching c q n r whole g gift source k rest s inv first la
     own d channel.E = refl
 
     at_q : Link
-    at_q = record (s.link q) { d = (s.link q).d ++ token Grant n ∷ [] }
+    at_q = record (s.link q) { d = (s.link q).d ++ packet Grant n ∷ [] }
 
     at_c : Link
     at_c = record (s.link c) { c = rest }
@@ -160,39 +160,39 @@ report_grants-kept {X} caching c q n r whole g gift source k rest s inv first la
     links_other : (d : ℕ) → (d ≡ q → ⊥) → (d ≡ c → ⊥) → links d ≡ s.link d
     links_other d m o = set-other q d at_q (set c at_c s.link) m ∙ set-other c d at_c s.link o
 
-    moved_q : (ch : Channel) → IsMoved (granted_moves n 0 1 1 ch) (tokens_on ch (s.link q)) (tokens_on ch at_q)
+    moved_q : (ch : Channel) → IsMoved (granted_moves n 0 1 1 ch) (packets_on ch (s.link q)) (packets_on ch at_q)
     moved_q channel.A = refl
     moved_q channel.B = refl
     moved_q channel.C = refl
     moved_q channel.D = refl
     moved_q channel.E = refl
 
-    moved_c : (ch : Channel) → IsMoved (granted_moves n 1 0 1 ch) (tokens_on ch (s.link c)) (tokens_on ch at_c)
+    moved_c : (ch : Channel) → IsMoved (granted_moves n 1 0 1 ch) (packets_on ch (s.link c)) (packets_on ch at_c)
     moved_c channel.A = refl
     moved_c channel.B = refl
     moved_c channel.C = first
     moved_c channel.D = refl
     moved_c channel.E = refl
 
-    moved : (d : ℕ) (ch : Channel) → IsMoved (granted_moves n c q d ch) (tokens_on ch (s.link d)) (tokens_on ch (links d))
+    moved : (d : ℕ) (ch : Channel) → IsMoved (granted_moves n c q d ch) (packets_on ch (s.link d)) (packets_on ch (links d))
     moved d ch = elim (cases_eq d q) [
-      | inl same ↦ rw same (moved_as (granted_moves n c q q ch) (granted_moves n 0 1 1 ch) (tokens_on ch (s.link q)) (tokens_on ch (links q))
-          (tokens_on ch at_q) (moves_of_sender n c q ch apart_too) (ap (tokens_on ch) links_q) (moved_q ch))
+      | inl same ↦ rw same (moved_as (granted_moves n c q q ch) (granted_moves n 0 1 1 ch) (packets_on ch (s.link q)) (packets_on ch (links q))
+          (packets_on ch at_q) (moves_of_sender n c q ch apart_too) (ap (packets_on ch) links_q) (moved_q ch))
       | inr m ↦ elim (cases_eq d c) [
-        | inl same ↦ rw same (moved_as (granted_moves n c q c ch) (granted_moves n 1 0 1 ch) (tokens_on ch (s.link c)) (tokens_on ch (links c))
-            (tokens_on ch at_c) (moves_of_reporter n c q ch apart) (ap (tokens_on ch) links_c) (moved_c ch))
-        | inr o ↦ moved_as (granted_moves n c q d ch) Stays (tokens_on ch (s.link d)) (tokens_on ch (links d)) (tokens_on ch (s.link d))
-            (moves_of_other n c q d ch o m) (ap (tokens_on ch) (links_other d m o)) refl
+        | inl same ↦ rw same (moved_as (granted_moves n c q c ch) (granted_moves n 1 0 1 ch) (packets_on ch (s.link c)) (packets_on ch (links c))
+            (packets_on ch at_c) (moves_of_reporter n c q ch apart) (ap (packets_on ch) links_c) (moved_c ch))
+        | inr o ↦ moved_as (granted_moves n c q d ch) Stays (packets_on ch (s.link d)) (packets_on ch (links d)) (packets_on ch (s.link d))
+            (moves_of_other n c q d ch o m) (ap (packets_on ch) (links_other d m o)) refl
       ]
     ]
 
     agrees_as : (j : Kind) (m p : Move) (a b x y : Bool) → m ≡ p → a ≡ x → b ≡ y → agrees p j n x y ≡ true → agrees m j n a b ≡ true
     agrees_as j m p a b x y e f h t = rw (e, f, h) t
 
-    old : ℕ → Pair
+    old : ℕ → ClientBlock
     old = (s.block n).pair
 
-    after : Pair
+    after : ClientBlock
     after = after_report r (old c)
 
     pair_q : new.pair q ≡ after_grant_sent gift (old q)
@@ -218,13 +218,13 @@ report_grants-kept {X} caching c q n r whole g gift source k rest s inv first la
 
     acquiring_same : (d : ℕ) → (new.pair d).acquiring ≡ (old d).acquiring
     acquiring_same d =
-        let first_ : (set c after old q).acquiring ≡ (old q).acquiring = set-part (λ (p : Pair). p.acquiring) c after old refl q in
-        set-part (λ (p : Pair). p.acquiring) q (after_grant_sent gift (old q)) (set c after old) (sym first_) d ∙ set-part (λ (p : Pair). p.acquiring) c after old refl d
+        let first_ : (set c after old q).acquiring ≡ (old q).acquiring = set-part (λ (p : ClientBlock). p.acquiring) c after old refl q in
+        set-part (λ (p : ClientBlock). p.acquiring) q (after_grant_sent gift (old q)) (set c after old) (sym first_) d ∙ set-part (λ (p : ClientBlock). p.acquiring) c after old refl d
 
     letting_same : (d : ℕ) → (new.pair d).letting ≡ (old d).letting
     letting_same d =
-        let first_ : (set c after old q).letting ≡ (old q).letting = set-part (λ (p : Pair). p.letting) c after old refl q in
-        set-part (λ (p : Pair). p.letting) q (after_grant_sent gift (old q)) (set c after old) (sym first_) d ∙ set-part (λ (p : Pair). p.letting) c after old refl d
+        let first_ : (set c after old q).letting ≡ (old q).letting = set-part (λ (p : ClientBlock). p.letting) c after old refl q in
+        set-part (λ (p : ClientBlock). p.letting) q (after_grant_sent gift (old q)) (set c after old) (sym first_) d ∙ set-part (λ (p : ClientBlock). p.letting) c after old refl d
 
     fits : (d : ℕ) (j : Kind) → is_transfer j ≡ true → (d ≡ q) ⊎ (d ≡ q → ⊥) → (d ≡ c) ⊎ (d ≡ c → ⊥) → agrees (granted_moves n c q d (channel_for j)) j n (shown j d (s.block n)) (shown j d new) ≡ true
     fits d j t (inl same) o =

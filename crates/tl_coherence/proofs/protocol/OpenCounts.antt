@@ -3,10 +3,10 @@ use Rattle.std.proofs.Common.{◌≡◌, ℕ, ◌+◌, ◌<◌, Bool, false, len
 use Rattle.std.proofs.lemmas.Bool.{cases_eq}
 use Rattle.tl_params.specs.declared.config.Config.{Config}
 use Rattle.tl_coherence.specs.statement.Delivery.{sources_of}
-use Rattle.tl_coherence.specs.bound.Potential.{total, is_used, is_let, open_requests, open_releases}
+use Rattle.tl_coherence.specs.bound.Rank.{total, is_used, is_let, open_requests, open_releases}
 use Rattle.tl_coherence.specs.protocol.Protocol.{State, Link}
 use Rattle.tl_coherence.specs.statement.System.{terms_at}
-use Rattle.tl_coherence.specs.protocol.Token.{one_if, set, set_at}
+use Rattle.tl_coherence.specs.protocol.Packet.{one_if, set, set_at}
 use Rattle.tl_coherence.proofs.queues.Sums.{total-same, total-plus, total-set}
 use Rattle.tl_coherence.proofs.queues.Tokens.{set-same, set-other, set-part}
 

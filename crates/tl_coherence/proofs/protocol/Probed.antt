@@ -10,10 +10,10 @@ use Rattle.tl_params.specs.declared.perm.Perm.{Perm}
 use Rattle.tl_params.specs.declared.perm.Perm.TheVariants as perm
 use Rattle.tl_params.specs.statement.Param.{report_right, report_at}
 use Rattle.tl_rules.specs.statement.Conformance.{same_perm}
-use Rattle.tl_coherence.specs.protocol.Phase.{Pair, View, Quiet, Sent, Kept, is_quiet}
+use Rattle.tl_coherence.specs.protocol.Phase.{ClientBlock, View, NoProbe, ProbeSent, NoRelease, is_unprobed}
 use Rattle.tl_coherence.specs.protocol.PhaseSteps.{after_probe}
-use Rattle.tl_coherence.specs.protocol.Token.{Kind, Request, Acquire, Probe, ProbeAck, Release, Answer, Grant, ReleaseAck, GrantAck, Token, set, count}
-use Rattle.tl_coherence.specs.protocol.Protocol.{Block, State, Link, view, token, is_transfer, is_wanting, is_unserved, is_releasing, is_acked, is_granting}
+use Rattle.tl_coherence.specs.protocol.Packet.{Kind, Request, Acquire, Probe, ProbeAck, Release, Answer, Grant, ReleaseAck, GrantAck, Packet, set, count}
+use Rattle.tl_coherence.specs.protocol.Protocol.{Block, State, Link, view, packet, is_transfer, is_wanting, is_unserved, is_releasing, is_acked, is_granting}
 use Rattle.tl_coherence.specs.protocol.Protocol.{is_acknowledging, shows, probed_block, probed_link, probe_taken}
 use Rattle.tl_coherence.specs.refinement.Move.{Move, Stays, Pushes, Pops, AreMoved, agrees, is_own_move, channel_for}
 use Rattle.tl_coherence.specs.protocol.Invariant.{resting, IsWell, IsInvariant}
@@ -32,18 +32,18 @@ less_left cap.ToT perm.None e = e
 less_left cap.ToB perm.None e = e
 less_left cap.ToN perm.None e = e
 
-pub probed-block : {X : Type 0} (caching : ℕ → Bool) (c : ℕ) (k : Cap) (b : Block X) → IsWell caching b → (b.pair c).probing ≡ Sent k → (b.pair c).letting ≡ Kept → IsWell caching (probed_block c k b)
+pub probed-block : {X : Type 0} (caching : ℕ → Bool) (c : ℕ) (k : Cap) (b : Block X) → IsWell caching b → (b.pair c).probing ≡ ProbeSent k → (b.pair c).letting ≡ NoRelease → IsWell caching (probed_block c k b)
 probed-block caching c k b h sent kept =
-    let after : Pair = after_probe k (b.pair c) in
-    let quiet_same = set-part (λ (p : Pair). is_quiet p.probing) c after b.pair (rw sent refl) in
-    let recorded_same = set-part (λ (p : Pair). p.recorded) c after b.pair refl in
+    let after : ClientBlock = after_probe k (b.pair c) in
+    let quiet_same = set-part (λ (p : ClientBlock). is_unprobed p.probing) c after b.pair (rw sent refl) in
+    let recorded_same = set-part (λ (p : ClientBlock). p.recorded) c after b.pair refl in
     record {
       phases = λ d. elim (cases_eq d c) [
         | inl same ↦ rw (same, set-same c after b.pair) (probe-ok k (b.pair c) (view b.service c) (h.phases c) sent kept)
         | inr other ↦ rw (set-other c d after b.pair other) (h.phases d)
       ];
       awaited = awaited_by b.service (set c after b.pair) c (rw (set-same c after b.pair) refl);
-      asked_cap = asked_cap-same b.service b.pair (set c after b.pair) (set-part (λ (p : Pair). p.acquiring) c after b.pair refl) h.asked_cap;
+      asked_cap = asked_cap-same b.service b.pair (set c after b.pair) (set-part (λ (p : ClientBlock). p.acquiring) c after b.pair refl) h.asked_cap;
       own_source = h.own_source;
       alone = λ i j trunk probed ne. rw (quiet_same j) (h.alone i j (rw (recorded_same i) at trunk) (rw (quiet_same i) at probed) ne);
       one_owner = λ i j trunk ne. rw (recorded_same j) (h.one_owner i j (rw (recorded_same i) at trunk) ne);
@@ -58,8 +58,8 @@ probed-block caching c k b h sent kept =
       memory = λ none. h.memory (λ d. rw (recorded_same d) at (none d));
     }
   where
-    not_resting : (p : Pair) (k : Cap) → p.probing ≡ Sent k → p ≡ resting → ⊥
-    not_resting p k e f = let g : p.probing ≡ Quiet = ap (λ (q : Pair). q.probing) f in let i : Sent k ≡ Quiet = sym e ∙ g in absurd cc
+    not_resting : (p : ClientBlock) (k : Cap) → p.probing ≡ ProbeSent k → p ≡ resting → ⊥
+    not_resting p k e f = let g : p.probing ≡ NoProbe = ap (λ (q : ClientBlock). q.probing) f in let i : ProbeSent k ≡ NoProbe = sym e ∙ g in absurd cc
 
 -- ---- the whole
 
@@ -68,7 +68,7 @@ probe_moves n channel.B = Pops Probe n
 probe_moves n channel.C = Pushes ProbeAck n
 probe_moves n _ = Stays
 
-probe_shows : (n : ℕ) (k : Kind) (j : Cap) (p : Pair) (v : View) → is_transfer k ≡ true → p.probing ≡ Sent j
+probe_shows : (n : ℕ) (k : Kind) (j : Cap) (p : ClientBlock) (v : View) → is_transfer k ≡ true → p.probing ≡ ProbeSent j
     → agrees (probe_moves n (channel_for k)) k n (shows k p v) (shows k (after_probe j p) v) ≡ true
 probe_shows n Request j p v t e = absurd cc
 probe_shows n Answer j p v t e = absurd cc
@@ -80,8 +80,8 @@ probe_shows n Grant j p v t e = same_again (is_granting v)
 probe_shows n ReleaseAck j p v t e = same_again (is_acked p.letting)
 probe_shows n GrantAck j p v t e = same_again (is_acknowledging v)
 
-pub probe_taken-kept : {X : Type 0} (caching : ℕ → Bool) (c n : ℕ) (k : Cap) (rest : List Token) (s : State X) → IsInvariant caching s
-    → (s.link c).b ≡ token Probe n ∷ rest → ((s.block n).pair c).probing ≡ Sent k → ((s.block n).pair c).letting ≡ Kept → IsInvariant caching (probe_taken c n k rest s)
+pub probe_taken-kept : {X : Type 0} (caching : ℕ → Bool) (c n : ℕ) (k : Cap) (rest : List Packet) (s : State X) → IsInvariant caching s
+    → (s.link c).b ≡ packet Probe n ∷ rest → ((s.block n).pair c).probing ≡ ProbeSent k → ((s.block n).pair c).letting ≡ NoRelease → IsInvariant caching (probe_taken c n k rest s)
 probe_taken-kept {X} caching c n k rest s inv first sent kept =
     invariant-moved caching n new (set c here s.link) (moves_at c (probe_moves n)) s.lets s.tracked s inv
     (event-at caching c n new here (probe_moves n) s (record {
@@ -89,14 +89,14 @@ probe_taken-kept {X} caching c n k rest s inv first sent kept =
       moved = moved;
       own = own;
       fits = λ j t. rw (set-same c after (s.block n).pair) (probe_shows n j k ((s.block n).pair c) (view (s.block n).service c) t sent);
-      others = λ d ne j t. ap (λ (p : Pair). shows j p (view (s.block n).service d)) (set-other c d after (s.block n).pair ne);
+      others = λ d ne j t. ap (λ (p : ClientBlock). shows j p (view (s.block n).service d)) (set-other c d after (s.block n).pair ne);
       in_order = λ m e. ordered m (number_is m e);
     }))
     (bare-at c (probe_moves n) refl refl)
-    (names-kept n new (set c here s.link) s inv.named (λ d i. rw (set-part (λ (p : Pair). p.acquiring) c after (s.block n).pair refl d) refl) (λ d i. refl)
-    (λ d i. rw (set-part (λ (p : Pair). p.letting) c after (s.block n).pair refl d) refl) (λ i. refl))
+    (names-kept n new (set c here s.link) s inv.named (λ d i. rw (set-part (λ (p : ClientBlock). p.acquiring) c after (s.block n).pair refl d) refl) (λ d i. refl)
+    (λ d i. rw (set-part (λ (p : ClientBlock). p.letting) c after (s.block n).pair refl d) refl) (λ i. refl))
   where
-    after : Pair
+    after : ClientBlock
     after = after_probe k ((s.block n).pair c)
 
     new : Block X

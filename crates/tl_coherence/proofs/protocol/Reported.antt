@@ -12,10 +12,10 @@ use Rattle.tl_params.specs.declared.perm.Perm.{Perm}
 use Rattle.tl_params.specs.declared.perm.Perm.TheVariants as perm
 use Rattle.tl_params.specs.statement.Param.{prune_left, prune_right, report_left, report_right}
 use Rattle.tl_rules.specs.statement.Conformance.{same_perm}
-use Rattle.tl_coherence.specs.protocol.Phase.{Pair, View, Answered, Releasing, is_kept, is_quiet}
+use Rattle.tl_coherence.specs.protocol.Phase.{ClientBlock, View, ProbeAnswered, ReleaseSent, is_unreleased, is_unprobed}
 use Rattle.tl_coherence.specs.protocol.PhaseSteps.{after_report, after_release_taken}
-use Rattle.tl_coherence.specs.protocol.Token.{Kind, Request, Acquire, Probe, ProbeAck, Release, Answer, Grant, ReleaseAck, GrantAck, Token, set, count, one_if}
-use Rattle.tl_coherence.specs.protocol.Protocol.{Service, Block, State, Link, view, token, shows, is_transfer, is_wanting, is_unserved, is_sent, is_answered, is_releasing}
+use Rattle.tl_coherence.specs.protocol.Packet.{Kind, Request, Acquire, Probe, ProbeAck, Release, Answer, Grant, ReleaseAck, GrantAck, Packet, set, count, one_if}
+use Rattle.tl_coherence.specs.protocol.Protocol.{Service, Block, State, Link, view, packet, shows, is_transfer, is_wanting, is_unserved, is_sent, is_answered, is_releasing}
 use Rattle.tl_coherence.specs.protocol.Protocol.{is_acked, is_granting, is_acknowledging, written_from, reported_block, report_taken, let_block, let_link, release_taken}
 use Rattle.tl_coherence.specs.refinement.Move.{Move, Stays, Pushes, Pops, AreMoved, agrees, is_own_move, channel_for}
 use Rattle.tl_coherence.specs.protocol.Invariant.{is_out, IsWell, IsInvariant}
@@ -50,7 +50,7 @@ report_none report.NtoN perm.None e f = refl
 report_none r perm.Branch e f = absurd cc
 report_none r perm.Trunk e f = absurd cc
 
-pub gentle-report : (r : Report) (p : Pair) → same_perm (report_left r) p.recorded ≡ true → IsGentle p (after_report r p)
+pub gentle-report : (r : Report) (p : ClientBlock) → same_perm (report_left r) p.recorded ≡ true → IsGentle p (after_report r p)
 gentle-report r p e = record { trunk = λ f. report_trunk r p.recorded e f; none = λ f. report_none r p.recorded e f; quiet = λ f. refl }
 
 prune_trunk : (r : Prune) (p : Perm) → same_perm (prune_left r) p ≡ true → same_perm (prune_right r) perm.Trunk ≡ true → same_perm p perm.Trunk ≡ true
@@ -65,13 +65,13 @@ prune_none prune.BtoN perm.None e f = absurd cc
 prune_none r perm.Branch e f = absurd cc
 prune_none r perm.Trunk e f = absurd cc
 
-gentle-prune : (r : Prune) (p : Pair) → same_perm (prune_left r) p.recorded ≡ true → IsGentle p (after_release_taken r p)
+gentle-prune : (r : Prune) (p : ClientBlock) → same_perm (prune_left r) p.recorded ≡ true → IsGentle p (after_release_taken r p)
 gentle-prune r p e = record { trunk = λ f. prune_trunk r p.recorded e f; none = λ f. prune_none r p.recorded e f; quiet = λ f. f }
 
 -- ---- memory: who gives Trunk up brings the data, and whoever else is out stays so
 
 -- the memory with the data of a message of client c that begins at what is recorded of it, if afterwards nobody is out
-pub memory-written : {X : Type 0} (c : ℕ) (left : Perm) (q : Pair) (service : Service) (pair : ℕ → Pair) (memory truth : X) → same_perm left (pair c).recorded ≡ true
+pub memory-written : {X : Type 0} (c : ℕ) (left : Perm) (q : ClientBlock) (service : Service) (pair : ℕ → ClientBlock) (memory truth : X) → same_perm left (pair c).recorded ≡ true
     → (((d : ℕ) → is_out (pair d) (view service d) ≡ false) → memory ≡ truth) → ((d : ℕ) → is_out (set c q pair d) (view service d) ≡ false) → written_from left truth memory ≡ truth
 memory-written {X} c left q service pair memory truth begins h none = go (same_perm left perm.Trunk) refl
   where
@@ -87,20 +87,20 @@ memory-written {X} c left q service pair memory truth begins h none = go (same_p
 
 -- ---- blocks
 
-pub reported-block : {X : Type 0} (caching : ℕ → Bool) (c : ℕ) (r : Report) (b : Block X) → IsWell caching b → (b.pair c).probing ≡ Answered r → (w : ℕ) → (w ≡ c → ⊥)
-    → is_quiet (b.pair w).probing ≡ false
+pub reported-block : {X : Type 0} (caching : ℕ → Bool) (c : ℕ) (r : Report) (b : Block X) → IsWell caching b → (b.pair c).probing ≡ ProbeAnswered r → (w : ℕ) → (w ≡ c → ⊥)
+    → is_unprobed (b.pair w).probing ≡ false
     → IsWell caching (reported_block c r b)
 reported-block caching c r b h answered w apart missing =
-    let after : Pair = after_report r (b.pair c) in
+    let after : ClientBlock = after_report r (b.pair c) in
     let begins : same_perm (report_left r) (b.pair c).recorded ≡ true = report_begins r (b.pair c) (view b.service c) (h.phases c) answered in
-    let held_same = set-part (λ (p : Pair). p.held) c after b.pair refl in
+    let held_same = set-part (λ (p : ClientBlock). p.held) c after b.pair refl in
     record {
       phases = λ d. elim (cases_eq d c) [
         | inl same ↦ rw (same, set-same c after b.pair) (report-ok r (b.pair c) (view b.service c) (h.phases c) answered).0
         | inr other ↦ rw (set-other c d after b.pair other) (h.phases d)
       ];
       awaited = awaited_by b.service (set c after b.pair) w (rw (set-other c w after b.pair apart) missing);
-      asked_cap = asked_cap-same b.service b.pair (set c after b.pair) (set-part (λ (p : Pair). p.acquiring) c after b.pair refl) h.asked_cap;
+      asked_cap = asked_cap-same b.service b.pair (set c after b.pair) (set-part (λ (p : ClientBlock). p.acquiring) c after b.pair refl) h.asked_cap;
       own_source = h.own_source;
       alone = alone-set c after b.pair (gentle-report r (b.pair c) begins) h.alone;
       one_owner = owned-set c after b.pair (gentle-report r (b.pair c) begins) h.one_owner;
@@ -109,19 +109,19 @@ reported-block caching c r b h answered w apart missing =
       memory = λ none. memory-written c (report_left r) after b.service b.pair b.memory b.truth begins h.memory none;
     }
 
-pub let-block : {X : Type 0} (caching : ℕ → Bool) (c : ℕ) (r : Prune) (b : Block X) → IsWell caching b → (b.pair c).letting ≡ Releasing r → is_answered (b.pair c).probing ≡ false
+pub let-block : {X : Type 0} (caching : ℕ → Bool) (c : ℕ) (r : Prune) (b : Block X) → IsWell caching b → (b.pair c).letting ≡ ReleaseSent r → is_answered (b.pair c).probing ≡ false
     → IsWell caching (let_block c r b)
 let-block caching c r b h releasing first =
-    let after : Pair = after_release_taken r (b.pair c) in
+    let after : ClientBlock = after_release_taken r (b.pair c) in
     let begins : same_perm (prune_left r) (b.pair c).recorded ≡ true = release_begins r (b.pair c) (view b.service c) (h.phases c) releasing first in
-    let held_same = set-part (λ (p : Pair). p.held) c after b.pair refl in
+    let held_same = set-part (λ (p : ClientBlock). p.held) c after b.pair refl in
     record {
       phases = λ d. elim (cases_eq d c) [
         | inl same ↦ rw (same, set-same c after b.pair) (release_taken-ok r (b.pair c) (view b.service c) (h.phases c) releasing first)
         | inr other ↦ rw (set-other c d after b.pair other) (h.phases d)
       ];
-      awaited = awaited-same b.service b.pair (set c after b.pair) (set-part (λ (p : Pair). is_quiet p.probing) c after b.pair refl) h.awaited;
-      asked_cap = asked_cap-same b.service b.pair (set c after b.pair) (set-part (λ (p : Pair). p.acquiring) c after b.pair refl) h.asked_cap;
+      awaited = awaited-same b.service b.pair (set c after b.pair) (set-part (λ (p : ClientBlock). is_unprobed p.probing) c after b.pair refl) h.awaited;
+      asked_cap = asked_cap-same b.service b.pair (set c after b.pair) (set-part (λ (p : ClientBlock). p.acquiring) c after b.pair refl) h.asked_cap;
       own_source = h.own_source;
       alone = alone-set c after b.pair (gentle-prune r (b.pair c) begins) h.alone;
       one_owner = owned-set c after b.pair (gentle-prune r (b.pair c) begins) h.one_owner;
@@ -136,7 +136,7 @@ abbrev pub report_moves : ℕ → Channel → Move
 report_moves n channel.C = Pops ProbeAck n
 report_moves n _ = Stays
 
-pub report_shows : (n : ℕ) (k : Kind) (r : Report) (p : Pair) (v : View) → is_transfer k ≡ true → p.probing ≡ Answered r
+pub report_shows : (n : ℕ) (k : Kind) (r : Report) (p : ClientBlock) (v : View) → is_transfer k ≡ true → p.probing ≡ ProbeAnswered r
     → agrees (report_moves n (channel_for k)) k n (shows k p v) (shows k (after_report r p) v) ≡ true
 report_shows n Request r p v t e = absurd cc
 report_shows n Answer r p v t e = absurd cc
@@ -148,8 +148,8 @@ report_shows n Grant r p v t e = same_again (is_granting v)
 report_shows n ReleaseAck r p v t e = same_again (is_acked p.letting)
 report_shows n GrantAck r p v t e = same_again (is_acknowledging v)
 
-pub report_taken-kept : {X : Type 0} (caching : ℕ → Bool) (c n : ℕ) (r : Report) (rest : List Token) (s : State X) → IsInvariant caching s → (s.link c).c ≡ token ProbeAck n ∷ rest
-    → ((s.block n).pair c).probing ≡ Answered r → (w : ℕ) → (w ≡ c → ⊥) → is_quiet ((s.block n).pair w).probing ≡ false → IsInvariant caching (report_taken c n r rest s)
+pub report_taken-kept : {X : Type 0} (caching : ℕ → Bool) (c n : ℕ) (r : Report) (rest : List Packet) (s : State X) → IsInvariant caching s → (s.link c).c ≡ packet ProbeAck n ∷ rest
+    → ((s.block n).pair c).probing ≡ ProbeAnswered r → (w : ℕ) → (w ≡ c → ⊥) → is_unprobed ((s.block n).pair w).probing ≡ false → IsInvariant caching (report_taken c n r rest s)
 report_taken-kept {X} caching c n r rest s inv first answered w apart missing =
     invariant-moved caching n new (set c here s.link) (moves_at c (report_moves n)) s.lets s.tracked s inv
     (event-at caching c n new here (report_moves n) s (record {
@@ -157,17 +157,17 @@ report_taken-kept {X} caching c n r rest s inv first answered w apart missing =
       moved = moved;
       own = own;
       fits = λ k t. rw (set-same c after old) (report_shows n k r (old c) (view (s.block n).service c) t answered);
-      others = λ d ne k t. ap (λ (p : Pair). shows k p (view (s.block n).service d)) (set-other c d after old ne);
+      others = λ d ne k t. ap (λ (p : ClientBlock). shows k p (view (s.block n).service d)) (set-other c d after old ne);
       in_order = λ m e. absurd (let f : Pops ProbeAck n ≡ Pushes ProbeAck m = e in cc);
     }))
     (bare-at c (report_moves n) refl refl)
-    (names-kept n new (set c here s.link) s inv.named (λ d i. rw (set-part (λ (p : Pair). p.acquiring) c after old refl d) refl) (λ d i. refl)
-    (λ d i. rw (set-part (λ (p : Pair). p.letting) c after old refl d) refl) (λ i. refl))
+    (names-kept n new (set c here s.link) s inv.named (λ d i. rw (set-part (λ (p : ClientBlock). p.acquiring) c after old refl d) refl) (λ d i. refl)
+    (λ d i. rw (set-part (λ (p : ClientBlock). p.letting) c after old refl d) refl) (λ i. refl))
   where
-    old : ℕ → Pair
+    old : ℕ → ClientBlock
     old = (s.block n).pair
 
-    after : Pair
+    after : ClientBlock
     after = after_report r (old c)
 
     new : Block X
@@ -197,7 +197,7 @@ let_moves n channel.C = Pops Release n
 let_moves n channel.D = Pushes ReleaseAck n
 let_moves n _ = Stays
 
-let_shows : (n : ℕ) (k : Kind) (r : Prune) (p : Pair) (v : View) → is_transfer k ≡ true → p.letting ≡ Releasing r
+let_shows : (n : ℕ) (k : Kind) (r : Prune) (p : ClientBlock) (v : View) → is_transfer k ≡ true → p.letting ≡ ReleaseSent r
     → agrees (let_moves n (channel_for k)) k n (shows k p v) (shows k (after_release_taken r p) v) ≡ true
 let_shows n Request r p v t e = absurd cc
 let_shows n Answer r p v t e = absurd cc
@@ -210,20 +210,20 @@ let_shows n ReleaseAck r p v t e = rw (e, same_number n) refl
 let_shows n GrantAck r p v t e = same_again (is_acknowledging v)
 
 -- a Release that is first has no ProbeAck of its block beside it
-pub release_first : {X : Type 0} (caching : ℕ → Bool) (c n : ℕ) (rest : List Token) (s : State X) → IsInvariant caching s → (s.link c).c ≡ token Release n ∷ rest
+pub release_first : {X : Type 0} (caching : ℕ → Bool) (c n : ℕ) (rest : List Packet) (s : State X) → IsInvariant caching s → (s.link c).c ≡ packet Release n ∷ rest
     → is_answered ((s.block n).pair c).probing ≡ false
 unfolding count
 release_first caching c n rest s inv first =
-    let behind : count ProbeAck n rest ≡ 0 = ordered-first n (s.link c).c rest (token Release n) first (rw (same_number n) refl) (inv.ordered c n) in
-    let all : count ProbeAck n (token Release n ∷ rest) ≡ one_if (is_answered ((s.block n).pair c).probing) = rw first at (inv.transfers c ProbeAck refl n) in
+    let behind : count ProbeAck n rest ≡ 0 = ordered-first n (s.link c).c rest (packet Release n) first (rw (same_number n) refl) (inv.ordered c n) in
+    let all : count ProbeAck n (packet Release n ∷ rest) ≡ one_if (is_answered ((s.block n).pair c).probing) = rw first at (inv.transfers c ProbeAck refl n) in
     go (is_answered ((s.block n).pair c).probing) (omega (arith, behind, all))
   where
     go : (b : Bool) → one_if b ≡ 0 → b ≡ false
     go true e = absurd (omega (arith, e))
     go false e = refl
 
-pub release_taken-kept : {X : Type 0} (caching : ℕ → Bool) (c n : ℕ) (r : Prune) (rest : List Token) (s : State X) → IsInvariant caching s → (s.link c).c ≡ token Release n ∷ rest
-    → ((s.block n).pair c).letting ≡ Releasing r → IsInvariant caching (release_taken c n r rest s)
+pub release_taken-kept : {X : Type 0} (caching : ℕ → Bool) (c n : ℕ) (r : Prune) (rest : List Packet) (s : State X) → IsInvariant caching s → (s.link c).c ≡ packet Release n ∷ rest
+    → ((s.block n).pair c).letting ≡ ReleaseSent r → IsInvariant caching (release_taken c n r rest s)
 release_taken-kept {X} caching c n r rest s inv first releasing =
     invariant-moved caching n new (set c here s.link) (moves_at c (let_moves n)) s.lets s.tracked s inv
     (event-at caching c n new here (let_moves n) s (record {
@@ -231,17 +231,17 @@ release_taken-kept {X} caching c n r rest s inv first releasing =
       moved = moved;
       own = own;
       fits = λ k t. rw (set-same c after old) (let_shows n k r (old c) (view (s.block n).service c) t releasing);
-      others = λ d ne k t. ap (λ (p : Pair). shows k p (view (s.block n).service d)) (set-other c d after old ne);
+      others = λ d ne k t. ap (λ (p : ClientBlock). shows k p (view (s.block n).service d)) (set-other c d after old ne);
       in_order = λ m e. absurd (let f : Pops Release n ≡ Pushes ProbeAck m = e in cc);
     }))
     (bare-at c (let_moves n) refl refl)
-    (names-kept n new (set c here s.link) s inv.named (λ d i. rw (set-part (λ (p : Pair). p.acquiring) c after old refl d) refl) (λ d i. refl)
-    (λ d i. rw (set-part (λ (p : Pair). is_kept p.letting) c after old (rw releasing refl) d) refl) (λ i. refl))
+    (names-kept n new (set c here s.link) s inv.named (λ d i. rw (set-part (λ (p : ClientBlock). p.acquiring) c after old refl d) refl) (λ d i. refl)
+    (λ d i. rw (set-part (λ (p : ClientBlock). is_unreleased p.letting) c after old (rw releasing refl) d) refl) (λ i. refl))
   where
-    old : ℕ → Pair
+    old : ℕ → ClientBlock
     old = (s.block n).pair
 
-    after : Pair
+    after : ClientBlock
     after = after_release_taken r (old c)
 
     new : Block X

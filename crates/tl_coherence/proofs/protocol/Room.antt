@@ -14,9 +14,9 @@ use Rattle.tl_rules.specs.statement.Legality.{beats_from}
 use Rattle.tl_coherence.specs.refinement.Carried.{spelled, IsCarried}
 use Rattle.tl_coherence.specs.statement.Delivery.{capacity}
 use Rattle.tl_coherence.specs.protocol.Invariant.{IsInvariant}
-use Rattle.tl_coherence.specs.protocol.Protocol.{State, is_on, tokens_on}
-use Rattle.tl_coherence.specs.refinement.Render.{Mail, message_of, message_of_kind, rendered, messages_on}
-use Rattle.tl_coherence.specs.protocol.Token.{Kind, Probe, ReleaseAck, GrantAck, Token, same_kind, one_if}
+use Rattle.tl_coherence.specs.protocol.Protocol.{State, is_on, packets_on}
+use Rattle.tl_coherence.specs.refinement.PacketMessages.{AccessMessages, message_of, message_of_kind, block_message, messages_on}
+use Rattle.tl_coherence.specs.protocol.Packet.{Kind, Probe, ReleaseAck, GrantAck, Packet, same_kind, one_if}
 use Rattle.tl_coherence.proofs.queues.Beats.{length-beats_from}
 use Rattle.tl_coherence.proofs.protocol.Capacities.{AreBounded, few_on_a, few_on_b, few_on_c, few_on_e, few_acks_on_d, few_responses_on_d, kind_there}
 use Rattle.tl_coherence.proofs.queues.Distinct.{passing, all-pass, IsThere, first-there, later-there}
@@ -45,7 +45,7 @@ length-carried {w} rest (m ∷ ms) queue (k, lt, r, q) =
     omega (arith, all, first, whole, length-append (beats_from m k (beats_of m - k)) (spelled ms), length-append (beats_from m 0 (beats_of m)) (spelled ms))
 
 -- those of light tokens have one beat each
-spelled-few : {w : ℕ} (message : Token → Message w) (light : Token → Bool) (xs : List Token) → IsWidth w → ((x : Token) → IsThere x xs → light x ≡ true → beats_of (message x) ≡ 1)
+spelled-few : {w : ℕ} (message : Packet → Message w) (light : Packet → Bool) (xs : List Packet) → IsWidth w → ((x : Packet) → IsThere x xs → light x ≡ true → beats_of (message x) ≡ 1)
     → length (spelled (map message xs)) ≤ 64 / w * passing (λ x. not (light x)) xs + passing light xs
 unfolding spelled passing
 spelled-few message light [] width one = omega arith
@@ -73,8 +73,8 @@ is_light ReleaseAck = true
 is_light GrantAck = true
 is_light _ = false
 
-pub light-one : {w : ℕ} (mail : Mail w) (s : State (List ℕ)) (c : ℕ) (k : Kind) (n : ℕ) → is_light k ≡ true → beats_of (message_of_kind k mail s c n) ≡ 1
-unfolding rendered
+pub light-one : {w : ℕ} (mail : AccessMessages w) (s : State (List ℕ)) (c : ℕ) (k : Kind) (n : ℕ) → is_light k ≡ true → beats_of (message_of_kind k mail s c n) ≡ 1
+unfolding block_message
 light-one mail s c Probe n e = refl
 light-one mail s c ReleaseAck n e = refl
 light-one mail s c GrantAck n e = refl
@@ -91,7 +91,7 @@ times n a z b len most le l e f = grind (arith, le, l, e, f)
 no_heavy : (n z a b len most : ℕ) → len ≤ most → most ≤ n * z + a → z ≡ 0 → a ≤ b → len ≤ b
 no_heavy n z a b len most le l e f = let none : n * z ≡ 0 = rw e (omega arith) in omega (arith, le, l, none, f)
 
-none-pass : (xs : List Token) → passing (λ x. false) xs ≡ 0
+none-pass : (xs : List Packet) → passing (λ x. false) xs ≡ 0
 unfolding passing
 none-pass [] = refl
 none-pass (x ∷ xs) = omega (arith, none-pass xs)
@@ -109,11 +109,11 @@ light_ack ReleaseAck e = refl
 light_ack _ e = absurd cc
 
 -- no channel holds more beats than it is made for
-pub channel-few : {w : ℕ} (caching : ℕ → Bool) (mail : Mail w) (s : State (List ℕ)) (c sources trackers : ℕ) (ch : Channel) (rest queue : List (Beat w))
+pub channel-few : {w : ℕ} (caching : ℕ → Bool) (mail : AccessMessages w) (s : State (List ℕ)) (c sources trackers : ℕ) (ch : Channel) (rest queue : List (Beat w))
     → IsWidth w → IsInvariant caching s → AreBounded c sources trackers s → IsCarried rest (messages_on ch mail s c) queue → length queue ≤ capacity (64 / w) sources trackers ch
 channel-few {w} caching mail s c sources trackers ch rest queue width inv bounds carried = go ch carried
   where
-    one : (d : Channel) (x : Token) → IsThere x (tokens_on d (s.link c)) → (is_on d x.kind ≡ true → is_light x.kind ≡ true) → beats_of (message_of mail s c x) ≡ 1
+    one : (d : Channel) (x : Packet) → IsThere x (packets_on d (s.link c)) → (is_on d x.kind ≡ true → is_light x.kind ≡ true) → beats_of (message_of mail s c x) ≡ 1
     one d x there light = light-one mail s c x.kind x.number (light (kind_there caching s c d x inv there))
 
     go : (d : Channel) → IsCarried rest (messages_on d mail s c) queue → length queue ≤ capacity (64 / w) sources trackers d

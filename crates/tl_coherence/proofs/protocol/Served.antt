@@ -11,10 +11,10 @@ use Rattle.tl_params.specs.declared.param.Grow.TheVariants as grow
 use Rattle.tl_params.specs.declared.perm.Perm.{Perm}
 use Rattle.tl_params.specs.declared.perm.Perm.TheVariants as perm
 use Rattle.tl_rules.specs.statement.Conformance.{same_perm}
-use Rattle.tl_coherence.specs.protocol.Phase.{Pair, View, Idle, Own, Other, Probing, Quiet, Sent, Answered, Wants, ok, same_cap, is_quiet}
+use Rattle.tl_coherence.specs.protocol.Phase.{ClientBlock, View, Idle, Own, Other, ProbePhase, NoProbe, ProbeSent, ProbeAnswered, AcquireOpen, ok, same_cap, is_unprobed}
 use Rattle.tl_coherence.specs.protocol.PhaseSteps.{is_above, after_served}
-use Rattle.tl_coherence.specs.protocol.Token.{Kind, Request, Acquire, Probe, ProbeAck, Release, Answer, Grant, ReleaseAck, GrantAck, Token, set}
-use Rattle.tl_coherence.specs.protocol.Protocol.{Free, Waits, Block, State, Link, Asked, InService, view, token, tokens_on, shows, shown, is_transfer, is_granting}
+use Rattle.tl_coherence.specs.protocol.Packet.{Kind, Request, Acquire, Probe, ProbeAck, Release, Answer, Grant, ReleaseAck, GrantAck, Packet, set}
+use Rattle.tl_coherence.specs.protocol.Protocol.{Free, Waits, Block, State, Link, Asked, InService, view, packet, packets_on, shows, shown, is_transfer, is_granting}
 use Rattle.tl_coherence.specs.protocol.Protocol.{is_wanting, is_sent, is_answered, is_releasing, is_acked, is_probed, served_pair, served_block, with_probe, served_link}
 use Rattle.tl_coherence.specs.protocol.Protocol.{acquire_served, access_served}
 use Rattle.tl_coherence.specs.refinement.Move.{Move, Stays, Pushes, Pops, IsMoved, agrees, is_own_move, channel_for}
@@ -29,7 +29,7 @@ use Rattle.tl_coherence.proofs.protocol.BothParts.{quiet_unanswered}
 -- ---- who is probed
 
 -- a part that no Probe changes
-unprobed_part : {A : Type 0} (part : Pair → A) (r : ℕ) (own : Bool) (k : Cap) (pair : ℕ → Pair) → ((p : Pair) → part (after_served k p) ≡ part p) → (d : ℕ)
+unprobed_part : {A : Type 0} (part : ClientBlock → A) (r : ℕ) (own : Bool) (k : Cap) (pair : ℕ → ClientBlock) → ((p : ClientBlock) → part (after_served k p) ≡ part p) → (d : ℕ)
     → part (served_pair r own k pair d) ≡ part (pair d)
 unprobed_part part r own k pair e d = go (own && (d == r))
   where
@@ -47,7 +47,7 @@ none_above k perm.Trunk e = absurd cc
 
 -- ---- the block
 
-out_same : (p q : Pair) (v u : View) → q.recorded ≡ p.recorded → is_granting u ≡ is_granting v → is_out q u ≡ is_out p v
+out_same : (p q : ClientBlock) (v u : View) → q.recorded ≡ p.recorded → is_granting u ≡ is_granting v → is_out q u ≡ is_out p v
 out_same p q v u e f = rw (e, f) refl
 
 never_granting : (r s : ℕ) (own : Bool) (k : Cap) (d : ℕ) → is_granting (view (Waits r own s k) d) ≡ false
@@ -57,7 +57,7 @@ never_granting r s own k d = go (own && (d == r))
     go true = refl
     go false = refl
 
-never_top : (k : Cap) (whole : Bool) (g : Grow) → same_cap k (cap_asked (Wants whole g)) ≡ true → same_cap k cap.ToT ≡ false
+never_top : (k : Cap) (whole : Bool) (g : Grow) → same_cap k (cap_asked (AcquireOpen whole g)) ≡ true → same_cap k cap.ToT ≡ false
 never_top cap.ToT whole grow.NtoB e = absurd cc
 never_top cap.ToT whole grow.NtoT e = absurd cc
 never_top cap.ToT whole grow.BtoT e = absurd cc
@@ -65,11 +65,11 @@ never_top cap.ToB whole g e = refl
 never_top cap.ToN whole g e = refl
 
 -- the request probes with this cap: an Acquire (`own`) with the cap that it asks for, and no access with toT
-abbrev pub Probes : Bool → Cap → Pair → Type 0
-Probes true k p = (whole : Bool) × (g : Grow) × (p.acquiring ≡ Wants whole g) × (same_cap k (cap_asked (Wants whole g)) ≡ true)
+abbrev pub Probes : Bool → Cap → ClientBlock → Type 0
+Probes true k p = (whole : Bool) × (g : Grow) × (p.acquiring ≡ AcquireOpen whole g) × (same_cap k (cap_asked (AcquireOpen whole g)) ≡ true)
 Probes false k p = same_cap k cap.ToT ≡ false
 
-is_low : (own : Bool) (k : Cap) (p : Pair) → Probes own k p → same_cap k cap.ToT ≡ false
+is_low : (own : Bool) (k : Cap) (p : ClientBlock) → Probes own k p → same_cap k cap.ToT ≡ false
 is_low true k p a = never_top k a.0 a.1 a.3
 is_low false k p a = a
 
@@ -92,7 +92,7 @@ served-block caching r own source tracker k b h free asks sourced w probed = rec
     idle : (d : ℕ) → view b.service d ≡ Idle
     idle d = rw free refl
 
-    quiet : (d : ℕ) → is_quiet (b.pair d).probing ≡ true
+    quiet : (d : ℕ) → is_unprobed (b.pair d).probing ≡ true
     quiet d = quiet_at_rest (b.pair d) (view b.service d) (h.phases d) (idle d)
 
     recorded_same : (d : ℕ) → (served_pair r own k b.pair d).recorded ≡ (b.pair d).recorded
@@ -109,7 +109,7 @@ served-block caching r own source tracker k b h free asks sourced w probed = rec
     phase d true e = acquiring own (and_left own (d == r) e) asks d (eqb-true d r (and_right own (d == r) e))
     phase d false e = served-ok k (b.pair d) (view b.service d) (h.phases d) (idle d) (is_low own k (b.pair r) asks)
 
-    sent : (x : Bool) → (not x && is_above k (b.pair w).recorded) ≡ true → is_quiet (if x then b.pair w else after_served k (b.pair w)).probing ≡ false
+    sent : (x : Bool) → (not x && is_above k (b.pair w).recorded) ≡ true → is_unprobed (if x then b.pair w else after_served k (b.pair w)).probing ≡ false
     sent true e = absurd cc
     sent false e = rw e refl
 
@@ -117,7 +117,7 @@ served-block caching r own source tracker k b h free asks sourced w probed = rec
     asked true a = rw (unprobed_part (λ p. p.acquiring) r true k b.pair (λ p. refl) r, a.2) a.3
     asked false a = tt
 
-    left : (j : ℕ) (x : Bool) → same_perm (b.pair j).recorded perm.None ≡ true → is_quiet (if x then b.pair j else after_served k (b.pair j)).probing ≡ true
+    left : (j : ℕ) (x : Bool) → same_perm (b.pair j).recorded perm.None ≡ true → is_unprobed (if x then b.pair j else after_served k (b.pair j)).probing ≡ true
     left j true none = quiet j
     left j false none = rw (none_above k (b.pair j).recorded none) (quiet j)
 
@@ -142,12 +142,12 @@ abbrev pub number_served : Bool → ℕ → ℕ → ℕ
 number_served true n source = n
 number_served false n source = source
 
-abbrev pub served_moves : ℕ → Bool → ℕ → ℕ → Cap → (ℕ → Pair) → ℕ → Channel → Move
+abbrev pub served_moves : ℕ → Bool → ℕ → ℕ → Cap → (ℕ → ClientBlock) → ℕ → Channel → Move
 served_moves r own n source k pair d =
     request_move (if d == r then Pops (kind_served own) (number_served own n source) else Stays) (is_probed r own k (pair d).recorded d) n
 
 -- what the sender of an Acquire shows
-sender_shows : (n : ℕ) (j : Kind) (p : Pair) → is_transfer j ≡ true → is_wanting p.acquiring ≡ true
+sender_shows : (n : ℕ) (j : Kind) (p : ClientBlock) → is_transfer j ≡ true → is_wanting p.acquiring ≡ true
     → agrees (request_move (Pops Acquire n) false n (channel_for j)) j n (shows j p Idle) (shows j p Own) ≡ true
 sender_shows n Request p t e = absurd cc
 sender_shows n Answer p t e = absurd cc
@@ -160,17 +160,17 @@ sender_shows n ReleaseAck p t e = same_again (is_acked p.letting)
 sender_shows n GrantAck p t e = refl
 
 -- what another shows, or the sender of an access
-other_shows : (n : ℕ) (j : Kind) (m : Move) (k : Cap) (p : Pair) (above : Bool) → is_transfer j ≡ true → spares m Acquire ≡ true → is_quiet p.probing ≡ true → is_above k p.recorded ≡ above
+other_shows : (n : ℕ) (j : Kind) (m : Move) (k : Cap) (p : ClientBlock) (above : Bool) → is_transfer j ≡ true → spares m Acquire ≡ true → is_unprobed p.probing ≡ true → is_above k p.recorded ≡ above
     → agrees (request_move m above n (channel_for j)) j n (shows j p Idle) (shows j (after_served k p) (Other k)) ≡ true
 other_shows n Request m k p above t u q e = absurd cc
 other_shows n Answer m k p above t u q e = absurd cc
 other_shows n Acquire m k p above t u q e = spared-agrees m Acquire n (is_wanting p.acquiring && true) u
 other_shows n Probe m k p true t u q e = rw (e, same_number n, not_sent p.probing q) refl
   where
-    not_sent : (y : Probing) → is_quiet y ≡ true → is_sent y ≡ false
-    not_sent Quiet f = refl
-    not_sent (Sent c) f = absurd cc
-    not_sent (Answered c) f = refl
+    not_sent : (y : ProbePhase) → is_unprobed y ≡ true → is_sent y ≡ false
+    not_sent NoProbe f = refl
+    not_sent (ProbeSent c) f = absurd cc
+    not_sent (ProbeAnswered c) f = refl
 other_shows n Probe m k p false t u q e = rw e (same_again (is_sent p.probing))
 other_shows n ProbeAck m k p true t u q e = rw (e, quiet_unanswered p.probing q) refl
 other_shows n ProbeAck m k p false t u q e = rw e (same_again (is_answered p.probing))
@@ -180,7 +180,7 @@ other_shows n ReleaseAck m k p above t u q e = same_again (is_acked p.letting)
 other_shows n GrantAck m k p above t u q e = refl
 
 -- both, by whether it is an Acquire, and whether this is the sender
-any_shows : (n source : ℕ) (j : Kind) (own x : Bool) (k : Cap) (p : Pair) → is_transfer j ≡ true → (own ≡ true → x ≡ true → is_wanting p.acquiring ≡ true) → is_quiet p.probing ≡ true
+any_shows : (n source : ℕ) (j : Kind) (own x : Bool) (k : Cap) (p : ClientBlock) → is_transfer j ≡ true → (own ≡ true → x ≡ true → is_wanting p.acquiring ≡ true) → is_unprobed p.probing ≡ true
     → agrees (request_move (if x then Pops (kind_served own) (number_served own n source) else Stays) (not (own && x) && is_above k p.recorded) n (channel_for j)) j n (shows j p Idle)
     (shows j (if own && x then p else after_served k p) (if own && x then Own else Other k)) ≡ true
 any_shows n source j true true k p t wants q = sender_shows n j p t (wants refl refl)
@@ -189,15 +189,15 @@ any_shows n source j false true k p t wants q = other_shows n j (Pops Request so
 any_shows n source j false false k p t wants q = other_shows n j Stays k p (is_above k p.recorded) t refl q refl
 
 -- channels that stay
-leaves : (part : Link → List Token) (n : ℕ) (l : Link) (rest : List Token) (x p : Bool) → ((y z : List Token) → part (record l { a = y; b = z }) ≡ part l)
+leaves : (part : Link → List Packet) (n : ℕ) (l : Link) (rest : List Packet) (x p : Bool) → ((y z : List Packet) → part (record l { a = y; b = z }) ≡ part l)
     → part (with_probe n p (if x then record l { a = rest } else l)) ≡ part l
-leaves part n l rest true true e = e rest (l.b ++ token Probe n ∷ [])
+leaves part n l rest true true e = e rest (l.b ++ packet Probe n ∷ [])
 leaves part n l rest true false e = e rest l.b
-leaves part n l rest false true e = e l.a (l.b ++ token Probe n ∷ [])
+leaves part n l rest false true e = e l.a (l.b ++ packet Probe n ∷ [])
 leaves part n l rest false false e = refl
 
-any_moved : (ch : Channel) (m : Move) (n : ℕ) (l : Link) (rest : List Token) (x p : Bool) → (x ≡ true → IsMoved m l.a rest) → (x ≡ false → m ≡ Stays)
-    → IsMoved (request_move m p n ch) (tokens_on ch l) (tokens_on ch (with_probe n p (if x then record l { a = rest } else l)))
+any_moved : (ch : Channel) (m : Move) (n : ℕ) (l : Link) (rest : List Packet) (x p : Bool) → (x ≡ true → IsMoved m l.a rest) → (x ≡ false → m ≡ Stays)
+    → IsMoved (request_move m p n ch) (packets_on ch l) (packets_on ch (with_probe n p (if x then record l { a = rest } else l)))
 any_moved channel.A m n l rest true true pops stays = pops refl
 any_moved channel.A m n l rest true false pops stays = pops refl
 any_moved channel.A m n l rest false true pops stays = rw (stays refl) refl
@@ -222,8 +222,8 @@ any_own channel.E n source own x p = refl
 
 -- ---- the whole
 
-served-event : {X : Type 0} (caching : ℕ → Bool) (r n : ℕ) (own : Bool) (source tracker : ℕ) (k : Cap) (rest : List Token) (s : State X) → IsInvariant caching s
-    → (s.link r).a ≡ token (kind_served own) (number_served own n source) ∷ rest → (s.block n).service ≡ Free → Probes own k ((s.block n).pair r)
+served-event : {X : Type 0} (caching : ℕ → Bool) (r n : ℕ) (own : Bool) (source tracker : ℕ) (k : Cap) (rest : List Packet) (s : State X) → IsInvariant caching s
+    → (s.link r).a ≡ packet (kind_served own) (number_served own n source) ∷ rest → (s.block n).service ≡ Free → Probes own k ((s.block n).pair r)
     → IsOwnSource (Waits r own source k) (s.block n).source → (w : ℕ) → is_probed r own k ((s.block n).pair w).recorded w ≡ true
     → IsEvent caching n (served_block r own source tracker k (s.block n)) (served_link r own n k rest (s.block n) s.link) (served_moves r own n source k (s.block n).pair) s
 served-event caching r n own source tracker k rest s inv first free asks sourced w probed = record {
@@ -239,7 +239,7 @@ served-event caching r n own source tracker k rest s inv first free asks sourced
     before : (j : Kind) (d : ℕ) (after : Bool) (m : Move) → agrees m j n (shows j ((s.block n).pair d) Idle) after ≡ true → agrees m j n (shown j d (s.block n)) after ≡ true
     before j d after m h = rw free h
 
-    quiet : (d : ℕ) → is_quiet ((s.block n).pair d).probing ≡ true
+    quiet : (d : ℕ) → is_unprobed ((s.block n).pair d).probing ≡ true
     quiet d = quiet_at_rest ((s.block n).pair d) (view (s.block n).service d) ((inv.blocks n).phases d) (rw free refl)
 
     wants : (o : Bool) → Probes o k ((s.block n).pair r) → (d : ℕ) → o ≡ true → (d == r) ≡ true → is_wanting ((s.block n).pair d).acquiring ≡ true
@@ -261,17 +261,17 @@ bare_move false p n = (refl, refl)
 
 -- where Acquires stay, and Releases
 abbrev same_acquires : {X : Type 0} (r source tracker : ℕ) (own : Bool) (k : Cap) (b : Block X) → (c i : ℕ) → acquires_with c i (served_block r own source tracker k b) ≡ acquires_with c i b
-same_acquires r source tracker own k b c i = rw (unprobed_part (λ (p : Pair). p.acquiring) r own k b.pair (λ p. refl) c) refl
+same_acquires r source tracker own k b c i = rw (unprobed_part (λ (p : ClientBlock). p.acquiring) r own k b.pair (λ p. refl) c) refl
 
 abbrev same_releases : {X : Type 0} (r source tracker : ℕ) (own : Bool) (k : Cap) (b : Block X) → (c i : ℕ) → releases_with c i (served_block r own source tracker k b) ≡ releases_with c i b
-same_releases r source tracker own k b c i = rw (unprobed_part (λ (p : Pair). p.letting) r own k b.pair (λ p. refl) c) refl
+same_releases r source tracker own k b c i = rw (unprobed_part (λ (p : ClientBlock). p.letting) r own k b.pair (λ p. refl) c) refl
 
 not_named : (n m : ℕ) → (m ≡ n → ⊥) → is_of m (Some n) ≡ is_of m None
 not_named n m ne = ne_eqb m n ne
 
 -- an Acquire
-pub acquire_served-kept : {X : Type 0} (caching : ℕ → Bool) (r n source tracker : ℕ) (whole : Bool) (g : Grow) (k : Cap) (rest : List Token) (s : State X) → IsInvariant caching s
-    → (s.link r).a ≡ token Acquire n ∷ rest → (s.block n).service ≡ Free → ((s.block n).pair r).acquiring ≡ Wants whole g → same_cap k (cap_asked (Wants whole g)) ≡ true
+pub acquire_served-kept : {X : Type 0} (caching : ℕ → Bool) (r n source tracker : ℕ) (whole : Bool) (g : Grow) (k : Cap) (rest : List Packet) (s : State X) → IsInvariant caching s
+    → (s.link r).a ≡ packet Acquire n ∷ rest → (s.block n).service ≡ Free → ((s.block n).pair r).acquiring ≡ AcquireOpen whole g → same_cap k (cap_asked (AcquireOpen whole g)) ≡ true
     → s.tracked tracker ≡ None → source ≡ (s.block n).source r
     → (w : ℕ) → is_probed r true k ((s.block n).pair w).recorded w ≡ true → IsInvariant caching (acquire_served r n source tracker k rest s)
 acquire_served-kept {X} caching r n source tracker whole g k rest s inv first free wants low unused sourced w probed =
@@ -290,8 +290,8 @@ acquire_served-kept {X} caching r n source tracker whole g k rest s inv first fr
     new = served_block r true source tracker k (s.block n)
 
 -- an access
-pub access_served-kept : {X : Type 0} (caching : ℕ → Bool) (r n source tracker : ℕ) (k : Cap) (rest : List Token) (s : State X) → IsInvariant caching s
-    → (s.link r).a ≡ token Request source ∷ rest → (s.block n).service ≡ Free → s.uses r source ≡ Asked → same_cap k cap.ToT ≡ false → s.tracked tracker ≡ None
+pub access_served-kept : {X : Type 0} (caching : ℕ → Bool) (r n source tracker : ℕ) (k : Cap) (rest : List Packet) (s : State X) → IsInvariant caching s
+    → (s.link r).a ≡ packet Request source ∷ rest → (s.block n).service ≡ Free → s.uses r source ≡ Asked → same_cap k cap.ToT ≡ false → s.tracked tracker ≡ None
     → (w : ℕ) → is_probed r false k ((s.block n).pair w).recorded w ≡ true → IsInvariant caching (access_served r n source tracker k rest s)
 access_served-kept {X} caching r n source tracker k rest s inv first free asked low unused w probed =
     invariant-moved_use caching n new (served_link r false n k rest (s.block n) s.link) (served_moves r false n source k (s.block n).pair) r source (InService n) (set tracker (Some n) s.tracked) s inv

@@ -10,9 +10,9 @@ use Rattle.tl_params.specs.declared.perm.Perm.{Perm}
 use Rattle.tl_params.specs.declared.perm.Perm.TheVariants as perm
 use Rattle.tl_params.specs.statement.Param.{cap_right}
 use Rattle.tl_rules.specs.statement.Conformance.{same_perm}
-use Rattle.tl_coherence.specs.protocol.Phase.{Pair, Granting, Acknowledging, GrantedOther, Calm, Wants, is_quiet, cap_fits, grant_fits}
+use Rattle.tl_coherence.specs.protocol.Phase.{ClientBlock, Granting, Acknowledging, GrantedOther, NoAcquire, AcquireOpen, is_unprobed, cap_fits, grant_fits}
 use Rattle.tl_coherence.specs.protocol.PhaseSteps.{after_grant}
-use Rattle.tl_coherence.specs.protocol.Token.{set}
+use Rattle.tl_coherence.specs.protocol.Packet.{set}
 use Rattle.tl_coherence.specs.protocol.Protocol.{GrantSent, GrantTaken, Block, view, granted_copy, granted_truth, taken_block}
 use Rattle.tl_coherence.specs.protocol.Invariant.{resting, is_out, IsWell}
 use Rattle.tl_coherence.proofs.queues.Phases.{and_left, and_right}
@@ -37,7 +37,7 @@ some_held perm.Branch e = refl
 some_held perm.Trunk e = absurd cc
 
 pub taken-block : {X : Type 0} (caching : ℕ → Bool) (c : ℕ) (d whole : Bool) (g : Grow) (k : Cap) (b : Block X) → IsWell caching b → b.service ≡ GrantSent c d k
-    → (b.pair c).acquiring ≡ Wants whole g → IsWell caching (taken_block c whole d k b)
+    → (b.pair c).acquiring ≡ AcquireOpen whole g → IsWell caching (taken_block c whole d k b)
 taken-block {X} caching c d whole g k b h granting wants = record {
   phases = λ i. elim (cases_eq i c) [
     | inl same ↦ rw (same, set-same c after b.pair, view_here) (grant_taken-ok d k (b.pair c) (view b.service c) (h.phases c) seen)
@@ -59,7 +59,7 @@ taken-block {X} caching c d whole g k b h granting wants = record {
   memory = λ none. memory_is whole refl none;
 }
   where
-    after : Pair
+    after : ClientBlock
     after = after_grant k (b.pair c)
 
     seen : view b.service c ≡ Granting d k
@@ -75,13 +75,13 @@ taken-block {X} caching c d whole g k b h granting wants = record {
     view_there i ne = rw (ne_eqb i c ne) refl
 
     recorded_same : (i : ℕ) → (set c after b.pair i).recorded ≡ (b.pair i).recorded
-    recorded_same = set-part (λ (p : Pair). p.recorded) c after b.pair refl
+    recorded_same = set-part (λ (p : ClientBlock). p.recorded) c after b.pair refl
 
-    quiet_same : (i : ℕ) → is_quiet (set c after b.pair i).probing ≡ is_quiet (b.pair i).probing
-    quiet_same = set-part (λ (p : Pair). is_quiet p.probing) c after b.pair refl
+    quiet_same : (i : ℕ) → is_unprobed (set c after b.pair i).probing ≡ is_unprobed (b.pair i).probing
+    quiet_same = set-part (λ (p : ClientBlock). is_unprobed p.probing) c after b.pair refl
 
     -- what the Grant is
-    fit : grant_fits (b.pair c).recorded (b.pair c).held d k (Wants whole g) ≡ true
+    fit : grant_fits (b.pair c).recorded (b.pair c).held d k (AcquireOpen whole g) ≡ true
     fit = rw wants at (grant_is_fit d k (b.pair c) (view b.service c) (h.phases c) seen)
 
     fit_rest : (cap_fits whole g k && (not (whole && d) && (whole || (d || same_perm (b.pair c).held perm.Branch)))) ≡ true
@@ -119,5 +119,5 @@ taken-block {X} caching c d whole g k b h granting wants = record {
       | inr other ↦ let was : is_out (set c after b.pair i) (view (GrantTaken c) i) ≡ false = none i in rw (seen_by i other) (rw (recorded_same i, view_there i other) at was)
     ]))
 
-    not_calm : (p : Pair) → p.acquiring ≡ Wants whole g → p ≡ resting → ⊥
-    not_calm p e f = let i : p.acquiring ≡ Calm = ap (λ (x : Pair). x.acquiring) f in let j : Wants whole g ≡ Calm = sym e ∙ i in absurd cc
+    not_calm : (p : ClientBlock) → p.acquiring ≡ AcquireOpen whole g → p ≡ resting → ⊥
+    not_calm p e f = let i : p.acquiring ≡ NoAcquire = ap (λ (x : ClientBlock). x.acquiring) f in let j : AcquireOpen whole g ≡ NoAcquire = sym e ∙ i in absurd cc

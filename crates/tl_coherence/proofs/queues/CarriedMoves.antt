@@ -10,8 +10,8 @@ use Rattle.tl_burst.specs.statement.Burst.{beats_of}
 use Rattle.tl_burst.specs.statement.Part.{completes}
 use Rattle.tl_burst.proofs.Splitting.{beats-positive}
 use Rattle.tl_rules.specs.statement.Legality.{beats_from}
-use Rattle.tl_coherence.specs.protocol.Token.{Kind, Token}
-use Rattle.tl_coherence.specs.protocol.Protocol.{token}
+use Rattle.tl_coherence.specs.protocol.Packet.{Kind, Packet}
+use Rattle.tl_coherence.specs.protocol.Protocol.{packet}
 use Rattle.tl_coherence.specs.refinement.Move.{Move, Stays, Pushes, Pops, IsMoved}
 use Rattle.tl_coherence.specs.refinement.Carried.{IsCarried}
 use Rattle.tl_coherence.proofs.queues.Carried.{carried-push, carried-next}
@@ -24,22 +24,22 @@ IsQueued (Pushes k n) m q after r rest = (after ≡ q ++ beats_from (m k n) 0 (b
 IsQueued {w} (Pops k n) m q after r rest = (x : Beat w) × (q ≡ x ∷ after) × (completes x r ≡ true) × (rest ≡ [])
 
 -- the tokens that stay
-abbrev pub staying : Move → List Token → List Token → List Token
+abbrev pub staying : Move → List Packet → List Packet → List Packet
 staying (Pops k n) xs ys = ys
 staying _ xs ys = xs
 
-pub carried-moved : {w : ℕ} (move : Move) (xs ys : List Token) (f g : Token → Message w) (m : Kind → ℕ → Message w) (q after r rest : List (Beat w)) → IsWidth w → IsMoved move xs ys
+pub carried-moved : {w : ℕ} (move : Move) (xs ys : List Packet) (f g : Packet → Message w) (m : Kind → ℕ → Message w) (q after r rest : List (Beat w)) → IsWidth w → IsMoved move xs ys
     → IsQueued move m q after r rest
-    → ((k : Kind) (n : ℕ) → move ≡ Pushes k n → g (token k n) ≡ m k n) → map g (staying move xs ys) ≡ map f (staying move xs ys) → IsCarried r (map f xs) q → IsCarried rest (map g ys) after
+    → ((k : Kind) (n : ℕ) → move ≡ Pushes k n → g (packet k n) ≡ m k n) → map g (staying move xs ys) ≡ map f (staying move xs ys) → IsCarried r (map f xs) q → IsCarried rest (map g ys) after
 carried-moved {w} Stays xs ys f g m q after r rest width moved queued new kept h = rw (moved, kept, queued.0, queued.1) h
 carried-moved {w} (Pushes k n) xs ys f g m q after r rest width moved queued new kept h =
     let messages : map g ys ≡ map f xs ++ m k n ∷ [] =
-    ap (map g) moved ∙ map-append g xs (token k n ∷ []) ∙ ap₂ (λ (i j : List (Message w)). i ++ j) kept (ap (λ (i : Message w). i ∷ []) (new k n refl)) in
+    ap (map g) moved ∙ map-append g xs (packet k n ∷ []) ∙ ap₂ (λ (i j : List (Message w)). i ++ j) kept (ap (λ (i : Message w). i ∷ []) (new k n refl)) in
     rw (messages, queued.0, queued.1) (carried-push r (map f xs) q (m k n) (beats-positive (m k n) width) h)
 carried-moved {w} (Pops k n) xs ys f g m q after r rest width moved (x, beats, whole, none) new kept h =
-    let before : IsCarried r (f (token k n) ∷ map f ys) (x ∷ after) = same (map f xs) (f (token k n) ∷ map f ys) (ap (map f) moved) h in
-    let next = carried-next x r (f (token k n)) (map f ys) after (λ i. beats-positive i width) before in
-    let last = next.last (eqb-true (next.k + 1) (beats_of (f (token k n))) (sym next.completes_is ∙ whole)) in
+    let before : IsCarried r (f (packet k n) ∷ map f ys) (x ∷ after) = same (map f xs) (f (packet k n) ∷ map f ys) (ap (map f) moved) h in
+    let next = carried-next x r (f (packet k n)) (map f ys) after (λ i. beats-positive i width) before in
+    let last = next.last (eqb-true (next.k + 1) (beats_of (f (packet k n))) (sym next.completes_is ∙ whole)) in
     rw (none, kept) last.2
   where
     same : (ms ns : List (Message w)) → ms ≡ ns → IsCarried r ms q → IsCarried r ns (x ∷ after)

@@ -12,12 +12,12 @@ use Rattle.tl_burst.specs.statement.Burst.{beats_of}
 use Rattle.tl_burst.specs.statement.Messages.{unfinished}
 use Rattle.tl_burst.specs.statement.Part.{completes}
 use Rattle.tl_rules.specs.statement.Legality.{beats_from}
-use Rattle.tl_coherence.specs.protocol.Token.{Kind, Request, Acquire, Probe, ProbeAck, Release, Answer, Grant, ReleaseAck, GrantAck, Token, is, one_if, count, set}
-use Rattle.tl_coherence.specs.protocol.Protocol.{State, Link, token, tokens_on, is_on, is_transfer, on, shown}
+use Rattle.tl_coherence.specs.protocol.Packet.{Kind, Request, Acquire, Probe, ProbeAck, Release, Answer, Grant, ReleaseAck, GrantAck, Packet, is, one_if, count, set}
+use Rattle.tl_coherence.specs.protocol.Protocol.{State, Link, packet, packets_on, is_on, is_transfer, on, shown}
 use Rattle.tl_coherence.specs.protocol.Invariant.{IsInvariant, is_asked, is_replied}
 use Rattle.tl_coherence.specs.refinement.Move.{Move, Stays, Pushes, Pops, IsMoved, AreMoved}
-use Rattle.tl_coherence.specs.refinement.Render.{Mail, rendered, message_of_kind, message_of}
-use Rattle.tl_coherence.specs.refinement.Matched.{AreCarried, receiver}
+use Rattle.tl_coherence.specs.refinement.PacketMessages.{AccessMessages, block_message, message_of_kind, message_of}
+use Rattle.tl_coherence.specs.refinement.ChannelRelation.{ChannelRelation, receiver}
 use Rattle.tl_coherence.specs.statement.System.{System, same_channel}
 use Rattle.tl_coherence.proofs.queues.CarriedMoves.{IsQueued, staying, carried-moved}
 use Rattle.tl_coherence.proofs.queues.Moves.{moves_at}
@@ -26,25 +26,25 @@ use Rattle.tl_coherence.proofs.queues.Tokens.{same_number, set-same, set-other}
 
 -- ---- tokens that stay
 
-count_behind : (k : Kind) (n : ℕ) (xs : List Token) (x : Token) → count k n xs ≤ count k n (xs ++ x ∷ [])
+count_behind : (k : Kind) (n : ℕ) (xs : List Packet) (x : Packet) → count k n xs ≤ count k n (xs ++ x ∷ [])
 unfolding count
 count_behind k n [] x = omega arith
 count_behind k n (y ∷ xs) x = omega (arith, count_behind k n xs x)
 
 -- no more of them than there were, and than there are
-stay_before : (move : Move) (k : Kind) (n : ℕ) (xs ys : List Token) → IsMoved move xs ys → count k n (staying move xs ys) ≤ count k n xs
+stay_before : (move : Move) (k : Kind) (n : ℕ) (xs ys : List Packet) → IsMoved move xs ys → count k n (staying move xs ys) ≤ count k n xs
 unfolding count
 stay_before Stays k n xs ys e = omega arith
 stay_before (Pushes j i) k n xs ys e = omega arith
 stay_before (Pops j i) k n xs ys e = rw e (omega arith)
 
-stay_after : (move : Move) (k : Kind) (n : ℕ) (xs ys : List Token) → IsMoved move xs ys → count k n (staying move xs ys) ≤ count k n ys
+stay_after : (move : Move) (k : Kind) (n : ℕ) (xs ys : List Packet) → IsMoved move xs ys → count k n (staying move xs ys) ≤ count k n ys
 stay_after Stays k n xs ys e = rw e (omega arith)
-stay_after (Pushes j i) k n xs ys e = rw e (count_behind k n xs (token j i))
+stay_after (Pushes j i) k n xs ys e = rw e (count_behind k n xs (packet j i))
 stay_after (Pops j i) k n xs ys e = omega arith
 
 -- messages of tokens are the same where those of each token that is there are
-map_kept : {A : Type 0} (f g : Kind → ℕ → A) (xs : List Token) → ((k : Kind) (n : ℕ) → (count k n xs ≡ 0) ⊎ (g k n ≡ f k n)) → map (λ x. g x.kind x.number) xs ≡ map (λ x. f x.kind x.number) xs
+map_kept : {A : Type 0} (f g : Kind → ℕ → A) (xs : List Packet) → ((k : Kind) (n : ℕ) → (count k n xs ≡ 0) ⊎ (g k n ≡ f k n)) → map (λ x. g x.kind x.number) xs ≡ map (λ x. f x.kind x.number) xs
 unfolding count
 map_kept f g [] same = refl
 map_kept {A} f g (x ∷ xs) same = ap₂ (λ y ys. y ∷ ys) (first (same x.kind x.number)) (map_kept f g xs (λ k n. fewer k n (same k n)))
@@ -61,16 +61,16 @@ map_kept {A} f g (x ∷ xs) same = ap₂ (λ y ys. y ∷ ys) (first (same x.kind
 
 -- What an event does to what tokens stand for: a token that is there before and after it stands for the same message.
 -- `n` is the block that changes.
-pub record IsShowing {w : ℕ} (caching : ℕ → Bool) (n : ℕ) (moves : ℕ → Channel → Move) (mail mail' : Mail w) (s s' : State (List ℕ)) : Type 0 where
+pub record IsShowing {w : ℕ} (caching : ℕ → Bool) (n : ℕ) (moves : ℕ → Channel → Move) (mail mail' : AccessMessages w) (s s' : State (List ℕ)) : Type 0 where
   pub before : IsInvariant caching s
   pub after : IsInvariant caching s'
   pub moved : (d : ℕ) → AreMoved (moves d) (s.link d) (s'.link d)
   pub blocks : (i : ℕ) → (i ≡ n → ⊥) → s'.block i ≡ s.block i
-  pub same : (d : ℕ) (k : Kind) → is_transfer k ≡ true → shown k d (s.block n) ≡ true → shown k d (s'.block n) ≡ true → rendered {w = w} k d n (s'.block n) ≡ rendered k d n (s.block n)
+  pub same : (d : ℕ) (k : Kind) → is_transfer k ≡ true → shown k d (s.block n) ≡ true → shown k d (s'.block n) ≡ true → block_message {w = w} k d n (s'.block n) ≡ block_message k d n (s.block n)
   pub requests : (d i : ℕ) → is_asked (s.uses d i) ≡ true → is_asked (s'.uses d i) ≡ true → mail'.request d i ≡ mail.request d i
   pub answers : (d i : ℕ) → is_replied (s.uses d i) ≡ true → is_replied (s'.uses d i) ≡ true → mail'.answer d i ≡ mail.answer d i
 
-pub on_same : (ch : Channel) (k : Kind) (l : Link) → is_on ch k ≡ true → tokens_on ch l ≡ on k l
+pub on_same : (ch : Channel) (k : Kind) (l : Link) → is_on ch k ≡ true → packets_on ch l ≡ on k l
 on_same channel.A Request l e = refl
 on_same channel.A Acquire l e = refl
 on_same channel.B Probe l e = refl
@@ -123,18 +123,18 @@ not_there true true n le me = inr (refl, refl)
 not_there false b n le me = inl (omega (arith, le))
 not_there true false n le me = inl (omega (arith, me))
 
-pub messages-stay : {w : ℕ} (caching : ℕ → Bool) (n : ℕ) (moves : ℕ → Channel → Move) (mail mail' : Mail w) (s s' : State (List ℕ)) → IsShowing caching n moves mail mail' s s' → (d : ℕ) (ch : Channel)
-    → map (message_of mail' s' d) (staying (moves d ch) (tokens_on ch (s.link d)) (tokens_on ch (s'.link d))) ≡ map (message_of mail s d)
-    (staying (moves d ch) (tokens_on ch (s.link d)) (tokens_on ch (s'.link d)))
+pub messages-stay : {w : ℕ} (caching : ℕ → Bool) (n : ℕ) (moves : ℕ → Channel → Move) (mail mail' : AccessMessages w) (s s' : State (List ℕ)) → IsShowing caching n moves mail mail' s s' → (d : ℕ) (ch : Channel)
+    → map (message_of mail' s' d) (staying (moves d ch) (packets_on ch (s.link d)) (packets_on ch (s'.link d))) ≡ map (message_of mail s d)
+    (staying (moves d ch) (packets_on ch (s.link d)) (packets_on ch (s'.link d)))
 messages-stay {w} caching n moves mail mail' s s' event d ch = map_kept (λ k i. message_of_kind k mail s d i) (λ k i. message_of_kind k mail' s' d i) stay (λ k i. each k i (is_on ch k) refl)
   where
-    xs : List Token
-    xs = tokens_on ch (s.link d)
+    xs : List Packet
+    xs = packets_on ch (s.link d)
 
-    ys : List Token
-    ys = tokens_on ch (s'.link d)
+    ys : List Packet
+    ys = packets_on ch (s'.link d)
 
-    stay : List Token
+    stay : List Packet
     stay = staying (moves d ch) xs ys
 
     Kept : Kind → ℕ → Type 0
@@ -149,18 +149,18 @@ messages-stay {w} caching n moves mail mail' s s' event d ch = map_kept (λ k i.
         let after : count k i ys ≡ one_if b = ap (count k i) (on_same ch k (s'.link d) own) ∙ f in
         not_there a b (count k i stay) (omega (arith, fewer k i, before)) (omega (arith, stay_after (moves d ch) k i xs ys (event.moved d ch), after))
 
-    transfer : (k : Kind) (i : ℕ) → is_on ch k ≡ true → is_transfer k ≡ true → (rendered {w = w} k d i (s'.block i) ≡ rendered k d i (s.block i)) ⊎ (count k i stay ≡ 0)
+    transfer : (k : Kind) (i : ℕ) → is_on ch k ≡ true → is_transfer k ≡ true → (block_message {w = w} k d i (s'.block i) ≡ block_message k d i (s.block i)) ⊎ (count k i stay ≡ 0)
     transfer k i own t = elim (cases_eq i n) [
       | inl same ↦ rw same (changed (here k n (shown k d (s.block n)) (shown k d (s'.block n)) own (event.before.transfers d k t n) (event.after.transfers d k t n)))
-      | inr other ↦ inl (ap (rendered k d i) (event.blocks i other))
+      | inr other ↦ inl (ap (block_message k d i) (event.blocks i other))
     ]
       where
-        changed : (count k n stay ≡ 0) ⊎ ((shown k d (s.block n) ≡ true) × (shown k d (s'.block n) ≡ true)) → (rendered {w = w} k d n (s'.block n) ≡ rendered k d n (s.block n)) ⊎ (count k n stay ≡ 0)
+        changed : (count k n stay ≡ 0) ⊎ ((shown k d (s.block n) ≡ true) × (shown k d (s'.block n) ≡ true)) → (block_message {w = w} k d n (s'.block n) ≡ block_message k d n (s.block n)) ⊎ (count k n stay ≡ 0)
         changed (inl none) = inr none
         changed (inr both) = inl (event.same d k t both.0 both.1)
 
-    turned : (k : Kind) (i : ℕ) → message_of_kind k mail' s' d i ≡ rendered k d i (s'.block i) → message_of_kind k mail s d i ≡ rendered k d i (s.block i)
-        → (rendered {w = w} k d i (s'.block i) ≡ rendered k d i (s.block i)) ⊎ (count k i stay ≡ 0) → Kept k i
+    turned : (k : Kind) (i : ℕ) → message_of_kind k mail' s' d i ≡ block_message k d i (s'.block i) → message_of_kind k mail s d i ≡ block_message k d i (s.block i)
+        → (block_message {w = w} k d i (s'.block i) ≡ block_message k d i (s.block i)) ⊎ (count k i stay ≡ 0) → Kept k i
     turned k i e f (inl same) = inr (e ∙ same ∙ sym f)
     turned k i e f (inr none) = inl none
 
@@ -188,16 +188,16 @@ messages-stay {w} caching n moves mail mail' s s' event d ch = map_kept (λ k i.
     each k i false e = let none : count k i xs ≡ 0 = event.before.own_kinds d ch k i e in inl (omega (arith, none, fewer k i))
 
 -- the beats of all channels move with the tokens
-abbrev pub AreQueued : {w : ℕ} → (ℕ → Channel → Move) → Mail w → State (List ℕ) → System w → System w → Type 0
+abbrev pub AreQueued : {w : ℕ} → (ℕ → Channel → Move) → AccessMessages w → State (List ℕ) → System w → System w → Type 0
 AreQueued moves mail s before after =
     (d : ℕ) (ch : Channel)
-    → IsQueued (moves d ch) (λ k i. message_of mail s d (token k i)) (before.channels d ch) (after.channels d ch) (unfinished ch (receiver ch d before)) (unfinished ch (receiver ch d after))
+    → IsQueued (moves d ch) (λ k i. message_of mail s d (packet k i)) (before.channels d ch) (after.channels d ch) (unfinished ch (receiver ch d before)) (unfinished ch (receiver ch d after))
 
 -- the channels carry the messages of the tokens after every event
-pub carried-event : {w : ℕ} (caching : ℕ → Bool) (n : ℕ) (moves : ℕ → Channel → Move) (mail mail' : Mail w) (s s' : State (List ℕ)) (sys sys' : System w) → IsWidth w
-    → IsShowing caching n moves mail mail' s s' → AreQueued moves mail' s' sys sys' → AreCarried mail s sys → AreCarried mail' s' sys'
+pub carried-event : {w : ℕ} (caching : ℕ → Bool) (n : ℕ) (moves : ℕ → Channel → Move) (mail mail' : AccessMessages w) (s s' : State (List ℕ)) (sys sys' : System w) → IsWidth w
+    → IsShowing caching n moves mail mail' s s' → AreQueued moves mail' s' sys sys' → ChannelRelation mail s sys → ChannelRelation mail' s' sys'
 carried-event caching n moves mail mail' s s' sys sys' width event queued h d ch =
-    carried-moved (moves d ch) (tokens_on ch (s.link d)) (tokens_on ch (s'.link d)) (message_of mail s d) (message_of mail' s' d) (λ k i. message_of mail' s' d (token k i))
+    carried-moved (moves d ch) (packets_on ch (s.link d)) (packets_on ch (s'.link d)) (message_of mail s d) (message_of mail' s' d) (λ k i. message_of mail' s' d (packet k i))
     (sys.channels d ch) (sys'.channels d ch) (unfinished ch (receiver ch d sys)) (unfinished ch (receiver ch d sys')) width (event.moved d ch) (queued d ch)
     (λ k i e. refl)
     (messages-stay caching n moves mail mail' s s' event d ch) (h d ch)
@@ -264,11 +264,11 @@ same_channel-is channel.E channel.C e = absurd cc
 same_channel-is channel.E channel.D e = absurd cc
 
 pub queued-taken : {w : ℕ} (c : ℕ) (ch : Channel) (x : Beat w) (queue : List (Beat w)) (pushes : ℕ → Channel → Option (Message w)) (moves : ℕ → Channel → Move)
-    (mail : Mail w) (s : State (List ℕ)) (sys sys' : System w)
-    → IsTaken c ch x queue pushes sys sys' → ((d : ℕ) (at : Channel) → Fits ((d == c) && same_channel at ch) (pushes d at) (moves d at) (λ k i. message_of mail s d (token k i)))
+    (mail : AccessMessages w) (s : State (List ℕ)) (sys sys' : System w)
+    → IsTaken c ch x queue pushes sys sys' → ((d : ℕ) (at : Channel) → Fits ((d == c) && same_channel at ch) (pushes d at) (moves d at) (λ k i. message_of mail s d (packet k i)))
     → AreQueued moves mail s sys sys'
 queued-taken {w} c ch x queue pushes moves mail s sys sys' is fits d at =
-    queued-by ((d == c) && same_channel at ch) (pushes d at) (moves d at) (λ k i. message_of mail s d (token k i)) x queue (sys.channels d at)
+    queued-by ((d == c) && same_channel at ch) (pushes d at) (moves d at) (λ k i. message_of mail s d (packet k i)) x queue (sys.channels d at)
     (sys'.channels d at) (unfinished at (receiver at d sys)) (unfinished at (receiver at d sys'))
     (fits d at) (is.channels d at) (is.rests d at) (λ e. here e (cases_eq d c))
   where
@@ -281,12 +281,12 @@ pub record IsHanded {w : ℕ} (pushes : ℕ → Channel → Option (Message w)) 
   pub channels : (d : ℕ) (at : Channel) → sys'.channels d at ≡ behind (pushes d at) (sys.channels d at)
   pub rests : (d : ℕ) (at : Channel) → unfinished at (receiver at d sys') ≡ unfinished at (receiver at d sys)
 
-pub queued-handed : {w : ℕ} (pushes : ℕ → Channel → Option (Message w)) (moves : ℕ → Channel → Move) (mail : Mail w) (s : State (List ℕ)) (sys sys' : System w) → IsHanded pushes sys sys'
-    → ((d : ℕ) (at : Channel) → Fits false (pushes d at) (moves d at) (λ k i. message_of mail s d (token k i)))
+pub queued-handed : {w : ℕ} (pushes : ℕ → Channel → Option (Message w)) (moves : ℕ → Channel → Move) (mail : AccessMessages w) (s : State (List ℕ)) (sys sys' : System w) → IsHanded pushes sys sys'
+    → ((d : ℕ) (at : Channel) → Fits false (pushes d at) (moves d at) (λ k i. message_of mail s d (packet k i)))
     → AreQueued moves mail s sys sys'
 queued-handed {w} pushes moves mail s sys sys' is fits d at =
     queued-with (pushes d at) (moves d at) (sys.channels d at) (sys'.channels d at) (unfinished at (receiver at d sys)) (unfinished at (receiver at d sys'))
-    (λ k i. message_of mail s d (token k i)) (fits d at) (is.channels d at) (is.rests d at)
+    (λ k i. message_of mail s d (packet k i)) (fits d at) (is.channels d at) (is.rests d at)
   where
     queued-with : (push : Option (Message w)) (move : Move) (q after r rest : List (Beat w)) (render : Kind → ℕ → Message w) → Fits false push move render
         → after ≡ behind push q → rest ≡ r → IsQueued move render q after r rest
@@ -309,10 +309,10 @@ moved-at c moves l link h d ch = elim (cases_eq d c) [
   | inr other ↦ still (d == c) (set c l link d) (ne_eqb d c other) (set-other c d l link other)
 ]
   where
-    popped : (b : Bool) (k : Link) → b ≡ true → k ≡ l → IsMoved (if b then moves ch else Stays) (tokens_on ch (link c)) (tokens_on ch k)
+    popped : (b : Bool) (k : Link) → b ≡ true → k ≡ l → IsMoved (if b then moves ch else Stays) (packets_on ch (link c)) (packets_on ch k)
     popped b k e f = rw (e, f) (h ch)
 
-    still : (b : Bool) (k : Link) → b ≡ false → k ≡ link d → IsMoved (if b then moves ch else Stays) (tokens_on ch (link d)) (tokens_on ch k)
+    still : (b : Bool) (k : Link) → b ≡ false → k ≡ link d → IsMoved (if b then moves ch else Stays) (packets_on ch (link d)) (packets_on ch k)
     still b k e f = rw (e, f) refl
 
 pub fits-at : {w : ℕ} (c : ℕ) (ch : Channel) (pushes : Channel → Option (Message w)) (moves : Channel → Move) (render : ℕ → Kind → ℕ → Message w)

@@ -20,7 +20,7 @@ use Rattle.tl_manager.specs.statement.Handing.{grant_opcode}
 use Rattle.tl_manager.specs.statement.Handing as handing
 use Rattle.tl_manager.specs.statement.Holders.{cap_probed}
 use Rattle.tl_manager.specs.statement.Service.{is_access_answer}
-use Rattle.tl_coherence.specs.refinement.Follow.{acquire_opcode, gift}
+use Rattle.tl_coherence.specs.refinement.AbstractStep.{acquire_opcode, gift}
 use Rattle.tl_coherence.specs.protocol.Phase.{same_cap}
 use Rattle.tl_coherence.specs.protocol.PhaseSteps.{is_granted_data}
 

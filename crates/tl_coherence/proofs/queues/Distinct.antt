@@ -3,27 +3,27 @@ use Rattle.std.proofs.Common.{◌≡◌, ℕ, ◌+◌, ◌<◌, ◌≤◌, Bool,
 use Rattle.std.specs.Prelude.{◌==◌, ◌&&◌, if◌then◌else◌, not, length, Option, Some, None}
 use Rattle.std.proofs.lemmas.Bool.{cases_eq, ne_eqb, eqb-true, and_parts}
 use Rattle.std.proofs.lemmas.Option.{same_Some}
-use Rattle.tl_coherence.specs.bound.Potential.{total}
-use Rattle.tl_coherence.specs.protocol.Token.{Kind, Token, is, one_if, count}
+use Rattle.tl_coherence.specs.bound.Rank.{total}
+use Rattle.tl_coherence.specs.protocol.Packet.{Kind, Packet, is, one_if, count}
 use Rattle.tl_coherence.proofs.queues.Rendered.{same_kind_again}
 use Rattle.tl_coherence.proofs.queues.Tokens.{same_number}
 use Rattle.tl_coherence.proofs.queues.Sums.{total-same, total-le, total-plus, total-zero, total-one, total-const}
 
 -- how many tokens pass a test
-unfoldable pub passing : (Token → Bool) → List Token → ℕ
+unfoldable pub passing : (Packet → Bool) → List Packet → ℕ
 passing test [] = 0
 passing test (x ∷ xs) = one_if (test x) + passing test xs
 
-pub is-itself : (x : Token) → is x.kind x.number x ≡ true
+pub is-itself : (x : Packet) → is x.kind x.number x ≡ true
 is-itself x = rw (same_kind_again x.kind, same_number x.number) refl
 
-pub all-pass : (xs : List Token) → passing (λ x. true) xs ≡ length xs
+pub all-pass : (xs : List Packet) → passing (λ x. true) xs ≡ length xs
 unfolding passing
 all-pass [] = refl
 all-pass (x ∷ xs) = omega (arith, all-pass xs)
 
 -- those that pass and those that don't are all
-pub pass-or-not : (test : Token → Bool) (xs : List Token) → length xs ≡ passing test xs + passing (λ x. not (test x)) xs
+pub pass-or-not : (test : Packet → Bool) (xs : List Packet) → length xs ≡ passing test xs + passing (λ x. not (test x)) xs
 unfolding passing
 pass-or-not test [] = omega arith
 pass-or-not test (x ∷ xs) = omega (arith, pass-or-not test xs, one (test x))
@@ -34,20 +34,20 @@ pass-or-not test (x ∷ xs) = omega (arith, pass-or-not test xs, one (test x))
 
 -- ---- the tokens of a list
 
-abbrev pub IsThere : Token → List Token → Type 0
+abbrev pub IsThere : Packet → List Packet → Type 0
 IsThere x xs = 0 < count x.kind x.number xs
 
-pub first-there : (x : Token) (xs : List Token) → IsThere x (x ∷ xs)
+pub first-there : (x : Packet) (xs : List Packet) → IsThere x (x ∷ xs)
 unfolding count
 first-there x xs = let one : one_if (is x.kind x.number x) ≡ 1 = rw (is-itself x) refl in omega (arith, one)
 
-pub later-there : (y x : Token) (xs : List Token) → IsThere y xs → IsThere y (x ∷ xs)
+pub later-there : (y x : Packet) (xs : List Packet) → IsThere y xs → IsThere y (x ∷ xs)
 unfolding count
 later-there y x xs there = omega (arith, there)
 
 -- ---- all that pass are one token
 
-pub passing-one : (test : Token → Bool) (k : Kind) (n : ℕ) (xs : List Token) → ((x : Token) → IsThere x xs → test x ≡ true → is k n x ≡ true) → passing test xs ≤ count k n xs
+pub passing-one : (test : Packet → Bool) (k : Kind) (n : ℕ) (xs : List Packet) → ((x : Packet) → IsThere x xs → test x ≡ true → is k n x ≡ true) → passing test xs ≤ count k n xs
 unfolding passing count
 passing-one test k n [] one = omega arith
 passing-one test k n (x ∷ xs) one =
@@ -58,7 +58,7 @@ passing-one test k n (x ∷ xs) one =
     here true c so = rw (so refl) (omega arith)
     here false c so = omega arith
 
-pub passing-none : (test : Token → Bool) (xs : List Token) → ((x : Token) → IsThere x xs → test x ≡ false) → passing test xs ≡ 0
+pub passing-none : (test : Packet → Bool) (xs : List Packet) → ((x : Packet) → IsThere x xs → test x ≡ false) → passing test xs ≡ 0
 unfolding passing
 passing-none test [] none = refl
 passing-none test (x ∷ xs) none =
@@ -68,7 +68,7 @@ passing-none test (x ∷ xs) none =
 -- ---- names
 
 -- it passes, and has this name
-abbrev pub named : (Token → Bool) → (Token → ℕ) → ℕ → Token → Bool
+abbrev pub named : (Packet → Bool) → (Packet → ℕ) → ℕ → Packet → Bool
 named test name i x = test x && (name x == i)
 
 one-name : (b : Bool) (n bound : ℕ) → (b ≡ true → n < bound) → total bound (λ i. one_if (b && (n == i))) ≡ one_if b
@@ -81,7 +81,7 @@ one-name true n bound below =
     at i (inr ne) = let other : n ≡ i → ⊥ = λ e. ne (sym e) in rw (ne_eqb i n ne, ne_eqb n i other) refl
 
 -- each that passes has one name
-by-names : (test : Token → Bool) (name : Token → ℕ) (bound : ℕ) (xs : List Token) → ((x : Token) → IsThere x xs → test x ≡ true → name x < bound)
+by-names : (test : Packet → Bool) (name : Packet → ℕ) (bound : ℕ) (xs : List Packet) → ((x : Packet) → IsThere x xs → test x ≡ true → name x < bound)
     → passing test xs ≡ total bound (λ i. passing (named test name i) xs)
 unfolding passing
 by-names test name bound [] below = sym (total-zero bound (λ i. 0) (λ i lt. refl))
@@ -92,19 +92,19 @@ by-names test name bound (x ∷ xs) below =
 
 -- No token stands twice, each that passes has a name below the bound, and is the one that the name is of: so there are
 -- no more than the bound.
-pub few : (test : Token → Bool) (name : Token → ℕ) (owner : ℕ → Option Token) (bound : ℕ) (xs : List Token)
-    → ((k : Kind) (n : ℕ) → count k n xs ≤ 1) → ((x : Token) → IsThere x xs → test x ≡ true → (owner (name x) ≡ Some x) × (name x < bound))
+pub few : (test : Packet → Bool) (name : Packet → ℕ) (owner : ℕ → Option Packet) (bound : ℕ) (xs : List Packet)
+    → ((k : Kind) (n : ℕ) → count k n xs ≤ 1) → ((x : Packet) → IsThere x xs → test x ≡ true → (owner (name x) ≡ Some x) × (name x < bound))
     → passing test xs ≤ bound
 few test name owner bound xs once own =
     let each = total-le bound (λ i. passing (named test name i) xs) (λ i. 1) (λ i lt. at i (owner i) refl) in
     omega (arith, each, by-names test name bound xs (λ x there pass. (own x there pass).1), total-const bound 1)
   where
-    at : (i : ℕ) (o : Option Token) → owner i ≡ o → passing (named test name i) xs ≤ 1
+    at : (i : ℕ) (o : Option Packet) → owner i ≡ o → passing (named test name i) xs ≤ 1
     at i None e =
         let none = passing-none (named test name i) xs (λ x there. unnamed x there (named test name i x) refl) in
         omega (arith, none)
       where
-        unnamed : (x : Token) → IsThere x xs → (b : Bool) → named test name i x ≡ b → b ≡ false
+        unnamed : (x : Packet) → IsThere x xs → (b : Bool) → named test name i x ≡ b → b ≡ false
         unnamed x there false h = refl
         unnamed x there true h =
             let parts = and_parts (test x) (name x == i) h in
@@ -115,7 +115,7 @@ few test name owner bound xs once own =
         let one = passing-one (named test name i) t.kind t.number xs (λ x there h. same_token x there (and_parts (test x) (name x == i) h)) in
         omega (arith, one, once t.kind t.number)
       where
-        same_token : (x : Token) → IsThere x xs → (test x ≡ true) × ((name x == i) ≡ true) → is t.kind t.number x ≡ true
+        same_token : (x : Packet) → IsThere x xs → (test x ≡ true) × ((name x == i) ≡ true) → is t.kind t.number x ≡ true
         same_token x there parts =
             let same : name x ≡ i = eqb-true (name x) i parts.1 in
             let is_it : owner i ≡ Some x = ap owner (sym same) ∙ (own x there parts.0).0 in

@@ -17,7 +17,7 @@ use Rattle.tl_manager.specs.statement.End as manager_end
 use Rattle.tl_manager.specs.statement.Offer as manager
 use Rattle.tl_coherence.specs.declared.event.Event.{Event}
 use Rattle.tl_coherence.specs.declared.event.Event.TheVariants.{Ask, Deliver}
-use Rattle.tl_coherence.specs.statement.Log.{Log, after}
+use Rattle.tl_coherence.specs.statement.Log.{Log, system_after}
 use Rattle.tl_coherence.specs.statement.Step.{stepped, stepped_at, client_of, delivered, judged, manager_took, is_to_client, handed_by}
 use Rattle.tl_coherence.specs.statement.System.{System, terms_at, with_client, with_manager, with_channel}
 use Rattle.tl_coherence.proofs.queues.Steps.{clients-with_messages}
@@ -74,7 +74,7 @@ module _ {w : ℕ} (config : Config) (P : ℕ → End w → Type 0) (keep : AreK
           (other_end k (asked terms op (s.clients k)).after s (keep.asked k terms op (s.clients k) is (all k)) all c)
       go (Deliver link ch) (Some terms) is = delivered-kept terms link.0 ch (s.channels link.0 ch) s is all c
 
-  pub ends-kept : (log : Log w) (c : ℕ) → P c ((after config log).clients c)
-  unfolding after
+  pub ends-kept : (log : Log w) (c : ℕ) → P c ((system_after config log).clients c)
+  unfolding system_after
   ends-kept [] c = keep.fresh c
-  ends-kept (x ∷ log) c = stepped-kept x.0 (after config log) (ends-kept log) c
+  ends-kept (x ∷ log) c = stepped-kept x.0 (system_after config log) (ends-kept log) c

@@ -9,36 +9,36 @@ use Rattle.tl_burst.specs.statement.Messages.{unfinished}
 use Rattle.tl_burst.proofs.Splitting.{beats-positive}
 use Rattle.tl_coherence.specs.refinement.Carried.{IsCarried}
 use Rattle.tl_coherence.specs.protocol.Invariant.{IsInvariant}
-use Rattle.tl_coherence.specs.refinement.Matched.{AreCarried, receiver}
-use Rattle.tl_coherence.specs.protocol.Protocol.{State, token, tokens_on, is_on}
-use Rattle.tl_coherence.specs.refinement.Render.{Mail, message_of, message_of_kind}
+use Rattle.tl_coherence.specs.refinement.ChannelRelation.{ChannelRelation, receiver}
+use Rattle.tl_coherence.specs.protocol.Protocol.{State, packet, packets_on, is_on}
+use Rattle.tl_coherence.specs.refinement.PacketMessages.{AccessMessages, message_of, message_of_kind}
 use Rattle.tl_coherence.specs.statement.System.{System}
-use Rattle.tl_coherence.specs.protocol.Token.{Kind, Token, is, count, one_if}
+use Rattle.tl_coherence.specs.protocol.Packet.{Kind, Packet, is, count, one_if}
 use Rattle.tl_coherence.proofs.queues.Carried.{IsNext, carried-next}
 use Rattle.tl_coherence.proofs.queues.Rendered.{same_kind_again}
 use Rattle.tl_coherence.proofs.queues.Tokens.{same_number}
 
 -- the first token of a channel, whose message has this beat next
-pub record IsFirst {w : ℕ} (ch : Channel) (c : ℕ) (mail : Mail w) (s : State (List ℕ)) (sys : System w) (x : Beat w) (queue : List (Beat w)) : Type 0 where
+pub record IsFirst {w : ℕ} (ch : Channel) (c : ℕ) (mail : AccessMessages w) (s : State (List ℕ)) (sys : System w) (x : Beat w) (queue : List (Beat w)) : Type 0 where
   pub kind : Kind
   pub number : ℕ
-  pub rest : List Token
-  pub tokens : tokens_on ch (s.link c) ≡ token kind number ∷ rest
+  pub rest : List Packet
+  pub tokens : packets_on ch (s.link c) ≡ packet kind number ∷ rest
   pub own : is_on ch kind ≡ true
   pub next : IsNext x (unfinished ch (receiver ch c sys)) (message_of_kind kind mail s c number) (map (message_of mail s c) rest) queue
 
 -- a channel has tokens of its own kinds
-pub own_kind : (caching : ℕ → Bool) (s : State (List ℕ)) (c : ℕ) (ch : Channel) (k : Kind) (n : ℕ) (rest : List Token) → IsInvariant caching s
-    → tokens_on ch (s.link c) ≡ token k n ∷ rest → is_on ch k ≡ true
+pub own_kind : (caching : ℕ → Bool) (s : State (List ℕ)) (c : ℕ) (ch : Channel) (k : Kind) (n : ℕ) (rest : List Packet) → IsInvariant caching s
+    → packets_on ch (s.link c) ≡ packet k n ∷ rest → is_on ch k ≡ true
 unfolding count
 own_kind caching s c ch k n rest inv tokens = go (is_on ch k) refl
   where
     go : (b : Bool) → is_on ch k ≡ b → b ≡ true
     go true e = refl
     go false e =
-        let none : count k n (tokens_on ch (s.link c)) ≡ 0 = inv.own_kinds c ch k n e in
-        let all : one_if (is k n (token k n)) + count k n rest ≡ 0 = sym (ap (count k n) tokens) ∙ none in
-        let one : one_if (is k n (token k n)) ≡ 1 = rw (same_kind_again k, same_number n) refl in
+        let none : count k n (packets_on ch (s.link c)) ≡ 0 = inv.own_kinds c ch k n e in
+        let all : one_if (is k n (packet k n)) + count k n rest ≡ 0 = sym (ap (count k n) tokens) ∙ none in
+        let one : one_if (is k n (packet k n)) ≡ 1 = rw (same_kind_again k, same_number n) refl in
         absurd (omega (arith, all, one))
 
 nothing_first : {w : ℕ} (x : Beat w) (queue rest : List (Beat w)) (channel : List (Beat w)) → channel ≡ x ∷ queue → IsCarried rest [] channel → ⊥
@@ -47,15 +47,15 @@ nothing_first x queue rest channel e h = let no : [] ≡ x ∷ queue = sym h.1 �
 same_carried : {w : ℕ} (rest : List (Beat w)) (ms ms' : List (Message w)) (q q' : List (Beat w)) → ms ≡ ms' → q ≡ q' → IsCarried rest ms q → IsCarried rest ms' q'
 same_carried rest ms ms' q q' e f h = rw (← e, ← f) h
 
-pub first-token : {w : ℕ} (caching : ℕ → Bool) (ch : Channel) (c : ℕ) (mail : Mail w) (s : State (List ℕ)) (sys : System w) (x : Beat w) (queue : List (Beat w))
-    → IsWidth w → IsInvariant caching s → AreCarried mail s sys
+pub first-token : {w : ℕ} (caching : ℕ → Bool) (ch : Channel) (c : ℕ) (mail : AccessMessages w) (s : State (List ℕ)) (sys : System w) (x : Beat w) (queue : List (Beat w))
+    → IsWidth w → IsInvariant caching s → ChannelRelation mail s sys
     → sys.channels c ch ≡ x ∷ queue → IsFirst ch c mail s sys x queue
-first-token {w} caching ch c mail s sys x queue width inv carried beats = go (tokens_on ch (s.link c)) refl
+first-token {w} caching ch c mail s sys x queue width inv carried beats = go (packets_on ch (s.link c)) refl
   where
-    go : (xs : List Token) → tokens_on ch (s.link c) ≡ xs → IsFirst ch c mail s sys x queue
+    go : (xs : List Packet) → packets_on ch (s.link c) ≡ xs → IsFirst ch c mail s sys x queue
     go [] e =
         absurd (nothing_first x queue (unfinished ch (receiver ch c sys)) (sys.channels c ch) beats
-        (same_carried (unfinished ch (receiver ch c sys)) (map (message_of mail s c) (tokens_on ch (s.link c))) [] (sys.channels c ch) (sys.channels c ch)
+        (same_carried (unfinished ch (receiver ch c sys)) (map (message_of mail s c) (packets_on ch (s.link c))) [] (sys.channels c ch) (sys.channels c ch)
         (ap (map (message_of mail s c)) e) refl (carried c ch)))
     go (y ∷ ys) e = record {
       kind = y.kind;
@@ -64,6 +64,6 @@ first-token {w} caching ch c mail s sys x queue width inv carried beats = go (to
       tokens = e;
       own = own_kind caching s c ch y.kind y.number ys inv e;
       next = carried-next x (unfinished ch (receiver ch c sys)) (message_of_kind y.kind mail s c y.number) (map (message_of mail s c) ys) queue (λ m. beats-positive m width)
-          (same_carried (unfinished ch (receiver ch c sys)) (map (message_of mail s c) (tokens_on ch (s.link c)))
+          (same_carried (unfinished ch (receiver ch c sys)) (map (message_of mail s c) (packets_on ch (s.link c)))
           (message_of mail s c y ∷ map (message_of mail s c) ys) (sys.channels c ch) (x ∷ queue) (ap (map (message_of mail s c)) e) beats (carried c ch));
     }

@@ -14,7 +14,7 @@ use Rattle.tl_rules.specs.statement.Legality.{beats_from}
 use Rattle.tl_client.specs.statement.End as client
 use Rattle.tl_manager.specs.statement.Handing.{Handed}
 use Rattle.tl_manager.specs.statement.End as manager_end
-use Rattle.tl_coherence.specs.refinement.Matched.{receiver}
+use Rattle.tl_coherence.specs.refinement.ChannelRelation.{receiver}
 use Rattle.tl_coherence.specs.statement.Step.{handed_by, is_to_client}
 use Rattle.tl_coherence.specs.statement.System.{System, same_channel, channel_of_message, with_client, with_manager, with_channel, with_messages}
 use Rattle.tl_coherence.proofs.queues.Channels.{behind, pushes_at, IsTaken, IsHanded, same_channel-is}

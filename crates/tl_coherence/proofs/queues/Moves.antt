@@ -5,8 +5,8 @@ use Rattle.std.proofs.lemmas.Bool.{cases_eq, ne_eqb, eqb-true, not-true}
 use Rattle.std.specs.Bool.{beq}
 use Rattle.tl_beat.specs.declared.channel.Channel.{Channel}
 use Rattle.tl_beat.specs.declared.channel.Channel.TheVariants as channel
-use Rattle.tl_coherence.specs.protocol.Token.{Kind, Request, Acquire, Probe, ProbeAck, Release, Answer, Grant, ReleaseAck, GrantAck, Token, same_kind, Holds, IsOrdered, count, set, set_at}
-use Rattle.tl_coherence.specs.protocol.Protocol.{Block, State, Use, Link, token, tokens_on, is_on, is_transfer, on, shown}
+use Rattle.tl_coherence.specs.protocol.Packet.{Kind, Request, Acquire, Probe, ProbeAck, Release, Answer, Grant, ReleaseAck, GrantAck, Packet, same_kind, Holds, IsOrdered, count, set, set_at}
+use Rattle.tl_coherence.specs.protocol.Protocol.{Block, State, SourceState, Link, packet, packets_on, is_on, is_transfer, on, shown}
 use Rattle.tl_coherence.specs.refinement.Move.{Move, Stays, Pushes, Pops, IsMoved, AreMoved, agrees, is_own_move, channel_for}
 use Rattle.tl_coherence.proofs.queues.Tokens.{same_number, set-same, set-other, holds-set, holds-push, holds-push_other, holds-pop, holds-pop_other, none-push, none-pop}
 use Rattle.tl_coherence.proofs.queues.Tokens.{set-each, ordered-pop, ordered-push_other, ordered-push_report}
@@ -24,7 +24,7 @@ same_bools false true e = absurd cc
 same_bools false false e = refl
 
 -- the tokens of a kind after a move, where number n gets another value
-pub holds-moved : {B : Type 0} (k : Kind) (move : Move) (xs ys : List Token) (q : B → Bool) (f : ℕ → B) (n : ℕ) (y : B) → IsMoved move xs ys → agrees move k n (q (f n)) (q y) ≡ true
+pub holds-moved : {B : Type 0} (k : Kind) (move : Move) (xs ys : List Packet) (q : B → Bool) (f : ℕ → B) (n : ℕ) (y : B) → IsMoved move xs ys → agrees move k n (q (f n)) (q y) ≡ true
     → Holds k xs (λ i. q (f i)) → Holds k ys (λ i. q (set n y f i))
 holds-moved k Stays xs ys q f n y moved fits h = rw moved (holds-set k xs q f n y (same_bools (q (f n)) (q y) fits) h)
 holds-moved {B} k (Pushes j i) xs ys q f n y moved fits h = rw moved (go (same_kind j k) refl fits)
@@ -34,16 +34,16 @@ holds-moved {B} k (Pushes j i) xs ys q f n y moved fits h = rw moved (go (same_k
     both false true e = (refl, refl)
     both false false e = absurd cc
 
-    go : (own : Bool) → same_kind j k ≡ own → (if own then (i == n) && (not (q (f n)) && q y) else beq (q (f n)) (q y)) ≡ true → Holds k (xs ++ token j i ∷ []) (λ m. q (set n y f m))
+    go : (own : Bool) → same_kind j k ≡ own → (if own then (i == n) && (not (q (f n)) && q y) else beq (q (f n)) (q y)) ≡ true → Holds k (xs ++ packet j i ∷ []) (λ m. q (set n y f m))
     go true e g =
         let p = both (q (f n)) (q y) (and_right (i == n) (not (q (f n)) && q y) g) in
-        holds-push k xs (token j i) q f n y e (eqb-true i n (and_left (i == n) (not (q (f n)) && q y) g)) p.0 p.1 h
-    go false e g = holds-push_other k xs (token j i) (λ m. q (set n y f m)) e (holds-set k xs q f n y (same_bools (q (f n)) (q y) g) h)
+        holds-push k xs (packet j i) q f n y e (eqb-true i n (and_left (i == n) (not (q (f n)) && q y) g)) p.0 p.1 h
+    go false e g = holds-push_other k xs (packet j i) (λ m. q (set n y f m)) e (holds-set k xs q f n y (same_bools (q (f n)) (q y) g) h)
 holds-moved {B} k (Pops j i) xs ys q f n y moved fits h = go (same_kind j k) refl fits
   where
     go : (own : Bool) → same_kind j k ≡ own → (if own then (i == n) && not (q y) else beq (q (f n)) (q y)) ≡ true → Holds k ys (λ m. q (set n y f m))
-    go true e g = holds-pop k xs ys (token j i) q f n y moved e (eqb-true i n (and_left (i == n) (not (q y)) g)) (not-true (q y) (and_right (i == n) (not (q y)) g)) h
-    go false e g = holds-set k ys q f n y (same_bools (q (f n)) (q y) g) (holds-pop_other k xs ys (token j i) (λ m. q (f m)) moved e h)
+    go true e g = holds-pop k xs ys (packet j i) q f n y moved e (eqb-true i n (and_left (i == n) (not (q y)) g)) (not-true (q y) (and_right (i == n) (not (q y)) g)) h
+    go false e g = holds-set k ys q f n y (same_bools (q (f n)) (q y) g) (holds-pop_other k xs ys (packet j i) (λ m. q (f m)) moved e h)
 
 -- a kind that doesn't move
 abbrev pub spares : Move → Kind → Bool
@@ -56,12 +56,12 @@ spared-agrees Stays k n a e = same_again a
 spared-agrees (Pushes j i) k n a e = rw (not-true (same_kind j k) e) (same_again a)
 spared-agrees (Pops j i) k n a e = rw (not-true (same_kind j k) e) (same_again a)
 
-pub holds-spared : (k : Kind) (move : Move) (xs ys : List Token) (test : ℕ → Bool) → IsMoved move xs ys → spares move k ≡ true → Holds k xs test → Holds k ys test
+pub holds-spared : (k : Kind) (move : Move) (xs ys : List Packet) (test : ℕ → Bool) → IsMoved move xs ys → spares move k ≡ true → Holds k xs test → Holds k ys test
 holds-spared k Stays xs ys test moved fits h = rw moved h
-holds-spared k (Pushes j i) xs ys test moved fits h = rw moved (holds-push_other k xs (token j i) test (not-true (same_kind j k) fits) h)
-holds-spared k (Pops j i) xs ys test moved fits h = holds-pop_other k xs ys (token j i) test moved (not-true (same_kind j k) fits) h
+holds-spared k (Pushes j i) xs ys test moved fits h = rw moved (holds-push_other k xs (packet j i) test (not-true (same_kind j k) fits) h)
+holds-spared k (Pops j i) xs ys test moved fits h = holds-pop_other k xs ys (packet j i) test moved (not-true (same_kind j k) fits) h
 
-on_is : (k : Kind) (l : Link) → on k l ≡ tokens_on (channel_for k) l
+on_is : (k : Kind) (l : Link) → on k l ≡ packets_on (channel_for k) l
 on_is Request l = refl
 on_is Acquire l = refl
 on_is Probe l = refl
@@ -78,7 +78,7 @@ pub transfers-moved : {X : Type 0} (moves : Channel → Move) (l m : Link) (d n 
     → ((k : Kind) → is_transfer k ≡ true → Holds k (on k l) (λ i. shown k d (block i)))
     → (k : Kind) → is_transfer k ≡ true → Holds k (on k m) (λ i. shown k d (set n b block i))
 transfers-moved moves l m d n b block moved fits h k t =
-    rw (on_is k m) (holds-moved k (moves (channel_for k)) (tokens_on (channel_for k) l) (tokens_on (channel_for k) m) (shown k d) block n b
+    rw (on_is k m) (holds-moved k (moves (channel_for k)) (packets_on (channel_for k) l) (packets_on (channel_for k) m) (shown k d) block n b
     (moved (channel_for k)) (fits k t) (rw (on_is k l) at (h k t)))
 
 -- a kind that isn't one of the channel isn't one that is
@@ -95,27 +95,27 @@ kinds_apart ch GrantAck GrantAck e f = absurd cc
 kinds_apart ch _ _ e f = refl
 
 -- a channel has tokens of its own kinds after its move
-pub own_kinds-moved : (ch : Channel) (move : Move) (xs ys : List Token) (k : Kind) (i : ℕ) → is_own_move ch move ≡ true → IsMoved move xs ys → is_on ch k ≡ false → count k i xs ≡ 0 → count k i ys ≡ 0
+pub own_kinds-moved : (ch : Channel) (move : Move) (xs ys : List Packet) (k : Kind) (i : ℕ) → is_own_move ch move ≡ true → IsMoved move xs ys → is_on ch k ≡ false → count k i xs ≡ 0 → count k i ys ≡ 0
 own_kinds-moved ch Stays xs ys k i own moved off none = rw moved none
-own_kinds-moved ch (Pushes j n) xs ys k i own moved off none = rw moved (none-push k i xs (token j n) (kinds_apart ch j k own off) none)
-own_kinds-moved ch (Pops j n) xs ys k i own moved off none = none-pop k i xs ys (token j n) moved none
+own_kinds-moved ch (Pushes j n) xs ys k i own moved off none = rw moved (none-push k i xs (packet j n) (kinds_apart ch j k own off) none)
+own_kinds-moved ch (Pops j n) xs ys k i own moved off none = none-pop k i xs ys (packet j n) moved none
 
-ordered-moved : (move : Move) (m : ℕ) (xs ys : List Token) → IsMoved move xs ys → ((n : ℕ) → move ≡ Pushes ProbeAck n → count Release n xs ≡ 0) → IsOrdered m xs → IsOrdered m ys
+ordered-moved : (move : Move) (m : ℕ) (xs ys : List Packet) → IsMoved move xs ys → ((n : ℕ) → move ≡ Pushes ProbeAck n → count Release n xs ≡ 0) → IsOrdered m xs → IsOrdered m ys
 ordered-moved Stays m xs ys moved order h = rw moved h
-ordered-moved (Pops j n) m xs ys moved order h = ordered-pop m xs ys (token j n) moved h
+ordered-moved (Pops j n) m xs ys moved order h = ordered-pop m xs ys (packet j n) moved h
 ordered-moved (Pushes ProbeAck n) m xs ys moved order h = rw moved (go (cases_eq m n))
   where
-    go : (m ≡ n) ⊎ (m ≡ n → ⊥) → IsOrdered m (xs ++ token ProbeAck n ∷ [])
-    go (inl same) = ordered-push_report m xs (token ProbeAck n) (rw same (order n refl)) h
-    go (inr other) = ordered-push_other m xs (token ProbeAck n) (ne_eqb m n other) h
-ordered-moved (Pushes Request n) m xs ys moved order h = rw moved (ordered-push_other m xs (token Request n) refl h)
-ordered-moved (Pushes Acquire n) m xs ys moved order h = rw moved (ordered-push_other m xs (token Acquire n) refl h)
-ordered-moved (Pushes Probe n) m xs ys moved order h = rw moved (ordered-push_other m xs (token Probe n) refl h)
-ordered-moved (Pushes Release n) m xs ys moved order h = rw moved (ordered-push_other m xs (token Release n) refl h)
-ordered-moved (Pushes Answer n) m xs ys moved order h = rw moved (ordered-push_other m xs (token Answer n) refl h)
-ordered-moved (Pushes Grant n) m xs ys moved order h = rw moved (ordered-push_other m xs (token Grant n) refl h)
-ordered-moved (Pushes ReleaseAck n) m xs ys moved order h = rw moved (ordered-push_other m xs (token ReleaseAck n) refl h)
-ordered-moved (Pushes GrantAck n) m xs ys moved order h = rw moved (ordered-push_other m xs (token GrantAck n) refl h)
+    go : (m ≡ n) ⊎ (m ≡ n → ⊥) → IsOrdered m (xs ++ packet ProbeAck n ∷ [])
+    go (inl same) = ordered-push_report m xs (packet ProbeAck n) (rw same (order n refl)) h
+    go (inr other) = ordered-push_other m xs (packet ProbeAck n) (ne_eqb m n other) h
+ordered-moved (Pushes Request n) m xs ys moved order h = rw moved (ordered-push_other m xs (packet Request n) refl h)
+ordered-moved (Pushes Acquire n) m xs ys moved order h = rw moved (ordered-push_other m xs (packet Acquire n) refl h)
+ordered-moved (Pushes Probe n) m xs ys moved order h = rw moved (ordered-push_other m xs (packet Probe n) refl h)
+ordered-moved (Pushes Release n) m xs ys moved order h = rw moved (ordered-push_other m xs (packet Release n) refl h)
+ordered-moved (Pushes Answer n) m xs ys moved order h = rw moved (ordered-push_other m xs (packet Answer n) refl h)
+ordered-moved (Pushes Grant n) m xs ys moved order h = rw moved (ordered-push_other m xs (packet Grant n) refl h)
+ordered-moved (Pushes ReleaseAck n) m xs ys moved order h = rw moved (ordered-push_other m xs (packet ReleaseAck n) refl h)
+ordered-moved (Pushes GrantAck n) m xs ys moved order h = rw moved (ordered-push_other m xs (packet GrantAck n) refl h)
 
 -- ---- the whole invariant
 
@@ -168,7 +168,7 @@ names-kept n b link s h acquires serves releases trackers = record {
 -- ---- accesses and their answers, where one source's use changes
 
 -- the tokens of a kind of all clients, where the value of number i of client c changes, and others move no token of it
-pub holds-set_at : {A : Type 0} (k : Kind) (moves : ℕ → Move) (f g : ℕ → List Token) (q : A → Bool) (uses : ℕ → ℕ → A) (c i : ℕ) (y : A) → ((d : ℕ) → IsMoved (moves d) (f d) (g d))
+pub holds-set_at : {A : Type 0} (k : Kind) (moves : ℕ → Move) (f g : ℕ → List Packet) (q : A → Bool) (uses : ℕ → ℕ → A) (c i : ℕ) (y : A) → ((d : ℕ) → IsMoved (moves d) (f d) (g d))
     → agrees (moves c) k i (q (uses c i)) (q y) ≡ true
     → ((d : ℕ) → (d ≡ c → ⊥) → spares (moves d) k ≡ true) → ((d : ℕ) → Holds k (f d) (λ j. q (uses d j))) → (d : ℕ) → Holds k (g d) (λ j. q (set_at c i y uses d j))
 holds-set_at k moves f g q uses c i y moved fits others h d = elim (cases_eq d c) [
@@ -179,7 +179,7 @@ holds-set_at k moves f g q uses c i y moved fits others h d = elim (cases_eq d c
 -- ---- the whole invariant
 
 -- the invariant is kept by every event that has shown this, with these accesses and numbers
-pub invariant-moved_with : {X : Type 0} (caching : ℕ → Bool) (n : ℕ) (b : Block X) (link : ℕ → Link) (moves : ℕ → Channel → Move) (uses : ℕ → ℕ → Use)
+pub invariant-moved_with : {X : Type 0} (caching : ℕ → Bool) (n : ℕ) (b : Block X) (link : ℕ → Link) (moves : ℕ → Channel → Move) (uses : ℕ → ℕ → SourceState)
     (lets : ℕ → ℕ → Option ℕ) (tracked : ℕ → Option ℕ) (s : State X)
     → IsInvariant caching s → IsEvent caching n b link moves s → ((d : ℕ) → Holds Request (link d).a (λ i. is_asked (uses d i))) → ((d : ℕ) → Holds Answer (link d).d (λ i. is_replied (uses d i)))
     → AreNamed (record { block = set n b s.block; link = link; uses = uses; lets = lets; tracked = tracked })
@@ -189,7 +189,7 @@ invariant-moved_with caching n b link moves uses lets tracked s inv event reques
   transfers = λ d. transfers-moved (moves d) (s.link d) (link d) d n b s.block (event.moved d) (event.fits d) (inv.transfers d);
   requests = requests;
   answers = answers;
-  own_kinds = λ d ch k i off. own_kinds-moved ch (moves d ch) (tokens_on ch (s.link d)) (tokens_on ch (link d)) k i (event.own d ch) (event.moved d ch) off (inv.own_kinds d ch k i off);
+  own_kinds = λ d ch k i off. own_kinds-moved ch (moves d ch) (packets_on ch (s.link d)) (packets_on ch (link d)) k i (event.own d ch) (event.moved d ch) off (inv.own_kinds d ch k i off);
   ordered = λ d m. ordered-moved (moves d channel.C) m (s.link d).c (link d).c (event.moved d channel.C) (event.in_order d) (inv.ordered d m);
   named = named;
 }
@@ -206,7 +206,7 @@ invariant-moved caching n b link moves lets tracked s inv event bare named =
     named
 
 -- and by every event that changes the use of a source of client c
-pub invariant-moved_use : {X : Type 0} (caching : ℕ → Bool) (n : ℕ) (b : Block X) (link : ℕ → Link) (moves : ℕ → Channel → Move) (c source : ℕ) (u : Use) (tracked : ℕ → Option ℕ) (s : State X)
+pub invariant-moved_use : {X : Type 0} (caching : ℕ → Bool) (n : ℕ) (b : Block X) (link : ℕ → Link) (moves : ℕ → Channel → Move) (c source : ℕ) (u : SourceState) (tracked : ℕ → Option ℕ) (s : State X)
     → IsInvariant caching s → IsEvent caching n b link moves s
     → agrees (moves c channel.A) Request source (is_asked (s.uses c source)) (is_asked u) ≡ true → agrees (moves c channel.D) Answer source (is_replied (s.uses c source)) (is_replied u) ≡ true
     → ((d : ℕ) → (d ≡ c → ⊥) → (spares (moves d channel.A) Request ≡ true) × (spares (moves d channel.D) Answer ≡ true))
@@ -230,7 +230,7 @@ moves-here c moves ch = rw (same_number c) refl
 moves-there : (c d : ℕ) (moves : Channel → Move) (ch : Channel) → (d ≡ c → ⊥) → moves_at c moves d ch ≡ Stays
 moves-there c d moves ch ne = rw (ne_eqb d c ne) refl
 
-pub moved_as : (m p : Move) (xs ys zs : List Token) → m ≡ p → ys ≡ zs → IsMoved p xs zs → IsMoved m xs ys
+pub moved_as : (m p : Move) (xs ys zs : List Packet) → m ≡ p → ys ≡ zs → IsMoved p xs zs → IsMoved m xs ys
 moved_as m p xs ys zs e f h = rw (e, f) h
 
 agrees_as : (k : Kind) (n : ℕ) (m p : Move) (a b : Bool) → m ≡ p → agrees p k n a b ≡ true → agrees m k n a b ≡ true
@@ -257,10 +257,10 @@ pub event-at : {X : Type 0} (caching : ℕ → Bool) (c n : ℕ) (b : Block X) (
 event-at caching c n b l moves s event = record {
   well = event.well;
   moved = λ d ch. elim (cases_eq d c) [
-    | inl same ↦ rw same (moved_as (moves_at c moves c ch) (moves ch) (tokens_on ch (s.link c)) (tokens_on ch (set c l s.link c)) (tokens_on ch l)
-        (moves-here c moves ch) (ap (tokens_on ch) (set-same c l s.link)) (event.moved ch))
-    | inr ne ↦ moved_as (moves_at c moves d ch) Stays (tokens_on ch (s.link d)) (tokens_on ch (set c l s.link d)) (tokens_on ch (s.link d))
-        (moves-there c d moves ch ne) (ap (tokens_on ch) (set-other c d l s.link ne)) refl
+    | inl same ↦ rw same (moved_as (moves_at c moves c ch) (moves ch) (packets_on ch (s.link c)) (packets_on ch (set c l s.link c)) (packets_on ch l)
+        (moves-here c moves ch) (ap (packets_on ch) (set-same c l s.link)) (event.moved ch))
+    | inr ne ↦ moved_as (moves_at c moves d ch) Stays (packets_on ch (s.link d)) (packets_on ch (set c l s.link d)) (packets_on ch (s.link d))
+        (moves-there c d moves ch ne) (ap (packets_on ch) (set-other c d l s.link ne)) refl
   ];
   own = λ d ch. own ch (d == c);
   fits = λ d k t. elim (cases_eq d c) [
@@ -304,7 +304,7 @@ names-use of holds c i y f block e h d = elim (cases_eq d c) [
 ]
 
 -- what such an event at client c has to show
-pub record IsAccessEvent {X : Type 0} (c source : ℕ) (u : Use) (l : Link) (moves : Channel → Move) (s : State X) : Type 0 where
+pub record IsAccessEvent {X : Type 0} (c source : ℕ) (u : SourceState) (l : Link) (moves : Channel → Move) (s : State X) : Type 0 where
   pub moved : AreMoved moves (s.link c) l
   pub own : (ch : Channel) → is_own_move ch (moves ch) ≡ true
   pub spared : (k : Kind) → is_transfer k ≡ true → spares (moves (channel_for k)) k ≡ true
@@ -314,13 +314,13 @@ pub record IsAccessEvent {X : Type 0} (c source : ℕ) (u : Use) (l : Link) (mov
   pub acquires : (m : ℕ) → acquires_of m u ≡ acquires_of m (s.uses c source)
   pub serves : (m : ℕ) → serves_of m u ≡ serves_of m (s.uses c source)
 
-pub invariant-moved_access : {X : Type 0} (caching : ℕ → Bool) (c source : ℕ) (u : Use) (l : Link) (moves : Channel → Move) (s : State X) → IsInvariant caching s → IsAccessEvent c source u l moves s
+pub invariant-moved_access : {X : Type 0} (caching : ℕ → Bool) (c source : ℕ) (u : SourceState) (l : Link) (moves : Channel → Move) (s : State X) → IsInvariant caching s → IsAccessEvent c source u l moves s
     → IsInvariant caching (record s { link = set c l s.link; uses = set_at c source u s.uses })
 invariant-moved_access caching c source u l moves s inv event = record {
   blocks = inv.blocks;
   transfers = λ d k t. elim (cases_eq d c) [
     | inl same ↦ rw (same, set-same c l s.link) (rw (on_is k l)
-        (holds-spared k (moves (channel_for k)) (tokens_on (channel_for k) (s.link c)) (tokens_on (channel_for k) l) (λ i. shown k c (s.block i))
+        (holds-spared k (moves (channel_for k)) (packets_on (channel_for k) (s.link c)) (packets_on (channel_for k) l) (λ i. shown k c (s.block i))
         (event.moved (channel_for k)) (event.spared k t)
         (rw (on_is k (s.link c)) at (inv.transfers c k t))))
     | inr other ↦ rw (set-other c d l s.link other) (inv.transfers d k t)
@@ -332,7 +332,7 @@ invariant-moved_access caching c source u l moves s inv event = record {
       (agrees_as Answer source (moves_at c moves c channel.D) (moves channel.D) (is_replied (s.uses c source)) (is_replied u) (moves-here c moves channel.D) event.replied)
       (λ d ne. (bare-elsewhere c moves d ne).1) inv.answers;
   own_kinds = λ d ch k i off. elim (cases_eq d c) [
-    | inl same ↦ rw (same, set-same c l s.link) (own_kinds-moved ch (moves ch) (tokens_on ch (s.link c)) (tokens_on ch l) k i (event.own ch) (event.moved ch) off (inv.own_kinds c ch k i off))
+    | inl same ↦ rw (same, set-same c l s.link) (own_kinds-moved ch (moves ch) (packets_on ch (s.link c)) (packets_on ch l) k i (event.own ch) (event.moved ch) off (inv.own_kinds c ch k i off))
     | inr other ↦ rw (set-other c d l s.link other) (inv.own_kinds d ch k i off)
   ];
   ordered = λ d m. elim (cases_eq d c) [
@@ -347,10 +347,10 @@ invariant-moved_access caching c source u l moves s inv event = record {
   };
 }
   where
-    moved : (d : ℕ) (ch : Channel) → IsMoved (moves_at c moves d ch) (tokens_on ch (s.link d)) (tokens_on ch (set c l s.link d))
+    moved : (d : ℕ) (ch : Channel) → IsMoved (moves_at c moves d ch) (packets_on ch (s.link d)) (packets_on ch (set c l s.link d))
     moved d ch = elim (cases_eq d c) [
-      | inl same ↦ rw same (moved_as (moves_at c moves c ch) (moves ch) (tokens_on ch (s.link c)) (tokens_on ch (set c l s.link c)) (tokens_on ch l)
-          (moves-here c moves ch) (ap (tokens_on ch) (set-same c l s.link)) (event.moved ch))
-      | inr ne ↦ moved_as (moves_at c moves d ch) Stays (tokens_on ch (s.link d)) (tokens_on ch (set c l s.link d)) (tokens_on ch (s.link d))
-          (moves-there c d moves ch ne) (ap (tokens_on ch) (set-other c d l s.link ne)) refl
+      | inl same ↦ rw same (moved_as (moves_at c moves c ch) (moves ch) (packets_on ch (s.link c)) (packets_on ch (set c l s.link c)) (packets_on ch l)
+          (moves-here c moves ch) (ap (packets_on ch) (set-same c l s.link)) (event.moved ch))
+      | inr ne ↦ moved_as (moves_at c moves d ch) Stays (packets_on ch (s.link d)) (packets_on ch (set c l s.link d)) (packets_on ch (s.link d))
+          (moves-there c d moves ch ne) (ap (packets_on ch) (set-other c d l s.link ne)) refl
     ]

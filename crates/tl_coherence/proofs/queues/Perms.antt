@@ -8,7 +8,7 @@ use Rattle.tl_params.specs.declared.perm.Perm.TheVariants as perm
 use Rattle.tl_rules.specs.statement.Conformance.{same_perm}
 use Rattle.tl_client.specs.statement.Kept.{holds}
 use Rattle.tl_coherence.specs.protocol.Invariant.{is_out}
-use Rattle.tl_coherence.specs.protocol.Phase.{Pair, View, perm_le}
+use Rattle.tl_coherence.specs.protocol.Phase.{ClientBlock, View, perm_le}
 use Rattle.tl_coherence.specs.protocol.PhaseSteps.{is_above}
 
 pub trunk-some : (p : Perm) → same_perm p perm.Trunk ≡ true → same_perm p perm.None ≡ false
@@ -40,5 +40,5 @@ nothing_below perm.Trunk perm.None e f = absurd cc
 nothing_below perm.Trunk perm.Branch e f = absurd cc
 nothing_below perm.Trunk perm.Trunk e f = absurd cc
 
-pub not_out : (p : Pair) (v : View) → same_perm p.recorded perm.Trunk ≡ false → is_out p v ≡ false
+pub not_out : (p : ClientBlock) (v : View) → same_perm p.recorded perm.Trunk ≡ false → is_out p v ≡ false
 not_out p v e = rw e refl

@@ -11,8 +11,8 @@ use Rattle.tl_params.specs.declared.param.Report.{Report}
 use Rattle.tl_params.specs.declared.param.Report.TheVariants as report
 use Rattle.tl_params.specs.declared.perm.Perm.{Perm}
 use Rattle.tl_params.specs.declared.perm.Perm.TheVariants as perm
-use Rattle.tl_coherence.specs.protocol.Phase.{Pair, View, Idle, Own, Other, Granting, Acknowledging, GrantedOther, Probing, Quiet, Sent, Answered, Letting, Kept, Releasing}
-use Rattle.tl_coherence.specs.protocol.Phase.{Acked, Acquiring, Calm, Wants, ok_first, ok_second, ok_third, ok}
+use Rattle.tl_coherence.specs.protocol.Phase.{ClientBlock, View, Idle, Own, Other, Granting, Acknowledging, GrantedOther, ProbePhase, NoProbe, ProbeSent, ProbeAnswered, ReleasePhase, NoRelease, ReleaseSent}
+use Rattle.tl_coherence.specs.protocol.Phase.{ReleaseAcked, AcquirePhase, NoAcquire, AcquireOpen, ok_first, ok_second, ok_third, ok}
 
 -- ---- tests of all values of a type
 
@@ -39,25 +39,25 @@ each_prune f = f prune.TtoB && (f prune.TtoN && f prune.BtoN)
 abbrev pub each_report : (Report → Bool) → Bool
 each_report f = f report.TtoB && (f report.TtoN && (f report.BtoN && (f report.TtoT && (f report.BtoB && f report.NtoN))))
 
-abbrev pub each_probing : (Probing → Bool) → Bool
-each_probing f = f Quiet && (each_cap (λ k. f (Sent k)) && each_report (λ r. f (Answered r)))
+abbrev pub each_probing : (ProbePhase → Bool) → Bool
+each_probing f = f NoProbe && (each_cap (λ k. f (ProbeSent k)) && each_report (λ r. f (ProbeAnswered r)))
 
-abbrev pub each_letting : (Letting → Bool) → Bool
-each_letting f = f Kept && (each_prune (λ r. f (Releasing r)) && f Acked)
+abbrev pub each_letting : (ReleasePhase → Bool) → Bool
+each_letting f = f NoRelease && (each_prune (λ r. f (ReleaseSent r)) && f ReleaseAcked)
 
-abbrev pub each_acquiring : (Acquiring → Bool) → Bool
-each_acquiring f = f Calm && each_bool (λ whole. each_grow (λ g. f (Wants whole g)))
+abbrev pub each_acquiring : (AcquirePhase → Bool) → Bool
+each_acquiring f = f NoAcquire && each_bool (λ whole. each_grow (λ g. f (AcquireOpen whole g)))
 
 abbrev pub each_view : (View → Bool) → Bool
 each_view f =
     f Idle && (f Own && (each_cap (λ k. f (Other k)) && (each_bool (λ d. each_cap (λ k. f (Granting d k))) && (f Acknowledging && f GrantedOther))))
 
-abbrev pub pair_of : Perm → Probing → Letting → Perm → Acquiring → Pair
+abbrev pub pair_of : Perm → ProbePhase → ReleasePhase → Perm → AcquirePhase → ClientBlock
 pair_of recorded probing letting held acquiring =
     record { recorded = recorded; probing = probing; letting = letting; held = held; acquiring = acquiring }
 
 -- the test holds in each phase that is well
-unfoldable pub each_phase : (Pair → View → Bool) → Bool
+unfoldable pub each_phase : (ClientBlock → View → Bool) → Bool
 each_phase f =
     each_view (λ v. each_probing (λ probing. where_true (ok_first probing v) (λ a.
     each_letting (λ letting. each_acquiring (λ acquiring. where_true (ok_second probing letting acquiring v) (λ b.
@@ -134,20 +134,20 @@ of_report f e report.TtoT = (six_reports f e).3
 of_report f e report.BtoB = (six_reports f e).4
 of_report f e report.NtoN = (six_reports f e).5
 
-pub of_probing : (f : Probing → Bool) → each_probing f ≡ true → (x : Probing) → f x ≡ true
-of_probing f e Quiet = (three (f Quiet) (each_cap (λ k. f (Sent k))) (each_report (λ r. f (Answered r))) e).0
-of_probing f e (Sent k) = of_cap (λ j. f (Sent j)) (three (f Quiet) (each_cap (λ j. f (Sent j))) (each_report (λ r. f (Answered r))) e).1 k
-of_probing f e (Answered r) = of_report (λ j. f (Answered j)) (three (f Quiet) (each_cap (λ k. f (Sent k))) (each_report (λ j. f (Answered j))) e).2 r
+pub of_probing : (f : ProbePhase → Bool) → each_probing f ≡ true → (x : ProbePhase) → f x ≡ true
+of_probing f e NoProbe = (three (f NoProbe) (each_cap (λ k. f (ProbeSent k))) (each_report (λ r. f (ProbeAnswered r))) e).0
+of_probing f e (ProbeSent k) = of_cap (λ j. f (ProbeSent j)) (three (f NoProbe) (each_cap (λ j. f (ProbeSent j))) (each_report (λ r. f (ProbeAnswered r))) e).1 k
+of_probing f e (ProbeAnswered r) = of_report (λ j. f (ProbeAnswered j)) (three (f NoProbe) (each_cap (λ k. f (ProbeSent k))) (each_report (λ j. f (ProbeAnswered j))) e).2 r
 
-pub of_letting : (f : Letting → Bool) → each_letting f ≡ true → (x : Letting) → f x ≡ true
-of_letting f e Kept = (three (f Kept) (each_prune (λ r. f (Releasing r))) (f Acked) e).0
-of_letting f e (Releasing r) = of_prune (λ j. f (Releasing j)) (three (f Kept) (each_prune (λ j. f (Releasing j))) (f Acked) e).1 r
-of_letting f e Acked = (three (f Kept) (each_prune (λ r. f (Releasing r))) (f Acked) e).2
+pub of_letting : (f : ReleasePhase → Bool) → each_letting f ≡ true → (x : ReleasePhase) → f x ≡ true
+of_letting f e NoRelease = (three (f NoRelease) (each_prune (λ r. f (ReleaseSent r))) (f ReleaseAcked) e).0
+of_letting f e (ReleaseSent r) = of_prune (λ j. f (ReleaseSent j)) (three (f NoRelease) (each_prune (λ j. f (ReleaseSent j))) (f ReleaseAcked) e).1 r
+of_letting f e ReleaseAcked = (three (f NoRelease) (each_prune (λ r. f (ReleaseSent r))) (f ReleaseAcked) e).2
 
-pub of_acquiring : (f : Acquiring → Bool) → each_acquiring f ≡ true → (x : Acquiring) → f x ≡ true
-of_acquiring f e Calm = and_left (f Calm) (each_bool (λ whole. each_grow (λ g. f (Wants whole g)))) e
-of_acquiring f e (Wants whole g) =
-    of_grow (λ h. f (Wants whole h)) (of_bool (λ b. each_grow (λ h. f (Wants b h))) (and_right (f Calm) (each_bool (λ b. each_grow (λ h. f (Wants b h)))) e) whole) g
+pub of_acquiring : (f : AcquirePhase → Bool) → each_acquiring f ≡ true → (x : AcquirePhase) → f x ≡ true
+of_acquiring f e NoAcquire = and_left (f NoAcquire) (each_bool (λ whole. each_grow (λ g. f (AcquireOpen whole g)))) e
+of_acquiring f e (AcquireOpen whole g) =
+    of_grow (λ h. f (AcquireOpen whole h)) (of_bool (λ b. each_grow (λ h. f (AcquireOpen b h))) (and_right (f NoAcquire) (each_bool (λ b. each_grow (λ h. f (AcquireOpen b h)))) e) whole) g
 
 abbrev SixViews : (View → Bool) → Type 0
 SixViews f = IsSix (f Idle) (f Own) (each_cap (λ k. f (Other k))) (each_bool (λ d. each_cap (λ k. f (Granting d k)))) (f Acknowledging) (f GrantedOther)
@@ -164,18 +164,18 @@ of_view f e Acknowledging = (six_views f e).4
 of_view f e GrantedOther = (six_views f e).5
 
 -- so a test of all phases holds in each that is well
-pub of_phase : (f : Pair → View → Bool) → each_phase f ≡ true → (p : Pair) (v : View) → ok p v ≡ true → f p v ≡ true
+pub of_phase : (f : ClientBlock → View → Bool) → each_phase f ≡ true → (p : ClientBlock) (v : View) → ok p v ≡ true → f p v ≡ true
 unfolding each_phase ok
 of_phase f e p v h =
     let rest = and_right (ok_first p.probing v) (ok_second p.probing p.letting p.acquiring v && ok_third p v) h in
     let first : ok_first p.probing v ≡ true = and_left (ok_first p.probing v) (ok_second p.probing p.letting p.acquiring v && ok_third p v) h in
     let second : ok_second p.probing p.letting p.acquiring v ≡ true = and_left (ok_second p.probing p.letting p.acquiring v) (ok_third p v) rest in
     let third : ok_third p v ≡ true = and_right (ok_second p.probing p.letting p.acquiring v) (ok_third p v) rest in
-    let last = λ (probing : Probing) (letting : Letting) (acquiring : Acquiring) (u : View) (recorded held : Perm).
+    let last = λ (probing : ProbePhase) (letting : ReleasePhase) (acquiring : AcquirePhase) (u : View) (recorded held : Perm).
     where_true (ok_third (pair_of recorded probing letting held acquiring) u) (λ c. f (pair_of recorded probing letting held acquiring) u) in
-    let middle = λ (probing : Probing) (u : View) (letting : Letting) (acquiring : Acquiring).
+    let middle = λ (probing : ProbePhase) (u : View) (letting : ReleasePhase) (acquiring : AcquirePhase).
     where_true (ok_second probing letting acquiring u) (λ b. each_perm (λ recorded. each_perm (λ held. last probing letting acquiring u recorded held))) in
-    let outer = λ (u : View) (probing : Probing).
+    let outer = λ (u : View) (probing : ProbePhase).
     where_true (ok_first probing u) (λ a. each_letting (λ letting. each_acquiring (λ acquiring. middle probing u letting acquiring))) in
     let one = of_probing (λ probing. outer v probing) (of_view (λ u. each_probing (λ probing. outer u probing)) e v) p.probing in
     let two = where_is (ok_first p.probing v) (λ a. each_letting (λ letting. each_acquiring (λ acquiring. middle p.probing v letting acquiring))) one first in

@@ -1,6 +1,6 @@
 -- A kind of message is the same as itself.
 use Rattle.std.proofs.Common.{◌≡◌, true, refl}
-use Rattle.tl_coherence.specs.protocol.Token.{Kind, Request, Acquire, Probe, ProbeAck, Release, Answer, Grant, ReleaseAck, GrantAck, same_kind}
+use Rattle.tl_coherence.specs.protocol.Packet.{Kind, Request, Acquire, Probe, ProbeAck, Release, Answer, Grant, ReleaseAck, GrantAck, same_kind}
 
 pub same_kind_again : (k : Kind) → same_kind k k ≡ true
 same_kind_again Request = refl

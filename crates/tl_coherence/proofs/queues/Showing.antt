@@ -12,12 +12,12 @@ use Rattle.tl_params.specs.declared.perm.Perm.TheVariants as perm
 use Rattle.tl_params.specs.statement.Param.{prune_left, report_left}
 use Rattle.tl_rules.specs.statement.Conformance.{same_perm}
 use Rattle.tl_client.specs.statement.Send.{release, probe_ack}
-use Rattle.tl_coherence.specs.protocol.Phase.{Pair, View, Granting, GrantedOther, ok}
-use Rattle.tl_coherence.specs.protocol.Token.{Kind, Request, Acquire, Probe, ProbeAck, Release, Answer, Grant, ReleaseAck, GrantAck, set}
+use Rattle.tl_coherence.specs.protocol.Phase.{ClientBlock, View, Granting, GrantedOther, ok}
+use Rattle.tl_coherence.specs.protocol.Packet.{Kind, Request, Acquire, Probe, ProbeAck, Release, Answer, Grant, ReleaseAck, GrantAck, set}
 use Rattle.tl_coherence.specs.protocol.Protocol.{Service, Free, Waits, GrantSent, GrantTaken, Block, State, view, is_granting, shown}
 use Rattle.tl_coherence.specs.protocol.Invariant.{IsInvariant, IsWell, is_asked, is_replied}
 use Rattle.tl_coherence.specs.refinement.Move.{Move, AreMoved}
-use Rattle.tl_coherence.specs.refinement.Render.{Mail, report_told, prune_told, grant_of, rendered}
+use Rattle.tl_coherence.specs.refinement.PacketMessages.{AccessMessages, report_told, prune_told, grant_of, block_message}
 use Rattle.tl_coherence.proofs.queues.Channels.{IsShowing}
 use Rattle.tl_coherence.proofs.queues.Phases.{and_left, and_right, each_phase, of_phase, implies, implies_is}
 use Rattle.tl_coherence.proofs.queues.Tokens.{same_number, set-same, set-other}
@@ -63,8 +63,8 @@ grant_bytes w (Waits r own s k) source sink x y e = refl
 grant_bytes w (GrantSent q d k) source sink x y e = rw e refl
 grant_bytes w (GrantTaken q) source sink x y e = refl
 
-pub rendered-alike : (w : ℕ) (k : Kind) (d n : ℕ) (b b' : Block (List ℕ)) → IsAlike k d b b' → (carries k d b ≡ false) ⊎ (b'.truth ≡ b.truth) → rendered {w = w} k d n b' ≡ rendered k d n b
-unfolding rendered
+pub rendered-alike : (w : ℕ) (k : Kind) (d n : ℕ) (b b' : Block (List ℕ)) → IsAlike k d b b' → (carries k d b ≡ false) ⊎ (b'.truth ≡ b.truth) → block_message {w = w} k d n b' ≡ block_message k d n b
+unfolding block_message
 rendered-alike w Request d n b b' same bytes = refl
 rendered-alike w Answer d n b b' same bytes = refl
 rendered-alike w Acquire d n b b' same bytes = rw (same.0, same.1) refl
@@ -84,7 +84,7 @@ rendered-alike w GrantAck d n b b' same bytes = rw same refl
 abbrev pub AreAlike : ℕ → Block (List ℕ) → Block (List ℕ) → Type 0
 AreAlike d b b' = (k : Kind) → shown k d b ≡ true → shown k d b' ≡ true → IsAlike k d b b' × ((carries k d b ≡ false) ⊎ (b'.truth ≡ b.truth))
 
-pub showing-block : {w : ℕ} (caching : ℕ → Bool) (n : ℕ) (b' : Block (List ℕ)) (moves : ℕ → Channel → Move) (mail mail' : Mail w) (s s' : State (List ℕ))
+pub showing-block : {w : ℕ} (caching : ℕ → Bool) (n : ℕ) (b' : Block (List ℕ)) (moves : ℕ → Channel → Move) (mail mail' : AccessMessages w) (s s' : State (List ℕ))
     → IsInvariant caching s → IsInvariant caching s'
     → ((d : ℕ) → AreMoved (moves d) (s.link d) (s'.link d)) → ((i : ℕ) → s'.block i ≡ set n b' s.block i) → ((d : ℕ) → AreAlike d (s.block n) b')
     → ((d i : ℕ) → is_asked (s.uses d i) ≡ true → is_asked (s'.uses d i) ≡ true → mail'.request d i ≡ mail.request d i)
@@ -98,37 +98,37 @@ showing-block {w} caching n b' moves mail mail' s s' inv inv' moved blocks alike
   same = λ d k t e f.
       let new : s'.block n ≡ b' = blocks n ∙ set-same n b' s.block in
       let both = alike d k e (sym (ap (shown k d) new) ∙ f) in
-      ap (rendered k d n) new ∙ rendered-alike w k d n (s.block n) b' both.0 both.1;
+      ap (block_message k d n) new ∙ rendered-alike w k d n (s.block n) b' both.0 both.1;
   requests = requests;
   answers = answers;
 }
 
 -- ---- what carries bytes, by the phase
 
-abbrev pub is_told : Pair → Bool
+abbrev pub is_told : ClientBlock → Bool
 is_told p = same_perm (report_left (report_told p.probing)) perm.Trunk || same_perm (prune_left (prune_told p.letting)) perm.Trunk
 
 -- nothing that carries bytes is on its way from or to one who holds Trunk, or of whom nothing is recorded
-untold_test : Pair → View → Bool
+untold_test : ClientBlock → View → Bool
 untold_test p v = implies (same_perm p.held perm.Trunk || same_perm p.recorded perm.None) (not (is_told p) && not (is_granting v))
 
 untold_all : each_phase untold_test ≡ true
 unfolding each_phase untold_test
 untold_all = refl
 
-pub untold : (p : Pair) (v : View) → ok p v ≡ true → (same_perm p.held perm.Trunk || same_perm p.recorded perm.None) ≡ true → (not (is_told p) && not (is_granting v)) ≡ true
+pub untold : (p : ClientBlock) (v : View) → ok p v ≡ true → (same_perm p.held perm.Trunk || same_perm p.recorded perm.None) ≡ true → (not (is_told p) && not (is_granting v)) ≡ true
 unfolding untold_test
 untold p v h e = implies_is (same_perm p.held perm.Trunk || same_perm p.recorded perm.None) (not (is_told p) && not (is_granting v)) (of_phase untold_test untold_all p v h) e
 
 -- nor from one to whom a Grant is on its way
-granted_test : Pair → View → Bool
+granted_test : ClientBlock → View → Bool
 granted_test p v = implies (is_granting v) (not (is_told p))
 
 granted_all : each_phase granted_test ≡ true
 unfolding each_phase granted_test
 granted_all = refl
 
-pub granted-untold : (p : Pair) (v : View) → ok p v ≡ true → is_granting v ≡ true → not (is_told p) ≡ true
+pub granted-untold : (p : ClientBlock) (v : View) → ok p v ≡ true → is_granting v ≡ true → not (is_told p) ≡ true
 unfolding granted_test
 granted-untold p v h e = implies_is (is_granting v) (not (is_told p)) (of_phase granted_test granted_all p v h) e
 

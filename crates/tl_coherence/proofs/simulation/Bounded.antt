@@ -14,15 +14,15 @@ use Rattle.tl_manager.specs.statement.Service.{services, service_of_block, track
 use Rattle.tl_manager.proofs.Serving.{tracker_among}
 use Rattle.tl_coherence.specs.statement.Delivery.{sources_of}
 use Rattle.tl_coherence.specs.protocol.Invariant.{tracks_with, is_busy}
-use Rattle.tl_coherence.specs.refinement.Managed.{client_in, service_with}
-use Rattle.tl_coherence.specs.protocol.Protocol.{Service, Free, Waits, GrantSent, GrantTaken, State, Use, Closed, Asked, InService, Replied, Acquires}
-use Rattle.tl_coherence.specs.refinement.Render.{Mail, rendered}
-use Rattle.tl_coherence.specs.statement.Remembered.{remembered}
+use Rattle.tl_coherence.specs.refinement.ManagerRelation.{client_in, service_with}
+use Rattle.tl_coherence.specs.protocol.Protocol.{Service, Free, Waits, GrantSent, GrantTaken, State, SourceState, SourceFree, Asked, InService, Replied, Acquires}
+use Rattle.tl_coherence.specs.refinement.PacketMessages.{AccessMessages, block_message}
+use Rattle.tl_coherence.specs.statement.OneMemory.{one_memory_after}
 use Rattle.tl_coherence.specs.statement.Machine.{Requests}
-use Rattle.tl_coherence.specs.refinement.Beside.{IsOpened}
+use Rattle.tl_coherence.specs.refinement.MemoryRelation.{IsOpened}
 use Rattle.tl_coherence.specs.statement.Log.{Log}
 use Rattle.tl_coherence.specs.statement.System.{System, terms_at}
-use Rattle.tl_coherence.specs.refinement.Whole.{IsMatched, asked_by, first_of, request_source, IsSourced}
+use Rattle.tl_coherence.specs.refinement.SimulationRelation.{SimulationRelation, asked_by, first_of, request_source, IsSourced}
 use Rattle.tl_coherence.proofs.protocol.Capacities.{AreBounded}
 use Rattle.tl_coherence.proofs.queues.Tokens.{same_number}
 use Rattle.tl_coherence.proofs.client.Askable.{acquires_something}
@@ -62,11 +62,11 @@ someone Free e = absurd cc
 
 -- ---- what the whole says
 
-module _ {w : ℕ} (config : Config) (log : Log w) (mail : Mail w) (request : ℕ → MessageA w) (s : State (List ℕ)) (sys : System w) (matched : IsMatched config log mail request s sys) (c : ℕ) where
+module _ {w : ℕ} (config : Config) (log : Log w) (mail : AccessMessages w) (request : ℕ → MessageA w) (s : State (List ℕ)) (sys : System w) (matched : SimulationRelation config log mail request s sys) (c : ℕ) where
   -- a source that isn't free is one of an open request
-  asked_of : (source : ℕ) (u : Use) → s.uses c source ≡ u → (u ≡ Closed → ⊥) → is_some (asked_by mail s c source) ≡ true
-  unfolding rendered
-  asked_of source Closed e used = absurd (used refl)
+  asked_of : (source : ℕ) (u : SourceState) → s.uses c source ≡ u → (u ≡ SourceFree → ⊥) → is_some (asked_by mail s c source) ≡ true
+  unfolding block_message
+  asked_of source SourceFree e used = absurd (used refl)
   asked_of source Asked e used =
       let sourced : IsSourced config c source (mail.request c source) Asked = rw e at (matched.sourced c source) in
       rw e (source_known (mail.request c source) source sourced.0)
@@ -74,7 +74,7 @@ module _ {w : ℕ} (config : Config) (log : Log w) (mail : Mail w) (request : �
       let sourced : IsSourced config c source (mail.request c source) (InService n) = rw e at (matched.sourced c source) in
       rw e (source_known (mail.request c source) source sourced.0)
   asked_of source Replied e used =
-      let opened : IsOpened c source mail s Replied ((remembered config log).opened c Requests source) = rw e at (matched.beside.requests c source) in
+      let opened : IsOpened c source mail s Replied ((one_memory_after config log).opened c Requests source) = rw e at (matched.beside.requests c source) in
       rw e (has_first (mail.request c source) _ opened.1.1)
   asked_of source (Acquires n) e used = rw e (acquires_something w ((s.block n).pair c).acquiring ((s.block n).source c) n)
 

@@ -14,15 +14,15 @@ use Rattle.tl_params.specs.declared.param.Report.{Report}
 use Rattle.tl_rules.specs.statement.Legality.{beats_from}
 use Rattle.tl_manager.specs.statement.Handing.{probes, probe_of_block}
 use Rattle.tl_manager.specs.statement.Holders.{clients_from}
-use Rattle.tl_coherence.specs.protocol.Phase.{Pair}
+use Rattle.tl_coherence.specs.protocol.Phase.{ClientBlock}
 use Rattle.tl_coherence.specs.protocol.PhaseSteps.{is_above, after_served}
-use Rattle.tl_coherence.specs.protocol.Token.{Kind, Request, Acquire, Probe, ProbeAck, Answer, Grant, Token, set, set_at}
-use Rattle.tl_coherence.specs.protocol.Protocol.{Free, Waits, Block, State, Link, token, tokens_on, shown, with_probe, is_probed, popped_link, granted_link, served_link}
+use Rattle.tl_coherence.specs.protocol.Packet.{Kind, Request, Acquire, Probe, ProbeAck, Answer, Grant, Packet, set, set_at}
+use Rattle.tl_coherence.specs.protocol.Protocol.{Free, Waits, Block, State, Link, packet, packets_on, shown, with_probe, is_probed, popped_link, granted_link, served_link}
 use Rattle.tl_coherence.specs.protocol.Protocol.{served_block, acquire_served, access_served, report_answers, ended_block, report_grants, granted_block}
 use Rattle.tl_coherence.specs.protocol.Invariant.{IsInvariant, is_replied}
 use Rattle.tl_coherence.specs.refinement.Move.{Move, Stays, Pushes, Pops, IsMoved}
-use Rattle.tl_coherence.specs.refinement.Matched.{AreCarried}
-use Rattle.tl_coherence.specs.refinement.Render.{Mail, cap_sent, rendered, message_of}
+use Rattle.tl_coherence.specs.refinement.ChannelRelation.{ChannelRelation}
+use Rattle.tl_coherence.specs.refinement.PacketMessages.{AccessMessages, cap_sent, block_message, message_of}
 use Rattle.tl_coherence.specs.statement.System.{System, same_channel, channel_of_message, with_message, with_messages}
 use Rattle.tl_coherence.proofs.protocol.Alike.{alike-served, alike-ended, alike-granted}
 use Rattle.tl_coherence.proofs.simulation.CarriedEvents.{only_on}
@@ -131,8 +131,8 @@ channels-probes {w} n k count test probed s same none d channel.B = elim (cases_
 
 -- ---- a request that probes
 
-served_moved : (ch : Channel) (x y : Bool) (j : Kind) (i n : ℕ) (l : Link) (rest : List Token) → (x ≡ true → l.a ≡ token j i ∷ rest)
-    → IsMoved (request_move (if x then Pops j i else Stays) y n ch) (tokens_on ch l) (tokens_on ch (with_probe n y (if x then record l { a = rest } else l)))
+served_moved : (ch : Channel) (x y : Bool) (j : Kind) (i n : ℕ) (l : Link) (rest : List Packet) → (x ≡ true → l.a ≡ packet j i ∷ rest)
+    → IsMoved (request_move (if x then Pops j i else Stays) y n ch) (packets_on ch l) (packets_on ch (with_probe n y (if x then record l { a = rest } else l)))
 served_moved channel.A true true j i n l rest e = e refl
 served_moved channel.A true false j i n l rest e = e refl
 served_moved channel.A false true j i n l rest e = refl
@@ -178,7 +178,7 @@ pushes_is n k test d channel.D = refl
 pushes_is n k test d channel.E = refl
 
 -- the Probe that one is sent
-sent_probe : (w r : ℕ) (own : Bool) (n : ℕ) (k : Cap) (d : ℕ) (p : Pair) → is_probed r own k p.recorded d ≡ true
+sent_probe : (w r : ℕ) (own : Bool) (n : ℕ) (k : Cap) (d : ℕ) (p : ClientBlock) → is_probed r own k p.recorded d ≡ true
     → probe_of_block {w = w} n (cap_sent (if own && (d == r) then p else after_served k p).probing) ≡ probe_of_block n k
 sent_probe w r own n k d p e = go (own && (d == r)) (is_above k p.recorded) refl e
   where
@@ -188,12 +188,12 @@ sent_probe w r own n k d p e = go (own && (d == r)) (is_above k p.recorded) refl
     go false false f g = absurd cc
 
 sent_rendered : {w : ℕ} (r : ℕ) (own : Bool) (source tracker : ℕ) (n : ℕ) (k : Cap) (d : ℕ) (b : Block (List ℕ)) → is_probed r own k (b.pair d).recorded d ≡ true
-    → rendered {w = w} Probe d n (served_block r own source tracker k b) ≡ probe_of_block n k
-unfolding rendered
+    → block_message {w = w} Probe d n (served_block r own source tracker k b) ≡ probe_of_block n k
+unfolding block_message
 sent_rendered {w} r own source tracker n k d b e = sent_probe w r own n k d (b.pair d) e
 
-pub served-shown : {w : ℕ} (caching : ℕ → Bool) (r n : ℕ) (own : Bool) (source tracker : ℕ) (k : Cap) (rest : List Token) (mail : Mail w)
-    (s s' : State (List ℕ)) → IsInvariant caching s → IsInvariant caching s' → (s.link r).a ≡ token (kind_served own) (number_served own n source) ∷ rest
+pub served-shown : {w : ℕ} (caching : ℕ → Bool) (r n : ℕ) (own : Bool) (source tracker : ℕ) (k : Cap) (rest : List Packet) (mail : AccessMessages w)
+    (s s' : State (List ℕ)) → IsInvariant caching s → IsInvariant caching s' → (s.link r).a ≡ packet (kind_served own) (number_served own n source) ∷ rest
     → (s.block n).service ≡ Free → ((i : ℕ) → s'.block i ≡ set n (served_block r own source tracker k (s.block n)) s.block i)
     → ((d : ℕ) → s'.link d ≡ served_link r own n k rest (s.block n) s.link d)
     → IsShown caching n r channel.A (probe_pushes n k (λ d. is_probed r own k ((s.block n).pair d).recorded d)) mail mail s s'
@@ -213,43 +213,43 @@ served-shown {w} caching r n own source tracker k rest mail s s' inv inv' first 
     moves : ℕ → Channel → Move
     moves = served_moves r own n source k (s.block n).pair
 
-    first_at : (d : ℕ) → (d == r) ≡ true → (s.link d).a ≡ token (kind_served own) (number_served own n source) ∷ rest
+    first_at : (d : ℕ) → (d == r) ≡ true → (s.link d).a ≡ packet (kind_served own) (number_served own n source) ∷ rest
     first_at d e = elim (cases_eq d r) [
       | inl same ↦ rw same first
       | inr other ↦ absurd (let f : false ≡ true = sym (ne_eqb d r other) ∙ e in cc)
     ]
 
-    moved : (d : ℕ) (ch : Channel) → IsMoved (moves d ch) (tokens_on ch (s.link d)) (tokens_on ch (s'.link d))
+    moved : (d : ℕ) (ch : Channel) → IsMoved (moves d ch) (packets_on ch (s.link d)) (packets_on ch (s'.link d))
     moved d ch = rw (links d) (served_moved ch (d == r) (test d) (kind_served own) (number_served own n source) n (s.link d) rest (first_at d))
 
-    render_is : (d : ℕ) → test d ≡ true → rendered {w = w} Probe d n (s'.block n) ≡ probe_of_block n k
-    render_is d e = ap (rendered Probe d n) (blocks n ∙ set-same n new s.block) ∙ sent_rendered r own source tracker n k d (s.block n) e
+    render_is : (d : ℕ) → test d ≡ true → block_message {w = w} Probe d n (s'.block n) ≡ probe_of_block n k
+    render_is d e = ap (block_message Probe d n) (blocks n ∙ set-same n new s.block) ∙ sent_rendered r own source tracker n k d (s.block n) e
 
-    fits : (d : ℕ) (at : Channel) → Fits ((d == r) && same_channel at channel.A) (probe_pushes n k test d at) (moves d at) (λ j l. message_of mail s' d (token j l))
-    fits d at = rw (pushes_is {w = w} n k test d at) (served_fits n k at (d == r) (test d) (kind_served own) (number_served own n source) (λ j l. message_of mail s' d (token j l)) (render_is d))
+    fits : (d : ℕ) (at : Channel) → Fits ((d == r) && same_channel at channel.A) (probe_pushes n k test d at) (moves d at) (λ j l. message_of mail s' d (packet j l))
+    fits d at = rw (pushes_is {w = w} n k test d at) (served_fits n k at (d == r) (test d) (kind_served own) (number_served own n source) (λ j l. message_of mail s' d (packet j l)) (render_is d))
 
-pub served-carried : {w : ℕ} (caching : ℕ → Bool) (r n : ℕ) (own : Bool) (source tracker : ℕ) (k : Cap) (rest : List Token) (mail : Mail w)
+pub served-carried : {w : ℕ} (caching : ℕ → Bool) (r n : ℕ) (own : Bool) (source tracker : ℕ) (k : Cap) (rest : List Packet) (mail : AccessMessages w)
     (s s' : State (List ℕ)) (sys sys' : System w) (x : Beat w) (queue : List (Beat w)) → IsWidth w
-    → IsInvariant caching s → IsInvariant caching s' → (s.link r).a ≡ token (kind_served own) (number_served own n source) ∷ rest → (s.block n).service ≡ Free
+    → IsInvariant caching s → IsInvariant caching s' → (s.link r).a ≡ packet (kind_served own) (number_served own n source) ∷ rest → (s.block n).service ≡ Free
     → ((i : ℕ) → s'.block i ≡ set n (served_block r own source tracker k (s.block n)) s.block i) → ((d : ℕ) → s'.link d ≡ served_link r own n k rest (s.block n) s.link d)
-    → IsTaken r channel.A x queue (probe_pushes n k (λ d. is_probed r own k ((s.block n).pair d).recorded d)) sys sys' → AreCarried mail s sys → AreCarried mail s' sys'
+    → IsTaken r channel.A x queue (probe_pushes n k (λ d. is_probed r own k ((s.block n).pair d).recorded d)) sys sys' → ChannelRelation mail s sys → ChannelRelation mail s' sys'
 served-carried {w} caching r n own source tracker k rest mail s s' sys sys' x queue width inv inv' first free blocks links taken h =
     carried-shown caching n r channel.A (probe_pushes n k (λ d. is_probed r own k ((s.block n).pair d).recorded d)) mail mail s s' sys sys' x queue width
     (served-shown caching r n own source tracker k rest mail s s' inv inv' first free blocks links) taken h
 
-pub acquire_served-carried : {w : ℕ} (caching : ℕ → Bool) (r n source tracker : ℕ) (k : Cap) (rest : List Token) (mail : Mail w) (s : State (List ℕ))
+pub acquire_served-carried : {w : ℕ} (caching : ℕ → Bool) (r n source tracker : ℕ) (k : Cap) (rest : List Packet) (mail : AccessMessages w) (s : State (List ℕ))
     (sys sys' : System w) (x : Beat w) (queue : List (Beat w)) → IsWidth w
-    → IsInvariant caching s → IsInvariant caching (acquire_served r n source tracker k rest s) → (s.link r).a ≡ token Acquire n ∷ rest → (s.block n).service ≡ Free
-    → IsTaken r channel.A x queue (probe_pushes n k (λ d. is_probed r true k ((s.block n).pair d).recorded d)) sys sys' → AreCarried mail s sys
-    → AreCarried mail (acquire_served r n source tracker k rest s) sys'
+    → IsInvariant caching s → IsInvariant caching (acquire_served r n source tracker k rest s) → (s.link r).a ≡ packet Acquire n ∷ rest → (s.block n).service ≡ Free
+    → IsTaken r channel.A x queue (probe_pushes n k (λ d. is_probed r true k ((s.block n).pair d).recorded d)) sys sys' → ChannelRelation mail s sys
+    → ChannelRelation mail (acquire_served r n source tracker k rest s) sys'
 acquire_served-carried caching r n source tracker k rest mail s sys sys' x queue width inv inv' first free taken h =
     served-carried caching r n true source tracker k rest mail s (acquire_served r n source tracker k rest s) sys sys' x queue width inv inv' first free (λ i. refl) (λ d. refl) taken h
 
-pub access_served-carried : {w : ℕ} (caching : ℕ → Bool) (r n source tracker : ℕ) (k : Cap) (rest : List Token) (mail : Mail w) (s : State (List ℕ))
+pub access_served-carried : {w : ℕ} (caching : ℕ → Bool) (r n source tracker : ℕ) (k : Cap) (rest : List Packet) (mail : AccessMessages w) (s : State (List ℕ))
     (sys sys' : System w) (x : Beat w) (queue : List (Beat w)) → IsWidth w
-    → IsInvariant caching s → IsInvariant caching (access_served r n source tracker k rest s) → (s.link r).a ≡ token Request source ∷ rest → (s.block n).service ≡ Free
-    → IsTaken r channel.A x queue (probe_pushes n k (λ d. is_probed r false k ((s.block n).pair d).recorded d)) sys sys' → AreCarried mail s sys
-    → AreCarried mail (access_served r n source tracker k rest s) sys'
+    → IsInvariant caching s → IsInvariant caching (access_served r n source tracker k rest s) → (s.link r).a ≡ packet Request source ∷ rest → (s.block n).service ≡ Free
+    → IsTaken r channel.A x queue (probe_pushes n k (λ d. is_probed r false k ((s.block n).pair d).recorded d)) sys sys' → ChannelRelation mail s sys
+    → ChannelRelation mail (access_served r n source tracker k rest s) sys'
 access_served-carried caching r n source tracker k rest mail s sys sys' x queue width inv inv' first free taken h =
     served-carried caching r n false source tracker k rest mail s (access_served r n source tracker k rest s) sys sys' x queue width inv inv' first free (λ i. refl) (λ d. refl) taken h
 
@@ -279,21 +279,21 @@ ended_fits n source m channel.E false true render e = tt
 ended_fits n source m channel.E false false render e = tt
 
 -- the first token of c's channel C, wherever it is looked for
-first_of_c : (c d : ℕ) (t : Token) (rest : List Token) (link : ℕ → Link) → (link c).c ≡ t ∷ rest → (d == c) ≡ true → (link d).c ≡ t ∷ rest
+first_of_c : (c d : ℕ) (t : Packet) (rest : List Packet) (link : ℕ → Link) → (link c).c ≡ t ∷ rest → (d == c) ≡ true → (link d).c ≡ t ∷ rest
 first_of_c c d t rest link first e = elim (cases_eq d c) [
   | inl same ↦ rw same first
   | inr other ↦ absurd (let f : false ≡ true = sym (ne_eqb d c other) ∙ e in cc)
 ]
 
-popped_is : (c d : ℕ) (rest : List Token) (link : ℕ → Link) → popped_link c rest link d ≡ (if d == c then record (link d) { c = rest } else link d)
+popped_is : (c d : ℕ) (rest : List Packet) (link : ℕ → Link) → popped_link c rest link d ≡ (if d == c then record (link d) { c = rest } else link d)
 popped_is c d rest link = elim (cases_eq d c) [
   | inl same ↦ rw (same, same_number c) refl
   | inr other ↦ rw (ne_eqb d c other) refl
 ]
 
-pub report_answers-shown : {w : ℕ} (caching : ℕ → Bool) (c q n source : ℕ) (r : Report) (k : Cap) (f : List ℕ → List ℕ) (rest : List Token) (m : Message w)
-    (mail : Mail w) (s : State (List ℕ)) → IsInvariant caching s → IsInvariant caching (report_answers c q n source r f rest s)
-    → (s.link c).c ≡ token ProbeAck n ∷ rest → (s.block n).service ≡ Waits q false source k → is_replied (s.uses q source) ≡ false
+pub report_answers-shown : {w : ℕ} (caching : ℕ → Bool) (c q n source : ℕ) (r : Report) (k : Cap) (f : List ℕ → List ℕ) (rest : List Packet) (m : Message w)
+    (mail : AccessMessages w) (s : State (List ℕ)) → IsInvariant caching s → IsInvariant caching (report_answers c q n source r f rest s)
+    → (s.link c).c ≡ packet ProbeAck n ∷ rest → (s.block n).service ≡ Waits q false source k → is_replied (s.uses q source) ≡ false
     → ((j : Kind) (i : ℕ) → shown j i (s.block n) ≡ true → shown j i (ended_block c r f (s.block n)) ≡ true → (carries j i (s.block n) ≡ false)
     ⊎ (f (s.block n).truth ≡ (s.block n).truth)) → channel_of_message m ≡ channel.D
     → IsShown caching n c channel.C (pushes_at q (pushes_of (Some m))) mail (record { request = mail.request; answer = set_at q source m mail.answer }) s
@@ -308,7 +308,7 @@ report_answers-shown {w} caching c q n source r k f rest m mail s inv inv' first
     new : Block (List ℕ)
     new = ended_block c r f (s.block n)
 
-    mail' : Mail w
+    mail' : AccessMessages w
     mail' = record { request = mail.request; answer = set_at q source m mail.answer }
 
     s' : State (List ℕ)
@@ -317,8 +317,8 @@ report_answers-shown {w} caching c q n source r k f rest m mail s inv inv' first
     moves : ℕ → Channel → Move
     moves d = ended_move (d == c) (d == q) n source
 
-    moved : (d : ℕ) (ch : Channel) → IsMoved (moves d ch) (tokens_on ch (s.link d)) (tokens_on ch (s'.link d))
-    moved d ch = rw (popped_is c d rest s.link) (ended_moved ch (d == c) (d == q) n source (s.link d) rest (first_of_c c d (token ProbeAck n) rest s.link first))
+    moved : (d : ℕ) (ch : Channel) → IsMoved (moves d ch) (packets_on ch (s.link d)) (packets_on ch (s'.link d))
+    moved d ch = rw (popped_is c d rest s.link) (ended_moved ch (d == c) (d == q) n source (s.link d) rest (first_of_c c d (packet ProbeAck n) rest s.link first))
 
     answers : (d i : ℕ) → is_replied (s.uses d i) ≡ true → (d ≡ q) ⊎ (d ≡ q → ⊥) → (i ≡ source) ⊎ (i ≡ source → ⊥) → set_at q source m mail.answer d i ≡ mail.answer d i
     answers d i e (inl same) (inl also) = absurd (let g : is_replied (s.uses q source) ≡ true = rw (same, also) at e in let no : false ≡ true = sym used ∙ g in cc)
@@ -328,16 +328,16 @@ report_answers-shown {w} caching c q n source r k f rest m mail s inv inv' first
     answer_is : (d : ℕ) → (d == q) ≡ true → set_at q source m mail.answer d source ≡ m
     answer_is d e = rw (e, same_number source) refl
 
-    fits : (d : ℕ) (at : Channel) → Fits ((d == c) && same_channel at channel.C) (pushes_at q (pushes_of (Some m)) d at) (moves d at) (λ j l. message_of mail' s' d (token j l))
-    fits d at = rw chan (ended_fits n source m at (d == c) (d == q) (λ j l. message_of mail' s' d (token j l)) (answer_is d))
+    fits : (d : ℕ) (at : Channel) → Fits ((d == c) && same_channel at channel.C) (pushes_at q (pushes_of (Some m)) d at) (moves d at) (λ j l. message_of mail' s' d (packet j l))
+    fits d at = rw chan (ended_fits n source m at (d == c) (d == q) (λ j l. message_of mail' s' d (packet j l)) (answer_is d))
 
-pub report_answers-carried : {w : ℕ} (caching : ℕ → Bool) (c q n source : ℕ) (r : Report) (k : Cap) (f : List ℕ → List ℕ) (rest : List Token) (m : Message w)
-    (mail : Mail w) (s : State (List ℕ)) (sys sys' : System w) (x : Beat w) (queue : List (Beat w))
-    → IsWidth w → IsInvariant caching s → IsInvariant caching (report_answers c q n source r f rest s) → (s.link c).c ≡ token ProbeAck n ∷ rest → (s.block n).service ≡ Waits q false source k
+pub report_answers-carried : {w : ℕ} (caching : ℕ → Bool) (c q n source : ℕ) (r : Report) (k : Cap) (f : List ℕ → List ℕ) (rest : List Packet) (m : Message w)
+    (mail : AccessMessages w) (s : State (List ℕ)) (sys sys' : System w) (x : Beat w) (queue : List (Beat w))
+    → IsWidth w → IsInvariant caching s → IsInvariant caching (report_answers c q n source r f rest s) → (s.link c).c ≡ packet ProbeAck n ∷ rest → (s.block n).service ≡ Waits q false source k
     → is_replied (s.uses q source) ≡ false
     → ((j : Kind) (i : ℕ) → shown j i (s.block n) ≡ true → shown j i (ended_block c r f (s.block n)) ≡ true → (carries j i (s.block n) ≡ false) ⊎ (f (s.block n).truth ≡ (s.block n).truth))
-    → channel_of_message m ≡ channel.D → IsTaken c channel.C x queue (pushes_at q (pushes_of (Some m))) sys sys' → AreCarried mail s sys
-    → AreCarried (record { request = mail.request; answer = set_at q source m mail.answer }) (report_answers c q n source r f rest s) sys'
+    → channel_of_message m ≡ channel.D → IsTaken c channel.C x queue (pushes_at q (pushes_of (Some m))) sys sys' → ChannelRelation mail s sys
+    → ChannelRelation (record { request = mail.request; answer = set_at q source m mail.answer }) (report_answers c q n source r f rest s) sys'
 report_answers-carried {w} caching c q n source r k f rest m mail s sys sys' x queue width inv inv' first waits used bytes chan taken h =
     carried-shown caching n c channel.C (pushes_at q (pushes_of (Some m))) mail (record { request = mail.request; answer = set_at q source m mail.answer }) s
     (report_answers c q n source r f rest s) sys sys' x queue width
@@ -345,38 +345,38 @@ report_answers-carried {w} caching c q n source r k f rest m mail s sys sys' x q
 
 -- ---- the last report, for which an Acquire is granted
 
-granted_moved : (n c q d : ℕ) (ch : Channel) (rest : List Token) (link : ℕ → Link) → (c ≡ q → ⊥) → (link c).c ≡ token ProbeAck n ∷ rest
-    → IsMoved (granted_moves n c q d ch) (tokens_on ch (link d)) (tokens_on ch (granted_link c q n rest link d))
+granted_moved : (n c q d : ℕ) (ch : Channel) (rest : List Packet) (link : ℕ → Link) → (c ≡ q → ⊥) → (link c).c ≡ packet ProbeAck n ∷ rest
+    → IsMoved (granted_moves n c q d ch) (packets_on ch (link d)) (packets_on ch (granted_link c q n rest link d))
 granted_moved n c q d ch rest link apart first = elim (cases_eq d q) [
-  | inl same ↦ rw same (at_sender ch (granted_link c q n rest link q) (set-same q (record (link q) { d = (link q).d ++ token Grant n ∷ [] }) (popped_link c rest link)))
+  | inl same ↦ rw same (at_sender ch (granted_link c q n rest link q) (set-same q (record (link q) { d = (link q).d ++ packet Grant n ∷ [] }) (popped_link c rest link)))
   | inr other ↦ elim (cases_eq d c) [
     | inl also ↦ rw also (at_reporter ch (granted_link c q n rest link c)
-        (set-other q c (record (link q) { d = (link q).d ++ token Grant n ∷ [] }) (popped_link c rest link) apart
+        (set-other q c (record (link q) { d = (link q).d ++ packet Grant n ∷ [] }) (popped_link c rest link) apart
         ∙ set-same c (record (link c) { c = rest }) link))
     | inr neither ↦
         at_other ch (granted_link c q n rest link d) other neither
-        (set-other q d (record (link q) { d = (link q).d ++ token Grant n ∷ [] }) (popped_link c rest link) other ∙ set-other c d (record (link c) { c = rest }) link neither)
+        (set-other q d (record (link q) { d = (link q).d ++ packet Grant n ∷ [] }) (popped_link c rest link) other ∙ set-other c d (record (link c) { c = rest }) link neither)
   ]
 ]
   where
     swapped : (q ≡ c → ⊥)
     swapped e = apart (sym e)
 
-    at_sender : (ch : Channel) (l : Link) → l ≡ record (link q) { d = (link q).d ++ token Grant n ∷ [] } → IsMoved (granted_moves n c q q ch) (tokens_on ch (link q)) (tokens_on ch l)
+    at_sender : (ch : Channel) (l : Link) → l ≡ record (link q) { d = (link q).d ++ packet Grant n ∷ [] } → IsMoved (granted_moves n c q q ch) (packets_on ch (link q)) (packets_on ch l)
     at_sender channel.A l e = rw e refl
     at_sender channel.B l e = rw e refl
     at_sender channel.C l e = rw (e, ne_eqb q c swapped) refl
     at_sender channel.D l e = rw (e, same_number q) refl
     at_sender channel.E l e = rw e refl
 
-    at_reporter : (ch : Channel) (l : Link) → l ≡ record (link c) { c = rest } → IsMoved (granted_moves n c q c ch) (tokens_on ch (link c)) (tokens_on ch l)
+    at_reporter : (ch : Channel) (l : Link) → l ≡ record (link c) { c = rest } → IsMoved (granted_moves n c q c ch) (packets_on ch (link c)) (packets_on ch l)
     at_reporter channel.A l e = rw e refl
     at_reporter channel.B l e = rw e refl
     at_reporter channel.C l e = rw (e, same_number c) first
     at_reporter channel.D l e = rw (e, ne_eqb c q apart) refl
     at_reporter channel.E l e = rw e refl
 
-    at_other : (ch : Channel) (l : Link) → (d ≡ q → ⊥) → (d ≡ c → ⊥) → l ≡ link d → IsMoved (granted_moves n c q d ch) (tokens_on ch (link d)) (tokens_on ch l)
+    at_other : (ch : Channel) (l : Link) → (d ≡ q → ⊥) → (d ≡ c → ⊥) → l ≡ link d → IsMoved (granted_moves n c q d ch) (packets_on ch (link d)) (packets_on ch l)
     at_other channel.A l o i e = rw e refl
     at_other channel.B l o i e = rw e refl
     at_other channel.C l o i e = rw (e, ne_eqb d c i) refl
@@ -423,10 +423,10 @@ granted_fits {w} n m at c q d render e = rw (same at) (cases at (d == c) (d == q
     same channel.D = refl
     same channel.E = refl
 
-pub report_grants-shown : {w : ℕ} (caching : ℕ → Bool) (c q n source : ℕ) (r : Report) (d : Bool) (k gift : Cap) (rest : List Token) (m : Message w)
-    (mail : Mail w) (s : State (List ℕ)) → IsInvariant caching s → IsInvariant caching (report_grants c q n r d gift rest s)
-    → (s.link c).c ≡ token ProbeAck n ∷ rest → (s.block n).service ≡ Waits q true source k → (c ≡ q → ⊥) → channel_of_message m ≡ channel.D
-    → rendered Grant q n (granted_block c q r d gift (s.block n)) ≡ m
+pub report_grants-shown : {w : ℕ} (caching : ℕ → Bool) (c q n source : ℕ) (r : Report) (d : Bool) (k gift : Cap) (rest : List Packet) (m : Message w)
+    (mail : AccessMessages w) (s : State (List ℕ)) → IsInvariant caching s → IsInvariant caching (report_grants c q n r d gift rest s)
+    → (s.link c).c ≡ packet ProbeAck n ∷ rest → (s.block n).service ≡ Waits q true source k → (c ≡ q → ⊥) → channel_of_message m ≡ channel.D
+    → block_message Grant q n (granted_block c q r d gift (s.block n)) ≡ m
     → IsShown caching n c channel.C (pushes_at q (pushes_of (Some m))) mail mail s (report_grants c q n r d gift rest s)
 report_grants-shown {w} caching c q n source r d k gift rest m mail s inv inv' first waits apart chan is = record {
   moves = moves;
@@ -444,21 +444,21 @@ report_grants-shown {w} caching c q n source r d k gift rest m mail s inv inv' f
     moves : ℕ → Channel → Move
     moves i = granted_moves n c q i
 
-    grant_is : (i : ℕ) → (i == q) ≡ true → rendered {w = w} Grant i n (set n new s.block n) ≡ m
+    grant_is : (i : ℕ) → (i == q) ≡ true → block_message {w = w} Grant i n (set n new s.block n) ≡ m
     grant_is i e = elim (cases_eq i q) [
-      | inl same ↦ rw same (ap (rendered Grant q n) (set-same n new s.block) ∙ is)
+      | inl same ↦ rw same (ap (block_message Grant q n) (set-same n new s.block) ∙ is)
       | inr other ↦ absurd (let f : false ≡ true = sym (ne_eqb i q other) ∙ e in cc)
     ]
 
-    fits : (i : ℕ) (at : Channel) → Fits ((i == c) && same_channel at channel.C) (pushes_at q (pushes_of (Some m)) i at) (moves i at) (λ j l. message_of mail s' i (token j l))
-    fits i at = rw chan (granted_fits n m at c q i (λ j l. message_of mail s' i (token j l)) (grant_is i))
+    fits : (i : ℕ) (at : Channel) → Fits ((i == c) && same_channel at channel.C) (pushes_at q (pushes_of (Some m)) i at) (moves i at) (λ j l. message_of mail s' i (packet j l))
+    fits i at = rw chan (granted_fits n m at c q i (λ j l. message_of mail s' i (packet j l)) (grant_is i))
 
-pub report_grants-carried : {w : ℕ} (caching : ℕ → Bool) (c q n source : ℕ) (r : Report) (d : Bool) (k gift : Cap) (rest : List Token) (m : Message w)
-    (mail : Mail w) (s : State (List ℕ)) (sys sys' : System w) (x : Beat w) (queue : List (Beat w))
-    → IsWidth w → IsInvariant caching s → IsInvariant caching (report_grants c q n r d gift rest s) → (s.link c).c ≡ token ProbeAck n ∷ rest → (s.block n).service ≡ Waits q true source k → (c ≡ q → ⊥)
-    → channel_of_message m ≡ channel.D → rendered Grant q n (granted_block c q r d gift (s.block n)) ≡ m
-    → IsTaken c channel.C x queue (pushes_at q (pushes_of (Some m))) sys sys' → AreCarried mail s sys
-    → AreCarried mail (report_grants c q n r d gift rest s) sys'
+pub report_grants-carried : {w : ℕ} (caching : ℕ → Bool) (c q n source : ℕ) (r : Report) (d : Bool) (k gift : Cap) (rest : List Packet) (m : Message w)
+    (mail : AccessMessages w) (s : State (List ℕ)) (sys sys' : System w) (x : Beat w) (queue : List (Beat w))
+    → IsWidth w → IsInvariant caching s → IsInvariant caching (report_grants c q n r d gift rest s) → (s.link c).c ≡ packet ProbeAck n ∷ rest → (s.block n).service ≡ Waits q true source k → (c ≡ q → ⊥)
+    → channel_of_message m ≡ channel.D → block_message Grant q n (granted_block c q r d gift (s.block n)) ≡ m
+    → IsTaken c channel.C x queue (pushes_at q (pushes_of (Some m))) sys sys' → ChannelRelation mail s sys
+    → ChannelRelation mail (report_grants c q n r d gift rest s) sys'
 report_grants-carried {w} caching c q n source r d k gift rest m mail s sys sys' x queue width inv inv' first waits apart chan is taken h =
     carried-shown caching n c channel.C (pushes_at q (pushes_of (Some m))) mail mail s (report_grants c q n r d gift rest s) sys sys' x queue width
     (report_grants-shown caching c q n source r d k gift rest m mail s inv inv' first waits apart chan is) taken h

@@ -16,42 +16,42 @@ use Rattle.tl_coherence.specs.declared.event.Event.{Event}
 use Rattle.tl_coherence.specs.declared.event.Event.TheVariants.{Ask, Deliver}
 use Rattle.tl_coherence.specs.declared.event.Outcome.{Outcome}
 use Rattle.tl_coherence.specs.statement.Draining.{is_moving}
-use Rattle.tl_coherence.specs.refinement.Follow.{Shadow, asked, delivered, followed_by, followed, is_last, kind_taken, token_taken}
+use Rattle.tl_coherence.specs.refinement.AbstractStep.{AbstractState, asked, delivered, abstract_step_by, abstract_step, is_last, kind_taken, packet_taken}
 use Rattle.tl_coherence.specs.statement.Log.{Log}
-use Rattle.tl_coherence.specs.refinement.Matched.{receiver}
-use Rattle.tl_coherence.specs.protocol.Protocol.{State, token, on, tokens_on}
-use Rattle.tl_coherence.specs.refinement.Render.{Mail}
+use Rattle.tl_coherence.specs.refinement.ChannelRelation.{receiver}
+use Rattle.tl_coherence.specs.protocol.Protocol.{State, packet, on, packets_on}
+use Rattle.tl_coherence.specs.refinement.PacketMessages.{AccessMessages}
 use Rattle.tl_coherence.specs.statement.Step.{stepped, stepped_at}
 use Rattle.tl_coherence.specs.statement.System.{System, terms_at}
-use Rattle.tl_coherence.specs.protocol.Token.{Kind, Token}
-use Rattle.tl_coherence.specs.refinement.Whole.{IsMatched, is_caching}
+use Rattle.tl_coherence.specs.protocol.Packet.{Kind, Packet}
+use Rattle.tl_coherence.specs.refinement.SimulationRelation.{SimulationRelation, is_caching}
 use Rattle.tl_coherence.proofs.client.Askable.{askable}
 use Rattle.tl_coherence.proofs.client.AnswersKept.{AreAnswered, answered-asked, answered-kind_taken}
 use Rattle.tl_coherence.proofs.client.ClientDelivered.{shadow_of}
 use Rattle.tl_coherence.proofs.client.ClientStep.{on_same}
 use Rattle.tl_coherence.proofs.queues.FirstToken.{IsFirst, first-token}
 use Rattle.tl_coherence.proofs.manager.RequestsTaken.{next_tracker}
-use Rattle.tl_coherence.proofs.client.GivenKept.{AreGiven, given-asked, given-kind_taken}
+use Rattle.tl_coherence.proofs.client.GrantMatchesAcquire.{AreGiven, given-asked, given-kind_taken}
 
 -- a delivery that completes a message: the beat is moved, and is the last of the message of the first token
-pub record IsDelivery {w : ℕ} (config : Config) (mail : Mail w) (s : State (List ℕ)) (sys : System w) (link : Link) (ch : Channel) (x : Beat w) (queue : List (Beat w)) : Type 0 where
+pub record IsDelivery {w : ℕ} (config : Config) (mail : AccessMessages w) (s : State (List ℕ)) (sys : System w) (link : Link) (ch : Channel) (x : Beat w) (queue : List (Beat w)) : Type 0 where
   pub moves : is_moving (stepped config (Deliver link ch) sys).outcome ≡ true
   pub beats : sys.channels link.0 ch ≡ x ∷ queue
   pub whole : completes x (unfinished ch (receiver ch link.0 sys)) ≡ true
   pub first : IsFirst ch link.0 mail s sys x queue
 
 -- what the protocol does then
-abbrev pub taken_of : {w : ℕ} → Config → Mail w → (ℕ → MessageA w) → (s : State (List ℕ)) → (sys : System w) → ℕ → Kind → ℕ → List Token → Shadow w
+abbrev pub taken_of : {w : ℕ} → Config → AccessMessages w → (ℕ → MessageA w) → (s : State (List ℕ)) → (sys : System w) → ℕ → Kind → ℕ → List Packet → AbstractState w
 taken_of config mail request s sys c k i rest = kind_taken config (next_tracker sys) c k i rest (shadow_of mail request s)
 
-pub delivered-cases : {w : ℕ} (config : Config) (log : Log w) (mail : Mail w) (request : ℕ → MessageA w) (s : State (List ℕ)) (sys : System w) (link : Link)
-    (ch : Channel) (P : Shadow w → Type 0) → IsWidth w
-    → IsMatched config log mail request s sys → P (shadow_of mail request s)
+pub delivered-cases : {w : ℕ} (config : Config) (log : Log w) (mail : AccessMessages w) (request : ℕ → MessageA w) (s : State (List ℕ)) (sys : System w) (link : Link)
+    (ch : Channel) (P : AbstractState w → Type 0) → IsWidth w
+    → SimulationRelation config log mail request s sys → P (shadow_of mail request s)
     → ((x : Beat w) (queue : List (Beat w)) (d : IsDelivery config mail s sys link ch x queue) → P (taken_of config mail request s sys link.0 d.first.kind d.first.number d.first.rest))
     → P (delivered config link.0 ch (stepped config (Deliver link ch) sys).outcome sys (shadow_of mail request s))
 delivered-cases {w} config log mail request s sys link ch P width h none kinds = go (sys.channels link.0 ch) refl
   where
-    before : Shadow w
+    before : AbstractState w
     before = shadow_of mail request s
 
     o : Outcome w
@@ -60,11 +60,11 @@ delivered-cases {w} config log mail request s sys link ch P width h none kinds =
     rest_now : List (Beat w)
     rest_now = unfinished ch (receiver ch link.0 sys)
 
-    event : Shadow w
-    event = token_taken config (next_tracker sys) link.0 (tokens_on ch (s.link link.0)) before
+    event : AbstractState w
+    event = packet_taken config (next_tracker sys) link.0 (packets_on ch (s.link link.0)) before
 
     taken : (x : Beat w) (queue : List (Beat w)) → IsDelivery config mail s sys link ch x queue → P event
-    taken x queue d = subst (λ (xs : List Token). P (token_taken config (next_tracker sys) link.0 xs before)) (sym d.first.tokens) (kinds x queue d)
+    taken x queue d = subst (λ (xs : List Packet). P (packet_taken config (next_tracker sys) link.0 xs before)) (sym d.first.tokens) (kinds x queue d)
 
     either : (x y : Bool) → (x ≡ true → y ≡ true → P event) → P (if x && y then event else before)
     either true true both = both refl refl
@@ -81,28 +81,28 @@ delivered-cases {w} config log mail request s sys link ch P width h none kinds =
       first = first-token (is_caching config) ch link.0 mail s sys x queue width h.invariant h.carried e;
     }))
 
-pub asked-cases : {w : ℕ} (config : Config) (log : Log w) (mail : Mail w) (request : ℕ → MessageA w) (s : State (List ℕ)) (sys : System w) (c : ℕ)
-    (operation : Op w) (o : Option Terms) (P : Shadow w → Type 0)
+pub asked-cases : {w : ℕ} (config : Config) (log : Log w) (mail : AccessMessages w) (request : ℕ → MessageA w) (s : State (List ℕ)) (sys : System w) (c : ℕ)
+    (operation : Op w) (o : Option Terms) (P : AbstractState w → Type 0)
     → terms_at config c ≡ o → P (shadow_of mail request s)
     → ((terms : Terms) → terms_at config c ≡ Some terms → P (asked c operation (ask.asked terms operation (sys.clients c)).reply (shadow_of mail request s)))
-    → P (followed_by config (Ask c operation) (stepped_at config o (Ask c operation) sys).outcome sys (shadow_of mail request s))
+    → P (abstract_step_by config (Ask c operation) (stepped_at config o (Ask c operation) sys).outcome sys (shadow_of mail request s))
 asked-cases config log mail request s sys c operation None P at none asks = none
 asked-cases config log mail request s sys c operation (Some terms) P at none asks = asks terms at
 
-asked_now : {w : ℕ} (config : Config) (mail : Mail w) (request : ℕ → MessageA w) (s : State (List ℕ)) (sys : System w) (c : ℕ) (operation : Op w) (P : Shadow w → Type 0)
-    → P (followed_by config (Ask c operation) (stepped_at config (terms_at config c) (Ask c operation) sys).outcome sys (shadow_of mail request s))
-    → P (followed config (Ask c operation) sys (shadow_of mail request s))
+asked_now : {w : ℕ} (config : Config) (mail : AccessMessages w) (request : ℕ → MessageA w) (s : State (List ℕ)) (sys : System w) (c : ℕ) (operation : Op w) (P : AbstractState w → Type 0)
+    → P (abstract_step_by config (Ask c operation) (stepped_at config (terms_at config c) (Ask c operation) sys).outcome sys (shadow_of mail request s))
+    → P (abstract_step config (Ask c operation) sys (shadow_of mail request s))
 unfolding stepped
 asked_now config mail request s sys c operation P is = is
 
 -- what holds of the protocol as it is, after what a client was asked for, and after the first token of each channel
 -- where its message is complete, holds as it follows the event
-pub followed-cases : {w : ℕ} (config : Config) (log : Log w) (mail : Mail w) (request : ℕ → MessageA w) (s : State (List ℕ)) (sys : System w) (event : Event w) (P : Shadow w → Type 0) → IsWidth w
-    → IsMatched config log mail request s sys → P (shadow_of mail request s)
+pub followed-cases : {w : ℕ} (config : Config) (log : Log w) (mail : AccessMessages w) (request : ℕ → MessageA w) (s : State (List ℕ)) (sys : System w) (event : Event w) (P : AbstractState w → Type 0) → IsWidth w
+    → SimulationRelation config log mail request s sys → P (shadow_of mail request s)
     → ((terms : Terms) (c : ℕ) (operation : Op w) → terms_at config c ≡ Some terms → P (asked c operation (ask.asked terms operation (sys.clients c)).reply (shadow_of mail request s)))
     → ((link : Link) (ch : Channel) (x : Beat w) (queue : List (Beat w)) (d : IsDelivery config mail s sys link ch x queue)
     → P (taken_of config mail request s sys link.0 d.first.kind d.first.number d.first.rest))
-    → P (followed config event sys (shadow_of mail request s))
+    → P (abstract_step config event sys (shadow_of mail request s))
 followed-cases {w} config log mail request s sys (Ask c operation) P width h none asks kinds =
     asked_now config mail request s sys c operation P (asked-cases config log mail request s sys c operation (terms_at config c) P refl none (λ terms at. asks terms c operation at))
 followed-cases config log mail request s sys (Deliver link ch) P width h none asks kinds = delivered-cases config log mail request s sys link ch P width h none (λ x queue d. kinds link ch x queue d)
@@ -110,25 +110,25 @@ followed-cases config log mail request s sys (Deliver link ch) P width h none as
 -- ---- answers and Grants that are on their way
 
 -- the first token of its kind
-pub on-first : {w : ℕ} (config : Config) (mail : Mail w) (s : State (List ℕ)) (sys : System w) (link : Link) (ch : Channel) (x : Beat w) (queue : List (Beat w))
+pub on-first : {w : ℕ} (config : Config) (mail : AccessMessages w) (s : State (List ℕ)) (sys : System w) (link : Link) (ch : Channel) (x : Beat w) (queue : List (Beat w))
     (d : IsDelivery config mail s sys link ch x queue)
-    → on d.first.kind (s.link link.0) ≡ token d.first.kind d.first.number ∷ d.first.rest
+    → on d.first.kind (s.link link.0) ≡ packet d.first.kind d.first.number ∷ d.first.rest
 on-first config mail s sys link ch x queue d = on_same ch d.first.kind (s.link link.0) d.first.own ∙ d.first.tokens
 
-pub answered-followed : {w : ℕ} (config : Config) (log : Log w) (mail : Mail w) (request : ℕ → MessageA w) (s : State (List ℕ)) (sys : System w)
-    (event : Event w) → IsWidth w → IsMatched config log mail request s sys
-    → AreAnswered (followed config event sys (shadow_of mail request s)).mail (followed config event sys (shadow_of mail request s)).state
+pub answered-followed : {w : ℕ} (config : Config) (log : Log w) (mail : AccessMessages w) (request : ℕ → MessageA w) (s : State (List ℕ)) (sys : System w)
+    (event : Event w) → IsWidth w → SimulationRelation config log mail request s sys
+    → AreAnswered (abstract_step config event sys (shadow_of mail request s)).mail (abstract_step config event sys (shadow_of mail request s)).state
 answered-followed {w} config log mail request s sys event width h =
-    followed-cases config log mail request s sys event (λ (x : Shadow w). AreAnswered x.mail x.state) width h h.answered
+    followed-cases config log mail request s sys event (λ (x : AbstractState w). AreAnswered x.mail x.state) width h h.answered
     (λ terms c o at. answered-asked c o (ask.asked terms o (sys.clients c)).reply (shadow_of mail request s) h.answered)
     (λ link ch x queue d. answered-kind_taken config log (next_tracker sys) link.0 d.first.kind d.first.number d.first.rest (shadow_of mail request s) sys h
     (on-first config mail s sys link ch x queue d))
 
-pub given-followed : {w : ℕ} (config : Config) (log : Log w) (mail : Mail w) (request : ℕ → MessageA w) (s : State (List ℕ)) (sys : System w) (event : Event w)
-    → IsWidth w → IsMatched config log mail request s sys
-    → AreGiven config.profile (followed config event sys (shadow_of mail request s)).state
+pub given-followed : {w : ℕ} (config : Config) (log : Log w) (mail : AccessMessages w) (request : ℕ → MessageA w) (s : State (List ℕ)) (sys : System w) (event : Event w)
+    → IsWidth w → SimulationRelation config log mail request s sys
+    → AreGiven config.profile (abstract_step config event sys (shadow_of mail request s)).state
 given-followed {w} config log mail request s sys event width h =
-    followed-cases config log mail request s sys event (λ (x : Shadow w). AreGiven config.profile x.state) width h h.given
+    followed-cases config log mail request s sys event (λ (x : AbstractState w). AreGiven config.profile x.state) width h h.given
     (λ terms c o at. given-asked (is_caching config) config.profile c o (ask.asked terms o (sys.clients c)).reply (shadow_of mail request s) h.invariant
     (askable config log mail request s sys terms c o h at) h.given)
     (λ link ch x queue d. given-kind_taken config (next_tracker sys) link.0 d.first.kind d.first.number d.first.rest (shadow_of mail request s) h.given)

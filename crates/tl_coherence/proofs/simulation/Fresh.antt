@@ -15,16 +15,16 @@ use Rattle.tl_manager.specs.statement.Service.{services}
 use Rattle.tl_manager.proofs.Keeping.{fresh-kept}
 use Rattle.tl_coherence.specs.refinement.Carried.{IsCarried}
 use Rattle.tl_coherence.specs.statement.Flow.{flow}
-use Rattle.tl_coherence.specs.refinement.Follow.{first_block, first_link, first_state, first_shadow}
+use Rattle.tl_coherence.specs.refinement.AbstractStep.{first_block, first_link, first_state, first_abstract_state}
 use Rattle.tl_coherence.specs.protocol.Invariant.{IsWell, IsInvariant}
-use Rattle.tl_coherence.specs.refinement.Matched.{receiver}
+use Rattle.tl_coherence.specs.refinement.ChannelRelation.{receiver}
 use Rattle.tl_coherence.specs.protocol.Phase.{ok}
-use Rattle.tl_coherence.specs.protocol.Protocol.{on, shown, is_transfer, tokens_on}
-use Rattle.tl_coherence.specs.statement.Remembered.{remembered}
-use Rattle.tl_coherence.specs.refinement.Render.{messages_on}
+use Rattle.tl_coherence.specs.protocol.Protocol.{on, shown, is_transfer, packets_on}
+use Rattle.tl_coherence.specs.statement.OneMemory.{one_memory_after}
+use Rattle.tl_coherence.specs.refinement.PacketMessages.{messages_on}
 use Rattle.tl_coherence.specs.statement.System.{fresh}
-use Rattle.tl_coherence.specs.protocol.Token.{Kind, Request, Acquire, Probe, ProbeAck, Release, Answer, Grant, ReleaseAck, GrantAck, count, Holds, IsOrdered}
-use Rattle.tl_coherence.specs.refinement.Whole.{IsMatched, AreFlowed, is_caching}
+use Rattle.tl_coherence.specs.protocol.Packet.{Kind, Request, Acquire, Probe, ProbeAck, Release, Answer, Grant, ReleaseAck, GrantAck, count, Holds, IsOrdered}
+use Rattle.tl_coherence.specs.refinement.SimulationRelation.{SimulationRelation, MonitorRelations, is_caching}
 
 -- ---- the protocol
 
@@ -54,7 +54,7 @@ none-shown c Grant t n = refl
 none-shown c ReleaseAck t n = refl
 none-shown c GrantAck t n = refl
 
-none-there : (ch : Channel) (k : Kind) (n : ℕ) → count k n (tokens_on ch first_link) ≡ 0
+none-there : (ch : Channel) (k : Kind) (n : ℕ) → count k n (packets_on ch first_link) ≡ 0
 unfolding count
 none-there channel.A k n = refl
 none-there channel.B k n = refl
@@ -86,7 +86,7 @@ zeros-block n i lt = sym (get_or-replicate {A = ℕ} 64 i 0 0 lt)
 
 -- ---- the whole
 
-none-carried : (w c : ℕ) (ch : Channel) → IsCarried {w = w} (unfinished ch (receiver ch c fresh)) (messages_on ch (first_shadow {w = w}).mail first_state c) []
+none-carried : (w c : ℕ) (ch : Channel) → IsCarried {w = w} (unfinished ch (receiver ch c fresh)) (messages_on ch (first_abstract_state {w = w}).mail first_state c) []
 unfolding unfinished on_link
 none-carried w c channel.A = (refl, refl)
 none-carried w c channel.B = (refl, refl)
@@ -103,8 +103,8 @@ none-left w c channel.D = refl
 none-left w c channel.E = refl
 
 -- a whole of ends and channels that are fresh is that of the protocol's first state
-pub fresh-matched : {w : ℕ} (config : Config) → IsMatched {w = w} config [] first_shadow.mail first_shadow.request first_state fresh
-unfolding held pending unfinished on_link services remembered
+pub fresh-matched : {w : ℕ} (config : Config) → SimulationRelation {w = w} config [] first_abstract_state.mail first_abstract_state.request first_state fresh
+unfolding held pending unfinished on_link services one_memory_after
 fresh-matched {w} config = record {
   invariant = first-invariant (is_caching config);
   sized = λ n. record { truth = refl; waiting = λ c storing. refl };
@@ -154,7 +154,7 @@ fresh-matched {w} config = record {
 }
 
 -- and nothing was delivered
-pub fresh-flowed : {w : ℕ} → AreFlowed {w = w} [] first_shadow.mail first_state fresh
+pub fresh-flowed : {w : ℕ} → MonitorRelations {w = w} [] first_abstract_state.mail first_state fresh
 unfolding held pending unfinished on_link flow
 fresh-flowed {w} c = record {
   rest_is = none-left w c;

@@ -15,17 +15,17 @@ use Rattle.tl_client.specs.statement.End.{Terms}
 use Rattle.tl_client.specs.statement.Offer.{Offered}
 use Rattle.tl_coherence.specs.declared.event.Event.TheVariants.{Deliver}
 use Rattle.tl_coherence.specs.statement.Draining.{is_moving}
-use Rattle.tl_coherence.specs.refinement.Follow.{asked}
+use Rattle.tl_coherence.specs.refinement.AbstractStep.{asked}
 use Rattle.tl_coherence.specs.protocol.Invariant.{IsInvariant}
 use Rattle.tl_coherence.specs.statement.Log.{Log}
-use Rattle.tl_coherence.specs.refinement.Matched.{receiver}
-use Rattle.tl_coherence.specs.protocol.Phase.{Kept, is_kept}
-use Rattle.tl_coherence.specs.protocol.Protocol.{State, token, is_on, tokens_on}
-use Rattle.tl_coherence.specs.refinement.Render.{Mail, message_of, message_of_kind}
+use Rattle.tl_coherence.specs.refinement.ChannelRelation.{receiver}
+use Rattle.tl_coherence.specs.protocol.Phase.{NoRelease, is_unreleased}
+use Rattle.tl_coherence.specs.protocol.Protocol.{State, packet, is_on, packets_on}
+use Rattle.tl_coherence.specs.refinement.PacketMessages.{AccessMessages, message_of, message_of_kind}
 use Rattle.tl_coherence.specs.statement.Step.{Step, stepped, stepped_at, client_took, is_to_client}
 use Rattle.tl_coherence.specs.statement.System.{System, terms_at}
-use Rattle.tl_coherence.specs.protocol.Token.{Kind, Request, Acquire, Probe, ProbeAck, Release, Answer, Grant, ReleaseAck, GrantAck, Token}
-use Rattle.tl_coherence.specs.refinement.Whole.{IsMatched, is_caching}
+use Rattle.tl_coherence.specs.protocol.Packet.{Kind, Request, Acquire, Probe, ProbeAck, Release, Answer, Grant, ReleaseAck, GrantAck, Packet}
+use Rattle.tl_coherence.specs.refinement.SimulationRelation.{SimulationRelation, is_caching}
 use Rattle.tl_coherence.proofs.client.Askable.{askable}
 use Rattle.tl_coherence.proofs.queues.Carried.{IsNext}
 use Rattle.tl_coherence.proofs.client.ClientDelivered.{shadow_of}
@@ -35,8 +35,8 @@ use Rattle.tl_coherence.proofs.manager.RequestsTaken.{next_tracker}
 use Rattle.tl_coherence.proofs.queues.Steps.{stepped-to-client}
 use Rattle.tl_coherence.proofs.protocol.BothParts.{kept-letting}
 
-pub invariant-asked : {w : ℕ} (config : Config) (log : Log w) (mail : Mail w) (request : ℕ → MessageA w) (s : State (List ℕ)) (sys : System w) (terms : Terms)
-    (c : ℕ) (o : Op w) → IsMatched config log mail request s sys
+pub invariant-asked : {w : ℕ} (config : Config) (log : Log w) (mail : AccessMessages w) (request : ℕ → MessageA w) (s : State (List ℕ)) (sys : System w) (terms : Terms)
+    (c : ℕ) (o : Op w) → SimulationRelation config log mail request s sys
     → terms_at config c ≡ Some terms → IsInvariant (is_caching config) (asked c o (ask.asked terms o (sys.clients c)).reply (shadow_of mail request s)).state
 invariant-asked config log mail request s sys terms c o h at =
     asked-kept (is_caching config) c o (ask.asked terms o (sys.clients c)).reply (shadow_of mail request s) h.invariant (askable config log mail request s sys terms c o h at)
@@ -46,15 +46,15 @@ unfolding stepped
 nobody_moves config sys link ch none = ap (λ (o : Option Terms). is_moving (stepped_at config o (Deliver link ch) sys).outcome) none
 
 -- a Probe that is moved doesn't wait for a Release
-probe_ready : {w : ℕ} (config : Config) (log : Log w) (mail : Mail w) (request : ℕ → MessageA w) (s : State (List ℕ)) (sys : System w) (link : Link) (n : ℕ)
-    (rest : List Token) (x : Beat w) (queue : List (Beat w)) → IsWidth w
-    → IsMatched config log mail request s sys → is_moving (stepped config (Deliver link channel.B) sys).outcome ≡ true
-    → sys.channels link.0 channel.B ≡ x ∷ queue → (s.link link.0).b ≡ token Probe n ∷ rest
-    → IsNext x (unfinished channel.B (sys.clients link.0).past) (message_of_kind Probe mail s link.0 n) (map (message_of mail s link.0) rest) queue → ((s.block n).pair link.0).letting ≡ Kept
+probe_ready : {w : ℕ} (config : Config) (log : Log w) (mail : AccessMessages w) (request : ℕ → MessageA w) (s : State (List ℕ)) (sys : System w) (link : Link) (n : ℕ)
+    (rest : List Packet) (x : Beat w) (queue : List (Beat w)) → IsWidth w
+    → SimulationRelation config log mail request s sys → is_moving (stepped config (Deliver link channel.B) sys).outcome ≡ true
+    → sys.channels link.0 channel.B ≡ x ∷ queue → (s.link link.0).b ≡ packet Probe n ∷ rest
+    → IsNext x (unfinished channel.B (sys.clients link.0).past) (message_of_kind Probe mail s link.0 n) (map (message_of mail s link.0) rest) queue → ((s.block n).pair link.0).letting ≡ NoRelease
 probe_ready {w} config log mail request s sys link n rest x queue width h moves beats first next = at_terms (terms_at config link.0) refl
   where
-    stands : (terms : Terms) → terms_at config link.0 ≡ Some terms → (b : Bool) → is_kept ((s.block n).pair link.0).letting ≡ b
-        → ((s.block n).pair link.0).letting ≡ Kept
+    stands : (terms : Terms) → terms_at config link.0 ≡ Some terms → (b : Bool) → is_unreleased ((s.block n).pair link.0).letting ≡ b
+        → ((s.block n).pair link.0).letting ≡ NoRelease
     stands terms at true kept = kept-letting ((s.block n).pair link.0).letting (ap not kept)
     stands terms at false waits =
         let probed = probe-delivered config log mail request s sys terms (next_tracker sys) link.0 n rest (map (message_of mail s link.0) rest) x queue width h at beats first next in
@@ -63,15 +63,15 @@ probe_ready {w} config log mail request s sys link n rest x queue width h moves 
         ∙ ap (λ (o : Offered w). is_moving (client_took link.0 channel.B x queue o sys).outcome) (probed.waits_for waits) in
         absurd (let no : true ≡ false = sym moves ∙ step in cc)
 
-    at_terms : (o : Option Terms) → terms_at config link.0 ≡ o → ((s.block n).pair link.0).letting ≡ Kept
+    at_terms : (o : Option Terms) → terms_at config link.0 ≡ o → ((s.block n).pair link.0).letting ≡ NoRelease
     at_terms None at = absurd (let no : true ≡ false = sym moves ∙ nobody_moves config sys link channel.B at in cc)
-    at_terms (Some terms) at = stands terms at (is_kept ((s.block n).pair link.0).letting) refl
+    at_terms (Some terms) at = stands terms at (is_unreleased ((s.block n).pair link.0).letting) refl
 
 -- what a client takes, it may take
-pub ready-client : {w : ℕ} (config : Config) (log : Log w) (mail : Mail w) (request : ℕ → MessageA w) (s : State (List ℕ)) (sys : System w) (link : Link)
-    (ch : Channel) (k : Kind) (i : ℕ) (rest : List Token) (x : Beat w) (queue : List (Beat w)) → IsWidth w
-    → IsMatched config log mail request s sys → is_to_client ch ≡ true → is_on ch k ≡ true → is_moving (stepped config (Deliver link ch) sys).outcome ≡ true
-    → sys.channels link.0 ch ≡ x ∷ queue → tokens_on ch (s.link link.0) ≡ token k i ∷ rest
+pub ready-client : {w : ℕ} (config : Config) (log : Log w) (mail : AccessMessages w) (request : ℕ → MessageA w) (s : State (List ℕ)) (sys : System w) (link : Link)
+    (ch : Channel) (k : Kind) (i : ℕ) (rest : List Packet) (x : Beat w) (queue : List (Beat w)) → IsWidth w
+    → SimulationRelation config log mail request s sys → is_to_client ch ≡ true → is_on ch k ≡ true → is_moving (stepped config (Deliver link ch) sys).outcome ≡ true
+    → sys.channels link.0 ch ≡ x ∷ queue → packets_on ch (s.link link.0) ≡ packet k i ∷ rest
     → IsNext x (unfinished ch (receiver ch link.0 sys)) (message_of_kind k mail s link.0 i) (map (message_of mail s link.0) rest) queue
     → IsReady (next_tracker sys) link.0 k i (shadow_of mail request s)
 ready-client config log mail request s sys link channel.B Probe i rest x queue width h up own moves beats first next =

@@ -34,9 +34,9 @@ use Rattle.tl_coherence.specs.declared.event.Event.TheVariants.{Deliver}
 use Rattle.tl_coherence.specs.declared.event.Outcome.TheVariants as outcome
 use Rattle.tl_coherence.specs.refinement.Carried.{IsCarried}
 use Rattle.tl_coherence.specs.statement.Draining.{is_moving}
-use Rattle.tl_coherence.specs.refinement.Matched.{AreCarried, receiver}
+use Rattle.tl_coherence.specs.refinement.ChannelRelation.{ChannelRelation, receiver}
 use Rattle.tl_coherence.specs.protocol.Protocol.{State}
-use Rattle.tl_coherence.specs.refinement.Render.{Mail, messages_on}
+use Rattle.tl_coherence.specs.refinement.PacketMessages.{AccessMessages, messages_on}
 use Rattle.tl_coherence.specs.statement.Step.{Step, stepped, handing, handed_by, outcome_of, judged, client_took, manager_took, is_to_client}
 use Rattle.tl_coherence.specs.statement.System.{System, same_channel, terms_at, with_client, with_manager, with_channel}
 use Rattle.tl_coherence.proofs.queues.Carried.{IsNext, carried-next}
@@ -199,9 +199,9 @@ manager-heard {w} config link ch x queue sys step width typed kept is d = λ at.
 
 -- ---- a beat that isn't the last of its message
 
-pub carried-part : {w : ℕ} (mail : Mail w) (s : State (List ℕ)) (c : ℕ) (ch : Channel) (x : Beat w) (queue : List (Beat w))
+pub carried-part : {w : ℕ} (mail : AccessMessages w) (s : State (List ℕ)) (c : ℕ) (ch : Channel) (x : Beat w) (queue : List (Beat w))
     (pushes : ℕ → Channel → Option (Message w)) (sys sys' : System w) → IsWidth w
-    → IsLanded c ch x queue pushes sys sys' → ((d : ℕ) (at : Channel) → pushes d at ≡ None) → completes x (unfinished ch (receiver ch c sys)) ≡ false → AreCarried mail s sys → AreCarried mail s sys'
+    → IsLanded c ch x queue pushes sys sys' → ((d : ℕ) (at : Channel) → pushes d at ≡ None) → completes x (unfinished ch (receiver ch c sys)) ≡ false → ChannelRelation mail s sys → ChannelRelation mail s sys'
 carried-part {w} mail s c ch x queue pushes sys sys' width is none part h d at = go (cases_eq d c) (same_channel at ch) refl
   where
     rest : ℕ → Channel → List (Beat w)

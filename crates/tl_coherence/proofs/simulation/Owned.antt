@@ -15,11 +15,11 @@ use Rattle.tl_client.proofs.Inside.{inside-fresh, inside-asked, inside-offered}
 use Rattle.tl_client.proofs.KeptAsked.{kept-asked}
 use Rattle.tl_client.proofs.KeptOffered.{kept-fresh, kept-offered}
 use Rattle.tl_coherence.specs.statement.Delivery.{capacity, sources_of}
-use Rattle.tl_coherence.specs.statement.Log.{Log, after}
+use Rattle.tl_coherence.specs.statement.Log.{Log, system_after}
 use Rattle.tl_coherence.specs.protocol.Protocol.{State}
-use Rattle.tl_coherence.specs.refinement.Render.{Mail}
+use Rattle.tl_coherence.specs.refinement.PacketMessages.{AccessMessages}
 use Rattle.tl_coherence.specs.statement.System.{terms_at}
-use Rattle.tl_coherence.specs.refinement.Whole.{IsMatched, is_caching}
+use Rattle.tl_coherence.specs.refinement.SimulationRelation.{SimulationRelation, is_caching}
 use Rattle.tl_coherence.proofs.simulation.Bounded.{IsOwn, matched-bounded}
 use Rattle.tl_coherence.proofs.queues.Ends.{AreKept, ends-kept}
 use Rattle.tl_coherence.proofs.protocol.Room.{channel-few}
@@ -51,20 +51,20 @@ within-kept {w} config width = record {
   };
 }
 
-pub ends-within : {w : ℕ} (config : Config) (log : Log w) (c : ℕ) → IsWidth w → IsWithin config c ((after config log).clients c)
+pub ends-within : {w : ℕ} (config : Config) (log : Log w) (c : ℕ) → IsWidth w → IsWithin config c ((system_after config log).clients c)
 ends-within config log c width = ends-kept config (IsWithin config) (within-kept config width) log c
 
-pub sources-own : {w : ℕ} (config : Config) (log : Log w) (c : ℕ) → IsWidth w → IsOwn config c (after config log)
+pub sources-own : {w : ℕ} (config : Config) (log : Log w) (c : ℕ) → IsWidth w → IsOwn config c (system_after config log)
 unfolding pending
 sources-own {w} config log c width = go (terms_at config c) refl
   where
-    within : IsWithin config c ((after config log).clients c)
+    within : IsWithin config c ((system_after config log).clients c)
     within = ends-within config log c width
 
-    not_pending : (k : Key) → ((after config log).clients c) ≡ fresh → pending k ((after config log).clients c).past ≡ true → pending k (fresh {w = w}).past ≡ true
+    not_pending : (k : Key) → ((system_after config log).clients c) ≡ fresh → pending k ((system_after config log).clients c).past ≡ true → pending k (fresh {w = w}).past ≡ true
     not_pending k e p = rw e at p
 
-    go : (o : Option Terms) → terms_at config c ≡ o → IsOwn config c (after config log)
+    go : (o : Option Terms) → terms_at config c ≡ o → IsOwn config c (system_after config log)
     go None is = record {
       requests = λ source p. absurd (let q = not_pending (RequestSource source) (within.nobody is) p in cc);
       releases = λ source p. absurd (let q = not_pending (ReleaseSource source) (within.nobody is) p in cc);
@@ -75,8 +75,8 @@ sources-own {w} config log c width = go (terms_at config c) refl
     }
 
 -- no channel holds more than it is made for
-pub channels-few : {w : ℕ} (config : Config) (log : Log w) (mail : Mail w) (request : ℕ → MessageA w) (s : State (List ℕ)) → IsWidth w → IsMatched config log mail request s (after config log)
-    → (c : ℕ) (ch : Channel) → length ((after config log).channels c ch) ≤ capacity (64 / w) (sources_of (terms_at config c)) config.trackers ch
+pub channels-few : {w : ℕ} (config : Config) (log : Log w) (mail : AccessMessages w) (request : ℕ → MessageA w) (s : State (List ℕ)) → IsWidth w → SimulationRelation config log mail request s (system_after config log)
+    → (c : ℕ) (ch : Channel) → length ((system_after config log).channels c ch) ≤ capacity (64 / w) (sources_of (terms_at config c)) config.trackers ch
 channels-few {w} config log mail request s width matched c ch =
     channel-few (is_caching config) mail s c (sources_of (terms_at config c)) config.trackers ch _ _ width matched.invariant
-    (matched-bounded config log mail request s (after config log) matched c (sources-own config log c width)) (matched.carried c ch)
+    (matched-bounded config log mail request s (system_after config log) matched c (sources-own config log c width)) (matched.carried c ch)

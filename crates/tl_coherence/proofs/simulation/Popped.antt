@@ -13,22 +13,22 @@ use Rattle.tl_burst.specs.statement.Messages.{unfinished}
 use Rattle.tl_burst.proofs.Begun.{length-begun}
 use Rattle.tl_params.specs.declared.config.Config.{Config}
 use Rattle.tl_client.specs.statement.End.{Terms}
-use Rattle.tl_coherence.specs.statement.Log.{Log, after}
-use Rattle.tl_coherence.specs.refinement.Matched.{receiver}
+use Rattle.tl_coherence.specs.statement.Log.{Log, system_after}
+use Rattle.tl_coherence.specs.refinement.ChannelRelation.{receiver}
 use Rattle.tl_coherence.specs.refinement.Move.{Move, Stays, Pushes, Pops, IsMoved, AreMoved, channel_for}
-use Rattle.tl_coherence.specs.protocol.Protocol.{State, Closed, token, tokens_on, is_on}
-use Rattle.tl_coherence.specs.refinement.Render.{Mail, message_of_kind}
+use Rattle.tl_coherence.specs.protocol.Protocol.{State, SourceFree, packet, packets_on, is_on}
+use Rattle.tl_coherence.specs.refinement.PacketMessages.{AccessMessages, message_of_kind}
 use Rattle.tl_coherence.specs.statement.System.{System, same_channel, terms_at}
-use Rattle.tl_coherence.specs.protocol.Token.{Kind, Request, Acquire, Probe, ProbeAck, Release, Answer, Grant, ReleaseAck, GrantAck, Token, is}
-use Rattle.tl_coherence.specs.refinement.Whole.{IsMatched}
+use Rattle.tl_coherence.specs.protocol.Packet.{Kind, Request, Acquire, Probe, ProbeAck, Release, Answer, Grant, ReleaseAck, GrantAck, Packet, is}
+use Rattle.tl_coherence.specs.refinement.SimulationRelation.{SimulationRelation}
 use Rattle.tl_coherence.proofs.simulation.Bounded.{matched-bounded}
 use Rattle.tl_coherence.proofs.queues.Channels.{Fits, same_channel-is}
 use Rattle.tl_coherence.proofs.queues.FirstToken.{IsFirst}
-use Rattle.tl_coherence.proofs.protocol.Leftover.{IsPopped, beats_left, is_pop, is_front, taken_of}
-use Rattle.tl_coherence.proofs.potential.Owing.{AreClients}
+use Rattle.tl_coherence.proofs.protocol.BeatsRemaining.{IsPopped, beats_left, is_pop, is_front, taken_of}
+use Rattle.tl_coherence.proofs.rank.RankParts.{AreClients}
 use Rattle.tl_coherence.proofs.simulation.Owned.{sources-own}
 use Rattle.tl_coherence.proofs.queues.Rendered.{same_kind_again}
-use Rattle.tl_coherence.proofs.queues.Standing.{client_below}
+use Rattle.tl_coherence.proofs.queues.QuiescentQueues.{client_below}
 use Rattle.tl_coherence.proofs.simulation.Strangers.{no_use, no_let}
 use Rattle.tl_coherence.proofs.queues.Tokens.{same_number}
 use Rattle.tl_coherence.proofs.queues.Steps.{same_channel-refl}
@@ -44,12 +44,12 @@ IsReceived c ch sys sys' = (d : ℕ) (at : Channel) → unfinished_at sys' d at 
 -- ---- a channel loses its first token, the others lose none
 
 -- the token that a pop takes
-pub record IsHead (xs ys : List Token) : Type 0 where
-  pub first : Token
+pub record IsHead (xs ys : List Packet) : Type 0 where
+  pub first : Packet
   pub is : xs ≡ first ∷ ys
 
-popped_first : {w : ℕ} (push : Option (Message w)) (move : Move) (render : Kind → ℕ → Message w) (xs ys : List Token) → Fits true push move render → IsMoved move xs ys → IsHead xs ys
-popped_first None (Pops k n) render xs ys fits e = record { first = token k n; is = e }
+popped_first : {w : ℕ} (push : Option (Message w)) (move : Move) (render : Kind → ℕ → Message w) (xs ys : List Packet) → Fits true push move render → IsMoved move xs ys → IsHead xs ys
+popped_first None (Pops k n) render xs ys fits e = record { first = packet k n; is = e }
 popped_first None Stays render xs ys fits e = absurd fits
 popped_first None (Pushes k n) render xs ys fits e = absurd fits
 popped_first (Some m) move render xs ys fits e = absurd fits
@@ -88,23 +88,23 @@ popped-received {w} c ch pushes moves render s s' sys sys' received fits moved =
     here : ((c == c) && same_channel ch ch) ≡ true
     here = rw (same_number c, same_channel-refl ch) refl
 
-    head : IsHead (tokens_on ch (s.link c)) (tokens_on ch (s'.link c))
-    head = popped_first (pushes c ch) (moves c ch) (render c) (tokens_on ch (s.link c)) (tokens_on ch (s'.link c))
+    head : IsHead (packets_on ch (s.link c)) (packets_on ch (s'.link c))
+    head = popped_first (pushes c ch) (moves c ch) (render c) (packets_on ch (s.link c)) (packets_on ch (s'.link c))
         (fits_by ((c == c) && same_channel ch ch) true (pushes c ch) (moves c ch) (render c) here (fits c ch)) (moved c ch)
 
 -- ---- who has something open
 
-module _ {w : ℕ} (config : Config) (log : Log w) (mail : Mail w) (request : ℕ → MessageA w) (s : State (List ℕ))
-    (matched : IsMatched config log mail request s (after config log)) (width : IsWidth w) where
+module _ {w : ℕ} (config : Config) (log : Log w) (mail : AccessMessages w) (request : ℕ → MessageA w) (s : State (List ℕ))
+    (matched : SimulationRelation config log mail request s (system_after config log)) (width : IsWidth w) where
   pub are-clients : AreClients config s
   are-clients = record {
     clients = λ d i used. user d i (terms_at config d) refl used;
-    sources = λ d i used. (matched-bounded config log mail request s (after config log) matched d (sources-own config log d width)).requests i used;
+    sources = λ d i used. (matched-bounded config log mail request s (system_after config log) matched d (sources-own config log d width)).requests i used;
     letters = λ d i n e. letter d i n (terms_at config d) refl e;
-    releases = λ d i n e. (matched-bounded config log mail request s (after config log) matched d (sources-own config log d width)).releases i n e;
+    releases = λ d i n e. (matched-bounded config log mail request s (system_after config log) matched d (sources-own config log d width)).releases i n e;
   }
     where
-      user : (d i : ℕ) (o : Option Terms) → terms_at config d ≡ o → (s.uses d i ≡ Closed → ⊥) → d < length config.clients.items
+      user : (d i : ℕ) (o : Option Terms) → terms_at config d ≡ o → (s.uses d i ≡ SourceFree → ⊥) → d < length config.clients.items
       user d i None is used = absurd (used (no_use config log mail request s matched width d is i))
       user d i (Some terms) is used = client_below config d terms is
 
@@ -128,10 +128,10 @@ kind_channel channel.E GrantAck e = refl
 kind_channel ch k e = absurd cc
 
 -- at least its last beat is left of the message that comes first
-pub first-left : {w : ℕ} (ch : Channel) (c : ℕ) (mail : Mail w) (s : State (List ℕ)) (sys : System w) (x : Beat w) (queue : List (Beat w)) → (first : IsFirst ch c mail s sys x queue)
+pub first-left : {w : ℕ} (ch : Channel) (c : ℕ) (mail : AccessMessages w) (s : State (List ℕ)) (sys : System w) (x : Beat w) (queue : List (Beat w)) → (first : IsFirst ch c mail s sys x queue)
     → beats_left mail s (unfinished_at sys) c first.kind first.number + first.next.k ≡ beats_of (message_of_kind first.kind mail s c first.number)
 first-left {w} ch c mail s sys x queue first =
-    let taken : taken_of (unfinished_at sys c (channel_for first.kind)) (is_front first.kind first.number (tokens_on (channel_for first.kind) (s.link c))) ≡ first.next.k =
+    let taken : taken_of (unfinished_at sys c (channel_for first.kind)) (is_front first.kind first.number (packets_on (channel_for first.kind) (s.link c))) ≡ first.next.k =
     rw (kind_channel ch first.kind first.own, first.tokens, same_kind_again first.kind, same_number first.number, first.next.rest_is)
     (length-begun (message_of_kind first.kind mail s c first.number) first.next.k) in
     let within = first.next.within in

@@ -16,14 +16,14 @@ use Rattle.tl_client.specs.declared.operation.Op.TheVariants as op
 use Rattle.tl_client.specs.declared.reply.Reply.{Reply}
 use Rattle.tl_client.specs.declared.reply.Reply.TheVariants as reply
 use Rattle.tl_client.specs.statement.End.{Terms}
-use Rattle.tl_coherence.specs.refinement.Follow.{Shadow, asked, access_taken, request_taken, acquire_taken, granted_after, last_taken, taken_by_client, kind_taken}
+use Rattle.tl_coherence.specs.refinement.AbstractStep.{AbstractState, asked, access_taken, request_taken, acquire_taken, granted_after, last_taken, taken_by_client, kind_taken}
 use Rattle.tl_coherence.specs.protocol.Invariant.{IsInvariant}
-use Rattle.tl_coherence.specs.protocol.Phase.{Acquiring, Calm, Wants}
-use Rattle.tl_coherence.specs.protocol.Protocol.{Service, Free, Waits, GrantSent, GrantTaken, State, Use, Closed, Asked, InService, Replied, Acquires}
+use Rattle.tl_coherence.specs.protocol.Phase.{AcquirePhase, NoAcquire, AcquireOpen}
+use Rattle.tl_coherence.specs.protocol.Protocol.{Service, Free, Waits, GrantSent, GrantTaken, State, SourceState, SourceFree, Asked, InService, Replied, Acquires}
 use Rattle.tl_coherence.specs.statement.System.{terms_at}
-use Rattle.tl_coherence.specs.protocol.Token.{Kind, Request, Acquire, Probe, ProbeAck, Release, Answer, Grant, ReleaseAck, GrantAck, Token, set_at}
+use Rattle.tl_coherence.specs.protocol.Packet.{Kind, Request, Acquire, Probe, ProbeAck, Release, Answer, Grant, ReleaseAck, GrantAck, Packet, set_at}
 use Rattle.tl_coherence.proofs.queues.Tokens.{same_number, set-each}
-use Rattle.tl_coherence.proofs.potential.Owing.{serving-use}
+use Rattle.tl_coherence.proofs.rank.RankParts.{serving-use}
 
 -- ---- one place of two numbers
 
@@ -35,29 +35,29 @@ each-set_at P c k y f here others d i = elim (cases_eq d c) [
 
 -- ---- who isn't a client
 
-abbrev pub AreStrange : Config → (ℕ → ℕ → Use) → Type 0
-AreStrange config uses = (c source : ℕ) → terms_at config c ≡ None → uses c source ≡ Closed
+abbrev pub AreStrange : Config → (ℕ → ℕ → SourceState) → Type 0
+AreStrange config uses = (c source : ℕ) → terms_at config c ≡ None → uses c source ≡ SourceFree
 
-strange_set : (config : Config) (c source : ℕ) (u : Use) (uses : ℕ → ℕ → Use) (terms : Terms) → terms_at config c ≡ Some terms → AreStrange config uses → AreStrange config (set_at c source u uses)
+strange_set : (config : Config) (c source : ℕ) (u : SourceState) (uses : ℕ → ℕ → SourceState) (terms : Terms) → terms_at config c ≡ Some terms → AreStrange config uses → AreStrange config (set_at c source u uses)
 strange_set config c source u uses terms known before d i =
-    each-set_at (λ j k v. terms_at config j ≡ None → v ≡ Closed) c source u uses (λ none. absurd (let e : Some terms ≡ None = sym known ∙ none in cc)) before d i
+    each-set_at (λ j k v. terms_at config j ≡ None → v ≡ SourceFree) c source u uses (λ none. absurd (let e : Some terms ≡ None = sym known ∙ none in cc)) before d i
 
-strange_closed : (config : Config) (c source : ℕ) (uses : ℕ → ℕ → Use) → AreStrange config uses → AreStrange config (set_at c source Closed uses)
-strange_closed config c source uses before d i = each-set_at (λ j k v. terms_at config j ≡ None → v ≡ Closed) c source Closed uses (λ none. refl) before d i
+strange_closed : (config : Config) (c source : ℕ) (uses : ℕ → ℕ → SourceState) → AreStrange config uses → AreStrange config (set_at c source SourceFree uses)
+strange_closed config c source uses before d i = each-set_at (λ j k v. terms_at config j ≡ None → v ≡ SourceFree) c source SourceFree uses (λ none. refl) before d i
 
 -- one that is used isn't of a stranger
-strange_used : (config : Config) (c source : ℕ) (u : Use) (uses : ℕ → ℕ → Use) → (uses c source ≡ Closed → ⊥) → AreStrange config uses → AreStrange config (set_at c source u uses)
+strange_used : (config : Config) (c source : ℕ) (u : SourceState) (uses : ℕ → ℕ → SourceState) → (uses c source ≡ SourceFree → ⊥) → AreStrange config uses → AreStrange config (set_at c source u uses)
 strange_used config c source u uses used before d i =
-    each-set_at (λ j k v. terms_at config j ≡ None → v ≡ Closed) c source u uses (λ none. absurd (used (before c source none))) before d i
+    each-set_at (λ j k v. terms_at config j ≡ None → v ≡ SourceFree) c source u uses (λ none. absurd (used (before c source none))) before d i
 
-strange_access : {w : ℕ} (config : Config) (c source : ℕ) (m : MessageA w) (tracker : ℕ) (p : Bool) (o : Option Cap) (rest : List Token) (h : Shadow w)
+strange_access : {w : ℕ} (config : Config) (c source : ℕ) (m : MessageA w) (tracker : ℕ) (p : Bool) (o : Option Cap) (rest : List Packet) (h : AbstractState w)
     (terms : Terms) → terms_at config c ≡ Some terms → AreStrange config h.state.uses
     → AreStrange config (access_taken c source m tracker p o rest h).state.uses
 strange_access config c source m tracker true (Some k) rest h terms known before = strange_set config c source (InService (block_at m.address)) h.state.uses terms known before
 strange_access config c source m tracker true None rest h terms known before = strange_set config c source Replied h.state.uses terms known before
 strange_access config c source m tracker false o rest h terms known before = strange_set config c source Replied h.state.uses terms known before
 
-strange_request : {w : ℕ} (config : Config) (clients c source : ℕ) (m : Message w) (tracker : ℕ) (rest : List Token) (h : Shadow w) (terms : Terms)
+strange_request : {w : ℕ} (config : Config) (clients c source : ℕ) (m : Message w) (tracker : ℕ) (rest : List Packet) (h : AbstractState w) (terms : Terms)
     → terms_at config c ≡ Some terms → AreStrange config h.state.uses
     → AreStrange config (request_taken clients c source m tracker rest h).state.uses
 strange_request config clients c source (message.A m) tracker rest h terms known before = strange_access config c source m tracker _ _ rest h terms known before
@@ -66,22 +66,22 @@ strange_request config clients c source (message.C m) tracker rest h terms known
 strange_request config clients c source (message.D m) tracker rest h terms known before = before
 strange_request config clients c source (message.E m) tracker rest h terms known before = before
 
-strange_acquire : {w : ℕ} (config : Config) (clients : ℕ) (p : Profile) (c n : ℕ) (x : Acquiring) (tracker : ℕ) (rest : List Token) (h : Shadow w) → AreStrange config h.state.uses
+strange_acquire : {w : ℕ} (config : Config) (clients : ℕ) (p : Profile) (c n : ℕ) (x : AcquirePhase) (tracker : ℕ) (rest : List Packet) (h : AbstractState w) → AreStrange config h.state.uses
     → AreStrange config (acquire_taken clients p c n x tracker rest h).state.uses
-strange_acquire config clients p c n Calm tracker rest h before = before
-strange_acquire {w} config clients p c n (Wants whole g) tracker rest h before = either _ _ _ before before
+strange_acquire config clients p c n NoAcquire tracker rest h before = before
+strange_acquire {w} config clients p c n (AcquireOpen whole g) tracker rest h before = either _ _ _ before before
   where
     either : (b : Bool) (s t : State (List ℕ)) → AreStrange config s.uses → AreStrange config t.uses → AreStrange config (if b then s else t).uses
     either true s t f g = f
     either false s t f g = g
 
-strange_granted : {w : ℕ} (config : Config) (clients : ℕ) (p : Profile) (c q n : ℕ) (r : Report) (x : Acquiring) (rest : List Token) (h : Shadow w) → AreStrange config h.state.uses
+strange_granted : {w : ℕ} (config : Config) (clients : ℕ) (p : Profile) (c q n : ℕ) (r : Report) (x : AcquirePhase) (rest : List Packet) (h : AbstractState w) → AreStrange config h.state.uses
     → AreStrange config (granted_after clients p c q n r x rest h).state.uses
-strange_granted config clients p c q n r Calm rest h before = before
-strange_granted config clients p c q n r (Wants whole g) rest h before = before
+strange_granted config clients p c q n r NoAcquire rest h before = before
+strange_granted config clients p c q n r (AcquireOpen whole g) rest h before = before
 
-strange_last : {w : ℕ} (config : Config) (clients : ℕ) (p : Profile) (c n : ℕ) (r : Report) (v : Service) (rest : List Token) (h : Shadow w)
-    → ((q source : ℕ) (k : Cap) → v ≡ Waits q false source k → h.state.uses q source ≡ Closed → ⊥)
+strange_last : {w : ℕ} (config : Config) (clients : ℕ) (p : Profile) (c n : ℕ) (r : Report) (v : Service) (rest : List Packet) (h : AbstractState w)
+    → ((q source : ℕ) (k : Cap) → v ≡ Waits q false source k → h.state.uses q source ≡ SourceFree → ⊥)
     → AreStrange config h.state.uses → AreStrange config (last_taken clients p c n r v rest h).state.uses
 strange_last config clients p c n r Free rest h used before = before
 strange_last config clients p c n r (Waits q true source k) rest h used before = strange_granted config clients p c q n r ((h.state.block n).pair q).acquiring rest h before
@@ -89,13 +89,13 @@ strange_last config clients p c n r (Waits q false source k) rest h used before 
 strange_last config clients p c n r (GrantSent q d k) rest h used before = before
 strange_last config clients p c n r (GrantTaken q) rest h used before = before
 
-strange_taken : {w : ℕ} (config : Config) (c n : ℕ) (v : Service) (rest : List Token) (h : Shadow w) → AreStrange config h.state.uses → AreStrange config (taken_by_client c n v rest h).state.uses
+strange_taken : {w : ℕ} (config : Config) (c n : ℕ) (v : Service) (rest : List Packet) (h : AbstractState w) → AreStrange config h.state.uses → AreStrange config (taken_by_client c n v rest h).state.uses
 strange_taken config c n Free rest h before = before
 strange_taken config c n (Waits q own source k) rest h before = before
 strange_taken config c n (GrantSent q d k) rest h before = strange_closed config c ((h.state.block n).source c) h.state.uses before
 strange_taken config c n (GrantTaken q) rest h before = before
 
-pub strangers-kind_taken : {w : ℕ} (caching : ℕ → Bool) (config : Config) (tracker c : ℕ) (k : Kind) (i : ℕ) (rest : List Token) (h : Shadow w) (terms : Terms)
+pub strangers-kind_taken : {w : ℕ} (caching : ℕ → Bool) (config : Config) (tracker c : ℕ) (k : Kind) (i : ℕ) (rest : List Packet) (h : AbstractState w) (terms : Terms)
     → IsInvariant caching h.state → terms_at config c ≡ Some terms
     → AreStrange config h.state.uses → AreStrange config (kind_taken config tracker c k i rest h).state.uses
 strangers-kind_taken caching config tracker c Request i rest h terms inv known before = strange_request config _ c i (h.mail.request c i) tracker rest h terms known before
@@ -103,9 +103,9 @@ strangers-kind_taken caching config tracker c Acquire i rest h terms inv known b
 strangers-kind_taken caching config tracker c Probe i rest h terms inv known before = before
 strangers-kind_taken {w} caching config tracker c ProbeAck i rest h terms inv known before = either _ _ _ before
     (strange_last config _ config.profile c i _ (h.state.block i).service rest h
-    (λ q source j e f. absurd (let g : InService i ≡ Closed = sym (serving-use caching h.state i q source j inv e) ∙ f in cc)) before)
+    (λ q source j e f. absurd (let g : InService i ≡ SourceFree = sym (serving-use caching h.state i q source j inv e) ∙ f in cc)) before)
   where
-    either : (b : Bool) (s t : Shadow w) → AreStrange config s.state.uses → AreStrange config t.state.uses → AreStrange config (if b then s else t).state.uses
+    either : (b : Bool) (s t : AbstractState w) → AreStrange config s.state.uses → AreStrange config t.state.uses → AreStrange config (if b then s else t).state.uses
     either true s t f g = f
     either false s t f g = g
 strangers-kind_taken caching config tracker c Release i rest h terms inv known before = before
@@ -114,7 +114,7 @@ strangers-kind_taken caching config tracker c Grant i rest h terms inv known bef
 strangers-kind_taken caching config tracker c ReleaseAck i rest h terms inv known before = before
 strangers-kind_taken caching config tracker c GrantAck i rest h terms inv known before = before
 
-pub strangers-asked : {w : ℕ} (config : Config) (c : ℕ) (o : Op w) (r : Reply) (h : Shadow w) (terms : Terms) → terms_at config c ≡ Some terms
+pub strangers-asked : {w : ℕ} (config : Config) (c : ℕ) (o : Op w) (r : Reply) (h : AbstractState w) (terms : Terms) → terms_at config c ≡ Some terms
     → AreStrange config h.state.uses → AreStrange config (asked c o r h).state.uses
 strangers-asked config c (op.Load address size) r h terms known before = before
 strangers-asked config c (op.Store address size value) reply.Stored h terms known before = before

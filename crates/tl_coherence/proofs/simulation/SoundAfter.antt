@@ -36,11 +36,11 @@ use Rattle.tl_coherence.specs.declared.event.Event.TheVariants.{Ask, Deliver}
 use Rattle.tl_coherence.specs.statement.Headline.{IsTypedOp, IsTyped}
 use Rattle.tl_coherence.specs.statement.Log.{Log}
 use Rattle.tl_coherence.specs.protocol.Protocol.{State}
-use Rattle.tl_coherence.specs.refinement.Render.{Mail}
+use Rattle.tl_coherence.specs.refinement.PacketMessages.{AccessMessages}
 use Rattle.tl_coherence.specs.statement.Step.{stepped, stepped_at, client_of, delivered, handed_by, judged, client_took, manager_took, is_to_client}
 use Rattle.tl_coherence.specs.statement.System.{System, terms_at, with_client, with_manager, with_channel, with_messages}
-use Rattle.tl_coherence.specs.refinement.Whole.{IsMatched, AreLanes}
-use Rattle.tl_coherence.proofs.simulation.Goods.{IsGood, IsFitIfAny, IsFitAnswer, all-messages, all-popped, good-message, good-handed, level-terms, fit-asked, fit-taken}
+use Rattle.tl_coherence.specs.refinement.SimulationRelation.{SimulationRelation, AreLanes}
+use Rattle.tl_coherence.proofs.simulation.BeatsInFlight.{IsGood, IsFitIfAny, IsFitAnswer, all-messages, all-popped, good-message, good-handed, level-terms, fit-asked, fit-taken}
 
 -- ---- copies have 64 bytes
 
@@ -48,8 +48,8 @@ copy_of : (o : Option (List ℕ)) → is_some o ≡ false → length (unwrap_or 
 copy_of None e = refl
 copy_of (Some bytes) e = absurd cc
 
-pub copy-long : {w : ℕ} (config : Config) (log : Log w) (mail : Mail w) (request : ℕ → MessageA w) (s : State (List ℕ)) (sys : System w)
-    → IsMatched config log mail request s sys → (c n : ℕ) → length (copy_at (sys.clients c) n) ≡ 64
+pub copy-long : {w : ℕ} (config : Config) (log : Log w) (mail : AccessMessages w) (request : ℕ → MessageA w) (s : State (List ℕ)) (sys : System w)
+    → SimulationRelation config log mail request s sys → (c n : ℕ) → length (copy_at (sys.clients c) n) ≡ 64
 copy-long {w} config log mail request s sys h c n = go ((s.block n).pair c).held refl
   where
     there : same_perm ((s.block n).pair c).held perm.None ≡ false → length (copy_at (sys.clients c) n) ≡ 64
@@ -96,8 +96,8 @@ manager_good {w} config link ch x queue manager_offer.Passes e sys width sound t
 
 -- ---- an event
 
-pub good-after : {w : ℕ} (config : Config) (log : Log w) (mail : Mail w) (request : ℕ → MessageA w) (s : State (List ℕ)) (sys : System w) → IsWidth w
-    → IsMatched config log mail request s sys → (event : Event w) → IsTyped event
+pub good-after : {w : ℕ} (config : Config) (log : Log w) (mail : AccessMessages w) (request : ℕ → MessageA w) (s : State (List ℕ)) (sys : System w) → IsWidth w
+    → SimulationRelation config log mail request s sys → (event : Event w) → IsTyped event
     → AllGood config (stepped config event sys).after
 unfolding stepped manager_offer.offered
 good-after {w} config log mail request s sys width h event typed = go (terms_at config (client_of event)) refl event refl typed
@@ -146,12 +146,12 @@ good-after {w} config log mail request s sys width h event typed = go (terms_at 
     go (Some terms) e (Ask c o) f ty = asked_good c o terms (rw (← f) at e) ty
     go (Some terms) e (Deliver link ch) f ty = delivered_good link.0 ch terms (sys.channels link.0 ch) refl (rw (← f) at e)
 
-pub sound-after : {w : ℕ} (config : Config) (log : Log w) (mail : Mail w) (request : ℕ → MessageA w) (s : State (List ℕ)) (sys : System w) → IsWidth w
-    → IsMatched config log mail request s sys → (event : Event w) → IsTyped event → (c : ℕ) (ch : Channel)
+pub sound-after : {w : ℕ} (config : Config) (log : Log w) (mail : AccessMessages w) (request : ℕ → MessageA w) (s : State (List ℕ)) (sys : System w) → IsWidth w
+    → SimulationRelation config log mail request s sys → (event : Event w) → IsTyped event → (c : ℕ) (ch : Channel)
     → All (λ x. manager.IsSound config (record { 0 = c }, x)) ((stepped config event sys).after.channels c ch)
 sound-after config log mail request s sys width h event typed c ch k y lt = (good-after config log mail request s sys width h event typed c ch k y lt).sound
 
-pub typed-after : {w : ℕ} (config : Config) (log : Log w) (mail : Mail w) (request : ℕ → MessageA w) (s : State (List ℕ)) (sys : System w) → IsWidth w
-    → IsMatched config log mail request s sys → (event : Event w) → IsTyped event → (c : ℕ) (ch : Channel)
+pub typed-after : {w : ℕ} (config : Config) (log : Log w) (mail : AccessMessages w) (request : ℕ → MessageA w) (s : State (List ℕ)) (sys : System w) → IsWidth w
+    → SimulationRelation config log mail request s sys → (event : Event w) → IsTyped event → (c : ℕ) (ch : Channel)
     → All AreLanes ((stepped config event sys).after.channels c ch)
 typed-after config log mail request s sys width h event typed c ch k y lt = (good-after config log mail request s sys width h event typed c ch k y lt).lanes

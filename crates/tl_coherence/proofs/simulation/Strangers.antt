@@ -16,14 +16,14 @@ use Rattle.tl_manager.specs.statement.Service.{services, service_of_block}
 use Rattle.tl_manager.specs.statement.Offer.{level_of}
 use Rattle.tl_manager.proofs.Granted.{of_served}
 use Rattle.tl_coherence.specs.protocol.Invariant.{resting}
-use Rattle.tl_coherence.specs.statement.Log.{Log, after}
-use Rattle.tl_coherence.specs.refinement.Managed.{client_in, service_with}
+use Rattle.tl_coherence.specs.statement.Log.{Log, system_after}
+use Rattle.tl_coherence.specs.refinement.ManagerRelation.{client_in, service_with}
 use Rattle.tl_coherence.specs.protocol.Phase.{Own, Other, Granting, Acknowledging, GrantedOther}
-use Rattle.tl_coherence.specs.protocol.Protocol.{Service, Free, Waits, GrantSent, GrantTaken, State, Closed, Asked, view, tokens_on, is_on, is_acknowledging, shown}
-use Rattle.tl_coherence.specs.refinement.Render.{Mail}
+use Rattle.tl_coherence.specs.protocol.Protocol.{Service, Free, Waits, GrantSent, GrantTaken, State, SourceFree, Asked, view, packets_on, is_on, is_acknowledging, shown}
+use Rattle.tl_coherence.specs.refinement.PacketMessages.{AccessMessages}
 use Rattle.tl_coherence.specs.statement.System.{terms_at}
-use Rattle.tl_coherence.specs.protocol.Token.{Kind, Request, Acquire, Probe, ProbeAck, Release, Answer, Grant, ReleaseAck, GrantAck, Token, count}
-use Rattle.tl_coherence.specs.refinement.Whole.{IsMatched}
+use Rattle.tl_coherence.specs.protocol.Packet.{Kind, Request, Acquire, Probe, ProbeAck, Release, Answer, Grant, ReleaseAck, GrantAck, Packet, count}
+use Rattle.tl_coherence.specs.refinement.SimulationRelation.{SimulationRelation}
 use Rattle.tl_coherence.proofs.protocol.Capacities.{shown_there, kind_there, acquire_named, grant_named, release_named, release_ack_named, request_named, answer_named}
 use Rattle.tl_coherence.proofs.queues.Distinct.{IsThere, first-there}
 use Rattle.tl_coherence.proofs.simulation.Owned.{sources-own}
@@ -54,9 +54,9 @@ acknowledged_to (GrantTaken q) c e = go (c == q) refl e
     go true same f = ap (λ (i : ℕ). Some i) (sym (eqb-true c q same))
     go false differs f = absurd cc
 
-module _ {w : ℕ} (config : Config) (log : Log w) (mail : Mail w) (request : ℕ → MessageA w) (s : State (List ℕ)) (matched : IsMatched config log mail request s (after config log))
+module _ {w : ℕ} (config : Config) (log : Log w) (mail : AccessMessages w) (request : ℕ → MessageA w) (s : State (List ℕ)) (matched : SimulationRelation config log mail request s (system_after config log))
     (width : IsWidth w) (c : ℕ) (is : terms_at config c ≡ None) where
-  pub no_use : (source : ℕ) → s.uses c source ≡ Closed
+  pub no_use : (source : ℕ) → s.uses c source ≡ SourceFree
   no_use source = matched.strangers c source is
 
   pub no_let : (source : ℕ) → s.lets c source ≡ None
@@ -73,18 +73,18 @@ module _ {w : ℕ} (config : Config) (log : Log w) (mail : Mail w) (request : �
 
   not_acknowledging : (n : ℕ) → shown GrantAck c (s.block n) ≡ true → ⊥
   not_acknowledging n e =
-      let served : service_of_block n (services (after config log).manager.trace) ≡ service_with (Some c) (s.block n).tracker (request n) =
+      let served : service_of_block n (services (system_after config log).manager.trace) ≡ service_with (Some c) (s.block n).tracker (request n) =
       matched.managed.serving_is n ∙ ap (λ (o : Option ℕ). service_with o (s.block n).tracker (request n)) (acknowledged_to (s.block n).service c e) in
-      let performable = of_served (kept.IsPerformable config) n (services (after config log).manager.trace) _ served matched.manager_kept.requests in
+      let performable = of_served (kept.IsPerformable config) n (services (system_after config log).manager.trace) _ served matched.manager_kept.requests in
       lawless (level_of config c) (message.A (request n)) (no_level config c is) performable.lawful
     where
       lawless : (o : Option Level) (m : Message w) → o ≡ None → kept.illegal_message_at o m ≡ None → ⊥
       lawless None m h f = absurd cc
       lawless (Some l) m h f = absurd cc
 
-  nothing_shown : (ch : Channel) (k : Kind) (n : ℕ) → is_on ch k ≡ true → 0 < count k n (tokens_on ch (s.link c)) → ⊥
+  nothing_shown : (ch : Channel) (k : Kind) (n : ℕ) → is_on ch k ≡ true → 0 < count k n (packets_on ch (s.link c)) → ⊥
   nothing_shown ch Request n on_it there =
-      absurd (let e = request_named _ s c n matched.invariant (shown_there _ s c ch Request n matched.invariant on_it there) in let both : Asked ≡ Closed = sym e ∙ no_use n in cc)
+      absurd (let e = request_named _ s c n matched.invariant (shown_there _ s c ch Request n matched.invariant on_it there) in let both : Asked ≡ SourceFree = sym e ∙ no_use n in cc)
   nothing_shown ch Answer n on_it there =
       absurd (let e = answer_named _ s c n matched.invariant (shown_there _ s c ch Answer n matched.invariant on_it there) in let both = sym e ∙ no_use n in cc)
   nothing_shown ch Acquire n on_it there =
@@ -103,9 +103,9 @@ module _ {w : ℕ} (config : Config) (log : Log w) (mail : Mail w) (request : �
       rw (at_rest n) refl in let both : true ≡ false = sym it ∙ none in cc)
   nothing_shown ch GrantAck n on_it there = not_acknowledging n (shown_there _ s c ch GrantAck n matched.invariant on_it there)
 
-  pub no_tokens : (ch : Channel) → tokens_on ch (s.link c) ≡ []
-  no_tokens ch = go (tokens_on ch (s.link c)) (λ x there. nothing_shown ch x.kind x.number (kind_there _ s c ch x matched.invariant there) there)
+  pub no_tokens : (ch : Channel) → packets_on ch (s.link c) ≡ []
+  no_tokens ch = go (packets_on ch (s.link c)) (λ x there. nothing_shown ch x.kind x.number (kind_there _ s c ch x matched.invariant there) there)
     where
-      go : (xs : List Token) → ((x : Token) → IsThere x xs → ⊥) → xs ≡ []
+      go : (xs : List Packet) → ((x : Packet) → IsThere x xs → ⊥) → xs ≡ []
       go [] none = refl
       go (x ∷ xs) none = absurd (none x (first-there x xs))

@@ -37,18 +37,18 @@ use Rattle.tl_manager.specs.statement.Handing.{access_answer, no_payload}
 use Rattle.tl_manager.specs.code.Kept.{illegal_message_at}
 use Rattle.tl_manager.specs.statement.Offer.{level_of}
 use Rattle.tl_manager.proofs.Filled.{data_room, payload-long, payload-zero, room_in_beats}
-use Rattle.tl_coherence.specs.refinement.Beside.{Answers, IsOpened, IsReach}
-use Rattle.tl_coherence.specs.refinement.Follow.{Shadow}
-use Rattle.tl_coherence.specs.statement.Log.{Log, after}
+use Rattle.tl_coherence.specs.refinement.MemoryRelation.{Answers, IsOpened, IsReach}
+use Rattle.tl_coherence.specs.refinement.AbstractStep.{AbstractState}
+use Rattle.tl_coherence.specs.statement.Log.{Log, system_after}
 use Rattle.tl_coherence.specs.statement.Machine.{Ends, Machine, Requests, finish_with, pool_of}
-use Rattle.tl_coherence.specs.protocol.Protocol.{Use, Replied, token}
-use Rattle.tl_coherence.specs.statement.Remembered.{remembered}
-use Rattle.tl_coherence.specs.refinement.Render.{message_of_kind, rendered}
+use Rattle.tl_coherence.specs.protocol.Protocol.{SourceState, Replied, packet}
+use Rattle.tl_coherence.specs.statement.OneMemory.{one_memory_after}
+use Rattle.tl_coherence.specs.refinement.PacketMessages.{message_of_kind, block_message}
 use Rattle.tl_coherence.specs.statement.System.{System}
-use Rattle.tl_coherence.specs.protocol.Token.{Kind, Acquire, Answer}
-use Rattle.tl_coherence.specs.refinement.Whole.{IsMatched, IsRequest, IsSourced, asked_for, block_used, first_of, is_caching}
+use Rattle.tl_coherence.specs.protocol.Packet.{Kind, Acquire, Answer}
+use Rattle.tl_coherence.specs.refinement.SimulationRelation.{SimulationRelation, IsRequest, IsSourced, asked_for, block_used, first_of, is_caching}
 use Rattle.tl_coherence.proofs.client.AnswersKept.{answer_message}
-use Rattle.tl_coherence.proofs.protocol.Due.{IsAnswerDue, answer-due}
+use Rattle.tl_coherence.proofs.protocol.HeadOfD.{IsAnswerDue, answer-due}
 use Rattle.tl_coherence.proofs.links.Ending.{IsEnding}
 use Rattle.tl_coherence.proofs.links.Granting.{same-response}
 
@@ -128,24 +128,24 @@ request_open {w} source x t e = go (pending (RequestSource source) t) e
     go true f = f
     go false f = absurd cc
 
-sourced_request : {w : ℕ} (config : Config) (c source : ℕ) (m : Message w) (u : Use) → u ≡ Replied → IsSourced config c source m u → IsRequest config c source m
+sourced_request : {w : ℕ} (config : Config) (c source : ℕ) (m : Message w) (u : SourceState) → u ≡ Replied → IsSourced config c source m u → IsRequest config c source m
 sourced_request config c source m u e h = rw e at h
 
-asked_replied : {w : ℕ} (u : Use) (m acquire : Message w) → u ≡ Replied → asked_for u m acquire ≡ first_of m
+asked_replied : {w : ℕ} (u : SourceState) (m acquire : Message w) → u ≡ Replied → asked_for u m acquire ≡ first_of m
 asked_replied u m acquire e = rw e refl
 
 -- what is open of an access that was answered
-record IsOver {w : ℕ} (config : Config) (log : Log w) (c source : ℕ) (h : Shadow w) : Type 0 where
+record IsOver {w : ℕ} (config : Config) (log : Log w) (c source : ℕ) (h : AbstractState w) : Type 0 where
   pub asked : MessageA w
   pub reply : memory.AccessResult
   pub request : h.mail.request c source ≡ message.A (sourced source asked)
   pub lawful : illegal_message_at (level_of config c) (message.A (sourced source asked)) ≡ None
-  pub opened : (remembered config log).opened c Requests source ≡ Some (record { asked = Access (message.A asked); answer = Some reply })
+  pub opened : (one_memory_after config log).opened c Requests source ≡ Some (record { asked = Access (message.A asked); answer = Some reply })
   pub answer : h.mail.answer c source ≡ access_answer (sourced source asked) (answer_of (message.A (sourced source asked)) reply)
   pub reach : IsReach (sourced source asked) reply
-  pub pending_is : request_of source ((after config log).clients c).past ≡ Some (a_beat_of (sourced source asked) 0)
+  pub pending_is : request_of source ((system_after config log).clients c).past ≡ Some (a_beat_of (sourced source asked) 0)
 
-over : {w : ℕ} (config : Config) (log : Log w) (c source : ℕ) (h : Shadow w) → IsMatched config log h.mail h.request h.state (after config log)
+over : {w : ℕ} (config : Config) (log : Log w) (c source : ℕ) (h : AbstractState w) → SimulationRelation config log h.mail h.request h.state (system_after config log)
     → h.state.uses c source ≡ Replied → IsOver config log c source h
 over {w} config log c source h is used = record {
   asked = open_.1.0;
@@ -155,43 +155,43 @@ over {w} config log c source h is used = record {
   opened = open_.1.2;
   answer = answers.0;
   reach = answers.1;
-  pending_is = request_open source (a_beat_of (sourced source open_.1.0) 0) ((after config log).clients c).past
+  pending_is = request_open source (a_beat_of (sourced source open_.1.0) 0) ((system_after config log).clients c).past
       ((is.known c).opens source ∙ asked_replied (h.state.uses c source) (h.mail.request c source)
-      (rendered Acquire c (block_used (h.state.uses c source)) (h.state.block (block_used (h.state.uses c source)))) used ∙ ap first_of open_.1.1);
+      (block_message Acquire c (block_used (h.state.uses c source)) (h.state.block (block_used (h.state.uses c source)))) used ∙ ap first_of open_.1.1);
 }
   where
-    opened_as : (u : Use) → u ≡ Replied → IsOpened c source h.mail h.state u ((remembered config log).opened c Requests source)
-        → IsOpened c source h.mail h.state Replied ((remembered config log).opened c Requests source)
+    opened_as : (u : SourceState) → u ≡ Replied → IsOpened c source h.mail h.state u ((one_memory_after config log).opened c Requests source)
+        → IsOpened c source h.mail h.state Replied ((one_memory_after config log).opened c Requests source)
     opened_as u e i = rw e at i
 
-    open_ : IsOpened c source h.mail h.state Replied ((remembered config log).opened c Requests source)
+    open_ : IsOpened c source h.mail h.state Replied ((one_memory_after config log).opened c Requests source)
     open_ = opened_as (h.state.uses c source) used (is.beside.requests c source)
 
     answers : Answers (message.A (sourced source open_.1.0)) open_.0 (h.mail.answer c source)
     answers = subst (λ (i : Message w). Answers i open_.0 (h.mail.answer c source)) open_.1.1 open_.2
 
 -- the beats of the response, whole
-whole_response : {w : ℕ} (config : Config) (log : Log w) (link : Link) (ch : Channel) (h : Shadow w) (x : Beat w) (source : ℕ) (f : Finish) (end : IsEnding config log link ch h x source f)
-    → beat.D (d_beat_of end.response end.first.next.k) ∷ unfinished channel.D ((after config log).clients link.0).past ≡ burst_of (message.D end.response)
+whole_response : {w : ℕ} (config : Config) (log : Log w) (link : Link) (ch : Channel) (h : AbstractState w) (x : Beat w) (source : ℕ) (f : Finish) (end : IsEnding config log link ch h x source f)
+    → beat.D (d_beat_of end.response end.first.next.k) ∷ unfinished channel.D ((system_after config log).clients link.0).past ≡ burst_of (message.D end.response)
 whole_response {w} config log link ch h x source f end =
-    ap (λ (y : Beat w). y ∷ unfinished channel.D ((after config log).clients link.0).past) (sym end.beat_is)
+    ap (λ (y : Beat w). y ∷ unfinished channel.D ((system_after config log).clients link.0).past) (sym end.beat_is)
     ∙ (end.first.next.last (eqb-true (end.first.next.k + 1) _ (sym end.first.next.completes_is ∙ end.last))).1
     ∙ ap burst_of end.response_is
 
 -- an answer ends its access as the machine allows
-pub ends-answer : {w : ℕ} (config : Config) (log : Log w) (link : Link) (ch : Channel) (h : Shadow w) (x : Beat w) (source : ℕ) (f : Finish) → IsWidth w
-    → IsMatched config log h.mail h.request h.state (after config log)
-    → (end : IsEnding config log link ch h x source f) → end.first.kind ≡ Answer → Ends ((remembered config log).opened link.0 (pool_of f) source) x f
+pub ends-answer : {w : ℕ} (config : Config) (log : Log w) (link : Link) (ch : Channel) (h : AbstractState w) (x : Beat w) (source : ℕ) (f : Finish) → IsWidth w
+    → SimulationRelation config log h.mail h.request h.state (system_after config log)
+    → (end : IsEnding config log link ch h x source f) → end.first.kind ≡ Answer → Ends ((one_memory_after config log).opened link.0 (pool_of f) source) x f
 ends-answer {w} config log link ch h x source f width is end e =
     subst (λ (i : Finish). Ends (m.opened c (pool_of i) source) x i) (sym fin)
     (subst (λ (i : ℕ). Ends (m.opened c (pool_of (finish_with (message.A it.asked) it.reply)) i) x (finish_with (message.A it.asked) it.reply)) (sym from)
     (open_ends c n m it.asked it.reply x it.opened))
   where
     sys : System w
-    sys = after config log
+    sys = system_after config log
 
     m : Machine w
-    m = remembered config log
+    m = one_memory_after config log
 
     c : ℕ
     c = link.0
@@ -200,7 +200,7 @@ ends-answer {w} config log link ch h x source f width is end e =
     n = end.first.number
 
     due : IsAnswerDue c n h.mail h.state
-    due = answer-due (is_caching config) c n end.first.rest h.mail h.state is.invariant (is.answered c n) (end.first.tokens ∙ ap (λ (i : Kind). token i n ∷ end.first.rest) e)
+    due = answer-due (is_caching config) c n end.first.rest h.mail h.state is.invariant (is.answered c n) (end.first.tokens ∙ ap (λ (i : Kind). packet i n ∷ end.first.rest) e)
 
     it : IsOver config log c n h
     it = over config log c n h is due.used

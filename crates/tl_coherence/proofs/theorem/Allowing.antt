@@ -19,23 +19,23 @@ use Rattle.tl_rules.specs.statement.History.{capped}
 use Rattle.tl_client.specs.declared.verdict.Finish.{Finish}
 use Rattle.tl_client.specs.declared.verdict.Finish.TheVariants as finish
 use Rattle.tl_manager.proofs.Recording.{cap-gives}
-use Rattle.tl_coherence.specs.refinement.Beside.{IsLet, op_of}
-use Rattle.tl_coherence.specs.refinement.Follow.{Shadow}
-use Rattle.tl_coherence.specs.statement.Log.{Log, after}
+use Rattle.tl_coherence.specs.refinement.MemoryRelation.{IsLet, op_of}
+use Rattle.tl_coherence.specs.refinement.AbstractStep.{AbstractState}
+use Rattle.tl_coherence.specs.statement.Log.{Log, system_after}
 use Rattle.tl_coherence.specs.statement.Machine.{Ends, EndsOp, Machine, Open, Releases, cap_named, pool_of}
-use Rattle.tl_coherence.specs.protocol.Phase.{Acquiring, Wants, grant_fits}
-use Rattle.tl_coherence.specs.protocol.Protocol.{is_on, token}
-use Rattle.tl_coherence.specs.statement.Remembered.{remembered}
-use Rattle.tl_coherence.specs.refinement.Render.{message_of_kind, rendered}
+use Rattle.tl_coherence.specs.protocol.Phase.{AcquirePhase, AcquireOpen, grant_fits}
+use Rattle.tl_coherence.specs.protocol.Protocol.{is_on, packet}
+use Rattle.tl_coherence.specs.statement.OneMemory.{one_memory_after}
+use Rattle.tl_coherence.specs.refinement.PacketMessages.{message_of_kind, block_message}
 use Rattle.tl_coherence.specs.statement.System.{System}
-use Rattle.tl_coherence.specs.protocol.Token.{Kind, Request, Acquire, Probe, ProbeAck, Release, Answer, Grant, ReleaseAck, GrantAck}
-use Rattle.tl_coherence.specs.refinement.Whole.{IsMatched, is_caching}
-use Rattle.tl_coherence.proofs.protocol.Due.{ack_message, ack-due, grant-due, grant-rendered, grant_message}
+use Rattle.tl_coherence.specs.protocol.Packet.{Kind, Request, Acquire, Probe, ProbeAck, Release, Answer, Grant, ReleaseAck, GrantAck}
+use Rattle.tl_coherence.specs.refinement.SimulationRelation.{SimulationRelation, is_caching}
+use Rattle.tl_coherence.proofs.protocol.HeadOfD.{ack_message, ack-due, grant-due, grant-rendered, grant_message}
 use Rattle.tl_coherence.proofs.links.Ending.{IsEnding}
 use Rattle.tl_coherence.proofs.links.Granting.{granted-at, opened-acquire, released-at, same-response}
 
 -- what is granted to a store of the whole block is Trunk
-whole_trunk : (recorded held : Perm) (d : Bool) (k : Cap) (g : Grow) → grant_fits recorded held d k (Wants true g) ≡ true → cap_right k ≡ perm.Trunk
+whole_trunk : (recorded held : Perm) (d : Bool) (k : Cap) (g : Grow) → grant_fits recorded held d k (AcquireOpen true g) ≡ true → cap_right k ≡ perm.Trunk
 whole_trunk perm.Trunk held d cap.ToT g e = refl
 whole_trunk perm.Trunk held d cap.ToB g e = absurd cc
 whole_trunk perm.Trunk held d cap.ToN g e = absurd cc
@@ -50,7 +50,7 @@ whole_trunk perm.None held d cap.ToN grow.NtoB e = absurd cc
 whole_trunk perm.None held d cap.ToN grow.NtoT e = absurd cc
 whole_trunk perm.None held d cap.ToN grow.BtoT e = absurd cc
 
-ends_granted : {w : ℕ} (n : ℕ) (bytes : List ℕ) (x : Beat w) (k : Cap) (whole : Bool) (g : Grow) (y : Acquiring) → y ≡ Wants whole g → cap_named x ≡ cap_right k
+ends_granted : {w : ℕ} (n : ℕ) (bytes : List ℕ) (x : Beat w) (k : Cap) (whole : Bool) (g : Grow) (y : AcquirePhase) → y ≡ AcquireOpen whole g → cap_named x ≡ cap_right k
     → (whole ≡ true → cap_right k ≡ perm.Trunk)
     → EndsOp (op_of {w = w} y n bytes) None x (finish.Granted (cap_right k))
 ends_granted n bytes x k true g y e named trunk = rw e (ap finish.Granted (trunk refl))
@@ -63,14 +63,14 @@ let_open {w} n o opened x e is = go (rw e at is)
     go found = rw found.1 refl
 
 -- a Grant, and a ReleaseAck, end their operations as the machine allows
-pub ends-transfer : {w : ℕ} (config : Config) (log : Log w) (link : Link) (ch : Channel) (h : Shadow w) (x : Beat w) (source : ℕ) (f : Finish)
-    → IsMatched config log h.mail h.request h.state (after config log)
-    → (end : IsEnding config log link ch h x source f) → (end.first.kind ≡ Answer → ⊥) → Ends ((remembered config log).opened link.0 (pool_of f) source) x f
-unfolding rendered
+pub ends-transfer : {w : ℕ} (config : Config) (log : Log w) (link : Link) (ch : Channel) (h : AbstractState w) (x : Beat w) (source : ℕ) (f : Finish)
+    → SimulationRelation config log h.mail h.request h.state (system_after config log)
+    → (end : IsEnding config log link ch h x source f) → (end.first.kind ≡ Answer → ⊥) → Ends ((one_memory_after config log).opened link.0 (pool_of f) source) x f
+unfolding block_message
 ends-transfer {w} config log link ch h x source f is end other = go end.first.kind refl end.first.own
   where
     sys : System w
-    sys = after config log
+    sys = system_after config log
 
     c : ℕ
     c = link.0
@@ -79,10 +79,10 @@ ends-transfer {w} config log link ch h x source f is end other = go end.first.ki
     n = end.first.number
 
     m : Machine w
-    m = remembered config log
+    m = one_memory_after config log
 
-    tokens : (k : Kind) → end.first.kind ≡ k → (h.state.link c).d ≡ token k n ∷ end.first.rest
-    tokens k e = end.first.tokens ∙ ap (λ (i : Kind). token i n ∷ end.first.rest) e
+    tokens : (k : Kind) → end.first.kind ≡ k → (h.state.link c).d ≡ packet k n ∷ end.first.rest
+    tokens k e = end.first.tokens ∙ ap (λ (i : Kind). packet i n ∷ end.first.rest) e
 
     response_is : (k : Kind) → end.first.kind ≡ k → message_of_kind k h.mail h.state c n ≡ message.D end.response
     response_is k e = ap (λ (i : Kind). message_of_kind i h.mail h.state c n) (sym e) ∙ end.response_is
@@ -98,12 +98,12 @@ ends-transfer {w} config log link ch h x source f is end other = go end.first.ki
         let from : source ≡ (h.state.block n).source c = end.source_is ∙ ap (λ (i : MessageD w). i.source) same in
         let opened = opened-acquire config log h sys c source n (h.state.uses c source) is refl (ap (h.state.uses c) from ∙ due.used) in
         let named : cap_named x ≡ cap_right due.k = ap (λ (y : Beat w). cap_named y) end.beat_is ∙ ap (λ (i : MessageD w). capped i.param) same ∙ cap-gives due.k in
-        let fits : grant_fits ((h.state.block n).pair c).recorded ((h.state.block n).pair c).held due.data_too due.k (Wants due.whole due.g) ≡ true = due.fits in
+        let fits : grant_fits ((h.state.block n).pair c).recorded ((h.state.block n).pair c).held due.data_too due.k (AcquireOpen due.whole due.g) ≡ true = due.fits in
         subst (λ (i : Finish). Ends (m.opened c (pool_of i) source) x i) (sym fin)
         (subst (λ (o : Option (Open w)). Ends o x (finish.Granted (cap_right due.k))) (sym opened)
         (ends_granted n ((h.state.block n).waiting c) x due.k due.whole due.g ((h.state.block n).pair c).acquiring due.wants named
         (λ whole. whole_trunk ((h.state.block n).pair c).recorded ((h.state.block n).pair c).held due.data_too due.k due.g
-        (ap (λ (b : Bool). grant_fits ((h.state.block n).pair c).recorded ((h.state.block n).pair c).held due.data_too due.k (Wants b due.g)) (sym whole)
+        (ap (λ (b : Bool). grant_fits ((h.state.block n).pair c).recorded ((h.state.block n).pair c).held due.data_too due.k (AcquireOpen b due.g)) (sym whole)
         ∙ fits))))
     go ReleaseAck e own =
         let sent : MessageD w = ack_message ((h.state.block n).release_source c) in

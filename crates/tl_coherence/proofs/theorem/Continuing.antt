@@ -20,17 +20,17 @@ use Rattle.tl_manager.specs.statement.Deed.{deed}
 use Rattle.tl_manager.proofs.Events.{deed-ack}
 use Rattle.tl_coherence.specs.declared.event.Event.TheVariants.{Deliver}
 use Rattle.tl_coherence.specs.statement.Draining.{is_moving}
-use Rattle.tl_coherence.specs.refinement.Follow.{Shadow}
-use Rattle.tl_coherence.specs.statement.Log.{Log, after}
+use Rattle.tl_coherence.specs.refinement.AbstractStep.{AbstractState}
+use Rattle.tl_coherence.specs.statement.Log.{Log, system_after}
 use Rattle.tl_coherence.specs.statement.Machine.{Machine, Performs, moved}
-use Rattle.tl_coherence.specs.statement.Remembered.{remembered, performing, accesses_answered}
+use Rattle.tl_coherence.specs.statement.OneMemory.{one_memory_after, performing, accesses_answered}
 use Rattle.tl_coherence.specs.statement.Step.{Step, stepped, handed_by, is_to_client}
 use Rattle.tl_coherence.specs.statement.System.{System, terms_at}
-use Rattle.tl_coherence.specs.refinement.Whole.{IsMatched}
+use Rattle.tl_coherence.specs.refinement.SimulationRelation.{SimulationRelation}
 use Rattle.tl_coherence.proofs.memory.BesideRequests.{IsOnce, once-performs}
-use Rattle.tl_coherence.proofs.links.Firsts.{first-of}
-use Rattle.tl_coherence.proofs.simulation.Goods.{IsOfClient, IsFitAnswer, fit-taken}
-use Rattle.tl_coherence.proofs.deliveries.HeardAll.{unmoved}
+use Rattle.tl_coherence.proofs.links.HeadsOfLinks.{first-of}
+use Rattle.tl_coherence.proofs.simulation.BeatsInFlight.{IsOfClient, IsFitAnswer, fit-taken}
+use Rattle.tl_coherence.proofs.deliveries.DeliverDWhole.{unmoved}
 use Rattle.tl_coherence.proofs.deliveries.Matching.{not_moving, stepped-nobody}
 use Rattle.tl_coherence.proofs.simulation.Moved.{client-moves, manager-moves}
 use Rattle.tl_coherence.proofs.deliveries.ReportsAfter.{once-followed_c}
@@ -71,18 +71,18 @@ ack-none : {w : ℕ} (config : Config) (link : Link) (x : Beat w) (sys : System 
 unfolding accesses_answered
 ack-none config link x sys y e = rw (e, deed-ack config link y sys.manager) refl
 
-pub performs-delivered : {w : ℕ} (config : Config) (log : Log w) (link : Link) (ch : Channel) (h : Shadow w) → IsWidth w → IsMatched config log h.mail h.request h.state (after config log)
-    → Performs (accesses_answered (stepped config (Deliver link ch) (after config log)).handed)
-    (moved (Deliver link ch) (stepped config (Deliver link ch) (after config log)).outcome (remembered config log))
-    (remembered config ((Deliver link ch, (stepped config (Deliver link ch) (after config log)).outcome) ∷ log))
-unfolding remembered
+pub performs-delivered : {w : ℕ} (config : Config) (log : Log w) (link : Link) (ch : Channel) (h : AbstractState w) → IsWidth w → SimulationRelation config log h.mail h.request h.state (system_after config log)
+    → Performs (accesses_answered (stepped config (Deliver link ch) (system_after config log)).handed)
+    (moved (Deliver link ch) (stepped config (Deliver link ch) (system_after config log)).outcome (one_memory_after config log))
+    (one_memory_after config ((Deliver link ch, (stepped config (Deliver link ch) (system_after config log)).outcome) ∷ log))
+unfolding one_memory_after
 performs-delivered {w} config log link ch h width is = go (is_moving (stepped config (Deliver link ch) sys).outcome) refl
   where
     sys : System w
-    sys = after config log
+    sys = system_after config log
 
     m : Machine w
-    m = remembered config log
+    m = one_memory_after config log
 
     c : ℕ
     c = link.0

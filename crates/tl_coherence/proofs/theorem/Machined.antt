@@ -20,16 +20,16 @@ use Rattle.tl_coherence.specs.declared.event.Event.{Event}
 use Rattle.tl_coherence.specs.declared.event.Event.TheVariants.{Ask, Deliver}
 use Rattle.tl_coherence.specs.declared.event.Outcome.{Outcome}
 use Rattle.tl_coherence.specs.declared.event.Outcome.TheVariants as outcome
-use Rattle.tl_coherence.specs.refinement.Follow.{Shadow}
+use Rattle.tl_coherence.specs.refinement.AbstractStep.{AbstractState}
 use Rattle.tl_coherence.specs.statement.Headline.{AreTyped, Continues}
-use Rattle.tl_coherence.specs.statement.Log.{Log, IsLog, after}
+use Rattle.tl_coherence.specs.statement.Log.{Log, IsLog, system_after}
 use Rattle.tl_coherence.specs.statement.Machine.{Ends, IsStep, Machine, Performs, Run, is_client, moved, pool_of}
-use Rattle.tl_coherence.specs.statement.Remembered.{remembered, accesses_answered, performing}
+use Rattle.tl_coherence.specs.statement.OneMemory.{one_memory_after, accesses_answered, performing}
 use Rattle.tl_coherence.specs.statement.Step.{Step, stepped, judged, manager_took, is_to_client}
 use Rattle.tl_coherence.specs.statement.Step as step
 use Rattle.tl_coherence.specs.statement.System.{System, terms_at}
-use Rattle.tl_coherence.specs.protocol.Token.{Kind, Request, Acquire, Probe, ProbeAck, Release, Answer, Grant, ReleaseAck, GrantAck}
-use Rattle.tl_coherence.specs.refinement.Whole.{IsMatched}
+use Rattle.tl_coherence.specs.protocol.Packet.{Kind, Request, Acquire, Probe, ProbeAck, Release, Answer, Grant, ReleaseAck, GrantAck}
+use Rattle.tl_coherence.specs.refinement.SimulationRelation.{SimulationRelation}
 use Rattle.tl_coherence.proofs.theorem.Allowing.{ends-transfer}
 use Rattle.tl_coherence.proofs.theorem.AccessEnds.{ends-answer}
 use Rattle.tl_coherence.proofs.deliveries.AskedAfter.{continues-ask}
@@ -106,29 +106,29 @@ step_allowed config link ch outcome.NoSuchClient m so known done = absurd cc
 -- ---- events
 
 nobody-continues : {w : ℕ} (config : Config) (log : Log w) (event : Event w) → terms_at config (step.client_of event) ≡ None
-    → Continues config (event, (stepped config event (after config log)).outcome) log
-unfolding remembered performing Performs accesses_answered
+    → Continues config (event, (stepped config event (system_after config log)).outcome) log
+unfolding one_memory_after performing Performs accesses_answered
 nobody-continues {w} config log event none =
-    rw (stepped-nobody config event (after config log) none) (remembered config log, [], (rw none refl, refl), same event)
+    rw (stepped-nobody config event (system_after config log) none) (one_memory_after config log, [], (rw none refl, refl), same event)
   where
-    same : (e : Event w) → moved e outcome.NoSuchClient (remembered config log) ≡ remembered config log
+    same : (e : Event w) → moved e outcome.NoSuchClient (one_memory_after config log) ≡ one_memory_after config log
     same (Ask c o) = refl
     same (Deliver link ch) = refl
 
-continues-delivered : {w : ℕ} (config : Config) (log : Log w) (link : Link) (ch : Channel) (h : Shadow w) (terms : Terms) → IsWidth w
-    → IsMatched config log h.mail h.request h.state (after config log) → terms_at config link.0 ≡ Some terms
-    → Continues config (Deliver link ch, (stepped config (Deliver link ch) (after config log)).outcome) log
+continues-delivered : {w : ℕ} (config : Config) (log : Log w) (link : Link) (ch : Channel) (h : AbstractState w) (terms : Terms) → IsWidth w
+    → SimulationRelation config log h.mail h.request h.state (system_after config log) → terms_at config link.0 ≡ Some terms
+    → Continues config (Deliver link ch, (stepped config (Deliver link ch) (system_after config log)).outcome) log
 continues-delivered {w} config log link ch h terms width is known = (
-  moved (Deliver link ch) (stepped config (Deliver link ch) (after config log)).outcome m,
-  accesses_answered (stepped config (Deliver link ch) (after config log)).handed,
-  step_allowed config link ch (stepped config (Deliver link ch) (after config log)).outcome m (stepped-so config link ch terms (after config log) known) (ap is_some known) done,
+  moved (Deliver link ch) (stepped config (Deliver link ch) (system_after config log)).outcome m,
+  accesses_answered (stepped config (Deliver link ch) (system_after config log)).handed,
+  step_allowed config link ch (stepped config (Deliver link ch) (system_after config log)).outcome m (stepped-so config link ch terms (system_after config log) known) (ap is_some known) done,
   performs-delivered config log link ch h width is,
 )
   where
     m : Machine w
-    m = remembered config log
+    m = one_memory_after config log
 
-    done : (x : Beat w) (source : ℕ) (f : Finish) → (stepped config (Deliver link ch) (after config log)).outcome ≡ outcome.Done x source f → (ch ≡ channel.D)
+    done : (x : Beat w) (source : ℕ) (f : Finish) → (stepped config (Deliver link ch) (system_after config log)).outcome ≡ outcome.Done x source f → (ch ≡ channel.D)
         × Ends (m.opened link.0 (pool_of f) source) x f
     done x source f e = (end.on_d, go end.first.kind refl)
       where
@@ -146,16 +146,16 @@ continues-delivered {w} config log link ch h terms width is known = (
         go ReleaseAck g = ends-transfer config log link ch h x source f is end (λ i. let no_one : ReleaseAck ≡ Answer = sym g ∙ i in cc)
         go GrantAck g = ends-transfer config log link ch h x source f is end (λ i. let no_one : GrantAck ≡ Answer = sym g ∙ i in cc)
 
-continues_event : {w : ℕ} (config : Config) (log : Log w) (event : Event w) (h : Shadow w) → IsWidth w
-    → IsMatched config log h.mail h.request h.state (after config log) → Continues config (event, (stepped config event (after config log)).outcome) log
+continues_event : {w : ℕ} (config : Config) (log : Log w) (event : Event w) (h : AbstractState w) → IsWidth w
+    → SimulationRelation config log h.mail h.request h.state (system_after config log) → Continues config (event, (stepped config event (system_after config log)).outcome) log
 continues_event {w} config log event h width is = go event (terms_at config (step.client_of event)) refl
   where
-    go : (e : Event w) (o : Option Terms) → terms_at config (step.client_of e) ≡ o → Continues config (e, (stepped config e (after config log)).outcome) log
+    go : (e : Event w) (o : Option Terms) → terms_at config (step.client_of e) ≡ o → Continues config (e, (stepped config e (system_after config log)).outcome) log
     go e None none = nobody-continues config log e none
     go (Deliver link ch) (Some terms) known = continues-delivered config log link ch h terms width is known
     go (Ask c o) (Some terms) known =
         subst (λ (i : Outcome w). Continues config (Ask c o, i) log)
-        (sym (ap (λ (x : Step w). x.outcome) (stepped-asked config c o (after config log) terms known)))
+        (sym (ap (λ (x : Step w). x.outcome) (stepped-asked config c o (system_after config log) terms known)))
         (continues-ask config log h c terms o width is known)
 
 -- Each event goes on from the machine before it.
@@ -176,5 +176,5 @@ all_continue config [] width typed logged = tt
 all_continue config (x ∷ log) width typed logged = (continues config log x width typed.1 logged, all_continue config log width typed.1 (logged_before config x log logged))
 
 -- The outcomes are a run of the one-memory machine.
-pub run : {w : ℕ} (config : Config) (log : Log w) → IsWidth w → AreTyped log → IsLog config log → Run config log (remembered config log)
+pub run : {w : ℕ} (config : Config) (log : Log w) → IsWidth w → AreTyped log → IsLog config log → Run config log (one_memory_after config log)
 run config log width typed logged = run-continued config log (all_continue config log width typed logged)

@@ -1,7 +1,7 @@
 -- One memory, coherent copies, and nothing that gets stuck.
 use Rattle.std.proofs.Common.{ℕ, arith}
 use Rattle.tl_coherence.specs.statement.Headline.{Headline, OneMemory}
-use Rattle.tl_coherence.proofs.links.Given.{coherent, unrefused}
+use Rattle.tl_coherence.proofs.links.FromInvariant.{coherent, unrefused}
 use Rattle.tl_coherence.proofs.theorem.Machined.{continues, run}
 use Rattle.tl_coherence.proofs.outstanding.Progress.{counted, moving}
 

@@ -6,30 +6,30 @@ use Rattle.tl_params.specs.declared.param.Cap.TheVariants as cap
 use Rattle.tl_params.specs.declared.param.Grow.TheVariants as grow
 use Rattle.tl_params.specs.declared.perm.Perm.TheVariants as perm
 use Rattle.tl_rules.specs.statement.Conformance.{same_perm}
-use Rattle.tl_coherence.specs.protocol.Phase.{Acquiring, Wants, same_cap, Pair, View, Quiet, Kept, Calm, ok, is_quiet, is_kept}
-use Rattle.tl_coherence.specs.protocol.Token.{Kind, Request, Answer, Holds, IsOrdered, count}
-use Rattle.tl_coherence.specs.protocol.Protocol.{Service, Free, Waits, Block, State, Use, Asked, InService, Replied, Acquires, view, is_wanting, is_granting, is_transfer, is_on, on, shown, tokens_on}
+use Rattle.tl_coherence.specs.protocol.Phase.{AcquirePhase, AcquireOpen, same_cap, ClientBlock, View, NoProbe, NoRelease, NoAcquire, ok, is_unprobed, is_unreleased}
+use Rattle.tl_coherence.specs.protocol.Packet.{Kind, Request, Answer, Holds, IsOrdered, count}
+use Rattle.tl_coherence.specs.protocol.Protocol.{Service, Free, Waits, Block, State, SourceState, Asked, InService, Replied, Acquires, view, is_wanting, is_granting, is_transfer, is_on, on, shown, packets_on}
 
 -- one with nothing in flight and nothing held
-abbrev pub resting : Pair
-resting = record { recorded = perm.None; probing = Quiet; letting = Kept; held = perm.None; acquiring = Calm }
+abbrev pub resting : ClientBlock
+resting = record { recorded = perm.None; probing = NoProbe; letting = NoRelease; held = perm.None; acquiring = NoAcquire }
 
 -- what the client was given to write hasn't come back: Trunk is recorded, and its Grant was taken
-abbrev pub is_out : Pair → View → Bool
+abbrev pub is_out : ClientBlock → View → Bool
 is_out p v = same_perm p.recorded perm.Trunk && not (is_granting v)
 
 -- a service that waits has someone to wait for
-abbrev pub IsAwaited : Service → (ℕ → Pair) → Type 0
-IsAwaited (Waits r own s k) pair = (c : ℕ) × (is_quiet (pair c).probing ≡ false)
+abbrev pub IsAwaited : Service → (ℕ → ClientBlock) → Type 0
+IsAwaited (Waits r own s k) pair = (c : ℕ) × (is_unprobed (pair c).probing ≡ false)
 IsAwaited _ pair = ⊤
 
 -- the cap with which an Acquire probes
-abbrev pub cap_asked : Acquiring → Cap
-cap_asked (Wants whole grow.NtoB) = cap.ToB
+abbrev pub cap_asked : AcquirePhase → Cap
+cap_asked (AcquireOpen whole grow.NtoB) = cap.ToB
 cap_asked _ = cap.ToN
 
 -- a service for an Acquire probes with its cap
-abbrev pub IsAskedCap : Service → (ℕ → Pair) → Type 0
+abbrev pub IsAskedCap : Service → (ℕ → ClientBlock) → Type 0
 IsAskedCap (Waits r true s k) pair = same_cap k (cap_asked (pair r).acquiring) ≡ true
 IsAskedCap _ pair = ⊤
 
@@ -39,16 +39,16 @@ IsOwnSource (Waits r true s k) source = s ≡ source r
 IsOwnSource _ source = ⊤
 
 -- a Trunk that is probed is probed alone
-abbrev pub IsAlone : (ℕ → Pair) → Type 0
+abbrev pub IsAlone : (ℕ → ClientBlock) → Type 0
 IsAlone pair =
-    (c d : ℕ) → same_perm (pair c).recorded perm.Trunk ≡ true → is_quiet (pair c).probing ≡ false → (d ≡ c → ⊥) → is_quiet (pair d).probing ≡ true
+    (c d : ℕ) → same_perm (pair c).recorded perm.Trunk ≡ true → is_unprobed (pair c).probing ≡ false → (d ≡ c → ⊥) → is_unprobed (pair d).probing ≡ true
 
 -- beside a Trunk nobody is recorded
-abbrev pub IsOwned : (ℕ → Pair) → Type 0
+abbrev pub IsOwned : (ℕ → ClientBlock) → Type 0
 IsOwned pair = (c d : ℕ) → same_perm (pair c).recorded perm.Trunk ≡ true → (d ≡ c → ⊥) → same_perm (pair d).recorded perm.None ≡ true
 
 -- only caching clients have to do with blocks
-abbrev pub AreOutside : (ℕ → Bool) → (ℕ → Pair) → Type 0
+abbrev pub AreOutside : (ℕ → Bool) → (ℕ → ClientBlock) → Type 0
 AreOutside caching pair = (c : ℕ) → caching c ≡ false → pair c ≡ resting
 
 pub record IsWell {X : Type 0} (caching : ℕ → Bool) (b : Block X) : Type 0 where
@@ -66,11 +66,11 @@ pub record IsWell {X : Type 0} (caching : ℕ → Bool) (b : Block X) : Type 0 w
   -- and so has memory, unless Trunk was given and hasn't come back
   pub memory : ((c : ℕ) → is_out (b.pair c) (view b.service c) ≡ false) → b.memory ≡ b.truth
 
-abbrev pub is_asked : Use → Bool
+abbrev pub is_asked : SourceState → Bool
 is_asked Asked = true
 is_asked _ = false
 
-abbrev pub is_replied : Use → Bool
+abbrev pub is_replied : SourceState → Bool
 is_replied Replied = true
 is_replied _ = false
 
@@ -80,11 +80,11 @@ abbrev pub is_of : ℕ → Option ℕ → Bool
 is_of n None = false
 is_of n (Some m) = n == m
 
-abbrev pub acquires_of : ℕ → Use → Bool
+abbrev pub acquires_of : ℕ → SourceState → Bool
 acquires_of n (Acquires m) = n == m
 acquires_of n _ = false
 
-abbrev pub serves_of : ℕ → Use → Bool
+abbrev pub serves_of : ℕ → SourceState → Bool
 serves_of n (InService m) = n == m
 serves_of n _ = false
 
@@ -102,7 +102,7 @@ serves_with c source b = is_serving c source b.service
 
 -- the client's Release of the block is open with this source
 abbrev pub releases_with : {X : Type 0} → ℕ → ℕ → Block X → Bool
-releases_with c source b = not (is_kept (b.pair c).letting) && (source == b.release_source c)
+releases_with c source b = not (is_unreleased (b.pair c).letting) && (source == b.release_source c)
 
 abbrev pub is_busy : Service → Bool
 is_busy Free = false
@@ -131,7 +131,7 @@ pub record IsInvariant {X : Type 0} (caching : ℕ → Bool) (s : State X) : Typ
   pub requests : (c : ℕ) → Holds Request (s.link c).a (λ n. is_asked (s.uses c n))
   pub answers : (c : ℕ) → Holds Answer (s.link c).d (λ n. is_replied (s.uses c n))
   -- a channel has tokens of its own kinds alone
-  pub own_kinds : (c : ℕ) (ch : Channel) (k : Kind) (n : ℕ) → is_on ch k ≡ false → count k n (tokens_on ch (s.link c)) ≡ 0
+  pub own_kinds : (c : ℕ) (ch : Channel) (k : Kind) (n : ℕ) → is_on ch k ≡ false → count k n (packets_on ch (s.link c)) ≡ 0
   -- a ProbeAck of a block stands before a Release of it
   pub ordered : (c n : ℕ) → IsOrdered n (s.link c).c
   pub named : AreNamed s

@@ -11,9 +11,9 @@ use Rattle.tl_params.specs.declared.perm.Perm.{Perm}
 use Rattle.tl_params.specs.declared.perm.Perm.TheVariants as perm
 use Rattle.tl_params.specs.statement.Param.{prune_left, report_left}
 use Rattle.tl_rules.specs.statement.Conformance.{same_perm}
-use Rattle.tl_coherence.specs.protocol.Phase.{Pair, View, Idle, Own, Other, Granting, Acknowledging, GrantedOther, Probing, Sent, Answered, Letting, Releasing, Acked, Acquiring, Calm, Wants}
+use Rattle.tl_coherence.specs.protocol.Phase.{ClientBlock, View, Idle, Own, Other, Granting, Acknowledging, GrantedOther, ProbePhase, ProbeSent, ProbeAnswered, ReleasePhase, ReleaseSent, ReleaseAcked, AcquirePhase, NoAcquire, AcquireOpen}
 use Rattle.tl_coherence.specs.protocol.PhaseSteps.{is_above, after_acquire, after_release, after_served, after_grant_sent, after_probe, after_report, after_release_taken, after_release_ack, after_grant}
-use Rattle.tl_coherence.specs.protocol.Token.{Kind, Request, Acquire, Probe, ProbeAck, Release, Answer, Grant, ReleaseAck, GrantAck, Token, set, set_at}
+use Rattle.tl_coherence.specs.protocol.Packet.{Kind, Request, Acquire, Probe, ProbeAck, Release, Answer, Grant, ReleaseAck, GrantAck, Packet, set, set_at}
 
 -- how a block is in service: not at all; for a client's Acquire (`own`) or access with this source,
 -- waiting for ProbeAcks with this cap; a Grant on channel D, with data or without; its GrantAck on E
@@ -34,7 +34,7 @@ view (GrantTaken r) c = if c == r then Acknowledging else GrantedOther
 pub record Block (X : Type 0) : Type 0 where
   pub service : Service
   pub tracker : ℕ
-  pub pair : ℕ → Pair
+  pub pair : ℕ → ClientBlock
   pub source : ℕ → ℕ
   pub release_source : ℕ → ℕ
   pub copy : ℕ → X
@@ -44,34 +44,34 @@ pub record Block (X : Type 0) : Type 0 where
 
 -- the five channels of a link, the next token to be taken first
 pub record Link : Type 0 where
-  pub a : List Token
-  pub b : List Token
-  pub c : List Token
-  pub d : List Token
-  pub e : List Token
+  pub a : List Packet
+  pub b : List Packet
+  pub c : List Packet
+  pub d : List Packet
+  pub e : List Packet
 
 -- an A source of a client: free, an access on A, in service, or answered on D, or an Acquire of a block
-pub data Use : Type 0 where
-  Closed : Use
-  Asked : Use
-  InService : (block : ℕ) → Use
-  Replied : Use
-  Acquires : (block : ℕ) → Use
+pub data SourceState : Type 0 where
+  SourceFree : SourceState
+  Asked : SourceState
+  InService : (block : ℕ) → SourceState
+  Replied : SourceState
+  Acquires : (block : ℕ) → SourceState
 
 -- all blocks, the links of all clients, for each client and A source what it is used for, for each client and C
 -- source the block of the Release with it, and for each tracker the block that is in service with it
 pub record State (X : Type 0) : Type 0 where
   pub block : ℕ → Block X
   pub link : ℕ → Link
-  pub uses : ℕ → ℕ → Use
+  pub uses : ℕ → ℕ → SourceState
   pub lets : ℕ → ℕ → Option ℕ
   pub tracked : ℕ → Option ℕ
 
-abbrev pub token : Kind → ℕ → Token
-token k n = record { kind = k; number = n }
+abbrev pub packet : Kind → ℕ → Packet
+packet k n = record { kind = k; number = n }
 
 -- the channel of a kind
-abbrev pub on : Kind → Link → List Token
+abbrev pub on : Kind → Link → List Packet
 on Request l = l.a
 on Acquire l = l.a
 on Probe l = l.b
@@ -82,12 +82,12 @@ on Grant l = l.d
 on ReleaseAck l = l.d
 on GrantAck l = l.e
 
-abbrev pub tokens_on : Channel → Link → List Token
-tokens_on channel.A l = l.a
-tokens_on channel.B l = l.b
-tokens_on channel.C l = l.c
-tokens_on channel.D l = l.d
-tokens_on channel.E l = l.e
+abbrev pub packets_on : Channel → Link → List Packet
+packets_on channel.A l = l.a
+packets_on channel.B l = l.b
+packets_on channel.C l = l.c
+packets_on channel.D l = l.d
+packets_on channel.E l = l.e
 
 -- the kind is one of the channel
 abbrev pub is_on : Channel → Kind → Bool
@@ -109,29 +109,29 @@ is_transfer Request = false
 is_transfer Answer = false
 is_transfer _ = true
 
-abbrev pub is_wanting : Acquiring → Bool
-is_wanting (Wants whole g) = true
-is_wanting Calm = false
+abbrev pub is_wanting : AcquirePhase → Bool
+is_wanting (AcquireOpen whole g) = true
+is_wanting NoAcquire = false
 
 abbrev pub is_unserved : View → Bool
 is_unserved Own = false
 is_unserved (Granting d k) = false
 is_unserved _ = true
 
-abbrev pub is_sent : Probing → Bool
-is_sent (Sent k) = true
+abbrev pub is_sent : ProbePhase → Bool
+is_sent (ProbeSent k) = true
 is_sent _ = false
 
-abbrev pub is_answered : Probing → Bool
-is_answered (Answered r) = true
+abbrev pub is_answered : ProbePhase → Bool
+is_answered (ProbeAnswered r) = true
 is_answered _ = false
 
-abbrev pub is_releasing : Letting → Bool
-is_releasing (Releasing r) = true
+abbrev pub is_releasing : ReleasePhase → Bool
+is_releasing (ReleaseSent r) = true
 is_releasing _ = false
 
-abbrev pub is_acked : Letting → Bool
-is_acked Acked = true
+abbrev pub is_acked : ReleasePhase → Bool
+is_acked ReleaseAcked = true
 is_acked _ = false
 
 abbrev pub is_granting : View → Bool
@@ -142,7 +142,7 @@ abbrev pub is_acknowledging : View → Bool
 is_acknowledging Acknowledging = true
 is_acknowledging _ = false
 
-abbrev pub shows : Kind → Pair → View → Bool
+abbrev pub shows : Kind → ClientBlock → View → Bool
 shows Acquire p v = is_wanting p.acquiring && is_unserved v
 shows Probe p v = is_sent p.probing
 shows ProbeAck p v = is_answered p.probing
@@ -158,18 +158,18 @@ shown k c b = shows k (b.pair c) (view b.service c)
 -- ---- a client is asked, and starts an operation with this source
 
 -- with a token behind those of a channel
-abbrev pub with_a : Token → Link → Link
+abbrev pub with_a : Packet → Link → Link
 with_a x l = record l { a = l.a ++ x ∷ [] }
 
-abbrev pub with_c : Token → Link → Link
+abbrev pub with_c : Packet → Link → Link
 with_c x l = record l { c = l.c ++ x ∷ [] }
 
-abbrev pub with_d : Token → Link → Link
+abbrev pub with_d : Packet → Link → Link
 with_d x l = record l { d = l.d ++ x ∷ [] }
 
 abbrev pub access_asked : {X : Type 0} → ℕ → ℕ → State X → State X
 access_asked c source s =
-    record s { link = set c (with_a (token Request source) (s.link c)) s.link; uses = set_at c source Asked s.uses }
+    record s { link = set c (with_a (packet Request source) (s.link c)) s.link; uses = set_at c source Asked s.uses }
 
 -- the bytes wait for the Grant where the whole block is to be stored
 abbrev pub acquiring_block : {X : Type 0} → ℕ → ℕ → Bool → Grow → X → Block X → Block X
@@ -179,7 +179,7 @@ acquiring_block c source whole g bytes b =
 abbrev pub acquire_asked : {X : Type 0} → ℕ → ℕ → ℕ → Bool → Grow → X → State X → State X
 acquire_asked c n source whole g bytes s = record s {
   block = set n (acquiring_block c source whole g bytes (s.block n)) s.block;
-  link = set c (with_a (token Acquire n) (s.link c)) s.link;
+  link = set c (with_a (packet Acquire n) (s.link c)) s.link;
   uses = set_at c source (Acquires n) s.uses;
 }
 
@@ -189,7 +189,7 @@ releasing_block c source r b = record b { pair = set c (after_release r (b.pair 
 abbrev pub release_asked : {X : Type 0} → ℕ → ℕ → ℕ → Prune → State X → State X
 release_asked c n source r s = record s {
   block = set n (releasing_block c source r (s.block n)) s.block;
-  link = set c (with_c (token Release n) (s.link c)) s.link;
+  link = set c (with_c (packet Release n) (s.link c)) s.link;
   lets = set_at c source (Some n) s.lets;
 }
 
@@ -206,53 +206,53 @@ block_stored c n bytes s = record s { block = set n (stored_block c bytes (s.blo
 abbrev pub performed_block : {X : Type 0} → (X → X) → Block X → Block X
 performed_block f b = record b { memory = f b.memory; truth = f b.truth }
 
-abbrev pub answered_link : Token → List Token → Link → Link
+abbrev pub answered_link : Packet → List Packet → Link → Link
 answered_link x rest l = record l { a = rest; d = l.d ++ x ∷ [] }
 
-abbrev pub access_answered : {X : Type 0} → ℕ → ℕ → ℕ → (X → X) → List Token → State X → State X
+abbrev pub access_answered : {X : Type 0} → ℕ → ℕ → ℕ → (X → X) → List Packet → State X → State X
 access_answered c n source f rest s = record s {
   block = set n (performed_block f (s.block n)) s.block;
-  link = set c (answered_link (token Answer source) rest (s.link c)) s.link;
+  link = set c (answered_link (packet Answer source) rest (s.link c)) s.link;
   uses = set_at c source Replied s.uses;
 }
 
 abbrev pub granted_at_once : {X : Type 0} → ℕ → ℕ → Bool → Cap → Block X → Block X
 granted_at_once r tracker d k b = record b { service = GrantSent r d k; tracker = tracker; pair = set r (after_grant_sent k (b.pair r)) b.pair }
 
-abbrev pub acquire_granted : {X : Type 0} → ℕ → ℕ → ℕ → Bool → Cap → List Token → State X → State X
+abbrev pub acquire_granted : {X : Type 0} → ℕ → ℕ → ℕ → Bool → Cap → List Packet → State X → State X
 acquire_granted r n tracker d k rest s = record s {
   block = set n (granted_at_once r tracker d k (s.block n)) s.block;
-  link = set r (answered_link (token Grant n) rest (s.link r)) s.link;
+  link = set r (answered_link (packet Grant n) rest (s.link r)) s.link;
   tracked = set tracker (Some n) s.tracked;
 }
 
 -- ---- a request is taken, and clients are probed: all who are recorded with too much, but for the sender of an Acquire
 
-abbrev pub served_pair : ℕ → Bool → Cap → (ℕ → Pair) → ℕ → Pair
+abbrev pub served_pair : ℕ → Bool → Cap → (ℕ → ClientBlock) → ℕ → ClientBlock
 served_pair r own k pair d = if own && (d == r) then pair d else after_served k (pair d)
 
 abbrev pub served_block : {X : Type 0} → ℕ → Bool → ℕ → ℕ → Cap → Block X → Block X
 served_block r own source tracker k b = record b { service = Waits r own source k; tracker = tracker; pair = served_pair r own k b.pair }
 
 abbrev pub with_probe : ℕ → Bool → Link → Link
-with_probe n true l = record l { b = l.b ++ token Probe n ∷ [] }
+with_probe n true l = record l { b = l.b ++ packet Probe n ∷ [] }
 with_probe n false l = l
 
 abbrev pub is_probed : ℕ → Bool → Cap → Perm → ℕ → Bool
 is_probed r own k recorded d = not (own && (d == r)) && is_above k recorded
 
-abbrev pub served_link : {X : Type 0} → ℕ → Bool → ℕ → Cap → List Token → Block X → (ℕ → Link) → ℕ → Link
+abbrev pub served_link : {X : Type 0} → ℕ → Bool → ℕ → Cap → List Packet → Block X → (ℕ → Link) → ℕ → Link
 served_link r own n k rest b link d =
     with_probe n (is_probed r own k (b.pair d).recorded d) (if d == r then record (link d) { a = rest } else link d)
 
-abbrev pub acquire_served : {X : Type 0} → ℕ → ℕ → ℕ → ℕ → Cap → List Token → State X → State X
+abbrev pub acquire_served : {X : Type 0} → ℕ → ℕ → ℕ → ℕ → Cap → List Packet → State X → State X
 acquire_served r n source tracker k rest s = record s {
   block = set n (served_block r true source tracker k (s.block n)) s.block;
   link = served_link r true n k rest (s.block n) s.link;
   tracked = set tracker (Some n) s.tracked;
 }
 
-abbrev pub access_served : {X : Type 0} → ℕ → ℕ → ℕ → ℕ → Cap → List Token → State X → State X
+abbrev pub access_served : {X : Type 0} → ℕ → ℕ → ℕ → ℕ → Cap → List Packet → State X → State X
 access_served r n source tracker k rest s = record s {
   block = set n (served_block r false source tracker k (s.block n)) s.block;
   link = served_link r false n k rest (s.block n) s.link;
@@ -265,10 +265,10 @@ access_served r n source tracker k rest s = record s {
 abbrev pub probed_block : {X : Type 0} → ℕ → Cap → Block X → Block X
 probed_block c k b = record b { pair = set c (after_probe k (b.pair c)) b.pair }
 
-abbrev pub probed_link : ℕ → List Token → Link → Link
-probed_link n rest l = record l { b = rest; c = l.c ++ token ProbeAck n ∷ [] }
+abbrev pub probed_link : ℕ → List Packet → Link → Link
+probed_link n rest l = record l { b = rest; c = l.c ++ packet ProbeAck n ∷ [] }
 
-abbrev pub probe_taken : {X : Type 0} → ℕ → ℕ → Cap → List Token → State X → State X
+abbrev pub probe_taken : {X : Type 0} → ℕ → ℕ → Cap → List Packet → State X → State X
 probe_taken c n k rest s =
     record s { block = set n (probed_block c k (s.block n)) s.block; link = set c (probed_link n rest (s.link c)) s.link }
 
@@ -285,7 +285,7 @@ written r payload memory = written_from (report_left r) payload memory
 abbrev pub reported_block : {X : Type 0} → ℕ → Report → Block X → Block X
 reported_block c r b = record b { pair = set c (after_report r (b.pair c)) b.pair; memory = written r b.truth b.memory }
 
-abbrev pub report_taken : {X : Type 0} → ℕ → ℕ → Report → List Token → State X → State X
+abbrev pub report_taken : {X : Type 0} → ℕ → ℕ → Report → List Packet → State X → State X
 report_taken c n r rest s =
     record s { block = set n (reported_block c r (s.block n)) s.block; link = set c (record (s.link c) { c = rest }) s.link }
 
@@ -299,33 +299,33 @@ ended_block c r f b = record b {
 }
 
 -- without the first token of channel C
-abbrev pub popped_link : ℕ → List Token → (ℕ → Link) → ℕ → Link
+abbrev pub popped_link : ℕ → List Packet → (ℕ → Link) → ℕ → Link
 popped_link c rest link = set c (record (link c) { c = rest }) link
 
-abbrev pub ended_link : ℕ → ℕ → Token → List Token → (ℕ → Link) → ℕ → Link
+abbrev pub ended_link : ℕ → ℕ → Packet → List Packet → (ℕ → Link) → ℕ → Link
 ended_link c q x rest link d = if d == q then with_d x (popped_link c rest link d) else popped_link c rest link d
 
-abbrev pub report_answers : {X : Type 0} → ℕ → ℕ → ℕ → ℕ → Report → (X → X) → List Token → State X → State X
+abbrev pub report_answers : {X : Type 0} → ℕ → ℕ → ℕ → ℕ → Report → (X → X) → List Packet → State X → State X
 report_answers c q n source r f rest s = record s {
   block = set n (ended_block c r f (s.block n)) s.block;
-  link = ended_link c q (token Answer source) rest s.link;
+  link = ended_link c q (packet Answer source) rest s.link;
   uses = set_at q source Replied s.uses;
   tracked = set (s.block n).tracker None s.tracked;
 }
 
 -- it is the last one, and the Acquire that waited for it is granted
-abbrev pub granted_pair : ℕ → ℕ → Report → Cap → (ℕ → Pair) → ℕ → Pair
+abbrev pub granted_pair : ℕ → ℕ → Report → Cap → (ℕ → ClientBlock) → ℕ → ClientBlock
 granted_pair c q r k pair = set q (after_grant_sent k (pair q)) (set c (after_report r (pair c)) pair)
 
 abbrev pub granted_block : {X : Type 0} → ℕ → ℕ → Report → Bool → Cap → Block X → Block X
 granted_block c q r d k b =
     record b { service = GrantSent q d k; pair = granted_pair c q r k b.pair; memory = written r b.truth b.memory }
 
-abbrev pub granted_link : ℕ → ℕ → ℕ → List Token → (ℕ → Link) → ℕ → Link
+abbrev pub granted_link : ℕ → ℕ → ℕ → List Packet → (ℕ → Link) → ℕ → Link
 granted_link c q n rest link =
-    set q (record (link q) { d = (link q).d ++ token Grant n ∷ [] }) (set c (record (link c) { c = rest }) link)
+    set q (record (link q) { d = (link q).d ++ packet Grant n ∷ [] }) (set c (record (link c) { c = rest }) link)
 
-abbrev pub report_grants : {X : Type 0} → ℕ → ℕ → ℕ → Report → Bool → Cap → List Token → State X → State X
+abbrev pub report_grants : {X : Type 0} → ℕ → ℕ → ℕ → Report → Bool → Cap → List Packet → State X → State X
 report_grants c q n r d k rest s =
     record s { block = set n (granted_block c q r d k (s.block n)) s.block; link = granted_link c q n rest s.link }
 
@@ -334,18 +334,18 @@ report_grants c q n r d k rest s =
 abbrev pub let_block : {X : Type 0} → ℕ → Prune → Block X → Block X
 let_block c r b = record b { pair = set c (after_release_taken r (b.pair c)) b.pair; memory = written_from (prune_left r) b.truth b.memory }
 
-abbrev pub let_link : ℕ → List Token → Link → Link
-let_link n rest l = record l { c = rest; d = l.d ++ token ReleaseAck n ∷ [] }
+abbrev pub let_link : ℕ → List Packet → Link → Link
+let_link n rest l = record l { c = rest; d = l.d ++ packet ReleaseAck n ∷ [] }
 
-abbrev pub release_taken : {X : Type 0} → ℕ → ℕ → Prune → List Token → State X → State X
+abbrev pub release_taken : {X : Type 0} → ℕ → ℕ → Prune → List Packet → State X → State X
 release_taken c n r rest s =
     record s { block = set n (let_block c r (s.block n)) s.block; link = set c (let_link n rest (s.link c)) s.link }
 
 -- ---- a response is taken
 
-abbrev pub answer_taken : {X : Type 0} → ℕ → ℕ → List Token → State X → State X
+abbrev pub answer_taken : {X : Type 0} → ℕ → ℕ → List Packet → State X → State X
 answer_taken c source rest s =
-    record s { link = set c (record (s.link c) { d = rest }) s.link; uses = set_at c source Closed s.uses }
+    record s { link = set c (record (s.link c) { d = rest }) s.link; uses = set_at c source SourceFree s.uses }
 
 -- the copy and the one memory after a Grant: of a store of the whole block, the bytes that waited for it
 abbrev pub granted_copy : {X : Type 0} → Bool → Bool → X → X → X → X
@@ -365,20 +365,20 @@ taken_block c whole d k b = record b {
   truth = granted_truth whole (b.waiting c) b.truth;
 }
 
-abbrev pub taken_link : ℕ → List Token → Link → Link
-taken_link n rest l = record l { d = rest; e = l.e ++ token GrantAck n ∷ [] }
+abbrev pub taken_link : ℕ → List Packet → Link → Link
+taken_link n rest l = record l { d = rest; e = l.e ++ packet GrantAck n ∷ [] }
 
-abbrev pub grant_taken : {X : Type 0} → ℕ → ℕ → Bool → Bool → Cap → List Token → State X → State X
+abbrev pub grant_taken : {X : Type 0} → ℕ → ℕ → Bool → Bool → Cap → List Packet → State X → State X
 grant_taken c n whole d k rest s = record s {
   block = set n (taken_block c whole d k (s.block n)) s.block;
   link = set c (taken_link n rest (s.link c)) s.link;
-  uses = set_at c ((s.block n).source c) Closed s.uses;
+  uses = set_at c ((s.block n).source c) SourceFree s.uses;
 }
 
 abbrev pub let_go_block : {X : Type 0} → ℕ → Block X → Block X
 let_go_block c b = record b { pair = set c (after_release_ack (b.pair c)) b.pair }
 
-abbrev pub release_ack_taken : {X : Type 0} → ℕ → ℕ → List Token → State X → State X
+abbrev pub release_ack_taken : {X : Type 0} → ℕ → ℕ → List Packet → State X → State X
 release_ack_taken c n rest s = record s {
   block = set n (let_go_block c (s.block n)) s.block;
   link = set c (record (s.link c) { d = rest }) s.link;
@@ -390,7 +390,7 @@ release_ack_taken c n rest s = record s {
 abbrev pub freed_block : {X : Type 0} → Block X → Block X
 freed_block b = record b { service = Free }
 
-abbrev pub grant_ack_taken : {X : Type 0} → ℕ → ℕ → List Token → State X → State X
+abbrev pub grant_ack_taken : {X : Type 0} → ℕ → ℕ → List Packet → State X → State X
 grant_ack_taken c n rest s = record s {
   block = set n (freed_block (s.block n)) s.block;
   link = set c (record (s.link c) { e = rest }) s.link;

@@ -3,8 +3,8 @@ use Rattle.std.specs.Prelude.{ℕ, Bool, true, not, List, [], ◌∷◌, ◌++�
 use Rattle.std.specs.Bool.{beq}
 use Rattle.tl_beat.specs.declared.channel.Channel.{Channel}
 use Rattle.tl_beat.specs.declared.channel.Channel.TheVariants as channel
-use Rattle.tl_coherence.specs.protocol.Token.{Kind, Request, Acquire, Probe, ProbeAck, Release, Answer, Grant, ReleaseAck, GrantAck, Token, same_kind}
-use Rattle.tl_coherence.specs.protocol.Protocol.{Link, token, tokens_on, is_on}
+use Rattle.tl_coherence.specs.protocol.Packet.{Kind, Request, Acquire, Probe, ProbeAck, Release, Answer, Grant, ReleaseAck, GrantAck, Packet, same_kind}
+use Rattle.tl_coherence.specs.protocol.Protocol.{Link, packet, packets_on, is_on}
 
 pub data Move : Type 0 where
   Stays : Move
@@ -24,10 +24,10 @@ channel_for ReleaseAck = channel.D
 channel_for GrantAck = channel.E
 
 -- the tokens after a move
-abbrev pub IsMoved : Move → List Token → List Token → Type 0
+abbrev pub IsMoved : Move → List Packet → List Packet → Type 0
 IsMoved Stays xs ys = ys ≡ xs
-IsMoved (Pushes k n) xs ys = ys ≡ xs ++ token k n ∷ []
-IsMoved (Pops k n) xs ys = xs ≡ token k n ∷ ys
+IsMoved (Pushes k n) xs ys = ys ≡ xs ++ packet k n ∷ []
+IsMoved (Pops k n) xs ys = xs ≡ packet k n ∷ ys
 
 -- the token of kind k and number n is there before and after the move as these tests say, and no other number of the
 -- kind moves
@@ -44,4 +44,4 @@ is_own_move ch (Pops k n) = is_on ch k
 
 -- the link after these moves
 abbrev pub AreMoved : (Channel → Move) → Link → Link → Type 0
-AreMoved moves l k = (ch : Channel) → IsMoved (moves ch) (tokens_on ch l) (tokens_on ch k)
+AreMoved moves l k = (ch : Channel) → IsMoved (moves ch) (packets_on ch l) (packets_on ch k)

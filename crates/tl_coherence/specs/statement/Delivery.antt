@@ -19,7 +19,7 @@ use Rattle.tl_coherence.specs.declared.event.Outcome.{Outcome}
 use Rattle.tl_coherence.specs.declared.event.Outcome.TheVariants as outcome
 use Rattle.tl_coherence.specs.statement.Coherent.{started}
 use Rattle.tl_coherence.specs.statement.Flow.{flow}
-use Rattle.tl_coherence.specs.statement.Log.{Log, after}
+use Rattle.tl_coherence.specs.statement.Log.{Log, system_after}
 use Rattle.tl_coherence.specs.statement.Machine.{Releases, is_client}
 use Rattle.tl_coherence.specs.statement.Movable.{is_movable}
 use Rattle.tl_coherence.specs.statement.Step.{is_to_client, stepped}
@@ -37,12 +37,12 @@ receiver ch link s = if is_to_client ch then (s.clients link).past else on_link 
 
 -- A channel holds, in order, the beats that one end handed out and the other hasn't taken, and those that
 -- were taken are those that were delivered.
-pub record IsCarried {w : ℕ} (s : System w) (log : Log w) (link : ℕ) (ch : Channel) : Type 0 where
+pub record IsFifo {w : ℕ} (s : System w) (log : Log w) (link : ℕ) (ch : Channel) : Type 0 where
   pub under_way : carried_on ch (sender ch link s) ≡ reverse (s.channels link ch) ++ carried_on ch (receiver ch link s)
   pub delivered : carried_on ch (receiver ch link s) ≡ carried_on ch (flow link log)
 
-abbrev pub Carries : ℕ → Type 0
-Carries w = (config : Config) (log : Log w) → IsGiven config log → (link : ℕ) (ch : Channel) → IsCarried (after config log) log link ch
+abbrev pub Fifo : ℕ → Type 0
+Fifo w = (config : Config) (log : Log w) → IsGiven config log → (link : ℕ) (ch : Channel) → IsFifo (system_after config log) log link ch
 
 -- what is delivered on each link breaks no rule
 abbrev pub Flows : ℕ → Type 0
@@ -62,15 +62,15 @@ sources_of None = 0
 sources_of (Some terms) = terms.sources
 
 -- no channel ever holds more
-abbrev pub Channels : ℕ → Type 0
-Channels w = (config : Config) (log : Log w) → IsGiven config log → (link : ℕ) (ch : Channel) →
-    length ((after config log).channels link ch) ≤ capacity (64 / w) (sources_of (terms_at config link)) config.trackers ch
+abbrev pub CapacityBound : ℕ → Type 0
+CapacityBound w = (config : Config) (log : Log w) → IsGiven config log → (link : ℕ) (ch : Channel) →
+    length ((system_after config log).channels link ch) ≤ capacity (64 / w) (sources_of (terms_at config link)) config.trackers ch
 
 -- ---- stalls
 
 -- what a delivery is answered
 abbrev pub outcome_of_delivery : {w : ℕ} → Config → Log w → ℕ → Channel → Outcome w
-outcome_of_delivery config log link ch = (stepped config (Deliver (record { 0 = link }) ch) (after config log)).outcome
+outcome_of_delivery config log link ch = (stepped config (Deliver (record { 0 = link }) ch) (system_after config log)).outcome
 
 abbrev pub is_emptiness : {w : ℕ} → Outcome w → Bool
 is_emptiness outcome.Empty = true
@@ -86,15 +86,15 @@ IsReleasing k block log = (source : ℕ) × (prune : Prune) × (started k Releas
 
 -- when a delivery moves the first beat of a channel of a client's link
 abbrev pub Moves : {w : ℕ} → Config → Log w → ℕ → Beat w → Type 0
-Moves config log link (beat.A x) = is_movable config link channel.A (after config log) ≡ not (must_wait config (record { 0 = link }) (beat.A x) (after config log).manager.trace)
-Moves config log link (beat.B x) = (is_movable config link channel.B (after config log) ≡ false) ↔ IsReleasing link (block_at x.address) log
-Moves config log link x = is_movable config link (channel_of x) (after config log) ≡ true
+Moves config log link (beat.A x) = is_movable config link channel.A (system_after config log) ≡ not (must_wait config (record { 0 = link }) (beat.A x) (system_after config log).manager.trace)
+Moves config log link (beat.B x) = (is_movable config link channel.B (system_after config log) ≡ false) ↔ IsReleasing link (block_at x.address) log
+Moves config log link x = is_movable config link (channel_of x) (system_after config log) ≡ true
 
 -- a delivery on a client's link
 pub record IsExact {w : ℕ} (config : Config) (log : Log w) (link : ℕ) (ch : Channel) : Type 0 where
-  pub empty : is_emptiness (outcome_of_delivery config log link ch) ≡ is_empty ((after config log).channels link ch)
-  pub stalled : is_stall (outcome_of_delivery config log link ch) ≡ not (is_empty ((after config log).channels link ch)) && not (is_movable config link ch (after config log))
-  pub moves : (x : Beat w) (rest : List (Beat w)) → (after config log).channels link ch ≡ x ∷ rest → Moves config log link x
+  pub empty : is_emptiness (outcome_of_delivery config log link ch) ≡ is_empty ((system_after config log).channels link ch)
+  pub stalled : is_stall (outcome_of_delivery config log link ch) ≡ not (is_empty ((system_after config log).channels link ch)) && not (is_movable config link ch (system_after config log))
+  pub moves : (x : Beat w) (rest : List (Beat w)) → (system_after config log).channels link ch ≡ x ∷ rest → Moves config log link x
 
 abbrev pub Stalls : ℕ → Type 0
 Stalls w = (config : Config) (log : Log w) → IsGiven config log → (link : ℕ) (ch : Channel) → is_client config link ≡ true → IsExact config log link ch

@@ -24,7 +24,7 @@ use Rattle.tl_coherence.specs.declared.event.Outcome.{Outcome}
 use Rattle.tl_coherence.specs.declared.event.Outcome.TheVariants as outcome
 use Rattle.tl_coherence.specs.statement.Coherent.{started}
 use Rattle.tl_coherence.specs.statement.Load.{outstanding, load}
-use Rattle.tl_coherence.specs.statement.Log.{Log, after}
+use Rattle.tl_coherence.specs.statement.Log.{Log, system_after}
 use Rattle.tl_coherence.specs.statement.Machine.{Requests}
 use Rattle.tl_coherence.specs.statement.Movable.{next_delivery, drained}
 use Rattle.tl_coherence.specs.statement.Headline.{IsGiven}
@@ -45,26 +45,26 @@ abbrev pub beats_moved : {w : ℕ} → Log w → ℕ
 beats_moved log = length (filter (λ x. is_moving x.1) log)
 
 -- deliveries move no more beats than the load before them
-abbrev pub Bound : ℕ → Type 0
-Bound w = (config : Config) (more log : Log w) → IsGiven config (more ++ log) → All (λ x. is_delivery x.0 ≡ true) more → beats_moved more ≤ load log
+abbrev pub DeliveryBound : ℕ → Type 0
+DeliveryBound w = (config : Config) (more log : Log w) → IsGiven config (more ++ log) → All (λ x. is_delivery x.0 ≡ true) more → beats_moved more ≤ load log
 
 -- n deliveries, each the next one, end what is outstanding
 pub record IsDrained {w : ℕ} (config : Config) (log : Log w) (n : ℕ) : Type 0 where
   pub so_many : length (drained config n log) ≡ n + length log
   pub few : n ≤ load log
-  pub stands : next_delivery config (after config (drained config n log)) ≡ None
+  pub stands : next_delivery config (system_after config (drained config n log)) ≡ None
   pub nothing_left : outstanding (drained config n log) ≡ 0
 
-abbrev pub Drain : ℕ → Type 0
-Drain w = (config : Config) (log : Log w) → IsGiven config log → (n : ℕ) × IsDrained config log n
+abbrev pub DrainsWithinLoad : ℕ → Type 0
+DrainsWithinLoad w = (config : Config) (log : Log w) → IsGiven config log → (n : ℕ) × IsDrained config log n
 
 -- ---- what an Acquire brings
 
 -- at a Grant the client holds what it is granted
-abbrev pub Grants : ℕ → Type 0
-Grants w = (config : Config) (log : Log w) (link : Link) (ch : Channel) (x : Beat w) (source : ℕ) (p : Perm) (op : Op w) →
+abbrev pub GrantedIsHeld : ℕ → Type 0
+GrantedIsHeld w = (config : Config) (log : Log w) (link : Link) (ch : Channel) (x : Beat w) (source : ℕ) (p : Perm) (op : Op w) →
     IsGiven config ((Deliver link ch, outcome.Done x source (Granted p)) ∷ log) → started link.0 Requests source log ≡ Some op →
-    held_at ((after config ((Deliver link ch, outcome.Done x source (Granted p)) ∷ log)).clients link.0) (op_block op) ≡ p
+    held_at ((system_after config ((Deliver link ch, outcome.Done x source (Granted p)) ∷ log)).clients link.0) (op_block op) ≡ p
 
 -- what the client may hold that asked so, and of whom nothing else was asked
 abbrev pub grown_to : Profile → Grow → Perm → Bool
@@ -72,8 +72,8 @@ grown_to profile.Two grow.NtoB perm.Trunk = true
 grown_to p grow held = same_perm (grow_right grow) held
 
 -- an Acquire that is started alone brings what it asks for
-abbrev pub Alone : ℕ → Type 0
-Alone w = (config : Config) (log : Log w) (client block source n : ℕ) (grow : Grow) → outstanding log ≡ 0 →
+abbrev pub LoneAcquire : ℕ → Type 0
+LoneAcquire w = (config : Config) (log : Log w) (client block source n : ℕ) (grow : Grow) → outstanding log ≡ 0 →
     IsGiven config ((Ask client (Acquire block grow), outcome.Replied (Started source)) ∷ log) →
     IsDrained config ((Ask client (Acquire block grow), outcome.Replied (Started source)) ∷ log) n →
-    grown_to config.profile grow (held_at ((after config (drained config n ((Ask client (Acquire block grow), outcome.Replied (Started source)) ∷ log))).clients client) block) ≡ true
+    grown_to config.profile grow (held_at ((system_after config (drained config n ((Ask client (Acquire block grow), outcome.Replied (Started source)) ∷ log))).clients client) block) ≡ true

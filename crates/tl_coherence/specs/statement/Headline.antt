@@ -11,10 +11,10 @@ use Rattle.tl_coherence.specs.declared.event.Event.TheVariants.{Ask, Deliver}
 use Rattle.tl_coherence.specs.declared.event.Outcome.{Outcome}
 use Rattle.tl_coherence.specs.statement.Coherent.{IsCoherent}
 use Rattle.tl_coherence.specs.statement.Load.{starts_request, starts_release, ends_request, ends_release, number, outstanding}
-use Rattle.tl_coherence.specs.statement.Log.{Log, IsLog, after}
+use Rattle.tl_coherence.specs.statement.Log.{Log, IsLog, system_after}
 use Rattle.tl_coherence.specs.statement.Machine.{Machine, IsStep, Performs, Run}
 use Rattle.tl_coherence.specs.statement.Movable.{next_delivery}
-use Rattle.tl_coherence.specs.statement.Remembered.{remembered}
+use Rattle.tl_coherence.specs.statement.OneMemory.{one_memory_after}
 use Rattle.tl_coherence.specs.statement.System.{System}
 
 -- ---- what is given
@@ -51,17 +51,17 @@ pub record IsUnrefused {w : ℕ} (s : System w) : Type 0 where
 abbrev pub Continues : {w : ℕ} → Config → Event w × Outcome w → Log w → Type 0
 Continues {w} config x log =
     (next : Machine w) × (accesses : List (ℕ × ℕ))
-    × IsStep config x.0 x.1 (remembered config log) next × Performs accesses next (remembered config (x ∷ log))
+    × IsStep config x.0 x.1 (one_memory_after config log) next × Performs accesses next (one_memory_after config (x ∷ log))
 
 pub record IsSound {w : ℕ} (config : Config) (log : Log w) : Type 0 where
   -- the outcomes are a run of the one-memory machine
-  pub run : Run config log (remembered config log)
+  pub run : Run config log (one_memory_after config log)
   pub continues : (x : Event w × Outcome w) → IsTyped x.0 → IsLog config (x ∷ log) → Continues config x log
   -- copies are coherent, with that memory
-  pub coherent : IsCoherent (after config log) log (remembered config log)
-  pub unrefused : IsUnrefused (after config log)
+  pub coherent : IsCoherent (system_after config log) log (one_memory_after config log)
+  pub unrefused : IsUnrefused (system_after config log)
   -- a delivery moves a beat exactly while something is outstanding
-  pub moving : is_none (next_delivery config (after config log)) ≡ (outstanding log == 0)
+  pub moving : is_none (next_delivery config (system_after config log)) ≡ (outstanding log == 0)
   -- no more ended than was started
   pub requests_balance : number (λ e o. ends_request o) log ≤ number starts_request log
   pub releases_balance : number (λ e o. ends_release o) log ≤ number starts_release log
@@ -76,16 +76,16 @@ Headline w = (config : Config) (log : Log w) → IsGiven config log → IsSound 
 -- The outcomes are a run of the one-memory machine, with which each event that comes next goes on.
 abbrev pub OneMemory : ℕ → Type 0
 OneMemory w = (config : Config) (log : Log w) → IsGiven config log →
-    Run config log (remembered config log) × ((x : Event w × Outcome w) → IsTyped x.0 → IsLog config (x ∷ log) → Continues config x log)
+    Run config log (one_memory_after config log) × ((x : Event w × Outcome w) → IsTyped x.0 → IsLog config (x ∷ log) → Continues config x log)
 
 -- No beat between a manager and its clients is refused.
 abbrev pub Unrefused : ℕ → Type 0
-Unrefused w = (config : Config) (log : Log w) → IsGiven config log → IsUnrefused (after config log)
+Unrefused w = (config : Config) (log : Log w) → IsGiven config log → IsUnrefused (system_after config log)
 
 -- Copies are coherent with the one memory.
 abbrev pub Coherent : ℕ → Type 0
-Coherent w = (config : Config) (log : Log w) → IsGiven config log → IsCoherent (after config log) log (remembered config log)
+Coherent w = (config : Config) (log : Log w) → IsGiven config log → IsCoherent (system_after config log) log (one_memory_after config log)
 
 -- A delivery is next exactly while something is outstanding.
-abbrev pub Moving : ℕ → Type 0
-Moving w = (config : Config) (log : Log w) → IsGiven config log → is_none (next_delivery config (after config log)) ≡ (outstanding log == 0)
+abbrev pub NoDeadlock : ℕ → Type 0
+NoDeadlock w = (config : Config) (log : Log w) → IsGiven config log → is_none (next_delivery config (system_after config log)) ≡ (outstanding log == 0)

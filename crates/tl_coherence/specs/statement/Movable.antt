@@ -9,7 +9,7 @@ use Rattle.tl_client.specs.statement.End.{Terms}
 use Rattle.tl_client.specs.statement.Offer as client
 use Rattle.tl_manager.specs.statement.Offer as manager
 use Rattle.tl_coherence.specs.declared.event.Event.TheVariants.{Deliver}
-use Rattle.tl_coherence.specs.statement.Log.{Log, after}
+use Rattle.tl_coherence.specs.statement.Log.{Log, system_after}
 use Rattle.tl_coherence.specs.statement.Step.{is_to_client, stepped}
 use Rattle.tl_coherence.specs.statement.System.{System, terms_at}
 
@@ -54,9 +54,9 @@ next_delivery config s =
 
 abbrev pub with_delivery : {w : ℕ} → Config → Option (Link × Channel) → Log w → Log w
 with_delivery config None log = log
-with_delivery config (Some d) log = (Deliver d.0 d.1, (stepped config (Deliver d.0 d.1) (after config log)).outcome) ∷ log
+with_delivery config (Some d) log = (Deliver d.0 d.1, (stepped config (Deliver d.0 d.1) (system_after config log)).outcome) ∷ log
 
 -- the log after n more deliveries at most, each the next one
 unfoldable pub drained : {w : ℕ} → Config → ℕ → Log w → Log w
 drained config zero log = log
-drained config (suc n) log = drained config n (with_delivery config (next_delivery config (after config log)) log)
+drained config (suc n) log = drained config n (with_delivery config (next_delivery config (system_after config log)) log)

@@ -1,23 +1,23 @@
 -- All that holds of a manager and its clients with beats of w bytes.
 use Rattle.std.specs.Prelude.{ℕ}
-use Rattle.tl_coherence.specs.statement.Delivery.{Carries, Flows, Channels, Stalls}
-use Rattle.tl_coherence.specs.statement.Draining.{Bound, Drain, Grants, Alone}
+use Rattle.tl_coherence.specs.statement.Delivery.{Fifo, Flows, CapacityBound, Stalls}
+use Rattle.tl_coherence.specs.statement.Draining.{DeliveryBound, DrainsWithinLoad, GrantedIsHeld, LoneAcquire}
 use Rattle.tl_coherence.specs.statement.Headline.{Headline}
 
 pub record Theorem (w : ℕ) : Type 0 where
   -- One memory, coherent copies, no beat refused, and a movable delivery exactly while something is outstanding.
   pub headline : Headline w
   -- Channels lose nothing and keep order.
-  pub carries : Carries w
+  pub carries : Fifo w
   -- What is delivered on each link breaks no rule.
   pub flows : Flows w
   -- No channel holds more than it is made for.
-  pub channels : Channels w
+  pub channels : CapacityBound w
   -- Which deliveries are empty, and which are stalled.
   pub stalls : Stalls w
   -- Deliveries move no more beats than the load before them, and draining ends with nothing outstanding.
-  pub bound : Bound w
-  pub drain : Drain w
+  pub bound : DeliveryBound w
+  pub drain : DrainsWithinLoad w
   -- At a Grant the client holds what it is granted, and an Acquire that is alone brings what it asks for.
-  pub grants : Grants w
-  pub alone : Alone w
+  pub grants : GrantedIsHeld w
+  pub alone : LoneAcquire w

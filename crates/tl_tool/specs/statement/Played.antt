@@ -15,7 +15,7 @@ use Rattle.tl_coherence.specs.declared.event.Event.{Event}
 use Rattle.tl_coherence.specs.declared.event.Event.TheVariants.{Deliver}
 use Rattle.tl_coherence.specs.declared.event.Outcome.{Outcome}
 use Rattle.tl_coherence.specs.statement.Draining.{IsDrained}
-use Rattle.tl_coherence.specs.statement.Log.{Log, after}
+use Rattle.tl_coherence.specs.statement.Log.{Log, system_after}
 use Rattle.tl_coherence.specs.statement.Movable.{drained, next_delivery, with_delivery}
 use Rattle.tl_coherence.specs.statement.Step.{stepped}
 use Rattle.tl_tool.specs.declared.fault.Fault.TheVariants.{Header, Event as NoEvent}
@@ -29,7 +29,7 @@ use Rattle.tl_tool.specs.statement.Width.{bytes_of}
 
 -- what comes of an event after what has happened
 abbrev pub outcome_after : {w : ℕ} → Config → Log w → Event w → Outcome w
-outcome_after config log event = (stepped config event (after config log)).outcome
+outcome_after config log event = (stepped config event (system_after config log)).outcome
 
 -- the line of what comes of an event, or what a trace shows of it
 abbrev pub event_text : {w : ℕ} → Bool → Event w → Outcome w → List ℕ
@@ -45,8 +45,8 @@ delivery_text trace config log (Some d) = event_text trace (Deliver d.0 d.1) (ou
 unfoldable pub deliveries_text : {w : ℕ} → Bool → Config → ℕ → Log w → List ℕ
 deliveries_text trace config zero log = []
 deliveries_text trace config (suc n) log =
-    delivery_text trace config log (next_delivery config (after config log))
-    ++ deliveries_text trace config n (with_delivery config (next_delivery config (after config log)) log)
+    delivery_text trace config log (next_delivery config (system_after config log))
+    ++ deliveries_text trace config n (with_delivery config (next_delivery config (system_after config log)) log)
 
 -- behind the deliveries their number, which a trace doesn't show
 abbrev pub number_text : Bool → ℕ → List ℕ

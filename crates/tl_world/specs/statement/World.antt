@@ -14,29 +14,29 @@ use Rattle.tl_coherence.specs.declared.event.Outcome.{Outcome}
 use Rattle.tl_world.specs.declared.contents.Contents.{Contents}
 use Rattle.tl_world.specs.declared.ring.Ring.{Ring}
 use Rattle.tl_world.specs.code.Carrying.{place}
-use Rattle.tl_coherence.specs.statement.Delivery.{IsCarried, capacity, sources_of}
+use Rattle.tl_coherence.specs.statement.Delivery.{IsFifo, capacity, sources_of}
 use Rattle.tl_coherence.specs.statement.Headline.{IsGiven, IsSound}
 use Rattle.tl_world.specs.code.Holds.{clients_of, Holds}
 use Rattle.tl_coherence.specs.statement.Load.{requests, releases}
-use Rattle.tl_coherence.specs.statement.Log.{Log, after, logged}
+use Rattle.tl_coherence.specs.statement.Log.{Log, system_after, logged}
 use Rattle.tl_coherence.specs.statement.System.{System, terms_at}
 
 -- the greatest number of beats that ever stood in a channel
 unfoldable pub deepest : {w : ℕ} → Config → Log w → ℕ → Channel → ℕ
 deepest config [] link ch = 0
-deepest config (x ∷ log) link ch = max (deepest config log link ch) (length ((after config (x ∷ log)).channels link ch))
+deepest config (x ∷ log) link ch = max (deepest config log link ch) (length ((system_after config (x ∷ log)).channels link ch))
 
 -- The log is one of a configuration within its limits, and the contents are what the whole is after it.
 pub record IsReached {w : ℕ} {A M : Type 0} (knows : A → End w → Type 0) (terms : A → Terms) (perm_of : M → ℕ → ℕ → Perm) (config : Config) (contents : Contents w A M) (log : Log w) : Type 0 where
   pub given : IsGiven config log
-  pub holds : Holds knows terms perm_of config contents.parts (after config log)
+  pub holds : Holds knows terms perm_of config contents.parts (system_after config log)
   pub requests_are : contents.outstanding.requests ≡ requests log
   pub releases_are : contents.outstanding.releases ≡ releases log
   pub depths : (k : ℕ) (ch : Channel) (d : Ring w) → k < clients_of config → (slice_index_or contents.parts.rings.all.items (place k ch) d).deepest ≡ deepest config log k ch
   -- the outcomes are a run of the one-memory machine, copies are coherent, no beat was refused, and nothing is stuck
   pub sound : IsSound config log
   -- channels lose nothing and keep order
-  pub carried : (link : ℕ) (ch : Channel) → IsCarried (after config log) log link ch
+  pub carried : (link : ℕ) (ch : Channel) → IsFifo (system_after config log) log link ch
   -- and none ever held more than it is made for
   pub shallow : (link : ℕ) (ch : Channel) → deepest config log link ch ≤ capacity (64 / w) (sources_of (terms_at config link)) config.trackers ch
 

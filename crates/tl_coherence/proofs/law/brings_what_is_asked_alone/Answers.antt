@@ -1,4 +1,4 @@
-use Rattle.tl_coherence.proofs.theorem.Brought.{alone}
+use Rattle.tl_coherence.proofs.theorem.LoneAcquireEnds.{alone}
 use Rattle.tl_coherence.proofs.law.brings_what_is_asked_alone.Goals as goal
 
 pub returns : goal.returns

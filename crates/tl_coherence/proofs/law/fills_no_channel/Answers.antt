@@ -1,4 +1,4 @@
-use Rattle.tl_coherence.proofs.links.Given.{channels}
+use Rattle.tl_coherence.proofs.links.FromInvariant.{channels}
 use Rattle.tl_coherence.proofs.law.fills_no_channel.Goals as goal
 
 pub returns : goal.returns

@@ -1,6 +1,6 @@
-use Rattle.tl_coherence.proofs.theorem.Brought.{alone}
+use Rattle.tl_coherence.proofs.theorem.LoneAcquireEnds.{alone}
 use Rattle.tl_coherence.proofs.flow.Flows.{flows}
-use Rattle.tl_coherence.proofs.links.Given.{carries, channels, grants, stalls}
+use Rattle.tl_coherence.proofs.links.FromInvariant.{carries, channels, grants, stalls}
 use Rattle.tl_coherence.proofs.bound.Settling.{bound, drain}
 use Rattle.tl_coherence.proofs.theorem.Soundness.{headline}
 use Rattle.tl_coherence.proofs.law.holds.Goals as goal

@@ -1,4 +1,4 @@
-use Rattle.tl_coherence.proofs.links.Given.{grants}
+use Rattle.tl_coherence.proofs.links.FromInvariant.{grants}
 use Rattle.tl_coherence.proofs.law.holds_what_it_is_granted.Goals as goal
 
 pub returns : goal.returns

@@ -1,4 +1,4 @@
-use Rattle.tl_coherence.proofs.links.Given.{coherent}
+use Rattle.tl_coherence.proofs.links.FromInvariant.{coherent}
 use Rattle.tl_coherence.proofs.law.keeps_copies_coherent.Goals as goal
 
 pub returns : goal.returns

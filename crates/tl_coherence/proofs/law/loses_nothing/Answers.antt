@@ -1,4 +1,4 @@
-use Rattle.tl_coherence.proofs.links.Given.{carries}
+use Rattle.tl_coherence.proofs.links.FromInvariant.{carries}
 use Rattle.tl_coherence.proofs.law.loses_nothing.Goals as goal
 
 pub returns : goal.returns

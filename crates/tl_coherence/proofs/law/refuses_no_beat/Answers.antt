@@ -1,4 +1,4 @@
-use Rattle.tl_coherence.proofs.links.Given.{unrefused}
+use Rattle.tl_coherence.proofs.links.FromInvariant.{unrefused}
 use Rattle.tl_coherence.proofs.law.refuses_no_beat.Goals as goal
 
 pub returns : goal.returns

@@ -1,4 +1,4 @@
-use Rattle.tl_coherence.proofs.links.Given.{stalls}
+use Rattle.tl_coherence.proofs.links.FromInvariant.{stalls}
 use Rattle.tl_coherence.proofs.law.stalls_exactly.Goals as goal
 
 pub returns : goal.returns

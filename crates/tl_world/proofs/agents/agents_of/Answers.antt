@@ -5,7 +5,7 @@ use Rattle.tl_params.specs.declared.level.Level.TheVariants as level
 use Rattle.tl_params.specs.statement.Config.{config_fault}
 use Rattle.tl_client.specs.code.KnowsAny.{KnowsAny, any_terms}
 use Rattle.tl_world.specs.code.Holds.{clients_of}
-use Rattle.tl_world.proofs.Hired.{no-fault, client-fits, hired}
+use Rattle.tl_world.proofs.AgentsOfConfig.{no-fault, client-fits, hired}
 use Rattle.tl_world.proofs.agents.agents_of.Goals as goal
 
 pub returns-in_err-agent-clause-err : goal.returns-in_err-agent-clause-err

@@ -4,7 +4,7 @@ use Rattle.std.proofs.lemmas.Nat.Bits.{bit_at-zero}
 use Rattle.std.specs.Int.{bit_at}
 use Rattle.tl_world.specs.code.Holds.{clients_of}
 use Rattle.tl_world.proofs.Movables.{none-unset, lowest-first}
-use Rattle.tl_coherence.proofs.queues.Standing.{first-none}
+use Rattle.tl_coherence.proofs.queues.QuiescentQueues.{first-none}
 use Rattle.tl_world.proofs.parts.Parts.movable_on.Goals as goal
 
 pub loop-number-init : goal.loop-number-init

@@ -1,4 +1,4 @@
-use Rattle.tl_world.proofs.Seen.{seen-copy}
+use Rattle.tl_world.proofs.WorldObservers.{seen-copy}
 use Rattle.tl_world.proofs.world.World.copy.Goals as goal
 
 pub returns : goal.returns

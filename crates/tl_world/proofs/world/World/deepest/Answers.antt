@@ -1,4 +1,4 @@
-use Rattle.tl_world.proofs.Seen.{seen-deepest}
+use Rattle.tl_world.proofs.WorldObservers.{seen-deepest}
 use Rattle.tl_world.proofs.world.World.deepest.Goals as goal
 
 pub returns : goal.returns

@@ -1,5 +1,5 @@
 use Rattle.std.proofs.Common.{rules, ◌≡◌, Some, sym, arith}
-use Rattle.tl_coherence.specs.statement.Log.{after}
+use Rattle.tl_coherence.specs.statement.Log.{system_after}
 use Rattle.tl_coherence.specs.statement.Movable.{next_delivery, drained}
 use Rattle.tl_world.proofs.Drained.{drained-more, drained-so, drained-all}
 use Rattle.tl_world.proofs.world.World.drain.Goals as goal
@@ -12,12 +12,12 @@ pub loop-count-preserved : goal.loop-count-preserved
 loop-count-preserved g c = record {
   reached = λ config log r.
       let so_far = c.loop-count.invariant.reached config log r in
-      let next : Some (c.in-Some.link, c.in-Some.channel) ≡ next_delivery config (after config (drained config c.loop-count.count log)) =
+      let next : Some (c.in-Some.link, c.in-Some.channel) ≡ next_delivery config (system_after config (drained config c.loop-count.count log)) =
       search (rules, c.in-Some.ensures config (drained config c.loop-count.count log) so_far) in
       rw (drained-more config c.loop-count.count log c.in-Some.link c.in-Some.channel c.step.result next (c.step.ensures.outcome config _ so_far)) (c.step.ensures.reached config _ so_far);
   number = λ config log r.
       let so_far = c.loop-count.invariant.reached config log r in
-      let next : Some (c.in-Some.link, c.in-Some.channel) ≡ next_delivery config (after config (drained config c.loop-count.count log)) =
+      let next : Some (c.in-Some.link, c.in-Some.channel) ≡ next_delivery config (system_after config (drained config c.loop-count.count log)) =
       search (rules, c.in-Some.ensures config (drained config c.loop-count.count log) so_far) in
       let before = c.loop-count.invariant.number config log r in
       rw (drained-more config c.loop-count.count log c.in-Some.link c.in-Some.channel c.step.result next (c.step.ensures.outcome config _ so_far)) (omega (arith, before));

@@ -1,4 +1,4 @@
-use Rattle.tl_world.proofs.Seen.{seen-held}
+use Rattle.tl_world.proofs.WorldObservers.{seen-held}
 use Rattle.tl_world.proofs.world.World.held.Goals as goal
 
 pub returns : goal.returns

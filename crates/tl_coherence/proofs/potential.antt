@@ -1,5 +1,0 @@
-pub mod Falls
-pub mod Frames
-pub mod Owing
-pub mod Remainders
-pub mod Weights

@@ -1,0 +1,175 @@
+-- What is due to a client: the message of the first token of channel D, and what it answers.
+use Rattle.std.proofs.Common.{◌≡◌, ℕ, Bool, true, false, not, ◌&&◌, List, ◌∷◌, Some, refl, sym, ◌∙◌, ap, lit≤}
+use Rattle.std.specs.Prelude.{◌==◌, if◌then◌else◌}
+use Rattle.std.proofs.lemmas.Bool.{eqb-true, and_from}
+use Rattle.tl_beat.specs.declared.opcode.OpD.TheVariants as opd
+use Rattle.tl_burst.specs.declared.message.Message.{Message}
+use Rattle.tl_burst.specs.declared.message.Message.TheVariants as message
+use Rattle.tl_burst.specs.declared.message.MessageA.{MessageA}
+use Rattle.tl_burst.specs.declared.message.MessageD.{MessageD}
+use Rattle.tl_params.specs.declared.param.Cap.{Cap}
+use Rattle.tl_params.specs.declared.param.Grow.{Grow}
+use Rattle.tl_params.specs.statement.Param.{cap_code}
+use Rattle.tl_rules.specs.statement.Conformance.{answers}
+use Rattle.tl_manager.specs.statement.Handing.{grant_opcode, no_payload}
+use Rattle.tl_manager.specs.statement.Service.{is_access_answer}
+use Rattle.tl_coherence.specs.protocol.Invariant.{is_replied, IsInvariant}
+use Rattle.tl_coherence.specs.protocol.Phase.{Own, Other, Granting, Acknowledging, GrantedOther, ReleasePhase, NoRelease, ReleaseSent, ReleaseAcked, AcquirePhase, NoAcquire, AcquireOpen, is_unacquired, is_unreleased, grant_fits}
+use Rattle.tl_coherence.specs.protocol.Protocol.{Service, Free, Waits, GrantSent, GrantTaken, State, Replied, Acquires, view, packet, shown, is_wanting, is_granting, is_acked}
+use Rattle.tl_coherence.specs.refinement.PacketMessages.{AccessMessages, block_message}
+use Rattle.tl_coherence.specs.protocol.Packet.{Answer, Grant, ReleaseAck, Packet}
+use Rattle.tl_coherence.specs.refinement.SimulationRelation.{IsAnswered}
+use Rattle.tl_coherence.proofs.queues.Facts.{grant_is_fit, granting_asks}
+use Rattle.tl_coherence.proofs.queues.Tokens.{same_number, holds-first}
+use Rattle.tl_coherence.proofs.protocol.BothParts.{is_of-is, acquires_of-is, is_replied-is}
+
+-- ---- an answer
+
+-- the answer to the access with this source
+pub record IsAnswerDue {w : ℕ} (c source : ℕ) (mail : AccessMessages w) (s : State (List ℕ)) : Type 0 where
+  pub used : s.uses c source ≡ Replied
+  pub answer : MessageD w
+  pub request : MessageA w
+  pub answer_is : mail.answer c source ≡ message.D answer
+  pub request_is : mail.request c source ≡ message.A request
+  pub answers_access : is_access_answer answer.opcode ≡ true
+  pub admits : answers answer.opcode request.opcode ≡ true
+  pub from : answer.source ≡ source
+  pub size : answer.size ≡ request.size
+
+pub answer-due : {w : ℕ} (caching : ℕ → Bool) (c source : ℕ) (rest : List Packet) (mail : AccessMessages w) (s : State (List ℕ)) → IsInvariant caching s
+    → IsAnswered source (mail.request c source) (mail.answer c source) (s.uses c source)
+    → (s.link c).d ≡ packet Answer source ∷ rest → IsAnswerDue c source mail s
+answer-due {w} caching c source rest mail s inv answered first = go (mail.request c source) (mail.answer c source) refl refl (rw used at answered)
+  where
+    used : s.uses c source ≡ Replied
+    used = is_replied-is (s.uses c source) (holds-first Answer (s.link c).d rest (packet Answer source) (λ i. is_replied (s.uses c i)) first refl (inv.answers c))
+
+    go : (a b : Message w) → mail.request c source ≡ a → mail.answer c source ≡ b → IsAnswered source a b Replied → IsAnswerDue c source mail s
+    go (message.A m) (message.D x) e f is = record {
+      used = used;
+      answer = x;
+      request = m;
+      answer_is = f;
+      request_is = e;
+      answers_access = is.0;
+      admits = is.1;
+      from = is.2;
+      size = is.3;
+    }
+    go (message.A m) (message.A x) e f is = absurd is
+    go (message.A m) (message.B x) e f is = absurd is
+    go (message.A m) (message.C x) e f is = absurd is
+    go (message.A m) (message.E x) e f is = absurd is
+    go (message.B m) x e f is = absurd is
+    go (message.C m) x e f is = absurd is
+    go (message.D m) x e f is = absurd is
+    go (message.E m) x e f is = absurd is
+
+-- ---- a Grant
+
+pub record IsGrantDue (c n : ℕ) (s : State (List ℕ)) : Type 0 where
+  pub data_too : Bool
+  pub k : Cap
+  pub whole : Bool
+  pub g : Grow
+  pub service : (s.block n).service ≡ GrantSent c data_too k
+  pub wants : ((s.block n).pair c).acquiring ≡ AcquireOpen whole g
+  pub fits : grant_fits ((s.block n).pair c).recorded ((s.block n).pair c).held data_too k (AcquireOpen whole g) ≡ true
+  pub used : s.uses c ((s.block n).source c) ≡ Acquires n
+
+pub granting-service : (s : Service) (c : ℕ) → is_granting (view s c) ≡ true → (d : Bool) × (k : Cap) × (s ≡ GrantSent c d k)
+granting-service Free c e = absurd cc
+granting-service (Waits q o source k) c e = absurd (never (o && (c == q)) e)
+  where
+    never : (x : Bool) → is_granting (if x then Own else Other k) ≡ true → ⊥
+    never true f = cc
+    never false f = cc
+granting-service (GrantTaken q) c e = absurd (never (c == q) e)
+  where
+    never : (x : Bool) → is_granting (if x then Acknowledging else GrantedOther) ≡ true → ⊥
+    never true f = cc
+    never false f = cc
+granting-service (GrantSent q d k) c e = let same : c ≡ q = eqb-true c q (own (c == q) e) in (d, k, rw same refl)
+  where
+    own : (x : Bool) → is_granting (if x then Granting d k else GrantedOther) ≡ true → x ≡ true
+    own true f = refl
+    own false f = absurd cc
+
+wanting_is : (x : AcquirePhase) → not (is_unacquired x) ≡ true → (whole : Bool) × (g : Grow) × (x ≡ AcquireOpen whole g)
+wanting_is NoAcquire e = absurd cc
+wanting_is (AcquireOpen whole g) e = (whole, g, refl)
+
+-- the use of the source of an open Acquire
+pub acquire-used : (caching : ℕ → Bool) (c n : ℕ) (s : State (List ℕ)) → IsInvariant caching s → is_wanting ((s.block n).pair c).acquiring ≡ true → s.uses c ((s.block n).source c) ≡ Acquires n
+acquire-used caching c n s inv wanting =
+    acquires_of-is n (s.uses c ((s.block n).source c))
+    (inv.named.acquires c ((s.block n).source c) n ∙ and_from (is_wanting ((s.block n).pair c).acquiring)
+    ((s.block n).source c == (s.block n).source c) wanting (same_number ((s.block n).source c)))
+
+-- how the client of a Grant sees the block
+pub own_view : (c : ℕ) (d : Bool) (k : Cap) (service : Service) → service ≡ GrantSent c d k → view service c ≡ Granting d k
+own_view c d k service e = ap (λ (x : Service). view x c) e ∙ here (c == c) (same_number c)
+  where
+    here : (x : Bool) → x ≡ true → (if x then Granting d k else GrantedOther) ≡ Granting d k
+    here x f = rw f refl
+
+pub grant-due : (caching : ℕ → Bool) (c n : ℕ) (rest : List Packet) (s : State (List ℕ)) → IsInvariant caching s → (s.link c).d ≡ packet Grant n ∷ rest → IsGrantDue c n s
+grant-due caching c n rest s inv first =
+    let b = s.block n in
+    let seen : is_granting (view b.service c) ≡ true = holds-first Grant (s.link c).d rest (packet Grant n) (λ i. shown Grant c (s.block i)) first refl (inv.transfers c Grant refl) in
+    let sent = granting-service b.service c seen in
+    let mine : view b.service c ≡ Granting sent.0 sent.1 = own_view c sent.0 sent.1 b.service sent.2 in
+    let wants = wanting_is (b.pair c).acquiring (granting_asks sent.0 sent.1 (b.pair c) (view b.service c) ((inv.blocks n).phases c) mine) in
+    let fits = grant_is_fit sent.0 sent.1 (b.pair c) (view b.service c) ((inv.blocks n).phases c) mine in
+    record {
+      data_too = sent.0;
+      k = sent.1;
+      whole = wants.0;
+      g = wants.1;
+      service = sent.2;
+      wants = wants.2;
+      fits = sym (ap (λ (x : AcquirePhase). grant_fits (b.pair c).recorded (b.pair c).held sent.0 sent.1 x) wants.2) ∙ fits;
+      used = acquire-used caching c n s inv (ap is_wanting wants.2);
+    }
+
+-- the message of a Grant
+abbrev pub grant_message : {w : ℕ} → Bool → Cap → ℕ → ℕ → List ℕ → MessageD w
+grant_message d k source sink payload = record {
+  opcode = grant_opcode d;
+  param = cap_code k;
+  size = 6;
+  source = source;
+  sink = sink;
+  denied = false;
+  payload = if d then payload else no_payload;
+  corrupt = 0;
+  small = lit≤ tt;
+}
+
+pub grant-rendered : {w : ℕ} (c n : ℕ) (s : State (List ℕ)) (is : IsGrantDue c n s)
+    → block_message {w = w} Grant c n (s.block n) ≡ message.D (grant_message is.data_too is.k ((s.block n).source c) (s.block n).tracker (s.block n).truth)
+unfolding block_message
+grant-rendered {w} c n s is = rw is.service refl
+
+-- ---- a ReleaseAck
+
+-- the message of a ReleaseAck
+abbrev pub ack_message : {w : ℕ} → ℕ → MessageD w
+ack_message source = record { opcode = opd.ReleaseAck; param = 0; size = 6; source = source; sink = 0; denied = false; payload = no_payload; corrupt = 0; small = lit≤ tt }
+
+acked_open : (x : ReleasePhase) → is_acked x ≡ true → not (is_unreleased x) ≡ true
+acked_open ReleaseAcked e = refl
+acked_open NoRelease e = absurd cc
+acked_open (ReleaseSent r) e = absurd cc
+
+pub ack-due : (caching : ℕ → Bool) (c n : ℕ) (rest : List Packet) (s : State (List ℕ)) → IsInvariant caching s → (s.link c).d ≡ packet ReleaseAck n ∷ rest
+    → s.lets c ((s.block n).release_source c) ≡ Some n
+ack-due caching c n rest s inv first =
+    let acked : is_acked ((s.block n).pair c).letting ≡ true =
+    holds-first ReleaseAck (s.link c).d rest (packet ReleaseAck n) (λ i. shown ReleaseAck c (s.block i)) first refl (inv.transfers c ReleaseAck refl) in
+    let live : not (is_unreleased ((s.block n).pair c).letting) ≡ true = acked_open ((s.block n).pair c).letting acked in
+    is_of-is n (s.lets c ((s.block n).release_source c))
+    (inv.named.releases c ((s.block n).release_source c) n
+    ∙ and_from (not (is_unreleased ((s.block n).pair c).letting)) ((s.block n).release_source c == (s.block n).release_source c) live
+    (same_number ((s.block n).release_source c)))

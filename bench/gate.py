@@ -19,7 +19,7 @@ def label(words, folder):
     if "--crate-name" not in words or "rattle" not in words[0]:
         return None
     crate = words[words.index("--crate-name") + 1]
-    if any("/rt-edits-" in word for word in [folder, *words]):
+    if any("/rt-edit" in word for word in [folder, *words]):
         return crate, "edits"
     return crate, "tests" if "--test" in words else "proof"
 

@@ -1,10 +1,13 @@
 #!/usr/bin/env bash
-# faults.sh TOOL DATA: runs commands of TOOL in the folder DATA, and in turn refuses each request for memory and fails
-# each read and write of theirs, whole and one byte a call. What then comes of the command is either as if nothing had
-# failed, or its fault with status 3 and a beginning of its output. Ends with 'faults: N passed, 0 failed'.
+# faults.sh TOOL DATA CALLS: runs commands of TOOL in the folder DATA, and in turn refuses each request for memory and
+# fails each read and write of theirs, whole and one byte a call. What then comes of the command is either as if nothing
+# had failed, or its fault with status 3 and a beginning of its output. And runs CALLS, which calls the libraries, with
+# each of its requests for memory refused: one call at most is refused, and left what was; the others are done.
+# Ends with 'faults: N passed, 0 failed'.
 set -uo pipefail
 here=$(cd "$(dirname "$0")" && pwd)
 tool=$(realpath "$1")
+calls_of_libraries=$(realpath "$3")
 clang=$(dirname "$(rt doc)")/toolchain/bin/clang
 room=$(mktemp -d)
 trap 'rm -rf "$room"' EXIT
@@ -67,5 +70,21 @@ monitor rules/H9.trace
 run schedules/a_writer_becomes_a_reader.schedule
 run --trace schedules/sixteen_readers_and_a_put.schedule
 END
+"$calls_of_libraries" >"$room/full" || exit 1
+unreached=0
+for ((number = 1; unreached < 20; number++)); do
+    REFUSE=$number LD_PRELOAD="$room/refuse.so" "$calls_of_libraries" >"$room/part" 2>"$room/errors"
+    status=$?
+    different=$(diff "$room/full" "$room/part" | grep '^>')
+    if [ $status = 0 ] && [ -z "$different" ]; then
+        unreached=$((unreached + 1))
+    elif [ $status = 0 ] && [[ $different =~ ^'> '[A-Za-z_:]+': refused, and left what was'$ ]]; then
+        passed=$((passed + 1)) unreached=0
+    else
+        failed=$((failed + 1)) unreached=0
+        echo "calls of the libraries: request $number refused: status $status: $different"
+    fi
+done
+echo "calls of the libraries: $((number - 1 - unreached)) requests"
 echo "faults: $passed passed, $failed failed"
 [ "$failed" = 0 ]

@@ -1,0 +1,56 @@
+//! Calls each call of the libraries that takes memory, and tells of each whether it was done, or was refused and left
+//! what was. With all its requests for memory granted each is done; `faults/` refuses them one by one.
+#![tactic(auto)]
+
+mod calls;
+mod worlds;
+
+use std::println;
+use std::process::ExitCode;
+
+/// What came of a call.
+#[derive(Clone, Copy, Debug, PartialEq, Eq)]
+pub enum Came {
+    /// It was done.
+    Done,
+    /// It was refused memory, and left what was.
+    Refused,
+    /// It answered something else, or changed what it should have left.
+    Wrong,
+}
+
+impl Came {
+    fn word(self) -> &'static str {
+        match self {
+            Self::Done => "done",
+            Self::Refused => "refused, and left what was",
+            Self::Wrong => "WRONG",
+        }
+    }
+}
+
+fn main(rt: HostRuntime) -> ExitCode {
+    let alloc = rt.alloc();
+    let calls = [
+        ("write_line", calls::appends(alloc)),
+        ("Monitor::new", calls::makes_a_monitor(alloc)),
+        ("Monitor::push", calls::pushes(alloc)),
+        ("Caching::new", calls::makes_a_cache(alloc)),
+        ("agents_of", calls::makes_clients(alloc)),
+        ("BitDirectory::new", calls::makes_words(alloc)),
+        ("TableDirectory::new", calls::makes_a_table(alloc)),
+        ("Manager::new", worlds::makes_a_manager(alloc)),
+        ("World::new", worlds::makes_a_world(alloc)),
+        ("World::replay", worlds::replays(alloc)),
+        ("World::run", worlds::runs(alloc)),
+    ];
+    let mut told = true;
+    for (name, came) in calls {
+        told &= println!(rt; "{name}: {}", came.word()).is_ok();
+    }
+    if told {
+        ExitCode::SUCCESS
+    } else {
+        ExitCode::FAILURE
+    }
+}

@@ -30,8 +30,8 @@ impl<const W: usize> AnyClient<W> {
     ghost use Rattle.tl_client.specs.code.KnowsAny.{IsNewAny};
 
     /// A client of the level of its configuration, on so many blocks, which has sent and taken
-    /// nothing: N2 where these are out of their limits, otherwise N4 where its sources are, or
-    /// `Memory`.
+    /// nothing: N2 where these are out of their limits, otherwise N4 where its sources are, or at
+    /// level C `Memory`. A plain client takes no memory.
     pub fn new(
         alloc: Global,
         config: ClientConfig,

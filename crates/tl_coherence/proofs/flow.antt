@@ -28,4 +28,5 @@ pub mod FlowSame
 pub mod FlowSinks
 pub mod FlowStep
 pub mod FlowSunk
+pub mod FlowTraces
 pub mod Flows

@@ -1,4 +1,3 @@
-pub mod Facts
 pub mod Invariant
 pub mod Packet
 pub mod Phase

@@ -8,7 +8,9 @@ pub mod Log
 pub mod Machine
 pub mod Movable
 pub mod OneMemory
+pub mod Permissions
 pub mod Ranged
+pub mod Recorded
 pub mod Step
 pub mod System
 pub mod Theorem

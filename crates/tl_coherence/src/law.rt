@@ -1,18 +1,17 @@
 //! What keeps a world coherent, as laws.
 
-ghost use Rattle.std.specs.Prelude.{◌≡◌, true};
 ghost use Rattle.tl_beat.specs.statement.Width.{IsWidth};
-ghost use Rattle.tl_coherence.specs.protocol.Phase.{ClientBlock, View, ok};
-ghost use Rattle.tl_coherence.specs.statement.Delivery.{Fifo, CapacityBound, Flows, Stalls};
-ghost use Rattle.tl_coherence.specs.statement.Draining.{LoneAcquire, DeliveryBound, DrainsWithinLoad, GrantedIsHeld};
+ghost use Rattle.tl_coherence.specs.statement.Delivery.{Fifo, CapacityBound, Faultless, Flows, Stalls};
+ghost use Rattle.tl_coherence.specs.statement.Draining.{LoneAcquire, AloneWhole, DeliveryBound, DrainsWithinLoad, GrantedIsHeld};
 ghost use Rattle.tl_coherence.specs.statement.Headline.{Headline, OneMemory, Unrefused, Coherent, NoDeadlock};
 ghost use Rattle.tl_coherence.specs.statement.Ranged.{AreInRange, HaveRoom};
+ghost use Rattle.tl_coherence.specs.statement.Recorded.{Recorded};
 ghost use Rattle.tl_coherence.specs.statement.Theorem.{Theorem};
-ghost use Rattle.tl_coherence.specs.protocol.Facts.{IsBelow};
 
-/// In no phase does a client hold more than is recorded.
+/// Whatever happens, no client holds more of a block than the manager has recorded for it.
 pub fn holds_at_most_what_is_recorded<const W: usize>()
-    ensures { (p : ClientBlock) (v : View) → ok p v ≡ true → IsBelow p v }
+    requires { IsWidth W }
+    ensures { Recorded W }
 {}
 
 /// Whatever happens to a manager and its clients, no beat between them is refused.
@@ -69,10 +68,11 @@ pub fn stays_sound<const W: usize>()
     ensures { Headline W }
 {}
 
-/// An Acquire that is started alone, and drained, brings what it asks for.
+/// An Acquire that is started alone, and drained, brings what it asks for, and an AcquireWhole Trunk.
 pub fn brings_what_is_asked_alone<const W: usize>()
     requires { IsWidth W }
-    ensures { LoneAcquire W }
+    ensures asked { LoneAcquire W }
+    ensures whole { AloneWhole W }
 {}
 
 /// Deliveries move no more beats than the load before them.
@@ -91,6 +91,12 @@ pub fn drains_within_the_load<const W: usize>()
 pub fn breaks_no_rule_on_a_link<const W: usize>()
     requires { IsWidth W }
     ensures { Flows W }
+{}
+
+/// What is delivered, on all links at once, has no first fault.
+pub fn has_no_fault_on_all_links<const W: usize>()
+    requires { IsWidth W }
+    ensures { Faultless W }
 {}
 
 /// Each beat that is delivered has room in its line and, where clients are given bytes to store, is

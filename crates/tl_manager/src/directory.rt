@@ -1,7 +1,7 @@
 //! What a directory is: a map from block and client to permission (SiFive TileLink Specification 1.8,
 //! chapter on TL-C: None, Branch and Trunk).
 
-ghost use Rattle.std.specs.Prelude.{◌≡◌, ◌<◌, ◌⊎◌, ◌≢◌, ℕ};
+ghost use Rattle.std.specs.Prelude.{◌≡◌, ◌≤◌, ◌<◌, ◌⊎◌, ◌≢◌, ℕ};
 ghost use Rattle.std.specs.Int.{bit_at};
 ghost use Rattle.tl_params.specs.declared.perm.Perm.{Perm};
 ghost use Rattle.tl_manager.specs.code.Word.{trunk_bit, copy_bit};
@@ -35,13 +35,17 @@ pub trait Directory: Drop {
         ensures blocks { blocks self.new ≡ blocks self.old }
         ensures clients { clients self.new ≡ clients self.old };
 
-    /// A word whose bit `c` is set exactly where client `c` is recorded Trunk of the block.
+    /// A word whose bit `c` is set exactly where client `c` is recorded Trunk of the block. It has a bit
+    /// for each client that is covered.
     fn owners(&self, block: u16) -> u16
         requires { block < blocks self.now }
-        ensures { (c : ℕ) → bit_at result c ≡ trunk_bit (perm_of self.now block c) };
+        ensures bits { (c : ℕ) → bit_at result c ≡ trunk_bit (perm_of self.now block c) }
+        ensures few { clients self.now ≤ 16 };
 
-    /// A word whose bit `c` is set exactly where client `c` isn't recorded None of the block.
+    /// A word whose bit `c` is set exactly where client `c` isn't recorded None of the block. It has a
+    /// bit for each client that is covered.
     fn holders(&self, block: u16) -> u16
         requires { block < blocks self.now }
-        ensures { (c : ℕ) → bit_at result c ≡ copy_bit (perm_of self.now block c) };
+        ensures bits { (c : ℕ) → bit_at result c ≡ copy_bit (perm_of self.now block c) }
+        ensures few { clients self.now ≤ 16 };
 }

@@ -1,23 +1,18 @@
 -- The monitor finds no fault in the trace of a schedule.
-use Rattle.std.proofs.Common.{◌≡◌, ℕ, zero, suc, ◌+◌, Bool, true, false, ◌&&◌, List, [], ◌∷◌, ◌++◌, length, refl, sym, ◌∙◌, ap, subst, arith, append_assoc, inl, inr}
-use Rattle.std.specs.Prelude.{◌==◌, if◌then◌else◌, All, Option, Some, None, is_none, map, nat_le, slice_get}
+use Rattle.std.proofs.Common.{◌≡◌, ℕ, zero, suc, ◌+◌, true, false, List, [], ◌∷◌, ◌++◌, length, refl, sym, ◌∙◌, ap, subst, arith, append_assoc, inl, inr}
+use Rattle.std.specs.Prelude.{All, Option, Some, None, nat_le}
 use Rattle.std.proofs.lemmas.Bool.{and_parts, leb-true}
 use Rattle.std.proofs.lemmas.List.{append-nil, length-map}
 use Rattle.std.proofs.lemmas.List.Elements.{All-head}
-use Rattle.std.proofs.lemmas.Option.{slice_get-map, slice_get_within}
+use Rattle.std.proofs.lemmas.Option.{slice_get_within}
 use Rattle.tl_beat.specs.declared.beat.Link.{Link}
 use Rattle.tl_beat.specs.declared.beat.Beat.{Beat}
 use Rattle.tl_beat.specs.declared.channel.Channel.{Channel}
 use Rattle.tl_beat.specs.statement.Line.{IsInRange, Spells, fields_of, line_of as beat_line, spaced}
-use Rattle.tl_burst.specs.statement.Messages.{History}
-use Rattle.tl_params.specs.declared.config.ClientConfig.{ClientConfig}
 use Rattle.tl_params.specs.declared.config.Config.{Config}
 use Rattle.tl_params.specs.declared.level.Level.{Level}
 use Rattle.tl_params.specs.declared.profile.Profile.{Profile}
-use Rattle.tl_params.specs.declared.rule.Rule.{Rule}
-use Rattle.tl_rules.specs.statement.Conformance.{Trace, broken_after, broken_at_level, broken_on_link, is_legal, on_link}
-use Rattle.tl_client.specs.statement.End.{Terms}
-use Rattle.tl_manager.specs.statement.Offer.{level_of}
+use Rattle.tl_rules.specs.statement.Conformance.{Trace, broken_on_link}
 use Rattle.tl_manager.proofs.Placing.{limits}
 use Rattle.tl_params.specs.declared.header.Version.{Version}
 use Rattle.tl_params.specs.statement.Header.{version_text, width_of}
@@ -31,17 +26,16 @@ use Rattle.tl_coherence.specs.declared.event.Event.TheVariants.{Ask, Deliver}
 use Rattle.tl_coherence.specs.declared.event.Outcome.{Outcome}
 use Rattle.tl_coherence.specs.declared.event.Outcome.TheVariants as outcome
 use Rattle.tl_coherence.specs.statement.Draining.{is_moving}
-use Rattle.tl_coherence.specs.statement.Flow.{flow, taken_on}
+use Rattle.tl_coherence.specs.statement.Delivery.{levels_of}
+use Rattle.tl_coherence.specs.statement.Flow.{flow, taken_at, trace_of}
 use Rattle.tl_coherence.specs.statement.Headline.{IsGiven, IsTyped}
-use Rattle.tl_coherence.specs.statement.Log.{Log, IsLog, system_after}
+use Rattle.tl_coherence.specs.statement.Log.{Log, system_after}
 use Rattle.tl_coherence.specs.statement.Movable.{drained, next_delivery, with_delivery}
 use Rattle.tl_coherence.specs.statement.Ranged.{AreRanged, IsRanged}
-use Rattle.tl_coherence.specs.statement.System.{terms_at}
 use Rattle.tl_coherence.proofs.lines.Delivered.{are-in_range}
-use Rattle.tl_coherence.proofs.flow.Flows.{asked-still, flows}
-use Rattle.tl_coherence.proofs.simulation.BeatsInFlight.{level-terms}
+use Rattle.tl_coherence.proofs.flow.Flows.{asked-still}
+use Rattle.tl_coherence.proofs.flow.FlowTraces.{delivered-unbroken, levelled, taken}
 use Rattle.tl_world.proofs.Happened.{given-more}
-use Rattle.tl_coherence.proofs.outstanding.Outstanding.{first-moved}
 use Rattle.tl_tool.specs.declared.fault.Fault.TheVariants.{Event as NoEvent}
 use Rattle.tl_tool.specs.declared.status.Status.{Status}
 use Rattle.tl_tool.specs.declared.status.Status.TheVariants.{Clean, Broken}
@@ -57,91 +51,35 @@ use Rattle.tl_tool.proofs.OneText.{is_width_of}
 use Rattle.tl_tool.proofs.Playing.{given-first, header-fits}
 use Rattle.tl_tool.proofs.SaidLines.{ranged-spelled, typed-spelled}
 use Rattle.tl_tool.proofs.Unended.{lacks-beat, lacks-header}
-use Rattle.tl_tool.proofs.Writable.{delivered-writable, taken}
-
--- ---- the beats that a trace shows of what has happened, the newest first
-
-abbrev shown : {w : ℕ} → Event w → Outcome w → Trace w
-shown (Deliver link ch) (outcome.Moved x) = (link, x) ∷ []
-shown (Deliver link ch) (outcome.Done x source f) = (link, x) ∷ []
-shown event o = []
-
-unfoldable trace_of : {w : ℕ} → Log w → Trace w
-trace_of [] = []
-trace_of (x ∷ log) = shown x.0 x.1 ++ trace_of log
-
--- those of a link are what was delivered there
-on-link : {w : ℕ} (n : ℕ) (link : Link) (x : Beat w) (t : Trace w) → on_link n ((link, x) ∷ t) ≡ (if link.0 == n then x ∷ [] else []) ++ on_link n t
-unfolding on_link
-on-link {w} n link x t = go (link.0 == n)
-  where
-    go : (b : Bool) → (if b then x ∷ on_link n t else on_link n t) ≡ (if b then x ∷ [] else []) ++ on_link n t
-    go true = refl
-    go false = refl
-
-shown-flows : {w : ℕ} (n : ℕ) (event : Event w) (o : Outcome w) (t : Trace w) → on_link n (shown event o ++ t) ≡ taken_on n event o ++ on_link n t
-shown-flows n (Deliver link ch) (outcome.Moved x) t = on-link n link x t
-shown-flows n (Deliver link ch) (outcome.Done x source f) t = on-link n link x t
-shown-flows n (Deliver link ch) (outcome.Replied r) t = refl
-shown-flows n (Deliver link ch) outcome.Empty t = refl
-shown-flows n (Deliver link ch) outcome.Stalled t = refl
-shown-flows n (Deliver link ch) outcome.NoSuchClient t = refl
-shown-flows n (Ask client op) o t = refl
-
-trace-flows : {w : ℕ} (n : ℕ) (log : Log w) → on_link n (trace_of log) ≡ flow n log
-unfolding on_link flow trace_of
-trace-flows n [] = refl
-trace-flows n (x ∷ log) = shown-flows n x.0 x.1 (trace_of log) ∙ ap (λ (t : History _). taken_on n x.0 x.1 ++ t) (trace-flows n log)
+use Rattle.tl_tool.proofs.Writable.{delivered-writable}
 
 -- ---- a beat that is delivered has a line, and breaks no rule
-
-abbrev levels_in : Config → List Level
-levels_in config = map (λ client. client.level) config.clients.items
-
-unbroken : (o : Option Rule) (b : Bool) → (is_none o && b) ≡ true → o ≡ None
-unbroken None b e = refl
-unbroken (Some rule) b e = absurd cc
 
 -- what is shown of it is judged good
 record IsGood {w : ℕ} (config : Config) (log : Log w) (link : Link) (x : Beat w) : Type 0 where
   spells : Spells (beat_line link x) link x
-  good : broken_on_link (levels_in config) config.profile (link, x) (trace_of log) ≡ None
+  good : broken_on_link (levels_of config) config.profile (link, x) (trace_of log) ≡ None
 
 good-beat : {w : ℕ} (config : Config) (log : Log w) (link : Link) (ch : Channel) (o : Outcome w) (x : Beat w) → IsGiven config ((Deliver link ch, o) ∷ log)
     → AreRanged ((Deliver link ch, o) ∷ log) → is_moving o ≡ true
     → flow link.0 ((Deliver link ch, o) ∷ log) ≡ x ∷ flow link.0 log → IsGood config log link x
-unfolding IsLog is_legal
-good-beat {w} config log link ch o x given ranged moving flowing = record {
-  spells = record {
-    is_line = refl;
-    link_in_range = omega (arith, slice_get_within (levels_in config) link.0 first.2.level level, length-map config.clients.items (λ client. client.level), (limits config given.fits).0);
-    writable = delivered-writable config log link ch o x given flowing;
-    in_range = All-head IsInRange x (flow link.0 log) (subst (All IsInRange) flowing (are-in_range config whole given ranged link.0));
-  };
-  good = ap (λ (l : Option Level). broken_at_level l config.profile x (on_link link.0 (trace_of log))) level
-      ∙ ap (λ (t : History w). broken_after first.2.level config.profile x t) (trace-flows link.0 log)
-      ∙ unbroken (broken_after first.2.level config.profile x (flow link.0 log)) (is_legal first.2.level config.profile (flow link.0 log)) legal;
-}
-  where
-    whole : Log w
-    whole = (Deliver link ch, o) ∷ log
-
-    first : (y : Beat w) × (queue : List (Beat w)) × (terms : Terms) × (((system_after config log).channels link.0 ch ≡ y ∷ queue) × (terms_at config link.0 ≡ Some terms))
-    first = first-moved config link ch (system_after config log) (ap is_moving (sym given.is_log.0) ∙ moving)
-
-    level_is : level_of config link.0 ≡ Some first.2.level
-    level_is = (level-terms config link.0 first.2 first.3.1).0
-
-    level : slice_get (levels_in config) link.0 ≡ Some first.2.level
-    level = slice_get-map (λ (c : ClientConfig). c.level) config.clients.items link.0 ∙ level_is
-
-    legal : is_legal first.2.level config.profile (x ∷ flow link.0 log) ≡ true
-    legal = subst (λ (t : History w). is_legal first.2.level config.profile t ≡ true) flowing (flows config whole given link.0 first.2.level level_is)
+good-beat {w} config log link ch o x given ranged moving flowing =
+    let whole : Log w = (Deliver link ch, o) ∷ log in
+    let is = levelled config log link ch o given moving in
+    record {
+      spells = record {
+        is_line = refl;
+        link_in_range = omega (arith, slice_get_within (levels_of config) link.0 is.level is.in_levels, length-map config.clients.items (λ client. client.level), (limits config given.fits).0);
+        writable = delivered-writable config log link ch o x given flowing;
+        in_range = All-head IsInRange x (flow link.0 log) (subst (All IsInRange) flowing (are-in_range config whole given ranged link.0));
+      };
+      good = delivered-unbroken config log link ch o x given moving flowing;
+    }
 
 -- ---- the lines of a text, judged behind what has been shown
 
 abbrev JudgedBehind : {w : ℕ} → Config → Log w → List ℕ → List ℕ → Type 0
-JudgedBehind config log text verdict = JudgedAfter (levels_in config) config.profile (trace_of log) (lines_of text) verdict Clean
+JudgedBehind config log text verdict = JudgedAfter (levels_of config) config.profile (trace_of log) (lines_of text) verdict Clean
 
 -- the text shows what has happened between these logs
 record Extends {w : ℕ} (config : Config) (log : Log w) (text : List ℕ) (grown : Log w) : Type 0 where
@@ -161,7 +99,7 @@ and-then config log mid grown first second e f = record {
 
 -- a beat that is shown
 one-more : {w : ℕ} (config : Config) (log : Log w) (link : Link) (x : Beat w) (rest verdict : List ℕ) → IsGood config log link x
-    → JudgedAfter (levels_in config) config.profile ((link, x) ∷ trace_of log) (lines_of rest) verdict Clean
+    → JudgedAfter (levels_of config) config.profile ((link, x) ∷ trace_of log) (lines_of rest) verdict Clean
     → JudgedBehind config log (beat_line link x ++ rest) verdict
 unfolding JudgedAfter
 one-more config log link x rest verdict is j = rw (lines_of-line (spaced (fields_of link x)) rest (lacks-beat link x)) (inl (link, x, is.spells, is.good, j))
@@ -169,7 +107,7 @@ one-more config log link x rest verdict is j = rw (lines_of-line (spaced (fields
 -- where no beat is moved nothing is shown
 record ShowsNone {w : ℕ} (event : Event w) (o : Outcome w) : Type 0 where
   text : trace_text event o ≡ []
-  beats : shown event o ≡ []
+  beats : taken_at event o ≡ []
 
 shows-none : {w : ℕ} (event : Event w) (o : Outcome w) → is_moving o ≡ false → ShowsNone event o
 shows-none (Ask client op) (outcome.Moved x) e = absurd cc
@@ -281,10 +219,10 @@ clean-says levels p t (line ∷ lines) text (inr (fault, is, says, ends)) = absu
 
 -- the header of the trace names what that of the schedule does
 trace-heads : (line : List ℕ) (version : Version) (config : Config) → HeadsSchedule line version config
-    → SpellsHeader (header_line version (levels_in config)) (width_of version) config.profile (levels_in config)
+    → SpellsHeader (header_line version (levels_of config)) (width_of version) config.profile (levels_of config)
 trace-heads line version config heads =
     let counted = and_parts (nat_le 1 (length config.clients.items)) (nat_le (length config.clients.items) 16) heads.spelled.clients_fit in
-    let same : length (levels_in config) ≡ length config.clients.items = length-map config.clients.items (λ client. client.level) in
+    let same : length (levels_of config) ≡ length config.clients.items = length-map config.clients.items (λ client. client.level) in
     record {
       version = version;
       is_line = refl;
@@ -295,16 +233,16 @@ trace-heads line version config heads =
 
 headed-clean : (line : List ℕ) (version : Version) (config : Config) (trace verdict : List ℕ) → HeadsSchedule line version config
     → JudgedBehind {w = bytes_of (width_of version)} config [] trace verdict
-    → IsClean (header_line version (levels_in config) ++ trace)
+    → IsClean (header_line version (levels_of config) ++ trace)
 unfolding Judged trace_of
 headed-clean line version config trace verdict heads judged =
-    let lines = lines_of-line (trace_word ++ version_text version ++ levels_text (levels_in config)) trace (lacks-header version (levels_in config)) in
+    let lines = lines_of-line (trace_word ++ version_text version ++ levels_text (levels_of config)) trace (lacks-header version (levels_of config)) in
     let all : 0 + length (lines_of trace) ≡ length (lines_of trace) = omega arith in
-    let says : verdict ≡ clean_text (length (lines_of trace)) = clean-says (levels_in config) config.profile [] (lines_of trace) verdict judged ∙ ap clean_text all in (
+    let says : verdict ≡ clean_text (length (lines_of trace)) = clean-says (levels_of config) config.profile [] (lines_of trace) verdict judged ∙ ap clean_text all in (
       length (lines_of trace),
       ap (λ (l : List (List ℕ)). length l) lines
           ∙ omega arith,
-      rw lines (inl (width_of version, config.profile, levels_in config, trace-heads line version config heads, rw says at judged)),
+      rw lines (inl (width_of version, config.profile, levels_of config, trace-heads line version config heads, rw says at judged)),
     )
 
 whole-clean : (top rest trace : List ℕ) (status : Status) → IsClean (top ++ trace) → Ends rest trace status → IsCleanUpTo (top ++ rest) status
@@ -318,5 +256,5 @@ trace-clean [] text status (is, ends) = rw ends (inl is)
 trace-clean (line ∷ lines) text status (inl (version, config, rest, heads, is, played)) =
     let shows = shows-trace {w = bytes_of (width_of version)} config 2 [] lines rest status
     (given-first config (is_width_of (width_of version)) (header-fits line version config heads.spelled)) tt played in
-    rw is (whole-clean (header_line version (levels_in config)) rest shows.trace status (headed-clean line version config shows.trace shows.verdict heads shows.judged) shows.ends)
+    rw is (whole-clean (header_line version (levels_of config)) rest shows.trace status (headed-clean line version config shows.trace shows.verdict heads shows.judged) shows.ends)
 trace-clean (line ∷ lines) text status (inr (none, is, ends)) = rw ends (inl is)

@@ -1,13 +1,11 @@
 -- A beat that was delivered has room in its line.
-use Rattle.std.proofs.Common.{◌≡◌, ℕ, Bool, true, false, refl, ◌∙◌, ap, subst, [], ◌∷◌, ◌++◌}
-use Rattle.std.specs.Prelude.{◌==◌, All, if◌then◌else◌}
-use Rattle.std.proofs.lemmas.Bool.{eqb-false}
+use Rattle.std.proofs.Common.{◌≡◌, ℕ, false, ◌∙◌, ap, subst, ◌∷◌}
+use Rattle.std.specs.Prelude.{All}
 use Rattle.std.proofs.lemmas.List.Elements.{All-head}
 use Rattle.tl_beat.specs.declared.beat.Link.{Link}
 use Rattle.tl_beat.specs.declared.beat.Beat.{Beat}
 use Rattle.tl_beat.specs.declared.channel.Channel.{Channel}
 use Rattle.tl_beat.specs.statement.Line.{IsWritable}
-use Rattle.tl_burst.specs.statement.Messages.{History}
 use Rattle.tl_params.specs.declared.config.Config.{Config}
 use Rattle.tl_schedule.specs.statement.OutcomeLine.{HasLine}
 use Rattle.tl_coherence.specs.declared.event.Event.{Event}
@@ -20,14 +18,7 @@ use Rattle.tl_coherence.specs.statement.Headline.{IsGiven}
 use Rattle.tl_coherence.specs.statement.Log.{Log, IsLog}
 use Rattle.tl_coherence.proofs.lines.Delivered.{have-room}
 use Rattle.tl_coherence.proofs.flow.Flows.{asked-still}
-
--- what was taken on a link is first in its flow
-pub taken : {w : ℕ} (link : Link) (x : Beat w) (t : History w) → (if link.0 == link.0 then x ∷ [] else []) ++ t ≡ x ∷ t
-taken {w} link x t = go (link.0 == link.0) refl
-  where
-    go : (b : Bool) → (link.0 == link.0) ≡ b → (if b then x ∷ [] else []) ++ t ≡ x ∷ t
-    go true e = refl
-    go false e = absurd (eqb-false link.0 link.0 e refl)
+use Rattle.tl_coherence.proofs.flow.FlowTraces.{taken}
 
 pub delivered-writable : {w : ℕ} (config : Config) (log : Log w) (link : Link) (ch : Channel) (o : Outcome w) (x : Beat w)
     → IsGiven config ((Deliver link ch, o) ∷ log) → flow link.0 ((Deliver link ch, o) ∷ log) ≡ x ∷ flow link.0 log → IsWritable x

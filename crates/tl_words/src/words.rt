@@ -196,7 +196,9 @@ fn copied(alloc: Global, text: Option<&str>) -> Result<Option<String>, AllocErro
 }
 
 /// The error of a word that names no width, with the usage of `decode`.
-fn wrong_width(alloc: Global, word: Option<&str>) -> Result<clap::Error, AllocError> {
+fn wrong_width(alloc: Global, word: Option<&str>) -> Result<clap::Error, AllocError>
+    ensures { IfOk result (λ error. kind_of error ≡ ErrorKind.InvalidValue) }
+{
     let word = word.unwrap_or("");
     let message = format!(in alloc;
         "invalid value '{word}' for '--width <BYTES>': a beat carries 4, 8 or 16 bytes"

@@ -8,6 +8,10 @@ use Rattle.std.specs.Prelude.{◌≢◌, Ok, slice_index_or, Option, ⊤}
 use Rattle.tl_params.specs.declared.config.ClientConfig.{ClientConfig}
 use Rattle.tl_params.specs.declared.config.Config.{Config}
 use Rattle.tl_params.specs.declared.config.NewFault.{NewFault}
+use Rattle.tl_params.specs.declared.config.NewFault.TheVariants.{Memory}
+use Rattle.tl_params.specs.declared.level.Level.{Level}
+use Rattle.tl_params.specs.declared.level.Level.TheVariants as level
+use Rattle.tl_client.specs.code.KnowsAny.{IsFaultAt}
 use Rattle.tl_params.specs.statement.Config.{config_fault, client_fault, blocks_fit, trackers_fit, all_sources_fit}
 use Rattle.tl_params.specs.statement.Range.{is_from_to}
 use Rattle.tl_params.specs.statement.Refusal.{ok_unless}
@@ -28,6 +32,12 @@ pub client-fits : (config : Config) (i : ℕ) (d : ClientConfig) → config_faul
 client-fits config i d fits lt =
     let parts = limits-fit (is_from_to 1 16 (length config.clients.items)) (blocks_fit config.blocks) (trackers_fit config.trackers) (all_sources_fit config.clients.items) fits in
     rw (parts.1, all-fit config.clients.items i d parts.3 lt) refl
+
+-- one within its limits is refused for want of memory alone
+pub want-of-memory : (l : Level) (fault : NewFault) → IsFaultAt l None fault → fault ≡ Memory
+want-of-memory level.C fault is = is
+want-of-memory level.UL fault is = absurd cc
+want-of-memory level.UH fault is = absurd cc
 
 -- ---- one more client
 

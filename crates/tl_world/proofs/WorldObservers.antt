@@ -1,18 +1,21 @@
 -- What a caller sees of a world.
-use Rattle.std.proofs.Common.{◌≡◌, ◌<◌, ◌≤◌, ℕ, List, Option, None, ◌∙◌, inl, inr, length, arith}
+use Rattle.std.proofs.Common.{◌≡◌, ◌<◌, ◌≤◌, ◌/◌, ℕ, Bool, true, false, List, Option, None, refl, ◌∙◌, inl, inr, length, arith}
 use Rattle.std.proofs.lemmas.Bool.{cases_lt, lt-ltb, le-ltb}
-use Rattle.std.specs.Prelude.{if◌then◌else◌, nat_lt, slice_index_or}
+use Rattle.std.specs.Prelude.{if◌then◌else◌, is_some, nat_lt, slice_index_or}
 use Rattle.tl_beat.specs.declared.channel.Channel.{Channel}
 use Rattle.tl_params.specs.declared.config.Config.{Config}
 use Rattle.tl_params.specs.declared.perm.Perm.{Perm}
 use Rattle.tl_params.specs.declared.perm.Perm.TheVariants as perm
 use Rattle.tl_client.specs.statement.End.{Terms, End, held_at}
+use Rattle.tl_client.specs.statement.Kept.{holds}
+use Rattle.tl_coherence.specs.statement.Delivery.{capacity, sources_of}
+use Rattle.tl_coherence.specs.statement.System.{terms_at}
 use Rattle.tl_world.specs.declared.contents.Contents.{Contents}
 use Rattle.tl_world.specs.declared.ring.Ring.{Ring}
 use Rattle.tl_world.specs.code.Carrying.{place}
 use Rattle.tl_world.specs.code.Holds.{clients_of}
 use Rattle.tl_coherence.specs.statement.Log.{Log, system_after}
-use Rattle.tl_world.specs.statement.World.{IsReached, held_by, copy_by, deepest_by}
+use Rattle.tl_world.specs.statement.World.{IsReached, held_by, copy_by, deepest, deepest_by}
 use Rattle.tl_world.proofs.Queues.{number-below}
 use Rattle.tl_world.proofs.Stepping.{member}
 
@@ -55,3 +58,21 @@ module _ {w : ℕ} {A M : Type 0} (knows : A → End w → Type 0) (terms : A �
             rw (lt-ltb link (clients_of config) below) (there d inside ∙ r.depths link ch d below)
         | inr past ↦ rw (le-ltb link (clients_of config) past) (nowhere (omega (arith, past, many)))
       ]
+
+  -- a copy exactly where something is held
+  pub seen-kept : (client block : ℕ) (result : Option (List ℕ)) → result ≡ copy_by config client block (system_after config log)
+      → is_some result ≡ holds (held_by config client block (system_after config log))
+  seen-kept client block result is = rw is (go (nat_lt client (clients_of config)))
+    where
+      go : (b : Bool) → is_some (if b then ((system_after config log).clients client).copies block else None) ≡ holds (if b then held_at ((system_after config log).clients client) block else perm.None)
+      go true = r.sound.coherent.kept client block
+      go false = refl
+
+  -- and no more beats than a channel is made for
+  pub seen-room : (link : ℕ) (ch : Channel) (result : ℕ) → result ≡ deepest_by config log link ch
+      → result ≤ capacity (64 / w) (sources_of (terms_at config link)) config.trackers ch
+  seen-room link ch result is = rw is (go (nat_lt link (clients_of config)))
+    where
+      go : (b : Bool) → (if b then deepest config log link ch else 0) ≤ capacity (64 / w) (sources_of (terms_at config link)) config.trackers ch
+      go true = r.shallow link ch
+      go false = omega arith

@@ -1,11 +1,15 @@
 //! A world of a manager and its clients.
 
-ghost use Rattle.std.specs.Prelude.{ℕ, [], ◌∷◌, ◌≡◌, ◌≤◌, ◌<◌, ◌+◌, length, slice_set, None};
+ghost use Rattle.std.specs.Prelude.{ℕ, [], ◌∷◌, ◌≡◌, ◌≤◌, ◌<◌, ◌+◌, ◌/◌, length, slice_set, is_some};
 ghost use Rattle.tl_beat.specs.statement.Width.{IsWidth};
 ghost use Rattle.tl_params.specs.declared.config.Config.{Config};
+ghost use Rattle.tl_client.specs.statement.Kept.{holds};
+ghost use Rattle.tl_coherence.specs.statement.Delivery.{capacity, sources_of};
 ghost use Rattle.tl_coherence.specs.statement.Load;
+ghost use Rattle.tl_coherence.specs.statement.Load.{IsBalanced};
 ghost use Rattle.tl_coherence.specs.statement.Log.{Log, system_after, logged};
 ghost use Rattle.tl_coherence.specs.statement.Step.{stepped};
+ghost use Rattle.tl_coherence.specs.statement.System.{terms_at};
 ghost use Rattle.tl_world.specs.statement.World.{IsReached, IsNewWorld, IsReplayed, AreReady, IsEmpty, held_by, copy_by, deepest_by};
 ghost use Rattle.tl_coherence.specs.statement.Movable;
 ghost use Rattle.tl_coherence.specs.statement.Movable.{drained};
@@ -169,26 +173,33 @@ impl<const W: usize, A: Agent<W>, D: Directory> World<W, A, D> {
         held_at(&self.contents.parts.clients, usize::from(client), block)
     }
 
-    /// The bytes of a client's copy of a block: None where it has none, or there is no such client.
+    /// The bytes of a client's copy of a block: there is a copy exactly where the client holds something.
     pub fn copy(&self, client: u8, block: u16) -> Option<[u8; 64]>
-        ensures { (config : Config) (log : Log W) → IsReached A.knows A.terms D.perm_of config self.now log →
+        ensures copy { (config : Config) (log : Log W) → IsReached A.knows A.terms D.perm_of config self.now log →
             result ≡ copy_by config client block (system_after config log) }
+        ensures held { (config : Config) (log : Log W) → IsReached A.knows A.terms D.perm_of config self.now log →
+            is_some result ≡ holds (held_by config client block (system_after config log)) }
     {
         copy_at(&self.contents.parts.clients, usize::from(client), block)
     }
 
-    /// The greatest number of beats that ever stood in a channel: 0 for a link without a client.
+    /// The greatest number of beats that ever stood in a channel, which is no more than it is made for:
+    /// 0 for a link without a client.
     pub fn deepest(&self, link: Link, channel: Channel) -> u16
-        ensures { (config : Config) (log : Log W) → IsReached A.knows A.terms D.perm_of config self.now log →
+        ensures deepest { (config : Config) (log : Log W) → IsReached A.knows A.terms D.perm_of config self.now log →
             result ≡ deepest_by config log link.0 channel }
+        ensures room { (config : Config) (log : Log W) → IsReached A.knows A.terms D.perm_of config self.now log →
+            result ≤ capacity (64 / W) (sources_of (terms_at config link.0)) config.trackers channel }
     {
         self.contents.parts.rings.deepest(link, channel)
     }
 
     /// How many deliveries what is outstanding can still need.
     pub fn load(&self) -> u64
-        ensures { (config : Config) (log : Log W) → IsReached A.knows A.terms D.perm_of config self.now log →
+        ensures load { (config : Config) (log : Log W) → IsReached A.knows A.terms D.perm_of config self.now log →
             result ≡ Load.load log }
+        ensures balanced { (config : Config) (log : Log W) → IsReached A.knows A.terms D.perm_of config self.now log →
+            IsBalanced log }
     {
         self.contents.outstanding.load::<W>()
     }

@@ -1,7 +1,9 @@
 -- What a client of any level knows of its end of the link.
-use Rattle.std.specs.Prelude.{ℕ, ◌≡◌, None, Result, Ok, Err}
+use Rattle.std.specs.Prelude.{ℕ, ◌≡◌, Option, Some, None, Result, Ok, Err}
 use Rattle.tl_params.specs.declared.config.ClientConfig.{ClientConfig}
 use Rattle.tl_params.specs.declared.config.NewFault.{NewFault}
+use Rattle.tl_params.specs.declared.level.Level.{Level}
+use Rattle.tl_params.specs.declared.level.Level.TheVariants as level
 use Rattle.tl_params.specs.declared.profile.Profile.{Profile}
 use Rattle.tl_params.specs.statement.Config.{client_fault}
 use Rattle.tl_client.specs.declared.any.AnyClient.{AnyClient}
@@ -18,10 +20,16 @@ abbrev pub KnowsAny : {w : ℕ} → AnyClient w → End w → Type 0
 KnowsAny (any.Caching c) e = caching.KnowsCaching c e
 KnowsAny (any.Plain p) e = plain.KnowsPlain p e
 
+-- why there is no client of this level: the first limit that is broken, and at level C that or want of memory, for a
+-- plain client takes none
+abbrev pub IsFaultAt : Level → Option NewFault → NewFault → Type 0
+IsFaultAt level.C first fault = caching.IsFault first fault
+IsFaultAt _ first fault = first ≡ Some fault
+
 -- what a new client is, or why there is none
 abbrev pub IsNewAny : {w : ℕ} → ClientConfig → ℕ → Profile → Result (AnyClient w) NewFault → Type 0
 IsNewAny config blocks profile (Ok c) =
     (client_fault config blocks ≡ None)
     × KnowsAny c fresh
     × (any_terms c ≡ record { level = config.level; profile = profile; sources = config.sources; blocks = blocks })
-IsNewAny config blocks profile (Err f) = caching.IsFault (client_fault config blocks) f
+IsNewAny config blocks profile (Err f) = IsFaultAt config.level (client_fault config blocks) f

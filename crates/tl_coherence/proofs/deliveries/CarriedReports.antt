@@ -57,7 +57,8 @@ use Rattle.tl_rules.specs.statement.History.{is_acquire}
 use Rattle.tl_manager.specs.statement.Holders.{cap_probed}
 use Rattle.tl_coherence.specs.refinement.AbstractStep.{AbstractState, performs, ack_taken, answers, abstract_step, granted_after, last_taken, some_below, packet_taken, with_state}
 use Rattle.tl_coherence.specs.protocol.Invariant.{IsWell, IsInvariant}
-use Rattle.tl_coherence.specs.protocol.Phase.{ClientBlock, ProbeAnswered, is_unprobed, perm_le, AcquirePhase, NoAcquire, AcquireOpen}
+use Rattle.tl_coherence.specs.protocol.Phase.{ClientBlock, ProbeAnswered, is_unprobed, AcquirePhase, NoAcquire, AcquireOpen}
+use Rattle.tl_coherence.specs.statement.Permissions.{perm_le}
 use Rattle.tl_coherence.specs.protocol.PhaseSteps.{after_report, is_granted_data}
 use Rattle.tl_coherence.specs.protocol.Protocol.{Service, Waits, Block, ended_block, shown, view, Free, GrantSent, GrantTaken, granted_block, let_block, release_taken, report_taken, packet}
 use Rattle.tl_coherence.specs.refinement.PacketMessages.{prune_told, message_of, block_message, report_told}

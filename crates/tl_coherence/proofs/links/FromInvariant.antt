@@ -1,5 +1,5 @@
 -- What holds of every manager and its clients, whatever happens to them: of what is kept of the whole.
-use Rattle.std.proofs.Common.{◌≡◌, ℕ, true, ◌∷◌, Option, Some, None, refl, sym}
+use Rattle.std.proofs.Common.{◌≡◌, ◌∙◌, ℕ, true, ◌∷◌, Option, Some, None, refl, sym, ap₂}
 use Rattle.std.specs.Prelude.{◌≤◌, ◌/◌, is_some, length}
 use Rattle.tl_beat.specs.declared.beat.Beat.{Beat}
 use Rattle.tl_beat.specs.declared.beat.Link.{Link}
@@ -10,6 +10,7 @@ use Rattle.tl_client.specs.declared.operation.Op.{Op}
 use Rattle.tl_client.specs.declared.verdict.Finish.TheVariants.{Granted}
 use Rattle.tl_client.specs.statement.Ask.{op_block}
 use Rattle.tl_client.specs.statement.End.{Terms, held_at}
+use Rattle.tl_manager.specs.statement.Holders.{recorded}
 use Rattle.tl_coherence.specs.declared.event.Event.TheVariants.{Deliver}
 use Rattle.tl_coherence.specs.declared.event.Outcome.TheVariants as outcome
 use Rattle.tl_coherence.specs.statement.Coherent.{IsCoherent, started}
@@ -17,8 +18,10 @@ use Rattle.tl_coherence.specs.statement.Delivery.{IsFifo, IsExact, capacity, sou
 use Rattle.tl_coherence.specs.statement.Headline.{AreTyped, IsGiven, IsUnrefused}
 use Rattle.tl_coherence.specs.statement.Log.{Log, IsLog, system_after}
 use Rattle.tl_coherence.specs.statement.Machine.{Requests, is_client}
+use Rattle.tl_coherence.specs.statement.Permissions.{perm_le}
 use Rattle.tl_coherence.specs.statement.OneMemory.{one_memory_after}
 use Rattle.tl_coherence.specs.statement.System.{terms_at}
+use Rattle.tl_coherence.specs.protocol.Protocol.{view}
 use Rattle.tl_coherence.specs.refinement.SimulationRelation.{SimulationRelation}
 use Rattle.tl_coherence.proofs.memory.Coherence.{coherent-matched}
 use Rattle.tl_coherence.proofs.links.FifoOfChannels.{carried-passing, passing}
@@ -27,6 +30,7 @@ use Rattle.tl_coherence.proofs.links.Granting.{granted-holds}
 use Rattle.tl_coherence.proofs.deliveries.Matching.{shadow, matched}
 use Rattle.tl_coherence.proofs.simulation.Owned.{channels-few}
 use Rattle.tl_coherence.proofs.links.Stalling.{exact}
+use Rattle.tl_coherence.proofs.queues.Facts.{held_at_most}
 
 pub matched-given : {w : ℕ} (config : Config) (log : Log w) → IsGiven config log
     → SimulationRelation config log (shadow config log).mail (shadow config log).request (shadow config log).state (system_after config log)
@@ -66,3 +70,12 @@ pub grants : {w : ℕ} (config : Config) (log : Log w) (link : Link) (ch : Chann
 unfolding system_after AreTyped IsLog
 grants config log link ch x source p op given asked =
     granted-holds config log link ch (shadow config log) x source p op given.width (matched config log given.width given.typed.1 given.is_log.1) (sym given.is_log.0) asked
+
+-- No client holds more of a block than is recorded for it.
+pub at_most_recorded : {w : ℕ} (config : Config) (log : Log w) → IsGiven config log → (link block : ℕ)
+    → perm_le (held_at ((system_after config log).clients link) block) (recorded link block (system_after config log).manager.trace) ≡ true
+at_most_recorded config log given link block =
+    let is = matched-given config log given in
+    let b = (shadow config log).state.block block in
+    ap₂ perm_le ((is.known link).held_is block) (is.managed.recorded_is link block)
+    ∙ held_at_most (b.pair link) (view b.service link) ((is.invariant.blocks block).phases link)

@@ -33,7 +33,7 @@ use Rattle.tl_manager.specs.statement.Handing.{Deed, nothing, release_ack, with_
 use Rattle.tl_manager.specs.statement.Holders.{is_settled, is_missing}
 use Rattle.tl_manager.specs.code.Kept.{IsKept}
 use Rattle.tl_manager.specs.statement.Offer as manager_offer
-use Rattle.tl_manager.specs.statement.Deed.{deed, written}
+use Rattle.tl_manager.specs.statement.Deed.{deed}
 use Rattle.tl_manager.specs.statement.End.{End}
 use Rattle.tl_manager.specs.statement.Offer.{offered, taken}
 use Rattle.tl_manager.proofs.Events.{deed-part, deed-release, deed-report, deed-ack, memory_with}

@@ -23,7 +23,7 @@ use Rattle.tl_coherence.specs.statement.Coherent.{started_at, started, IsCoheren
 use Rattle.tl_coherence.specs.statement.Log.{Log, system_after}
 use Rattle.tl_coherence.specs.statement.Machine.{Machine, Open, Pool, Requests, Releases, same_pool, pool_of, with_open, with_memory, memory_after, after_reply, after_end}
 use Rattle.tl_coherence.specs.statement.Machine.{moved, performed, performed_op, performed_open}
-use Rattle.tl_coherence.specs.protocol.Phase.{perm_le}
+use Rattle.tl_coherence.specs.statement.Permissions.{perm_le}
 use Rattle.tl_coherence.specs.protocol.Protocol.{State, view}
 use Rattle.tl_coherence.specs.statement.OneMemory.{one_memory_after, performing, accesses_answered}
 use Rattle.tl_coherence.specs.refinement.PacketMessages.{AccessMessages}

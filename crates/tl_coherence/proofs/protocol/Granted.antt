@@ -11,7 +11,8 @@ use Rattle.tl_params.specs.declared.perm.Perm.{Perm}
 use Rattle.tl_params.specs.declared.perm.Perm.TheVariants as perm
 use Rattle.tl_params.specs.statement.Param.{cap_right, report_left, report_right}
 use Rattle.tl_rules.specs.statement.Conformance.{same_perm}
-use Rattle.tl_coherence.specs.protocol.Phase.{ClientBlock, Own, Other, Granting, GrantedOther, NoProbe, ProbeAnswered, NoAcquire, AcquireOpen, ok, same_cap, perm_le, is_unprobed, cap_fits}
+use Rattle.tl_coherence.specs.protocol.Phase.{ClientBlock, Own, Other, Granting, GrantedOther, NoProbe, ProbeAnswered, NoAcquire, AcquireOpen, ok, same_cap, is_unprobed, cap_fits}
+use Rattle.tl_coherence.specs.statement.Permissions.{perm_le}
 use Rattle.tl_coherence.specs.protocol.PhaseSteps.{is_granted_data, after_grant_sent, after_report}
 use Rattle.tl_coherence.specs.protocol.Packet.{set}
 use Rattle.tl_coherence.specs.protocol.Protocol.{Waits, GrantSent, Block, view, written, granted_pair, granted_block}

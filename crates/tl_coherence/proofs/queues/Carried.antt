@@ -4,7 +4,6 @@ use Rattle.std.specs.Prelude.{◌==◌}
 use Rattle.std.proofs.lemmas.List.{append_assoc, append-nil}
 use Rattle.tl_beat.specs.declared.beat.Beat.{Beat}
 use Rattle.tl_burst.specs.declared.message.Message.{Message}
-use Rattle.tl_burst.specs.declared.message.Message.TheVariants.{A}
 use Rattle.tl_burst.specs.statement.Burst.{beats_of, beat_of, begun, burst_of}
 use Rattle.tl_burst.specs.statement.Messages.{grown}
 use Rattle.tl_burst.specs.statement.Part.{completes}

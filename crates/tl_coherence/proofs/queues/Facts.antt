@@ -13,7 +13,8 @@ use Rattle.tl_params.specs.declared.perm.Perm.TheVariants as perm
 use Rattle.tl_params.specs.statement.Param.{prune_left, report_left, report_right, cap_right, report_at}
 use Rattle.tl_rules.specs.statement.Conformance.{same_perm}
 use Rattle.tl_coherence.specs.protocol.Phase.{grant_fits, grow_fits, ClientBlock, View, Idle, Own, Other, Granting, Acknowledging, ProbePhase, NoProbe, ProbeAnswered, ReleasePhase, ReleaseSent}
-use Rattle.tl_coherence.specs.protocol.Phase.{NoAcquire, AcquireOpen, ok, same_cap, same_report, perm_le, is_unacquired, is_unreleased, is_unprobed}
+use Rattle.tl_coherence.specs.protocol.Phase.{NoAcquire, AcquireOpen, ok, same_cap, same_report, is_unacquired, is_unreleased, is_unprobed}
+use Rattle.tl_coherence.specs.statement.Permissions.{perm_le}
 use Rattle.tl_coherence.specs.protocol.Protocol.{is_granting, is_unserved, is_acked, is_answered}
 use Rattle.tl_coherence.specs.protocol.Invariant.{is_out}
 use Rattle.tl_coherence.proofs.queues.Phases.{and_left, and_right, each_phase, of_phase, implies, implies_is}

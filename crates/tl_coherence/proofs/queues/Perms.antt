@@ -8,7 +8,8 @@ use Rattle.tl_params.specs.declared.perm.Perm.TheVariants as perm
 use Rattle.tl_rules.specs.statement.Conformance.{same_perm}
 use Rattle.tl_client.specs.statement.Kept.{holds}
 use Rattle.tl_coherence.specs.protocol.Invariant.{is_out}
-use Rattle.tl_coherence.specs.protocol.Phase.{ClientBlock, View, perm_le}
+use Rattle.tl_coherence.specs.protocol.Phase.{ClientBlock, View}
+use Rattle.tl_coherence.specs.statement.Permissions.{perm_le}
 use Rattle.tl_coherence.specs.protocol.PhaseSteps.{is_above}
 
 pub trunk-some : (p : Perm) → same_perm p perm.Trunk ≡ true → same_perm p perm.None ≡ false

@@ -1,22 +1,29 @@
--- An Acquire that is started alone brings what it asks for.
-use Rattle.std.proofs.Common.{◌≡◌, subst, ℕ, zero, suc, true, false, List, ◌∷◌, Option, Some, None, refl, sym, ◌∙◌, ap}
+-- An Acquire that is started alone brings what it asks for, and an AcquireWhole brings Trunk.
+use Rattle.std.proofs.Common.{◌≡◌, subst, ℕ, zero, suc, Bool, true, false, List, ◌∷◌, Option, Some, None, refl, sym, ◌∙◌, ap}
 use Rattle.tl_beat.specs.declared.beat.Link.{Link}
 use Rattle.tl_beat.specs.declared.channel.Channel.{Channel}
 use Rattle.tl_params.specs.declared.config.Config.{Config}
 use Rattle.tl_params.specs.declared.param.Grow.{Grow}
+use Rattle.tl_params.specs.declared.perm.Perm.{Perm}
+use Rattle.tl_params.specs.declared.perm.Perm.TheVariants as perm
 use Rattle.tl_params.specs.declared.profile.Profile.{Profile}
-use Rattle.tl_client.specs.declared.operation.Op.TheVariants.{Acquire}
+use Rattle.tl_params.specs.declared.profile.Profile.TheVariants as profile
+use Rattle.tl_client.specs.declared.operation.Op.{Op}
+use Rattle.tl_client.specs.declared.operation.Op.TheVariants.{Acquire, AcquireWhole}
 use Rattle.tl_client.specs.declared.reply.Reply.TheVariants.{Started}
+use Rattle.tl_client.specs.statement.Ask.{whole_grow}
+use Rattle.tl_client.specs.statement.End.{held_at}
+use Rattle.tl_rules.specs.statement.Conformance.{same_perm}
 use Rattle.tl_coherence.specs.declared.event.Event.TheVariants.{Ask, Deliver}
 use Rattle.tl_coherence.specs.declared.event.Outcome.{Outcome}
 use Rattle.tl_coherence.specs.declared.event.Outcome.TheVariants.{Replied}
-use Rattle.tl_coherence.specs.statement.Draining.{LoneAcquire, grown_to}
-use Rattle.tl_coherence.specs.refinement.AbstractStep.{AbstractState, abstract_step, abstract_step_by}
+use Rattle.tl_coherence.specs.statement.Draining.{LoneAcquire, AloneWhole, IsDrained, grown_to}
+use Rattle.tl_coherence.specs.refinement.AbstractStep.{AbstractState, asked, abstract_step, abstract_step_by}
 use Rattle.tl_coherence.specs.statement.Headline.{IsGiven}
 use Rattle.tl_coherence.specs.statement.Load.{outstanding}
 use Rattle.tl_coherence.specs.statement.Log.{Log, IsLog, system_after}
 use Rattle.tl_coherence.specs.statement.Movable.{next_delivery, drained, with_delivery}
-use Rattle.tl_coherence.specs.protocol.Phase.{ClientBlock, AcquireOpen}
+use Rattle.tl_coherence.specs.protocol.Phase.{ClientBlock, AcquirePhase, AcquireOpen}
 use Rattle.tl_coherence.specs.protocol.PhaseSteps.{after_acquire}
 use Rattle.tl_coherence.specs.protocol.Protocol.{Block, State, SourceState, SourceFree, Acquires, acquire_asked, acquiring_block}
 use Rattle.tl_coherence.specs.refinement.SimulationRelation.{is_caching}
@@ -24,7 +31,7 @@ use Rattle.tl_coherence.proofs.memory.Beside.{set_at-there}
 use Rattle.tl_coherence.proofs.outstanding.Counted.{outstanding-open}
 use Rattle.tl_coherence.proofs.simulation.FollowCases.{delivered-cases, on-first}
 use Rattle.tl_coherence.proofs.links.FromInvariant.{matched-given}
-use Rattle.tl_coherence.proofs.theorem.LoneAcquireSteps.{Brings, IsLone, lone-kind_taken}
+use Rattle.tl_coherence.proofs.theorem.LoneAcquireSteps.{Brings, IsLone, grown, lone-kind_taken}
 use Rattle.tl_coherence.proofs.deliveries.Matching.{shadow}
 use Rattle.tl_coherence.proofs.outstanding.Movement.{closed-when-counted}
 use Rattle.tl_coherence.proofs.outstanding.Progress.{counted}
@@ -47,73 +54,107 @@ nothing_open config log given none =
 
 -- ---- as it starts
 
-lone_asked : (p : Profile) (c n source : ℕ) (g : Grow) (bytes : List ℕ) (s : State (List ℕ)) → IsClosed s → IsLone p c n source g (acquire_asked c n source false g bytes s)
-lone_asked p c n source g bytes s closed = record {
+lone_asked : (p : Profile) (c n source : ℕ) (whole : Bool) (g : Grow) (bytes : List ℕ) (s : State (List ℕ)) → IsClosed s → IsLone p c n source (AcquireOpen whole g) (acquire_asked c n source whole g bytes s)
+lone_asked p c n source whole g bytes s closed = record {
   others = λ d i else_. set_at-there c source (Acquires n) s.uses d i else_ ∙ closed.uses d i;
   brings = wanting (s'.uses c source) ((s'.block n).pair c) (set_at-same c source (Acquires n) s.uses)
-      (ap (λ (b : Block (List ℕ)). (b.pair c).acquiring) (set-same n (acquiring_block c source false g bytes (s.block n)) s.block)
-      ∙ ap (λ (x : ClientBlock). x.acquiring) (set-same c (after_acquire false g ((s.block n).pair c)) (s.block n).pair));
+      (ap (λ (b : Block (List ℕ)). (b.pair c).acquiring) (set-same n (acquiring_block c source whole g bytes (s.block n)) s.block)
+      ∙ ap (λ (x : ClientBlock). x.acquiring) (set-same c (after_acquire whole g ((s.block n).pair c)) (s.block n).pair));
 }
   where
     s' : State (List ℕ)
-    s' = acquire_asked c n source false g bytes s
+    s' = acquire_asked c n source whole g bytes s
 
-    wanting : (u : SourceState) (x : ClientBlock) → u ≡ Acquires n → x.acquiring ≡ AcquireOpen false g → Brings p n g u x
+    wanting : (u : SourceState) (x : ClientBlock) → u ≡ Acquires n → x.acquiring ≡ AcquireOpen whole g → Brings p n (AcquireOpen whole g) u x
     wanting u x e f = rw e (refl, f)
 
-lone_started : {w : ℕ} (config : Config) (log : Log w) (c n source : ℕ) (g : Grow) → outstanding log ≡ 0 → IsGiven config ((Ask c (Acquire n g), Replied (Started source)) ∷ log)
-    → IsLone config.profile c n source g (shadow config ((Ask c (Acquire n g), Replied (Started source)) ∷ log)).state
+-- what is asked for wants this, and is alone
+record Begins {w : ℕ} (config : Config) (log : Log w) (c n source : ℕ) (op : Op w) (a : AcquirePhase) : Type 0 where
+  given : IsGiven config ((Ask c op, Replied (Started source)) ∷ log)
+  alone : outstanding log ≡ 0
+  begins : IsClosed (shadow config log).state → IsLone config.profile c n source a (asked c op (Started source) (shadow config log)).state
+
+lone_started : {w : ℕ} (config : Config) (log : Log w) (c n source : ℕ) (op : Op w) (a : AcquirePhase) → Begins config log c n source op a
+    → IsLone config.profile c n source a (shadow config ((Ask c op, Replied (Started source)) ∷ log)).state
 unfolding shadow IsLog
-lone_started {w} config log c n source g none given =
-    subst (λ (o : Outcome w). IsLone config.profile c n source g (abstract_step_by config (Ask c (Acquire n g)) o (system_after config log) (shadow config log)).state) given.is_log.0
-    (lone_asked config.profile c n source g (((shadow config log).state.block n).waiting c) (shadow config log).state
-    (nothing_open config log (given-before config (Ask c (Acquire n g), Replied (Started source)) log given) none))
+lone_started {w} config log c n source op a is =
+    subst (λ (o : Outcome w). IsLone config.profile c n source a (abstract_step_by config (Ask c op) o (system_after config log) (shadow config log)).state) is.given.is_log.0
+    (is.begins (nothing_open config log (given-before config (Ask c op, Replied (Started source)) log is.given) is.alone))
 
 -- ---- as it is drained
 
-lone_delivered : {w : ℕ} (config : Config) (log : Log w) (c n source : ℕ) (g : Grow) (link : Link) (ch : Channel) → IsGiven config log → IsLone config.profile c n source g (shadow config log).state
-    → IsLone config.profile c n source g (abstract_step config (Deliver link ch) (system_after config log) (shadow config log)).state
-lone_delivered {w} config log c n source g link ch given is =
+lone_delivered : {w : ℕ} (config : Config) (log : Log w) (c n source : ℕ) (a : AcquirePhase) (link : Link) (ch : Channel) → IsGiven config log → IsLone config.profile c n source a (shadow config log).state
+    → IsLone config.profile c n source a (abstract_step config (Deliver link ch) (system_after config log) (shadow config log)).state
+lone_delivered {w} config log c n source a link ch given is =
     let h : AbstractState w = shadow config log in
     let matched = matched-given config log given in
-    delivered-cases config log h.mail h.request h.state (system_after config log) link ch (λ (i : AbstractState w). IsLone config.profile c n source g i.state) given.width matched is
+    delivered-cases config log h.mail h.request h.state (system_after config log) link ch (λ (i : AbstractState w). IsLone config.profile c n source a i.state) given.width matched is
     (λ x queue d.
-    lone-kind_taken config.profile c n source g (is_caching config) config
+    lone-kind_taken config.profile c n source a (is_caching config) config
     (next_tracker (system_after config log)) link.0 d.first.kind d.first.number d.first.rest h matched.invariant matched.given
     (on-first config h.mail h.state (system_after config log) link ch x queue d) is)
 
-lone_next : {w : ℕ} (config : Config) (log : Log w) (c n source : ℕ) (g : Grow) (o : Option (Link × Channel)) → IsGiven config log → IsLone config.profile c n source g (shadow config log).state
-    → IsLone config.profile c n source g (shadow config (with_delivery config o log)).state
+lone_next : {w : ℕ} (config : Config) (log : Log w) (c n source : ℕ) (a : AcquirePhase) (o : Option (Link × Channel)) → IsGiven config log → IsLone config.profile c n source a (shadow config log).state
+    → IsLone config.profile c n source a (shadow config (with_delivery config o log)).state
 unfolding shadow
-lone_next config log c n source g None given is = is
-lone_next config log c n source g (Some d) given is = lone_delivered config log c n source g d.0 d.1 given is
+lone_next config log c n source a None given is = is
+lone_next config log c n source a (Some d) given is = lone_delivered config log c n source a d.0 d.1 given is
 
 -- what holds after n deliveries, each the next one
-record IsLoneAfter {w : ℕ} (config : Config) (log : Log w) (c n source : ℕ) (g : Grow) : Type 0 where
+record IsLoneAfter {w : ℕ} (config : Config) (log : Log w) (c n source : ℕ) (a : AcquirePhase) : Type 0 where
   given : IsGiven config log
-  lone : IsLone config.profile c n source g (shadow config log).state
+  lone : IsLone config.profile c n source a (shadow config log).state
 
-lone_drained : {w : ℕ} (config : Config) (k : ℕ) (log : Log w) (c n source : ℕ) (g : Grow) → IsLoneAfter config log c n source g → IsLoneAfter config (drained config k log) c n source g
+lone_drained : {w : ℕ} (config : Config) (k : ℕ) (log : Log w) (c n source : ℕ) (a : AcquirePhase) → IsLoneAfter config log c n source a → IsLoneAfter config (drained config k log) c n source a
 unfolding drained
-lone_drained config zero log c n source g is = is
-lone_drained config (suc k) log c n source g is =
+lone_drained config zero log c n source a is = is
+lone_drained config (suc k) log c n source a is =
     let o = next_delivery config (system_after config log) in
-    lone_drained config k (with_delivery config o log) c n source g (record { given = given_delivering config o log is.given; lone = lone_next config log c n source g o is.given is.lone })
+    lone_drained config k (with_delivery config o log) c n source a (record { given = given_delivering config o log is.given; lone = lone_next config log c n source a o is.given is.lone })
 
 -- ---- what it has brought
 
-brought : (p : Profile) (n : ℕ) (g : Grow) (u : SourceState) (x : ClientBlock) → u ≡ SourceFree → Brings p n g u x → grown_to p g x.held ≡ true
-brought p n g u x e is = go (rw e at is)
+brought : (p : Profile) (n : ℕ) (a : AcquirePhase) (u : SourceState) (x : ClientBlock) → u ≡ SourceFree → Brings p n a u x → grown p a x.held ≡ true
+brought p n a u x e is = go (rw e at is)
   where
-    go : Brings p n g SourceFree x → grown_to p g x.held ≡ true
+    go : Brings p n a SourceFree x → grown p a x.held ≡ true
     go i = i
 
-pub alone : {w : ℕ} → LoneAcquire w
-alone {w} config log client block source n grow none given drains =
-    let start : Log w = (Ask client (Acquire block grow), Replied (Started source)) ∷ log in
+alone-drained : {w : ℕ} (config : Config) (log : Log w) (c block source n : ℕ) (op : Op w) (a : AcquirePhase) → Begins config log c block source op a
+    → IsDrained config ((Ask c op, Replied (Started source)) ∷ log) n
+    → grown config.profile a (held_at ((system_after config (drained config n ((Ask c op, Replied (Started source)) ∷ log))).clients c) block) ≡ true
+alone-drained {w} config log c block source n op a is drains =
+    let start : Log w = (Ask c op, Replied (Started source)) ∷ log in
     let end : Log w = drained config n start in
-    let is = lone_drained config n start client block source grow (record { given = given; lone = lone_started config log client block source grow none given }) in
-    let closed = nothing_open config end is.given drains.nothing_left in
-    ap (grown_to config.profile grow) (((matched-given config end is.given).known client).held_is block)
-    ∙ brought config.profile block grow ((shadow config end).state.uses client source) (((shadow config end).state.block block).pair client)
-    (closed.uses client source) is.lone.brings
+    let lone = lone_drained config n start c block source a (record { given = is.given; lone = lone_started config log c block source op a is }) in
+    let closed = nothing_open config end lone.given drains.nothing_left in
+    ap (grown config.profile a) (((matched-given config end lone.given).known c).held_is block)
+    ∙ brought config.profile block a ((shadow config end).state.uses c source) (((shadow config end).state.block block).pair c)
+    (closed.uses c source) lone.lone.brings
+
+pub alone : {w : ℕ} → LoneAcquire w
+alone config log client block source n grow none given drains =
+    let s = (shadow config log).state in
+    alone-drained config log client block source n (Acquire block grow) (AcquireOpen false grow)
+    (record { given = given; alone = none; begins = λ closed. lone_asked config.profile client block source false grow ((s.block block).waiting client) s closed }) drains
+
+is_trunk : (held : Perm) → same_perm perm.Trunk held ≡ true → held ≡ perm.Trunk
+is_trunk perm.Trunk e = refl
+is_trunk perm.Branch e = absurd cc
+is_trunk perm.None e = absurd cc
+
+whole-brings : (p : Profile) (before held : Perm) → grown_to p (whole_grow before) held ≡ true → held ≡ perm.Trunk
+whole-brings profile.One perm.None held e = is_trunk held e
+whole-brings profile.One perm.Branch held e = is_trunk held e
+whole-brings profile.One perm.Trunk held e = is_trunk held e
+whole-brings profile.Two perm.None held e = is_trunk held e
+whole-brings profile.Two perm.Branch held e = is_trunk held e
+whole-brings profile.Two perm.Trunk held e = is_trunk held e
+
+pub alone_whole : {w : ℕ} → AloneWhole w
+alone_whole config log client block source n bytes none given drains =
+    let s = (shadow config log).state in
+    let before : Perm = ((s.block block).pair client).held in
+    whole-brings config.profile before _
+    (alone-drained config log client block source n (AcquireWhole block bytes) (AcquireOpen true (whole_grow before))
+    (record { given = given; alone = none; begins = λ closed. lone_asked config.profile client block source true (whole_grow before) bytes s closed }) drains)

@@ -42,30 +42,35 @@ use Rattle.tl_coherence.proofs.protocol.BothParts.{is_replied-is, not-sent, take
 use Rattle.tl_coherence.proofs.rank.RankParts.{serving-use}
 use Rattle.tl_coherence.proofs.queues.Facts.{is_other}
 
+-- what may be held by one who wanted this, and of whom nothing else was asked
+abbrev pub grown : Profile → AcquirePhase → Perm → Bool
+grown p NoAcquire held = false
+grown p (AcquireOpen whole g) held = grown_to p g held
+
 -- what an Acquire has brought so far, by the use of its source: it is still wanted, or what it was granted is held
-abbrev pub Brings : Profile → ℕ → Grow → SourceState → ClientBlock → Type 0
-Brings p n g SourceFree x = grown_to p g x.held ≡ true
-Brings p n g (Acquires m) x = (m ≡ n) × (x.acquiring ≡ AcquireOpen false g)
-Brings p n g Asked x = ⊥
-Brings p n g (InService m) x = ⊥
-Brings p n g Replied x = ⊥
+abbrev pub Brings : Profile → ℕ → AcquirePhase → SourceState → ClientBlock → Type 0
+Brings p n a SourceFree x = grown p a x.held ≡ true
+Brings p n a (Acquires m) x = (m ≡ n) × (x.acquiring ≡ a)
+Brings p n a Asked x = ⊥
+Brings p n a (InService m) x = ⊥
+Brings p n a Replied x = ⊥
 
 -- client c's Acquire of block n with this source is alone: no other source is in use
-pub record IsLone (p : Profile) (c n source : ℕ) (g : Grow) (s : State (List ℕ)) : Type 0 where
+pub record IsLone (p : Profile) (c n source : ℕ) (a : AcquirePhase) (s : State (List ℕ)) : Type 0 where
   pub others : (d i : ℕ) → IsElsewhere c source d i → s.uses d i ≡ SourceFree
-  pub brings : Brings p n g (s.uses c source) ((s.block n).pair c)
+  pub brings : Brings p n a (s.uses c source) ((s.block n).pair c)
 
 -- ---- what is held and wanted stays
 
 abbrev IsSteady : ClientBlock → ClientBlock → Type 0
 IsSteady x y = (y.held ≡ x.held) × (y.acquiring ≡ x.acquiring)
 
-brings_steady : (p : Profile) (n : ℕ) (g : Grow) (u v : SourceState) (x y : ClientBlock) → v ≡ u → IsSteady x y → Brings p n g u x → Brings p n g v y
-brings_steady p n g SourceFree v x y e same is = rw e (ap (grown_to p g) same.0 ∙ is)
-brings_steady p n g (Acquires m) v x y e same is = rw e (is.0, same.1 ∙ is.1)
-brings_steady p n g Asked v x y e same is = absurd is
-brings_steady p n g (InService m) v x y e same is = absurd is
-brings_steady p n g Replied v x y e same is = absurd is
+brings_steady : (p : Profile) (n : ℕ) (a : AcquirePhase) (u v : SourceState) (x y : ClientBlock) → v ≡ u → IsSteady x y → Brings p n a u x → Brings p n a v y
+brings_steady p n a SourceFree v x y e same is = rw e (ap (grown p a) same.0 ∙ is)
+brings_steady p n a (Acquires m) v x y e same is = rw e (is.0, same.1 ∙ is.1)
+brings_steady p n a Asked v x y e same is = absurd is
+brings_steady p n a (InService m) v x y e same is = absurd is
+brings_steady p n a Replied v x y e same is = absurd is
 
 steady_at : (m : ℕ) (b : Block (List ℕ)) (block : ℕ → Block (List ℕ)) (i d : ℕ) → (i ≡ m → IsSteady ((block m).pair d) (b.pair d)) → IsSteady ((block i).pair d) ((set m b block i).pair d)
 steady_at m b block i d same = elim (cases_eq i m) [
@@ -93,63 +98,68 @@ steady_granted d q r k pair j =
 
 -- ---- what a Grant brings
 
-grows : (p : Profile) (g : Grow) (k : Cap) → cap_fits false g k ≡ true → gives_asked p (AcquireOpen false g) k ≡ true → grown_to p g (cap_right k) ≡ true
-grows profile.One grow.NtoB cap.ToB e f = refl
-grows profile.One grow.NtoB cap.ToT e f = absurd cc
-grows profile.Two grow.NtoB cap.ToB e f = refl
-grows profile.Two grow.NtoB cap.ToT e f = refl
-grows profile.One grow.NtoT cap.ToT e f = refl
-grows profile.Two grow.NtoT cap.ToT e f = refl
-grows profile.One grow.BtoT cap.ToT e f = refl
-grows profile.Two grow.BtoT cap.ToT e f = refl
-grows p grow.NtoB cap.ToN e f = absurd cc
-grows p grow.NtoT cap.ToB e f = absurd cc
-grows p grow.NtoT cap.ToN e f = absurd cc
-grows p grow.BtoT cap.ToB e f = absurd cc
-grows p grow.BtoT cap.ToN e f = absurd cc
+grows : (p : Profile) (whole : Bool) (g : Grow) (k : Cap) → cap_fits whole g k ≡ true → gives_asked p (AcquireOpen whole g) k ≡ true → grown_to p g (cap_right k) ≡ true
+grows profile.One false grow.NtoB cap.ToB e f = refl
+grows profile.One false grow.NtoB cap.ToT e f = absurd cc
+grows profile.Two false grow.NtoB cap.ToB e f = refl
+grows profile.Two false grow.NtoB cap.ToT e f = refl
+grows profile.One whole grow.NtoT cap.ToT e f = refl
+grows profile.Two whole grow.NtoT cap.ToT e f = refl
+grows profile.One whole grow.BtoT cap.ToT e f = refl
+grows profile.Two whole grow.BtoT cap.ToT e f = refl
+grows p false grow.NtoB cap.ToN e f = absurd cc
+grows p true grow.NtoB cap.ToN e f = absurd cc
+grows p true grow.NtoB cap.ToB e f = absurd cc
+grows p true grow.NtoB cap.ToT e f = absurd cc
+grows p false grow.NtoT cap.ToB e f = absurd cc
+grows p true grow.NtoT cap.ToB e f = absurd cc
+grows p false grow.NtoT cap.ToN e f = absurd cc
+grows p true grow.NtoT cap.ToN e f = absurd cc
+grows p false grow.BtoT cap.ToB e f = absurd cc
+grows p true grow.BtoT cap.ToB e f = absurd cc
+grows p false grow.BtoT cap.ToN e f = absurd cc
+grows p true grow.BtoT cap.ToN e f = absurd cc
 
-fits_cap : (recorded held : Perm) (d : Bool) (k : Cap) (g : Grow) (x : AcquirePhase) → x ≡ AcquireOpen false g → grant_fits recorded held d k x ≡ true → cap_fits false g k ≡ true
-fits_cap recorded held d k g x e fits = go (rw e at fits)
-  where
-    go : grant_fits recorded held d k (AcquireOpen false g) ≡ true → cap_fits false g k ≡ true
-    go f = and_left (cap_fits false g k) (not (false && d) && (false || (d || same_perm held perm.Branch)))
-        (and_right (same_perm recorded (cap_right k)) (cap_fits false g k && (not (false && d) && (false || (d || same_perm held perm.Branch)))) f)
+fits_cap : (recorded held : Perm) (d : Bool) (k : Cap) (whole : Bool) (g : Grow) → grant_fits recorded held d k (AcquireOpen whole g) ≡ true → cap_fits whole g k ≡ true
+fits_cap recorded held d k whole g f =
+    and_left (cap_fits whole g k) (not (whole && d) && (whole || (d || same_perm held perm.Branch)))
+    (and_right (same_perm recorded (cap_right k)) (cap_fits whole g k && (not (whole && d) && (whole || (d || same_perm held perm.Branch)))) f)
 
-brings_granted : (p : Profile) (n : ℕ) (g : Grow) (u : SourceState) (x : ClientBlock) (q : Perm) → u ≡ SourceFree → x.held ≡ q → grown_to p g q ≡ true → Brings p n g u x
-brings_granted p n g u x q e f is = rw e (ap (grown_to p g) f ∙ is)
+brings_granted : (p : Profile) (n : ℕ) (a : AcquirePhase) (u : SourceState) (x : ClientBlock) (q : Perm) → u ≡ SourceFree → x.held ≡ q → grown p a q ≡ true → Brings p n a u x
+brings_granted p n a u x q e f is = rw e (ap (grown p a) f ∙ is)
 
-module _ (p : Profile) (c n source : ℕ) (g : Grow) where
-  lone_steady : (s s' : State (List ℕ)) → ((d i : ℕ) → s'.uses d i ≡ s.uses d i) → IsSteady ((s.block n).pair c) ((s'.block n).pair c) → IsLone p c n source g s → IsLone p c n source g s'
+module _ (p : Profile) (c n source : ℕ) (a : AcquirePhase) where
+  lone_steady : (s s' : State (List ℕ)) → ((d i : ℕ) → s'.uses d i ≡ s.uses d i) → IsSteady ((s.block n).pair c) ((s'.block n).pair c) → IsLone p c n source a s → IsLone p c n source a s'
   lone_steady s s' uses same is = record {
     others = λ d i else_. uses d i ∙ is.others d i else_;
-    brings = brings_steady p n g (s.uses c source) (s'.uses c source) ((s.block n).pair c) ((s'.block n).pair c) (uses c source) same is.brings;
+    brings = brings_steady p n a (s.uses c source) (s'.uses c source) ((s.block n).pair c) ((s'.block n).pair c) (uses c source) same is.brings;
   }
 
   -- ---- which sources are in use
 
   abbrev IsOwn : State (List ℕ) → ℕ → ℕ → Type 0
-  IsOwn s d i = (d ≡ c) × (i ≡ source) × (s.uses d i ≡ Acquires n) × (((s.block n).pair c).acquiring ≡ AcquireOpen false g)
+  IsOwn s d i = (d ≡ c) × (i ≡ source) × (s.uses d i ≡ Acquires n) × (((s.block n).pair c).acquiring ≡ a)
 
-  lone_use : (s : State (List ℕ)) → IsLone p c n source g s → (d i : ℕ) → (s.uses d i ≡ SourceFree) ⊎ IsOwn s d i
+  lone_use : (s : State (List ℕ)) → IsLone p c n source a s → (d i : ℕ) → (s.uses d i ≡ SourceFree) ⊎ IsOwn s d i
   lone_use s is d i = elim (place-cases c source d i) [
     | inl same ↦ go (s.uses c source) refl is.brings same.0 same.1
     | inr else_ ↦ inl (is.others d i else_)
   ]
     where
-      go : (u : SourceState) → s.uses c source ≡ u → Brings p n g u ((s.block n).pair c) → d ≡ c → i ≡ source → (s.uses d i ≡ SourceFree) ⊎ IsOwn s d i
+      go : (u : SourceState) → s.uses c source ≡ u → Brings p n a u ((s.block n).pair c) → d ≡ c → i ≡ source → (s.uses d i ≡ SourceFree) ⊎ IsOwn s d i
       go SourceFree e b x y = inl (ap₂ s.uses x y ∙ e)
       go (Acquires m) e b x y = inr (x, y, ap₂ s.uses x y ∙ e ∙ ap Acquires b.0, b.1)
       go Asked e b x y = absurd b
       go (InService m) e b x y = absurd b
       go Replied e b x y = absurd b
 
-  no_access : (s : State (List ℕ)) (d i : ℕ) (u : SourceState) → IsLone p c n source g s → s.uses d i ≡ u → is_access u ≡ true → ⊥
+  no_access : (s : State (List ℕ)) (d i : ℕ) (u : SourceState) → IsLone p c n source a s → s.uses d i ≡ u → is_access u ≡ true → ⊥
   no_access s d i u is e access = elim (lone_use s is d i) [
     | inl none ↦ let no : is_access SourceFree ≡ true = ap is_access (sym none ∙ e) ∙ access in cc
     | inr own ↦ let no : is_access (Acquires n) ≡ true = ap is_access (sym own.2 ∙ e) ∙ access in cc
   ]
 
-  own_acquire : (s : State (List ℕ)) (d i m : ℕ) → IsLone p c n source g s → s.uses d i ≡ Acquires m → IsOwn s d i × (m ≡ n)
+  own_acquire : (s : State (List ℕ)) (d i m : ℕ) → IsLone p c n source a s → s.uses d i ≡ Acquires m → IsOwn s d i × (m ≡ n)
   own_acquire s d i m is e = elim (lone_use s is d i) [
     | inl none ↦ absurd (let no : SourceFree ≡ Acquires m = sym none ∙ e in cc)
     | inr own ↦ (own, same m (sym e ∙ own.2))
@@ -159,7 +169,7 @@ module _ (p : Profile) (c n source : ℕ) (g : Grow) where
       same k f = cc
 
   -- its client isn't probed
-  unprobed : (caching : ℕ → Bool) (s : State (List ℕ)) → IsInvariant caching s → IsLone p c n source g s → is_sent ((s.block n).pair c).probing ≡ true → ⊥
+  unprobed : (caching : ℕ → Bool) (s : State (List ℕ)) → IsInvariant caching s → IsLone p c n source a s → is_sent ((s.block n).pair c).probing ≡ true → ⊥
   unprobed caching s inv is sent = go (s.block n).service refl (serves_another ((s.block n).pair c) (view (s.block n).service c) ((inv.blocks n).phases c) (not-sent ((s.block n).pair c).probing sent))
     where
       go : (service : Service) → (s.block n).service ≡ service → is_other (view service c) ≡ true → ⊥
@@ -179,21 +189,21 @@ module _ (p : Profile) (c n source : ℕ) (g : Grow) where
 
   -- ---- messages that are taken
 
-  lone_if : (x : Bool) (s t : State (List ℕ)) → IsLone p c n source g s → IsLone p c n source g t → IsLone p c n source g (if x then s else t)
+  lone_if : (x : Bool) (s t : State (List ℕ)) → IsLone p c n source a s → IsLone p c n source a t → IsLone p c n source a (if x then s else t)
   lone_if true s t f h = f
   lone_if false s t f h = h
 
-  lone_served : (d m i tracker : ℕ) (k : Cap) (rest : List Packet) (s : State (List ℕ)) → IsLone p c n source g s → IsLone p c n source g (acquire_served d m i tracker k rest s)
+  lone_served : (d m i tracker : ℕ) (k : Cap) (rest : List Packet) (s : State (List ℕ)) → IsLone p c n source a s → IsLone p c n source a (acquire_served d m i tracker k rest s)
   lone_served d m i tracker k rest s is =
       lone_steady s (acquire_served d m i tracker k rest s) (λ e j. refl) (steady_at m (served_block d true i tracker k (s.block m)) s.block n c (λ here. steady_served d true k (s.block m).pair c)) is
 
-  lone_sent : (d m tracker : ℕ) (data_too : Bool) (k : Cap) (rest : List Packet) (s : State (List ℕ)) → IsLone p c n source g s → IsLone p c n source g (acquire_granted d m tracker data_too k rest s)
+  lone_sent : (d m tracker : ℕ) (data_too : Bool) (k : Cap) (rest : List Packet) (s : State (List ℕ)) → IsLone p c n source a s → IsLone p c n source a (acquire_granted d m tracker data_too k rest s)
   lone_sent d m tracker data_too k rest s is =
       lone_steady s (acquire_granted d m tracker data_too k rest s) (λ e j. refl)
       (steady_at m (granted_at_once d tracker data_too k (s.block m)) s.block n c (λ here. steady_pair d (after_grant_sent k ((s.block m).pair d)) (s.block m).pair (refl, refl) c)) is
 
   lone_acquire : {w : ℕ} (clients : ℕ) (profile : Profile) (d m : ℕ) (x : AcquirePhase) (tracker : ℕ) (rest : List Packet) (h : AbstractState w)
-      → IsLone p c n source g h.state → IsLone p c n source g (acquire_taken clients profile d m x tracker rest h).state
+      → IsLone p c n source a h.state → IsLone p c n source a (acquire_taken clients profile d m x tracker rest h).state
   lone_acquire clients profile d m NoAcquire tracker rest h is = is
   lone_acquire {w} clients profile d m (AcquireOpen whole j) tracker rest h is =
       let b : Block (List ℕ) = h.state.block m in
@@ -204,7 +214,7 @@ module _ (p : Profile) (c n source : ℕ) (g : Grow) where
       (lone_served d m (b.source d) tracker k rest h.state is) (lone_sent d m tracker data_too given rest h.state is)
 
   lone_probe : (caching : ℕ → Bool) (d m : ℕ) (k : Cap) (rest : List Packet) (s : State (List ℕ)) → IsInvariant caching s
-      → is_sent ((s.block m).pair d).probing ≡ true → IsLone p c n source g s → IsLone p c n source g (probe_taken d m k rest s)
+      → is_sent ((s.block m).pair d).probing ≡ true → IsLone p c n source a s → IsLone p c n source a (probe_taken d m k rest s)
   lone_probe caching d m k rest s inv sent is =
       lone_steady s (probe_taken d m k rest s) (λ e i. refl) (steady_at m _ s.block n c (λ here. go here (cases_eq c d))) is
     where
@@ -213,13 +223,13 @@ module _ (p : Profile) (c n source : ℕ) (g : Grow) where
       go here (inr other) = rw (set-other d c (after_probe k ((s.block m).pair d)) (s.block m).pair other) (refl, refl)
 
   lone_granted : {w : ℕ} (clients : ℕ) (profile : Profile) (d q m : ℕ) (r : Report) (x : AcquirePhase) (rest : List Packet) (h : AbstractState w)
-      → IsLone p c n source g h.state → IsLone p c n source g (granted_after clients profile d q m r x rest h).state
+      → IsLone p c n source a h.state → IsLone p c n source a (granted_after clients profile d q m r x rest h).state
   lone_granted clients profile d q m r NoAcquire rest h is = is
   lone_granted clients profile d q m r (AcquireOpen whole j) rest h is = lone_steady h.state _ (λ e i. refl) (steady_at m _ h.state.block n c (λ here. steady_granted d q r _ (h.state.block m).pair c)) is
 
   lone_last : {w : ℕ} (clients : ℕ) (profile : Profile) (d m : ℕ) (r : Report) (v : Service) (rest : List Packet) (h : AbstractState w)
-      → ((q i : ℕ) (k : Cap) → v ≡ Waits q false i k → h.state.uses q i ≡ InService m) → IsLone p c n source g h.state
-      → IsLone p c n source g (last_taken clients profile d m r v rest h).state
+      → ((q i : ℕ) (k : Cap) → v ≡ Waits q false i k → h.state.uses q i ≡ InService m) → IsLone p c n source a h.state
+      → IsLone p c n source a (last_taken clients profile d m r v rest h).state
   lone_last clients profile d m r Free rest h used is = is
   lone_last clients profile d m r (Waits q true i k) rest h used is = lone_granted clients profile d q m r ((h.state.block m).pair q).acquiring rest h is
   lone_last clients profile d m r (Waits q false i k) rest h used is = absurd (no_access h.state q i (InService m) is (used q i k refl) refl)
@@ -227,13 +237,14 @@ module _ (p : Profile) (c n source : ℕ) (g : Grow) where
   lone_last clients profile d m r (GrantTaken q) rest h used is = is
 
   lone_grant : {w : ℕ} (config : Config) (tracker d m : ℕ) (rest : List Packet) (h : AbstractState w) → AreGiven p h.state → IsGrantDue d m h.state
-      → IsLone p c n source g h.state → IsLone p c n source g (kind_taken config tracker d Grant m rest h).state
+      → IsLone p c n source a h.state → IsLone p c n source a (kind_taken config tracker d Grant m rest h).state
   lone_grant {w} config tracker d m rest h given due is = record {
     others = λ e i else_. uses_are e i ∙ each-set_at (λ j k (v : SourceState). IsElsewhere c source j k → v ≡ SourceFree) d src SourceFree h.state.uses (λ any. refl) is.others e i else_;
-    brings = brings_granted p n g (after.uses c source) ((after.block n).pair c) (cap_right due.k)
+    brings = brings_granted p n a (after.uses c source) ((after.block n).pair c) (cap_right due.k)
         (uses_are c source ∙ ap₂ (set_at d src SourceFree h.state.uses) (sym mine.0.0) (sym mine.0.1) ∙ set_at-same d src SourceFree h.state.uses)
         (ap₂ (λ (i j : ℕ). ((after.block i).pair j).held) (sym mine.1) (sym mine.0.0) ∙ held_granted config tracker d m rest h due)
-        (grows p g due.k (fits_cap ((h.state.block m).pair d).recorded ((h.state.block m).pair d).held due.data_too due.k g (AcquireOpen due.whole due.g) wants due.fits) gives);
+        (subst (λ (x : AcquirePhase). grown p x (cap_right due.k) ≡ true) wants
+        (grows p due.whole due.g due.k (fits_cap ((h.state.block m).pair d).recorded ((h.state.block m).pair d).held due.data_too due.k due.whole due.g due.fits) gives));
   }
     where
       src : ℕ
@@ -248,19 +259,19 @@ module _ (p : Profile) (c n source : ℕ) (g : Grow) where
       uses_are : (e i : ℕ) → after.uses e i ≡ set_at d src SourceFree h.state.uses e i
       uses_are e i = ap (λ (v : Service). (taken_by_client d m v rest h).state.uses e i) due.service
 
-      wants : AcquireOpen due.whole due.g ≡ AcquireOpen false g
+      wants : AcquireOpen due.whole due.g ≡ a
       wants = sym due.wants ∙ ap₂ (λ (i j : ℕ). ((h.state.block i).pair j).acquiring) mine.1 mine.0.0 ∙ mine.0.3
 
       given_as : IsGivenAsked p (GrantSent d due.data_too due.k) (h.state.block m).pair
       given_as = subst (λ (v : Service). IsGivenAsked p v (h.state.block m).pair) due.service (given m)
 
-      gives : gives_asked p (AcquireOpen false g) due.k ≡ true
-      gives = ap (λ (x : AcquirePhase). gives_asked p x due.k) (sym (due.wants ∙ wants)) ∙ given_as
+      gives : gives_asked p (AcquireOpen due.whole due.g) due.k ≡ true
+      gives = ap (λ (x : AcquirePhase). gives_asked p x due.k) (sym due.wants) ∙ given_as
 
   -- It stays alone, and keeps what it has brought, whatever message is taken.
   pub lone-kind_taken : {w : ℕ} (caching : ℕ → Bool) (config : Config) (tracker d : ℕ) (k : Kind) (i : ℕ) (rest : List Packet) (h : AbstractState w)
       → IsInvariant caching h.state → AreGiven p h.state → on k (h.state.link d) ≡ packet k i ∷ rest
-      → IsLone p c n source g h.state → IsLone p c n source g (kind_taken config tracker d k i rest h).state
+      → IsLone p c n source a h.state → IsLone p c n source a (kind_taken config tracker d k i rest h).state
   lone-kind_taken caching config tracker d Request i rest h inv given first is = absurd (no_access h.state d i Asked is (first-asked caching d i rest h inv first) refl)
   lone-kind_taken caching config tracker d Answer i rest h inv given first is =
       absurd (no_access h.state d i Replied is (is_replied-is (h.state.uses d i)
@@ -279,7 +290,7 @@ module _ (p : Profile) (c n source : ℕ) (g : Grow) where
       last : AbstractState w
       last = last_taken (length config.clients.items) config.profile d i r (h.state.block i).service rest h
 
-      either : (b : Bool) → IsLone p c n source g (if b then with_state told h else last).state
+      either : (b : Bool) → IsLone p c n source a (if b then with_state told h else last).state
       either true = lone_steady h.state told (λ e j. refl)
           (steady_at i (reported_block d r (h.state.block i)) h.state.block n c
           (λ here. steady_pair d (after_report r ((h.state.block i).pair d)) (h.state.block i).pair (refl, refl) c)) is

@@ -17,6 +17,8 @@ headline = λ config log given.
       coherent = coherent config log given;
       unrefused = unrefused config log given;
       moving = moving config log given;
-      requests_balance = let same = are.requests_are in omega (arith, same);
-      releases_balance = let same = are.releases_are in omega (arith, same);
+      balanced = record {
+        requests = let same = are.requests_are in omega (arith, same);
+        releases = let same = are.releases_are in omega (arith, same);
+      };
     }

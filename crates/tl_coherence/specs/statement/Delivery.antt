@@ -1,5 +1,5 @@
 -- What holds of every delivery.
-use Rattle.std.specs.Prelude.{ℕ, Bool, true, false, not, List, ◌∷◌, ◌++◌, ◌≡◌, ◌≤◌, ◌&&◌, ◌↔◌, ◌+◌, ◌*◌, ◌/◌, if◌then◌else◌, length, reverse, Option, Some, None}
+use Rattle.std.specs.Prelude.{ℕ, Bool, true, false, not, List, ◌∷◌, ◌++◌, ◌≡◌, ◌≤◌, ◌&&◌, ◌↔◌, ◌+◌, ◌*◌, ◌/◌, if◌then◌else◌, length, map, reverse, Option, Some, None}
 use Rattle.tl_beat.specs.declared.beat.Beat.{Beat}
 use Rattle.tl_beat.specs.declared.beat.Beat.TheVariants as beat
 use Rattle.tl_beat.specs.declared.channel.Channel.{Channel}
@@ -9,7 +9,7 @@ use Rattle.tl_burst.specs.statement.Part.{is_empty}
 use Rattle.tl_params.specs.declared.config.Config.{Config}
 use Rattle.tl_params.specs.declared.level.Level.{Level}
 use Rattle.tl_params.specs.declared.param.Prune.{Prune}
-use Rattle.tl_rules.specs.statement.Conformance.{on_link, is_legal}
+use Rattle.tl_rules.specs.statement.Conformance.{on_link, is_legal, first_fault}
 use Rattle.tl_rules.specs.statement.History.{block_at}
 use Rattle.tl_client.specs.declared.operation.Op.TheVariants.{Release}
 use Rattle.tl_client.specs.statement.End.{Terms}
@@ -18,7 +18,7 @@ use Rattle.tl_coherence.specs.declared.event.Event.TheVariants.{Deliver}
 use Rattle.tl_coherence.specs.declared.event.Outcome.{Outcome}
 use Rattle.tl_coherence.specs.declared.event.Outcome.TheVariants as outcome
 use Rattle.tl_coherence.specs.statement.Coherent.{started}
-use Rattle.tl_coherence.specs.statement.Flow.{flow}
+use Rattle.tl_coherence.specs.statement.Flow.{flow, trace_of}
 use Rattle.tl_coherence.specs.statement.Log.{Log, system_after}
 use Rattle.tl_coherence.specs.statement.Machine.{Releases, is_client}
 use Rattle.tl_coherence.specs.statement.Movable.{is_movable}
@@ -48,6 +48,14 @@ Fifo w = (config : Config) (log : Log w) → IsGiven config log → (link : ℕ)
 abbrev pub Flows : ℕ → Type 0
 Flows w = (config : Config) (log : Log w) → IsGiven config log → (link : ℕ) (l : Level) → level_of config link ≡ Some l →
     is_legal l config.profile (flow link log) ≡ true
+
+-- the levels of the links
+abbrev pub levels_of : Config → List Level
+levels_of config = map (λ client. client.level) config.clients.items
+
+-- what is delivered, on all links at once and the oldest first, has no first fault
+abbrev pub Faultless : ℕ → Type 0
+Faultless w = (config : Config) (log : Log w) → IsGiven config log → first_fault (levels_of config) config.profile (reverse (trace_of log)) ≡ None
 
 -- how many beats a channel is made for, with n beats a block, by sources and trackers
 abbrev pub capacity : ℕ → ℕ → ℕ → Channel → ℕ

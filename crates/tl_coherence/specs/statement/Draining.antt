@@ -1,5 +1,5 @@
 -- How many deliveries end what is outstanding, and what an Acquire has brought then.
-use Rattle.std.specs.Prelude.{ℕ, Bool, true, false, ◌∷◌, ◌++◌, ◌≡◌, ◌≤◌, ◌+◌, All, filter, length, Some, None}
+use Rattle.std.specs.Prelude.{ℕ, Bool, true, false, List, ◌∷◌, ◌++◌, ◌≡◌, ◌≤◌, ◌+◌, All, filter, length, Some, None}
 use Rattle.tl_beat.specs.declared.beat.Beat.{Beat}
 use Rattle.tl_beat.specs.declared.beat.Link.{Link}
 use Rattle.tl_beat.specs.declared.channel.Channel.{Channel}
@@ -13,7 +13,7 @@ use Rattle.tl_params.specs.declared.profile.Profile.TheVariants as profile
 use Rattle.tl_params.specs.statement.Param.{grow_right}
 use Rattle.tl_rules.specs.statement.Conformance.{same_perm}
 use Rattle.tl_client.specs.declared.operation.Op.{Op}
-use Rattle.tl_client.specs.declared.operation.Op.TheVariants.{Acquire}
+use Rattle.tl_client.specs.declared.operation.Op.TheVariants.{Acquire, AcquireWhole}
 use Rattle.tl_client.specs.declared.reply.Reply.TheVariants.{Started}
 use Rattle.tl_client.specs.declared.verdict.Finish.TheVariants.{Granted}
 use Rattle.tl_client.specs.statement.Ask.{op_block}
@@ -77,3 +77,10 @@ LoneAcquire w = (config : Config) (log : Log w) (client block source n : ℕ) (g
     IsGiven config ((Ask client (Acquire block grow), outcome.Replied (Started source)) ∷ log) →
     IsDrained config ((Ask client (Acquire block grow), outcome.Replied (Started source)) ∷ log) n →
     grown_to config.profile grow (held_at ((system_after config (drained config n ((Ask client (Acquire block grow), outcome.Replied (Started source)) ∷ log))).clients client) block) ≡ true
+
+-- and an AcquireWhole that is started alone brings Trunk
+abbrev pub AloneWhole : ℕ → Type 0
+AloneWhole w = (config : Config) (log : Log w) (client block source n : ℕ) (bytes : List ℕ) → outstanding log ≡ 0 →
+    IsGiven config ((Ask client (AcquireWhole block bytes), outcome.Replied (Started source)) ∷ log) →
+    IsDrained config ((Ask client (AcquireWhole block bytes), outcome.Replied (Started source)) ∷ log) n →
+    held_at ((system_after config (drained config n ((Ask client (AcquireWhole block bytes), outcome.Replied (Started source)) ∷ log))).clients client) block ≡ perm.Trunk

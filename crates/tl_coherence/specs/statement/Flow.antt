@@ -1,7 +1,8 @@
--- What has been delivered on a link.
+-- What has been delivered, on one link and on all.
 use Rattle.std.specs.Prelude.{ℕ, List, [], ◌∷◌, ◌++◌, ◌==◌, if◌then◌else◌}
 use Rattle.tl_beat.specs.declared.beat.Beat.{Beat}
 use Rattle.tl_burst.specs.statement.Messages.{History}
+use Rattle.tl_rules.specs.statement.Conformance.{Trace}
 use Rattle.tl_coherence.specs.declared.event.Event.{Event}
 use Rattle.tl_coherence.specs.declared.event.Event.TheVariants.{Deliver}
 use Rattle.tl_coherence.specs.declared.event.Outcome.{Outcome}
@@ -18,3 +19,14 @@ taken_on n _ _ = []
 unfoldable pub flow : {w : ℕ} → ℕ → Log w → History w
 flow n [] = []
 flow n (x ∷ log) = taken_on n x.0 x.1 ++ flow n log
+
+-- the beat that was taken at an event, with its link
+abbrev pub taken_at : {w : ℕ} → Event w → Outcome w → Trace w
+taken_at (Deliver link ch) (Moved x) = (link, x) ∷ []
+taken_at (Deliver link ch) (Done x source finish) = (link, x) ∷ []
+taken_at _ _ = []
+
+-- the beats that were taken on all links, the newest first
+unfoldable pub trace_of : {w : ℕ} → Log w → Trace w
+trace_of [] = []
+trace_of (x ∷ log) = taken_at x.0 x.1 ++ trace_of log

@@ -1,5 +1,5 @@
 -- What holds of every manager and its clients, whatever happens to them.
-use Rattle.std.specs.Prelude.{ℕ, false, List, [], ◌∷◌, ◌≡◌, ◌≤◌, ◌==◌, length, None, is_none, ⊤}
+use Rattle.std.specs.Prelude.{ℕ, false, List, [], ◌∷◌, ◌≡◌, ◌==◌, length, None, is_none, ⊤}
 use Rattle.tl_beat.specs.statement.Width.{IsWidth}
 use Rattle.tl_burst.specs.declared.message.Message.TheVariants as message
 use Rattle.tl_params.specs.declared.config.Config.{Config}
@@ -10,7 +10,7 @@ use Rattle.tl_coherence.specs.declared.event.Event.{Event}
 use Rattle.tl_coherence.specs.declared.event.Event.TheVariants.{Ask, Deliver}
 use Rattle.tl_coherence.specs.declared.event.Outcome.{Outcome}
 use Rattle.tl_coherence.specs.statement.Coherent.{IsCoherent}
-use Rattle.tl_coherence.specs.statement.Load.{starts_request, starts_release, ends_request, ends_release, number, outstanding}
+use Rattle.tl_coherence.specs.statement.Load.{IsBalanced, outstanding}
 use Rattle.tl_coherence.specs.statement.Log.{Log, IsLog, system_after}
 use Rattle.tl_coherence.specs.statement.Machine.{Machine, IsStep, Performs, Run}
 use Rattle.tl_coherence.specs.statement.Movable.{next_delivery}
@@ -62,9 +62,7 @@ pub record IsSound {w : ℕ} (config : Config) (log : Log w) : Type 0 where
   pub unrefused : IsUnrefused (system_after config log)
   -- a delivery moves a beat exactly while something is outstanding
   pub moving : is_none (next_delivery config (system_after config log)) ≡ (outstanding log == 0)
-  -- no more ended than was started
-  pub requests_balance : number (λ e o. ends_request o) log ≤ number starts_request log
-  pub releases_balance : number (λ e o. ends_release o) log ≤ number starts_release log
+  pub balanced : IsBalanced log
 
 -- Whatever happens to a manager and its clients, the outcomes are a run of the one-memory machine, copies
 -- are coherent, no beat is refused, and a movable delivery is named exactly while something is outstanding.

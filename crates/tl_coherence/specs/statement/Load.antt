@@ -1,5 +1,5 @@
 -- What is outstanding after what has happened, and how many deliveries it can still need.
-use Rattle.std.specs.Prelude.{ℕ, Bool, true, false, ◌+◌, ◌-◌, ◌*◌, ◌/◌, if◌then◌else◌, filter, length}
+use Rattle.std.specs.Prelude.{ℕ, Bool, true, false, ◌≤◌, ◌+◌, ◌-◌, ◌*◌, ◌/◌, if◌then◌else◌, filter, length}
 use Rattle.tl_beat.specs.declared.beat.Beat.TheVariants as beat
 use Rattle.tl_client.specs.declared.operation.Op.{Op}
 use Rattle.tl_client.specs.declared.operation.Op.TheVariants as op
@@ -47,6 +47,11 @@ requests log = number starts_request log - number (λ e o. ends_request o) log
 
 unfoldable pub releases : {w : ℕ} → Log w → ℕ
 releases log = number starts_release log - number (λ e o. ends_release o) log
+
+-- no more ended than were started, so that these differences hide nothing
+pub record IsBalanced {w : ℕ} (log : Log w) : Type 0 where
+  pub requests : number (λ e o. ends_request o) log ≤ number starts_request log
+  pub releases : number (λ e o. ends_release o) log ≤ number starts_release log
 
 abbrev pub outstanding : {w : ℕ} → Log w → ℕ
 outstanding log = requests log + releases log

@@ -29,6 +29,6 @@ pub returns-clause-drains : goal.returns-clause-drains
 returns-clause-drains g c = λ config log r.
     let so_far = c.loop-count.invariant config log r in
     let all : c.loop-count.count ≡ c.load-load.result = omega arith in
-    let load_is = c.load-load.ensures config log r in
+    let load_is = c.load-load.ensures.load config log r in
     let enough : load log ≤ c.loop-count.count = omega (arith, load_is, all) in
     rw (sym all) (drains-all c.args.trace config log _ _ _ c.loop-count.count r.given so_far (inr enough))

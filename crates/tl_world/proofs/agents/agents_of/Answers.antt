@@ -5,7 +5,7 @@ use Rattle.tl_params.specs.declared.level.Level.TheVariants as level
 use Rattle.tl_params.specs.statement.Config.{config_fault}
 use Rattle.tl_client.specs.code.KnowsAny.{KnowsAny, any_terms}
 use Rattle.tl_world.specs.code.Holds.{clients_of}
-use Rattle.tl_world.proofs.AgentsOfConfig.{no-fault, client-fits, hired}
+use Rattle.tl_world.proofs.AgentsOfConfig.{no-fault, client-fits, hired, want-of-memory}
 use Rattle.tl_world.proofs.agents.agents_of.Goals as goal
 
 pub returns-in_err-agent-clause-err : goal.returns-in_err-agent-clause-err
@@ -15,7 +15,7 @@ returns-in_err-agent-clause-err g c =
     let fits : config_fault c.args.config.now ≡ None = no-fault (config_fault c.args.config.now) c.in_ok-check.field-0 (search rules) in
     let inside : c.loop-client.client-index < clients_of c.args.config.now = omega (arith, ap length c.as_slice-client-items.ensures.value) in
     let alone = client-fits c.args.config.now c.loop-client.client-index zero fits inside in
-    rw (p.1, p.2) (inr (fits, rw (c.as_slice-client-items.ensures.value, alone) at c.in_err-agent.ensures))
+    rw (p.1, p.2) (inr (fits, want-of-memory _ _ (rw (c.as_slice-client-items.ensures.value, alone) at c.in_err-agent.ensures)))
 
 pub loop-client-preserved : goal.loop-client-preserved
 loop-client-preserved g c =

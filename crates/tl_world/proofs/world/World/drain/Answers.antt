@@ -26,7 +26,7 @@ loop-count-preserved g c = record {
 pub returns-in-None-clause-drained : goal.returns-in-None-clause-drained
 returns-in-None-clause-drained g c = λ config log r.
     let so_far = c.loop-count.invariant.reached config log r in
-    let load = c.load-load.ensures config log r in
+    let load = c.load-load.ensures.load config log r in
     drained-so config c.loop-count.count log so_far.given (c.loop-count.invariant.number config log r) (omega (arith, load)) (sym (c.in-None.ensures config _ so_far))
 
 pub returns-clause-reached : goal.returns-clause-reached
@@ -36,4 +36,4 @@ pub returns-clause-drained : goal.returns-clause-drained
 returns-clause-drained g c = λ config log r.
     let all : c.loop-count.count ≡ c.load-load.result = omega arith in
     let so_far = rw all at (c.loop-count.invariant.reached config log r) in
-    drained-all config c.load-load.result log r.given so_far.given (rw all at (c.loop-count.invariant.number config log r)) (c.load-load.ensures config log r)
+    drained-all config c.load-load.result log r.given so_far.given (rw all at (c.loop-count.invariant.number config log r)) (c.load-load.ensures.load config log r)

@@ -10,7 +10,7 @@ pub returns-clause-done : goal.returns-clause-done
 returns-clause-done g c = λ config t memory at home.
     let unheld : (c.holders-unheld.result == 0) ≡ is_unheld config (block_at c.args.request.now.address) t =
     unheld-word config (block_at c.args.request.now.address) c.holders-unheld.result (g.D.Directory.perm_of c.args.self.now.directory (block_at c.args.request.now.address)) t at.sound
-    (rw c.block_at-block.ensures at c.holders-unheld.ensures) (home.records (block_at c.args.request.now.address)) in
+    (rw c.block_at-block.ensures at c.holders-unheld.ensures.bits) (home.records (block_at c.args.request.now.address)) in
     rw c.grant.ensures (home-granted g.D.Directory.perm_of config c.args.self.now _ c.args.number c.args.link c.args.request.now c.get-held.result
     (c.holders-unheld.result == 0) c.cap_granted-cap.result c.bytes_if-bytes.result t memory
     c.requires.acquires c.record.ensures.rest.0 c.record.ensures.rest.2 (c.set.ensures.count ∙ ap (λ (s : Trackers _). s.count) c.record.ensures.rest.1)

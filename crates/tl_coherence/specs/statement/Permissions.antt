@@ -1,0 +1,12 @@
+-- Permissions by how much they allow.
+use Rattle.std.specs.Prelude.{Bool, true, false}
+use Rattle.tl_params.specs.declared.perm.Perm.{Perm}
+use Rattle.tl_params.specs.declared.perm.Perm.TheVariants as perm
+
+-- at most as much
+abbrev pub perm_le : Perm → Perm → Bool
+perm_le perm.None _ = true
+perm_le perm.Branch perm.None = false
+perm_le perm.Branch _ = true
+perm_le perm.Trunk perm.Trunk = true
+perm_le perm.Trunk _ = false

@@ -1,0 +1,13 @@
+-- That no client holds more of a block than is recorded for it.
+use Rattle.std.specs.Prelude.{ℕ, true, ◌≡◌}
+use Rattle.tl_params.specs.declared.config.Config.{Config}
+use Rattle.tl_client.specs.statement.End.{held_at}
+use Rattle.tl_manager.specs.statement.Holders.{recorded}
+use Rattle.tl_coherence.specs.statement.Headline.{IsGiven}
+use Rattle.tl_coherence.specs.statement.Log.{Log, system_after}
+use Rattle.tl_coherence.specs.statement.Permissions.{perm_le}
+
+-- what the client of a link holds is at most what the manager has recorded for it
+abbrev pub Recorded : ℕ → Type 0
+Recorded w = (config : Config) (log : Log w) → IsGiven config log → (link block : ℕ) →
+    perm_le (held_at ((system_after config log).clients link) block) (recorded link block (system_after config log).manager.trace) ≡ true

@@ -2,7 +2,7 @@
 
 ghost use Rattle.tl_beat.specs.statement.Width.{IsWidth};
 ghost use Rattle.tl_coherence.specs.statement.Delivery.{Fifo, CapacityBound, Faultless, Flows, Stalls};
-ghost use Rattle.tl_coherence.specs.statement.Draining.{LoneAcquire, AloneWhole, DeliveryBound, DrainsWithinLoad, GrantedIsHeld};
+ghost use Rattle.tl_coherence.specs.statement.Draining.{LoneAcquire, LoneAcquireWhole, DeliveryBound, DrainsWithinLoad, GrantedIsHeld};
 ghost use Rattle.tl_coherence.specs.statement.Headline.{Headline, OneMemory, Unrefused, Coherent, NoDeadlock};
 ghost use Rattle.tl_coherence.specs.statement.Ranged.{AreInRange, HaveRoom};
 ghost use Rattle.tl_coherence.specs.statement.Recorded.{Recorded};
@@ -72,7 +72,7 @@ pub fn stays_sound<const W: usize>()
 pub fn brings_what_is_asked_alone<const W: usize>()
     requires { IsWidth W }
     ensures asked { LoneAcquire W }
-    ensures whole { AloneWhole W }
+    ensures whole { LoneAcquireWhole W }
 {}
 
 /// Deliveries move no more beats than the load before them.

@@ -17,7 +17,7 @@ use Rattle.tl_rules.specs.statement.Conformance.{same_perm}
 use Rattle.tl_coherence.specs.declared.event.Event.TheVariants.{Ask, Deliver}
 use Rattle.tl_coherence.specs.declared.event.Outcome.{Outcome}
 use Rattle.tl_coherence.specs.declared.event.Outcome.TheVariants.{Replied}
-use Rattle.tl_coherence.specs.statement.Draining.{LoneAcquire, AloneWhole, IsDrained, grown_to}
+use Rattle.tl_coherence.specs.statement.Draining.{LoneAcquire, LoneAcquireWhole, IsDrained, grown_to}
 use Rattle.tl_coherence.specs.refinement.AbstractStep.{AbstractState, asked, abstract_step, abstract_step_by}
 use Rattle.tl_coherence.specs.statement.Headline.{IsGiven}
 use Rattle.tl_coherence.specs.statement.Load.{outstanding}
@@ -151,7 +151,7 @@ whole-brings profile.Two perm.None held e = is_trunk held e
 whole-brings profile.Two perm.Branch held e = is_trunk held e
 whole-brings profile.Two perm.Trunk held e = is_trunk held e
 
-pub alone_whole : {w : ℕ} → AloneWhole w
+pub alone_whole : {w : ℕ} → LoneAcquireWhole w
 alone_whole config log client block source n bytes none given drains =
     let s = (shadow config log).state in
     let before : Perm = ((s.block block).pair client).held in

@@ -79,8 +79,8 @@ LoneAcquire w = (config : Config) (log : Log w) (client block source n : ℕ) (g
     grown_to config.profile grow (held_at ((system_after config (drained config n ((Ask client (Acquire block grow), outcome.Replied (Started source)) ∷ log))).clients client) block) ≡ true
 
 -- and an AcquireWhole that is started alone brings Trunk
-abbrev pub AloneWhole : ℕ → Type 0
-AloneWhole w = (config : Config) (log : Log w) (client block source n : ℕ) (bytes : List ℕ) → outstanding log ≡ 0 →
+abbrev pub LoneAcquireWhole : ℕ → Type 0
+LoneAcquireWhole w = (config : Config) (log : Log w) (client block source n : ℕ) (bytes : List ℕ) → outstanding log ≡ 0 →
     IsGiven config ((Ask client (AcquireWhole block bytes), outcome.Replied (Started source)) ∷ log) →
     IsDrained config ((Ask client (AcquireWhole block bytes), outcome.Replied (Started source)) ∷ log) n →
     held_at ((system_after config (drained config n ((Ask client (AcquireWhole block bytes), outcome.Replied (Started source)) ∷ log))).clients client) block ≡ perm.Trunk

@@ -1,7 +1,7 @@
 -- All that holds of a manager and its clients with beats of w bytes.
 use Rattle.std.specs.Prelude.{ℕ}
 use Rattle.tl_coherence.specs.statement.Delivery.{Fifo, Flows, Faultless, CapacityBound, Stalls}
-use Rattle.tl_coherence.specs.statement.Draining.{DeliveryBound, DrainsWithinLoad, GrantedIsHeld, LoneAcquire, AloneWhole}
+use Rattle.tl_coherence.specs.statement.Draining.{DeliveryBound, DrainsWithinLoad, GrantedIsHeld, LoneAcquire, LoneAcquireWhole}
 use Rattle.tl_coherence.specs.statement.Headline.{Headline}
 use Rattle.tl_coherence.specs.statement.Recorded.{Recorded}
 
@@ -26,4 +26,4 @@ pub record Theorem (w : ℕ) : Type 0 where
   -- AcquireWhole Trunk.
   pub grants : GrantedIsHeld w
   pub alone : LoneAcquire w
-  pub alone_whole : AloneWhole w
+  pub alone_whole : LoneAcquireWhole w

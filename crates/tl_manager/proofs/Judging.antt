@@ -14,7 +14,7 @@ use Rattle.tl_burst.specs.statement.Part.{is_empty, completes, place, part_of}
 use Rattle.tl_params.specs.declared.config.Config.{Config}
 use Rattle.tl_params.specs.declared.rule.Rule.{Rule}
 use Rattle.tl_params.specs.declared.rule.Rule.TheVariants.{L1, S1}
-use Rattle.tl_rules.specs.statement.Agent.{is_outside, is_spoiled}
+use Rattle.tl_rules.specs.statement.Admission.{is_outside, is_spoiled}
 use Rattle.tl_rules.specs.statement.Conformance.{Trace, on_link, broken_in_order, broken_order}
 use Rattle.tl_rules.specs.statement.Legality.{illegal}
 use Rattle.tl_manager.specs.code.Admission.{admission_of, judged_by, judged_in_order}

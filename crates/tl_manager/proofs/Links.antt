@@ -9,7 +9,7 @@ use Rattle.tl_beat.specs.declared.channel.Channel.TheVariants as channel
 use Rattle.tl_burst.specs.declared.message.Message.{Message}
 use Rattle.tl_burst.specs.statement.Messages.{History, unfinished}
 use Rattle.tl_params.specs.declared.key.Key.{Key}
-use Rattle.tl_rules.specs.statement.Agent.{sent}
+use Rattle.tl_rules.specs.statement.Admission.{sent}
 use Rattle.tl_rules.specs.statement.Conformance.{Trace, on_link}
 use Rattle.tl_rules.specs.statement.History.{begins, ends, opens, closes, pending}
 use Rattle.tl_manager.proofs.Handed.{after_sent, own_link, other_link}

@@ -19,7 +19,7 @@ use Rattle.tl_burst.specs.statement.Messages.{channel_of, unfinished, burst_leng
 use Rattle.tl_params.specs.declared.config.Config.{Config}
 use Rattle.tl_params.specs.declared.level.Level.{Level}
 use Rattle.tl_params.specs.declared.param.Cap.{Cap}
-use Rattle.tl_rules.specs.statement.Agent.{payload_of}
+use Rattle.tl_rules.specs.statement.Admission.{payload_of}
 use Rattle.tl_rules.specs.statement.Conformance.{Trace, on_link}
 use Rattle.tl_rules.specs.statement.Effect.{Memory, effect, answer_of}
 use Rattle.tl_rules.specs.statement.History.{ends, block_at, is_acquire, is_probe_ack, is_release}

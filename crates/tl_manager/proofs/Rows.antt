@@ -10,7 +10,7 @@ use Rattle.tl_params.specs.declared.level.Level.TheVariants as level
 use Rattle.tl_params.specs.declared.profile.Profile.{Profile}
 use Rattle.tl_params.specs.declared.profile.Profile.TheVariants as profile
 use Rattle.tl_params.specs.declared.rule.Rule.TheVariants.{L1, S1, H1, H8, H10, A1, A2, A3}
-use Rattle.tl_rules.specs.statement.Agent.{bytes_carried}
+use Rattle.tl_rules.specs.statement.Admission.{bytes_carried}
 use Rattle.tl_rules.specs.statement.Conformance.{on_link, broken_order}
 use Rattle.tl_rules.specs.statement.Effect.{bytes_from, number_from, effect}
 use Rattle.tl_rules.specs.statement.History.{request_of, release_of, probe_of, grant_sink, pending, held}

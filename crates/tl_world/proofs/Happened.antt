@@ -6,7 +6,7 @@ use Rattle.tl_beat.specs.statement.Width.{IsWidth}
 use Rattle.tl_beat.specs.declared.beat.Beat.{Beat}
 use Rattle.tl_params.specs.declared.config.Config.{Config}
 use Rattle.tl_params.specs.declared.perm.Perm.{Perm}
-use Rattle.tl_client.specs.statement.End.{Terms, End}
+use Rattle.tl_client.specs.statement.Endpoint.{EndConfig, Endpoint}
 use Rattle.tl_manager.specs.code.Knows.{Knows}
 use Rattle.tl_manager.specs.statement.End as manager_end
 use Rattle.tl_coherence.specs.declared.event.Event.{Event}
@@ -42,7 +42,7 @@ room-next config log event given typed k ch =
     let o = (stepped config event (system_after config log)).outcome in
     channels config ((event, o) ∷ log) (given-more config log event o given typed refl) k ch
 
-pub reached-step : {w : ℕ} {A M : Type 0} (knows : A → End w → Type 0) (terms : A → Terms) (perm_of : M → ℕ → ℕ → Perm) (config : Config)
+pub reached-step : {w : ℕ} {A M : Type 0} (knows : A → Endpoint w → Type 0) (terms : A → EndConfig) (perm_of : M → ℕ → ℕ → Perm) (config : Config)
     (old new : Contents w A M) (log : Log w) (event : Event w) (o : Outcome w)
     → IsReached knows terms perm_of config old log → IsTyped event
     → ((s : System w) → Holds knows terms perm_of config old.parts s → HasRoom config (stepped config event s).after → IsStepped knows terms perm_of config old.parts new.parts event o s)
@@ -80,7 +80,7 @@ logged-more (f ∷ events) (p ∷ outcomes) e o log same = logged-more events ou
 
 -- ---- a new world
 
-pub reached-new : {w : ℕ} {A M : Type 0} (knows : A → End w → Type 0) (terms : A → Terms) (perm_of : M → ℕ → ℕ → Perm) (config : Config)
+pub reached-new : {w : ℕ} {A M : Type 0} (knows : A → Endpoint w → Type 0) (terms : A → EndConfig) (perm_of : M → ℕ → ℕ → Perm) (config : Config)
     (contents : Contents w A M) → IsWidth w → AreReady knows terms config contents.parts.clients.items
     → Knows perm_of contents.parts.manager config manager_end.fresh → AreFresh config (5 * clients_of config) contents.parts.rings.all.items → AreClear contents.parts.rings.occupied
     → contents.outstanding.requests ≡ 0 → contents.outstanding.releases ≡ 0 → IsReached knows terms perm_of config contents []

@@ -10,7 +10,7 @@ use Rattle.tl_beat.specs.declared.channel.Channel.{Channel}
 use Rattle.tl_burst.specs.statement.Part.{is_empty}
 use Rattle.tl_params.specs.declared.config.Config.{Config}
 use Rattle.tl_params.specs.declared.perm.Perm.{Perm}
-use Rattle.tl_client.specs.statement.End.{Terms, End}
+use Rattle.tl_client.specs.statement.Endpoint.{EndConfig, Endpoint}
 use Rattle.tl_client.specs.statement.Offer as client
 use Rattle.tl_manager.specs.code.Bit.{bit_if}
 use Rattle.tl_manager.specs.code.Knows.{Knows}
@@ -78,7 +78,7 @@ lowest-first config ch links link s others lower is =
 
 -- ---- of one
 
-module _ {w : ℕ} {A M : Type 0} (knows : A → End w → Type 0) (terms : A → Terms) (perm_of : M → ℕ → ℕ → Perm) (config : Config) (parts : Parts w A M)
+module _ {w : ℕ} {A M : Type 0} (knows : A → Endpoint w → Type 0) (terms : A → EndConfig) (perm_of : M → ℕ → ℕ → Perm) (config : Config) (parts : Parts w A M)
     (s : System w) (h : Holds knows terms perm_of config parts s)
     (link : Link) (ch : Channel) where
   module _ (below : link.0 < clients_of config) where
@@ -89,7 +89,7 @@ module _ {w : ℕ} {A M : Type 0} (knows : A → End w → Type 0) (terms : A �
     one = member parts.clients.items link.0 inside
 
     pub moves-client : (x : Beat w) (stalled : Bool) → is_to_client ch ≡ true
-        → ((e : End w) (d : A) → link.0 < length parts.clients.items → knows (slice_index_or parts.clients.items link.0 d) e
+        → ((e : Endpoint w) (d : A) → link.0 < length parts.clients.items → knows (slice_index_or parts.clients.items link.0 d) e
         → stalled ≡ client.stalls (terms (slice_index_or parts.clients.items link.0 d)) ch x e)
         → moves config (terms_at config link.0) link.0 ch (x ∷ []) s ≡ not stalled
     moves-client x stalled up is = rw (h.terms_are link.0 one below, up) (ap not (sym (is (s.clients link.0) one inside (h.clients link.0 one below))))

@@ -15,7 +15,7 @@ use Rattle.tl_client.specs.declared.operation.Op.{Op}
 use Rattle.tl_client.specs.declared.reply.Reply.{Reply}
 use Rattle.tl_client.specs.declared.verdict.Verdict.{Verdict}
 use Rattle.tl_client.specs.statement.Ask.{asked}
-use Rattle.tl_client.specs.statement.End.{Terms, End}
+use Rattle.tl_client.specs.statement.Endpoint.{EndConfig, Endpoint}
 use Rattle.tl_client.specs.statement.Offer.{offered}
 use Rattle.tl_manager.specs.code.Bit.{bit_if}
 use Rattle.tl_manager.specs.statement.Handing.{Handed}
@@ -64,7 +64,7 @@ carries-same {w = w} n rings s s' same carried = record {
   occupied = λ k ch lt. carried.occupied k ch lt ∙ ap (λ (xs : List (Beat w)). bit_if (not (is_empty xs))) (sym (same k ch));
 }
 
-module _ {w : ℕ} {A M : Type 0} (knows : A → End w → Type 0) (terms : A → Terms) (perm_of : M → ℕ → ℕ → Perm) (config : Config) where
+module _ {w : ℕ} {A M : Type 0} (knows : A → Endpoint w → Type 0) (terms : A → EndConfig) (perm_of : M → ℕ → ℕ → Perm) (config : Config) where
   fits-in : (old : Parts w A M) (now : Rings w) (s s' : System w) → Holds knows terms perm_of config old s → AreKept old.rings now → HasRoom config s' → Fit (clients_of config) now s'
   fits-in old now s s' h kept room k ch d lt =
       let a = room k ch in
@@ -86,7 +86,7 @@ module _ {w : ℕ} {A M : Type 0} (knows : A → End w → Type 0) (terms : A �
   }
 
   -- one client changes, and channels
-  client-holds : (old new : Parts w A M) (s s' : System w) (i : ℕ) (e : End w) → Holds knows terms perm_of config old s → ((d : A) → knows (slice_index_or new.clients.items i d) e)
+  client-holds : (old new : Parts w A M) (s s' : System w) (i : ℕ) (e : Endpoint w) → Holds knows terms perm_of config old s → ((d : A) → knows (slice_index_or new.clients.items i d) e)
       → ((d : A) → terms (slice_index_or new.clients.items i d) ≡ terms (slice_index_or old.clients.items i d))
       → ((k : ℕ) (d : A) → k ≢ i → slice_index_or new.clients.items k d ≡ slice_index_or old.clients.items k d)
       → length new.clients.items ≡ length old.clients.items → ((k : ℕ) → s'.clients k ≡ (with_client i e s).clients k) → s'.manager ≡ s.manager → new.manager ≡ old.manager
@@ -94,7 +94,7 @@ module _ {w : ℕ} {A M : Type 0} (knows : A → End w → Type 0) (terms : A �
   client-holds old new s s' i e h known same_terms others same_number clients_are manager_is same_manager kept carried = record {
     one_client_each = same_number ∙ h.one_client_each;
     clients = λ k d lt.
-        subst (λ (f : End w). knows (slice_index_or new.clients.items k d) f) (sym (clients_are k))
+        subst (λ (f : Endpoint w). knows (slice_index_or new.clients.items k d) f) (sym (clients_are k))
         (elim (cases_eq k i) [
           | inl same ↦ rw (same, eq-eqb i i refl) (known d)
           | inr other ↦ rw (ne_eqb k i other, others k d other) (h.clients k d lt)
@@ -114,7 +114,7 @@ module _ {w : ℕ} {A M : Type 0} (knows : A → End w → Type 0) (terms : A �
       → terms (slice_index_or old.clients.items i d) ≡ terms (slice_index_or old.clients.items i f)
   made-for old s i d f h below = some_is (sym (h.terms_are i d below) ∙ h.terms_are i f below)
     where
-      some_is : {x y : Terms} → Some x ≡ Some y → x ≡ y
+      some_is : {x y : EndConfig} → Some x ≡ Some y → x ≡ y
       some_is e = cc
 
   -- ---- the first beat of a channel
@@ -136,7 +136,7 @@ module _ {w : ℕ} {A M : Type 0} (knows : A → End w → Type 0) (terms : A �
   steps-asked old new s i op answer h inside is same_manager kept sends room =
       stepped-by old new (Ask i op) s (handing (outcome.Replied answer.0) handed now) (outcome.Replied answer.0) step refl
       (client-holds old new s (with_messages handed now) i end h known is.same_terms is.others is.same_number
-      (λ k. ap (λ (f : ℕ → End w). f k) (clients-with_messages handed now)) (manager-with_messages handed now) same_manager kept moved.carries)
+      (λ k. ap (λ (f : ℕ → Endpoint w). f k) (clients-with_messages handed now)) (manager-with_messages handed now) same_manager kept moved.carries)
       moved.deepen
     where
       below : i < clients_of config
@@ -145,10 +145,10 @@ module _ {w : ℕ} {A M : Type 0} (knows : A → End w → Type 0) (terms : A �
       one : A
       one = member old.clients.items i inside
 
-      t : Terms
+      t : EndConfig
       t = terms (slice_index_or old.clients.items i one)
 
-      end : End w
+      end : Endpoint w
       end = (asked t op (s.clients i)).after
 
       handed : Handed w
@@ -163,7 +163,7 @@ module _ {w : ℕ} {A M : Type 0} (knows : A → End w → Type 0) (terms : A �
           ∙ rw (← is.reply (s.clients i) one (h.clients i one below), ← is.message (s.clients i) one (h.clients i one below)) refl
 
       known : (d : A) → knows (slice_index_or new.clients.items i d) end
-      known d = subst (λ (u : Terms). knows (slice_index_or new.clients.items i d) (asked u op (s.clients i)).after) (made-for old s i d one h below) (is.after (s.clients i) d (h.clients i d below))
+      known d = subst (λ (u : EndConfig). knows (slice_index_or new.clients.items i d) (asked u op (s.clients i)).after) (made-for old s i d one h below) (is.after (s.clients i) d (h.clients i d below))
 
       kept-still : AreKept old.rings old.rings
       kept-still = record { same_number = refl; same_capacity = λ k d. refl }
@@ -186,17 +186,17 @@ module _ {w : ℕ} {A M : Type 0} (knows : A → End w → Type 0) (terms : A �
     abbrev one : A
     one = member old.clients.items link.0 inside
 
-    abbrev t : Terms
+    abbrev t : EndConfig
     t = terms (slice_index_or old.clients.items link.0 one)
 
-    abbrev end : End w
+    abbrev end : Endpoint w
     end = (offered t ch x (s.clients link.0)).after
 
     answer_is : answer ≡ (offered t ch x (s.clients link.0)).answer
     answer_is = is.answer_is (s.clients link.0) one (h.clients link.0 one below)
 
     known : (d : A) → knows (slice_index_or new.clients.items link.0 d) end
-    known d = subst (λ (u : Terms). knows (slice_index_or new.clients.items link.0 d) (offered u ch x (s.clients link.0)).after)
+    known d = subst (λ (u : EndConfig). knows (slice_index_or new.clients.items link.0 d) (offered u ch x (s.clients link.0)).after)
         (made-for old s link.0 d one h below) (is.after (s.clients link.0) d (h.clients link.0 d below))
 
     taken-up : stepped config (Deliver link ch) s ≡ judged (offered t ch x (s.clients link.0)).answer link.0 ch x rest end s
@@ -233,7 +233,7 @@ module _ {w : ℕ} {A M : Type 0} (knows : A → End w → Type 0) (terms : A �
         let again : end ≡ s.clients link.0 = stayed-client t ch x (s.clients link.0) v m (sym stayed ∙ answer_is) stays in
         stepped-by old new (Deliver link ch) s (only outcome.Stalled s) outcome.Stalled
         (taken-up ∙ judged-stayed _ v m link.0 ch x rest end s (sym stayed ∙ answer_is) stays) refl
-        (client-holds old new s s link.0 (s.clients link.0) h (λ d. subst (λ (e : End w). knows (slice_index_or new.clients.items link.0 d) e) again (known d)) is.same_terms is.others is.same_number
+        (client-holds old new s s link.0 (s.clients link.0) h (λ d. subst (λ (e : Endpoint w). knows (slice_index_or new.clients.items link.0 d) e) again (known d)) is.same_terms is.others is.same_number
         unmoved refl same_manager (kept same) (carried s (λ k c. refl) same))
         (still same)
 
@@ -247,7 +247,7 @@ module _ {w : ℕ} {A M : Type 0} (knows : A → End w → Type 0) (terms : A �
     steps-taken mid v m taken moves first_kept then_kept drops sends room =
         stepped-by old new (Deliver link ch) s (handing (outcome_of x v) handed now) (outcome_of x v) step refl
         (client-holds old new s (with_messages handed now) link.0 end h known is.same_terms is.others is.same_number
-        (λ k. ap (λ (f : ℕ → End w). f k) (clients-with_messages handed now)) (manager-with_messages handed now) same_manager both_kept sent.carries)
+        (λ k. ap (λ (f : ℕ → Endpoint w). f k) (clients-with_messages handed now)) (manager-with_messages handed now) same_manager both_kept sent.carries)
         (moved-then (clients_of config) old.rings mid new.rings base (with_messages handed now) dropped sent (λ k c. messages-grow handed now k c)).deepen
       where
         base : System w
@@ -343,7 +343,7 @@ module _ {w : ℕ} {A M : Type 0} (knows : A → End w → Type 0) (terms : A �
         → IsStepped knows terms perm_of config old new (Deliver link ch) (outcome.Moved x) s
     manager-sent mid handed sent first_kept then_kept drops sends room =
         stepped-by old new (Deliver link ch) s (handing (outcome.Moved x) handed now) (outcome.Moved x) step refl
-        (manager-holds old new s (with_messages handed now) h same_clients (λ k. ap (λ (f : ℕ → End w). f k) (clients-with_messages handed now))
+        (manager-holds old new s (with_messages handed now) h same_clients (λ k. ap (λ (f : ℕ → Endpoint w). f k) (clients-with_messages handed now))
         (rw (manager-with_messages handed now) (knowing config s.manager h.manager)) both_kept moved.carries)
         (moved-then (clients_of config) old.rings mid new.rings base (with_messages handed now) dropped moved (λ k c. messages-grow handed now k c)).deepen
       where

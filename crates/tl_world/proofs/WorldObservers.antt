@@ -6,7 +6,7 @@ use Rattle.tl_beat.specs.declared.channel.Channel.{Channel}
 use Rattle.tl_params.specs.declared.config.Config.{Config}
 use Rattle.tl_params.specs.declared.perm.Perm.{Perm}
 use Rattle.tl_params.specs.declared.perm.Perm.TheVariants as perm
-use Rattle.tl_client.specs.statement.End.{Terms, End, held_at}
+use Rattle.tl_client.specs.statement.Endpoint.{EndConfig, Endpoint, held_at}
 use Rattle.tl_world.specs.declared.contents.Contents.{Contents}
 use Rattle.tl_world.specs.declared.ring.Ring.{Ring}
 use Rattle.tl_world.specs.code.Carrying.{place}
@@ -16,11 +16,11 @@ use Rattle.tl_world.specs.statement.World.{IsReached, held_by, copy_by, deepest_
 use Rattle.tl_world.proofs.Queues.{number-below}
 use Rattle.tl_world.proofs.Stepping.{member}
 
-module _ {w : ℕ} {A M : Type 0} (knows : A → End w → Type 0) (terms : A → Terms) (perm_of : M → ℕ → ℕ → Perm) (config : Config) (contents : Contents w A M)
+module _ {w : ℕ} {A M : Type 0} (knows : A → Endpoint w → Type 0) (terms : A → EndConfig) (perm_of : M → ℕ → ℕ → Perm) (config : Config) (contents : Contents w A M)
     (log : Log w) (r : IsReached knows terms perm_of config contents log) where
   -- of a client, if there is one
-  seen : {B : Type 0} (client : ℕ) (f : End w → B) (result none : B)
-      → ((e : End w) (d : A) → client < length contents.parts.clients.items → knows (slice_index_or contents.parts.clients.items client d) e → result ≡ f e)
+  seen : {B : Type 0} (client : ℕ) (f : Endpoint w → B) (result none : B)
+      → ((e : Endpoint w) (d : A) → client < length contents.parts.clients.items → knows (slice_index_or contents.parts.clients.items client d) e → result ≡ f e)
       → (length contents.parts.clients.items ≤ client → result ≡ none)
       → result ≡ (if nat_lt client (clients_of config) then f ((system_after config log).clients client) else none)
   seen client f result none there nowhere =
@@ -34,12 +34,12 @@ module _ {w : ℕ} {A M : Type 0} (knows : A → End w → Type 0) (terms : A �
       ]
 
   pub seen-held : (client block : ℕ) (result : Perm)
-      → ((e : End w) (d : A) → client < length contents.parts.clients.items → knows (slice_index_or contents.parts.clients.items client d) e → result ≡ held_at e block)
+      → ((e : Endpoint w) (d : A) → client < length contents.parts.clients.items → knows (slice_index_or contents.parts.clients.items client d) e → result ≡ held_at e block)
       → (length contents.parts.clients.items ≤ client → result ≡ perm.None) → result ≡ held_by config client block (system_after config log)
   seen-held client block result there nowhere = seen client (λ e. held_at e block) result perm.None there nowhere
 
   pub seen-copy : (client block : ℕ) (result : Option (List ℕ))
-      → ((e : End w) (d : A) → client < length contents.parts.clients.items → knows (slice_index_or contents.parts.clients.items client d) e → result ≡ e.copies block)
+      → ((e : Endpoint w) (d : A) → client < length contents.parts.clients.items → knows (slice_index_or contents.parts.clients.items client d) e → result ≡ e.copies block)
       → (length contents.parts.clients.items ≤ client → result ≡ None) → result ≡ copy_by config client block (system_after config log)
   seen-copy client block result there nowhere = seen client (λ e. e.copies block) result None there nowhere
 

@@ -56,9 +56,9 @@ impl<const W: usize, A: Agent<W>, D: Directory> Parts<W, A, D> {
     fn ask(&mut self, client: u8, operation: Op<W>, outcome: &mut Outcome<W>)
         requires width { IsWidth W }
         requires inside { client < length self.old.clients.items }
-        ensures { (config : Config) (s : System W) → Holds A.knows A.terms D.perm_of config self.old s →
+        ensures { (config : Config) (s : System W) → Holds A.represents A.terms D.perm_of config self.old s →
             HasRoom config (stepped config (Ask client operation.entry) s).after →
-            IsStepped A.knows A.terms D.perm_of config self.old self.new (Ask client operation.entry) outcome.new s }
+            IsStepped A.represents A.terms D.perm_of config self.old self.new (Ask client operation.entry) outcome.new s }
     {
         let (reply, message) = ask_at(&mut self.clients, usize::from(client), operation);
         self.rings.send_if_any(Link(client), &message);
@@ -69,9 +69,9 @@ impl<const W: usize, A: Agent<W>, D: Directory> Parts<W, A, D> {
     fn to_client(&mut self, link: Link, channel: Channel, outcome: &mut Outcome<W>)
         requires width { IsWidth W }
         requires inside { link.0 < length self.old.clients.items }
-        ensures { (config : Config) (s : System W) → Holds A.knows A.terms D.perm_of config self.old s →
+        ensures { (config : Config) (s : System W) → Holds A.represents A.terms D.perm_of config self.old s →
             Step.is_to_client channel ≡ true → HasRoom config (stepped config (Deliver link channel) s).after →
-            IsStepped A.knows A.terms D.perm_of config self.old self.new (Deliver link channel) outcome.new s }
+            IsStepped A.represents A.terms D.perm_of config self.old self.new (Deliver link channel) outcome.new s }
     {
         let Some(beat) = self.rings.first(link, channel) else {
             *outcome = Outcome::Empty;
@@ -95,9 +95,9 @@ impl<const W: usize, A: Agent<W>, D: Directory> Parts<W, A, D> {
     fn to_manager(&mut self, link: Link, channel: Channel, outcome: &mut Outcome<W>)
         requires width { IsWidth W }
         requires inside { link.0 < length self.old.clients.items }
-        ensures { (config : Config) (s : System W) → Holds A.knows A.terms D.perm_of config self.old s →
+        ensures { (config : Config) (s : System W) → Holds A.represents A.terms D.perm_of config self.old s →
             Step.is_to_client channel ≡ false → HasRoom config (stepped config (Deliver link channel) s).after →
-            IsStepped A.knows A.terms D.perm_of config self.old self.new (Deliver link channel) outcome.new s }
+            IsStepped A.represents A.terms D.perm_of config self.old self.new (Deliver link channel) outcome.new s }
     {
         let Some(beat) = self.rings.first(link, channel) else {
             *outcome = Outcome::Empty;
@@ -118,9 +118,9 @@ impl<const W: usize, A: Agent<W>, D: Directory> Parts<W, A, D> {
     fn deliver(&mut self, link: Link, channel: Channel, outcome: &mut Outcome<W>)
         requires width { IsWidth W }
         requires inside { link.0 < length self.old.clients.items }
-        ensures { (config : Config) (s : System W) → Holds A.knows A.terms D.perm_of config self.old s →
+        ensures { (config : Config) (s : System W) → Holds A.represents A.terms D.perm_of config self.old s →
             HasRoom config (stepped config (Deliver link channel) s).after →
-            IsStepped A.knows A.terms D.perm_of config self.old self.new (Deliver link channel) outcome.new s }
+            IsStepped A.represents A.terms D.perm_of config self.old self.new (Deliver link channel) outcome.new s }
     {
         if is_to_client(channel) {
             self.to_client(link, channel, outcome)
@@ -132,9 +132,9 @@ impl<const W: usize, A: Agent<W>, D: Directory> Parts<W, A, D> {
     /// Something happens.
     pub fn happen(&mut self, event: Event<W>, outcome: &mut Outcome<W>)
         requires width { IsWidth W }
-        ensures { (config : Config) (s : System W) → Holds A.knows A.terms D.perm_of config self.old s →
+        ensures { (config : Config) (s : System W) → Holds A.represents A.terms D.perm_of config self.old s →
             HasRoom config (stepped config event.entry s).after →
-            IsStepped A.knows A.terms D.perm_of config self.old self.new event.entry outcome.new s }
+            IsStepped A.represents A.terms D.perm_of config self.old self.new event.entry outcome.new s }
     {
         match event {
             Event::Ask { client, operation } => {

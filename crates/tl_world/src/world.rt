@@ -64,9 +64,9 @@ impl<const W: usize, A: Agent<W>, D: Directory> World<W, A, D> {
         directory: D,
     ) -> Result<Self, NewFault>
         requires width { IsWidth W }
-        requires clients { AreReady A.knows A.terms config clients.items }
+        requires clients { AreReady A.represents A.terms config clients.items }
         requires directory { IsEmpty D.perm_of D.blocks D.clients config directory }
-        ensures { IsNewWorld A.knows A.terms D.perm_of config result }
+        ensures { IsNewWorld A.represents A.terms D.perm_of config result }
     {
         let manager = Manager::new(alloc, &config, directory)?;
         let rings = make_rings(alloc, &config)?;
@@ -86,9 +86,9 @@ impl<const W: usize, A: Agent<W>, D: Directory> World<W, A, D> {
 
     /// Something happens: what comes of it.
     pub fn step(&mut self, event: Event<W>) -> Outcome<W>
-        ensures reached { (config : Config) (log : Log W) → IsReached A.knows A.terms D.perm_of config self.old log →
-            IsReached A.knows A.terms D.perm_of config self.new ((event.entry, result) ∷ log) }
-        ensures outcome { (config : Config) (log : Log W) → IsReached A.knows A.terms D.perm_of config self.old log →
+        ensures reached { (config : Config) (log : Log W) → IsReached A.represents A.terms D.perm_of config self.old log →
+            IsReached A.represents A.terms D.perm_of config self.new ((event.entry, result) ∷ log) }
+        ensures outcome { (config : Config) (log : Log W) → IsReached A.represents A.terms D.perm_of config self.old log →
             result ≡ (stepped config event.entry (system_after config log)).outcome }
     {
         typed(&event);
@@ -101,8 +101,8 @@ impl<const W: usize, A: Agent<W>, D: Directory> World<W, A, D> {
     /// The events happen one after another: what comes of each.
     pub fn run(&mut self, events: &[Event<W>], outcomes: &mut [Outcome<W>])
         requires { length events.now ≡ length outcomes.old }
-        ensures reached { (config : Config) (log : Log W) → IsReached A.knows A.terms D.perm_of config self.old log →
-            IsReached A.knows A.terms D.perm_of config self.new (logged events.now outcomes.new log) }
+        ensures reached { (config : Config) (log : Log W) → IsReached A.represents A.terms D.perm_of config self.old log →
+            IsReached A.represents A.terms D.perm_of config self.new (logged events.now outcomes.new log) }
         ensures number { length outcomes.new ≡ length outcomes.old }
     {
         for (i, event) in events.iter().enumerate() {
@@ -121,10 +121,10 @@ impl<const W: usize, A: Agent<W>, D: Directory> World<W, A, D> {
         outcomes: &mut [Outcome<W>],
     ) -> Result<Self, NewFault>
         requires width { IsWidth W }
-        requires clients { AreReady A.knows A.terms config clients.items }
+        requires clients { AreReady A.represents A.terms config clients.items }
         requires directory { IsEmpty D.perm_of D.blocks D.clients config directory }
         requires number { length events.now ≡ length outcomes.old }
-        ensures { IsReplayed A.knows A.terms D.perm_of config events.now outcomes.old outcomes.new result }
+        ensures { IsReplayed A.represents A.terms D.perm_of config events.now outcomes.old outcomes.new result }
     {
         let mut world = World::new(alloc, config, clients, directory)?;
         world.run(events, outcomes);
@@ -134,7 +134,7 @@ impl<const W: usize, A: Agent<W>, D: Directory> World<W, A, D> {
     /// The next delivery: the first on a client's link that finds a beat which isn't stalled, in the
     /// order E, D, C, B, A of the channels, and of the links within one.
     pub fn next_delivery(&self) -> Option<(Link, Channel)>
-        ensures { (config : Config) (log : Log W) → IsReached A.knows A.terms D.perm_of config self.now log →
+        ensures { (config : Config) (log : Log W) → IsReached A.represents A.terms D.perm_of config self.now log →
             result ≡ Movable.next_delivery config (system_after config log) }
     {
         self.contents.parts.next_delivery()
@@ -143,9 +143,9 @@ impl<const W: usize, A: Agent<W>, D: Directory> World<W, A, D> {
     /// Delivers what is next until nothing is, and nothing is outstanding: the number of deliveries, which
     /// is at most the load before.
     pub fn drain(&mut self) -> u64
-        ensures reached { (config : Config) (log : Log W) → IsReached A.knows A.terms D.perm_of config self.old log →
-            IsReached A.knows A.terms D.perm_of config self.new (drained config result log) }
-        ensures drained { (config : Config) (log : Log W) → IsReached A.knows A.terms D.perm_of config self.old log →
+        ensures reached { (config : Config) (log : Log W) → IsReached A.represents A.terms D.perm_of config self.old log →
+            IsReached A.represents A.terms D.perm_of config self.new (drained config result log) }
+        ensures drained { (config : Config) (log : Log W) → IsReached A.represents A.terms D.perm_of config self.old log →
             IsDrained config log result }
     {
         let _ = &self.contents;
@@ -163,7 +163,7 @@ impl<const W: usize, A: Agent<W>, D: Directory> World<W, A, D> {
 
     /// What a client holds of a block: None where there is no such client.
     pub fn held(&self, client: u8, block: u16) -> Perm
-        ensures { (config : Config) (log : Log W) → IsReached A.knows A.terms D.perm_of config self.now log →
+        ensures { (config : Config) (log : Log W) → IsReached A.represents A.terms D.perm_of config self.now log →
             result ≡ held_by config client block (system_after config log) }
     {
         held_at(&self.contents.parts.clients, usize::from(client), block)
@@ -171,7 +171,7 @@ impl<const W: usize, A: Agent<W>, D: Directory> World<W, A, D> {
 
     /// The bytes of a client's copy of a block: None where it has none, or there is no such client.
     pub fn copy(&self, client: u8, block: u16) -> Option<[u8; 64]>
-        ensures { (config : Config) (log : Log W) → IsReached A.knows A.terms D.perm_of config self.now log →
+        ensures { (config : Config) (log : Log W) → IsReached A.represents A.terms D.perm_of config self.now log →
             result ≡ copy_by config client block (system_after config log) }
     {
         copy_at(&self.contents.parts.clients, usize::from(client), block)
@@ -179,7 +179,7 @@ impl<const W: usize, A: Agent<W>, D: Directory> World<W, A, D> {
 
     /// The greatest number of beats that ever stood in a channel: 0 for a link without a client.
     pub fn deepest(&self, link: Link, channel: Channel) -> u16
-        ensures { (config : Config) (log : Log W) → IsReached A.knows A.terms D.perm_of config self.now log →
+        ensures { (config : Config) (log : Log W) → IsReached A.represents A.terms D.perm_of config self.now log →
             result ≡ deepest_by config log link.0 channel }
     {
         self.contents.parts.rings.deepest(link, channel)
@@ -187,7 +187,7 @@ impl<const W: usize, A: Agent<W>, D: Directory> World<W, A, D> {
 
     /// How many deliveries what is outstanding can still need.
     pub fn load(&self) -> u64
-        ensures { (config : Config) (log : Log W) → IsReached A.knows A.terms D.perm_of config self.now log →
+        ensures { (config : Config) (log : Log W) → IsReached A.represents A.terms D.perm_of config self.now log →
             result ≡ Load.load log }
     {
         self.contents.outstanding.load::<W>()

@@ -8,7 +8,7 @@ use Rattle.tl_beat.specs.declared.channel.Channel.{Channel}
 use Rattle.tl_burst.specs.statement.Messages.{grown}
 use Rattle.tl_burst.specs.statement.Part.{completes}
 use Rattle.tl_params.specs.declared.config.Config.{Config}
-use Rattle.tl_client.specs.statement.End.{Terms}
+use Rattle.tl_client.specs.statement.Endpoint.{EndConfig}
 use Rattle.tl_client.specs.statement.Offer as offer
 use Rattle.tl_manager.specs.statement.Offer as manager_offer
 use Rattle.tl_manager.specs.statement.Deed.{deed}
@@ -33,7 +33,7 @@ use Rattle.tl_coherence.proofs.queues.Steps.{same_channel-refl}
 abbrev pub IsGrown : {w : ℕ} → ℕ → Channel → Beat w → System w → System w → Type 0
 IsGrown c ch x sys sys' = (d : ℕ) (at : Channel) → unfinished_at sys' d at ≡ (if (d == c) && same_channel at ch then grown x (unfinished_at sys d at) else unfinished_at sys d at)
 
-pub grown-moved : {w : ℕ} (config : Config) (log : Log w) (h : AbstractState w) (link : Link) (ch : Channel) (terms : Terms) (x : Beat w) (queue : List (Beat w))
+pub grown-moved : {w : ℕ} (config : Config) (log : Log w) (h : AbstractState w) (link : Link) (ch : Channel) (terms : EndConfig) (x : Beat w) (queue : List (Beat w))
     → IsWidth w → SimulationRelation config log h.mail h.request h.state (system_after config log)
     → terms_at config link.0 ≡ Some terms → (system_after config log).channels link.0 ch ≡ x ∷ queue → is_moving (stepped config (Deliver link ch) (system_after config log)).outcome ≡ true
     → IsGrown link.0 ch x (system_after config log) (stepped config (Deliver link ch) (system_after config log)).after

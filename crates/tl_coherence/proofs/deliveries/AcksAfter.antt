@@ -11,7 +11,7 @@ use Rattle.tl_burst.specs.statement.Messages.{unfinished}
 use Rattle.tl_burst.specs.statement.Part.{completes}
 use Rattle.tl_params.specs.declared.config.Config.{Config}
 use Rattle.tl_rules.specs.statement.Conformance.{on_link}
-use Rattle.tl_client.specs.statement.End as client
+use Rattle.tl_client.specs.statement.Endpoint as client
 use Rattle.tl_manager.specs.statement.Deed.{deed}
 use Rattle.tl_manager.proofs.Events.{deed-ack}
 use Rattle.tl_coherence.specs.declared.event.Event.TheVariants.{Deliver}
@@ -46,7 +46,7 @@ ack_kind Answer e = absurd cc
 ack_kind Grant e = absurd cc
 ack_kind ReleaseAck e = absurd cc
 
-pub delivered-e : {w : ℕ} (config : Config) (log : Log w) (link : Link) (h : AbstractState w) (terms : client.Terms) (x : Beat w) (queue : List (Beat w)) → IsWidth w
+pub delivered-e : {w : ℕ} (config : Config) (log : Log w) (link : Link) (h : AbstractState w) (terms : client.EndConfig) (x : Beat w) (queue : List (Beat w)) → IsWidth w
     → SimulationRelation config log h.mail h.request h.state (system_after config log)
     → terms_at config link.0 ≡ Some terms → (system_after config log).channels link.0 channel.E ≡ x ∷ queue
     → is_moving (stepped config (Deliver link channel.E) (system_after config log)).outcome ≡ true → IsDelivered config log link channel.E h

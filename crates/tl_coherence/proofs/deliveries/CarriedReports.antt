@@ -16,7 +16,7 @@ use Rattle.tl_burst.specs.declared.message.MessageC.{MessageC}
 use Rattle.tl_burst.specs.statement.Burst.{beat_of}
 use Rattle.tl_burst.specs.statement.Messages.{unfinished}
 use Rattle.tl_burst.specs.statement.Part.{completes}
-use Rattle.tl_client.specs.statement.End.{Terms}
+use Rattle.tl_client.specs.statement.Endpoint.{EndConfig}
 use Rattle.tl_manager.specs.statement.Handing.{Handed, access_answer}
 use Rattle.tl_manager.specs.code.Kept as manager
 use Rattle.tl_manager.specs.statement.Deed.{deed}
@@ -128,7 +128,7 @@ no-messages : {w : ℕ} (s : System w) (d : ℕ) (at : Channel) → (with_messag
 unfolding with_messages
 no-messages s d at = refl
 
-pub landed-taken : {w : ℕ} (config : Config) (c : ℕ) (ch : Channel) (x : Beat w) (queue : List (Beat w)) (sys : System w) (t : Terms) (handed : Handed w)
+pub landed-taken : {w : ℕ} (config : Config) (c : ℕ) (ch : Channel) (x : Beat w) (queue : List (Beat w)) (sys : System w) (t : EndConfig) (handed : Handed w)
     (pushes : ℕ → Channel → Option (Message w)) → IsWidth w → manager.IsKept config sys.manager
     → manager.IsTyped x → is_to_client ch ≡ false → IsOn ch x → terms_at config c ≡ Some t → sys.channels c ch ≡ x ∷ queue → IsTakenUp config c ch x sys.manager
     → (deed config (record { 0 = c }) x sys.manager).handed ≡ handed
@@ -347,7 +347,7 @@ carried-followed_c {w} config log h sys c x queue width is beats =
     before : List (Beat w)
     before = unfinished channel.C (receiver channel.C c sys)
 
-    t : (t : Terms) × (terms_at config c ≡ Some t)
+    t : (t : EndConfig) × (terms_at config c ≡ Some t)
     t = client-of config c channel.C x queue sys beats (is.sound c channel.C)
 
     any : Delivered config c channel.C before h (packet_taken config (next_tracker sys) c (h.state.link c).c h)

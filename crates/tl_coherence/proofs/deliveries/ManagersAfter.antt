@@ -22,7 +22,7 @@ use Rattle.tl_params.specs.declared.perm.Perm.TheVariants as perm
 use Rattle.tl_params.specs.statement.Param.{report_left}
 use Rattle.tl_rules.specs.statement.Conformance.{on_link}
 use Rattle.tl_rules.specs.statement.History.{ends}
-use Rattle.tl_client.specs.statement.End as client
+use Rattle.tl_client.specs.statement.Endpoint as client
 use Rattle.tl_client.specs.statement.Send.{release, probe_ack}
 use Rattle.tl_manager.specs.statement.Handing.{Handed}
 use Rattle.tl_manager.specs.code.Kept as manager
@@ -162,7 +162,7 @@ pub record IsAtManager {w : ℕ} (config : Config) (log : Log w) (link : Link) (
   pub follows : abstract_step config (Deliver link ch) (system_after config log) h
       ≡ (if completes x (unfinished ch (receiver ch link.0 (system_after config log))) then kind_taken config (next_tracker (system_after config log)) link.0 first.kind first.number first.rest h else h)
 
-pub at-manager : {w : ℕ} (config : Config) (log : Log w) (link : Link) (ch : Channel) (h : AbstractState w) (terms : client.Terms) (x : Beat w) (queue : List (Beat w))
+pub at-manager : {w : ℕ} (config : Config) (log : Log w) (link : Link) (ch : Channel) (h : AbstractState w) (terms : client.EndConfig) (x : Beat w) (queue : List (Beat w))
     → IsWidth w → SimulationRelation config log h.mail h.request h.state (system_after config log)
     → terms_at config link.0 ≡ Some terms → is_to_client ch ≡ false → (system_after config log).channels link.0 ch ≡ x ∷ queue
     → is_moving (stepped config (Deliver link ch) (system_after config log)).outcome ≡ true → IsAtManager config log link ch h x queue

@@ -16,7 +16,7 @@ use Rattle.tl_params.specs.declared.config.Config.{Config}
 use Rattle.tl_rules.specs.statement.Conformance.{on_link, broken_in_order}
 use Rattle.tl_rules.specs.statement.History.{ends, block_at}
 use Rattle.tl_rules.proofs.Sent.{is_last, not_last}
-use Rattle.tl_client.specs.statement.End.{Terms}
+use Rattle.tl_client.specs.statement.Endpoint.{EndConfig}
 use Rattle.tl_client.proofs.HeldAfter.{same_block}
 use Rattle.tl_manager.specs.statement.Service.{services, is_in_service}
 use Rattle.tl_manager.specs.statement.Offer as manager
@@ -271,7 +271,7 @@ step_moved config c k m x queue sys =
     handing (outcome.Moved x) (deed config (link_of c) x sys.manager).handed (with_manager (end_after config c k m sys.manager) (with_channel c channel.A queue sys))
 
 -- A delivery finds no beat, or one that has to wait, or one that is taken.
-pub delivery-a : {w : ℕ} (config : Config) (log : Log w) (h : AbstractState w) (sys : System w) (c : ℕ) (terms : Terms) (P : Step w → Type 0) → IsWidth w
+pub delivery-a : {w : ℕ} (config : Config) (log : Log w) (h : AbstractState w) (sys : System w) (c : ℕ) (terms : EndConfig) (P : Step w → Type 0) → IsWidth w
     → SimulationRelation config log h.mail h.request h.state sys → terms_at config c ≡ Some terms
     → (sys.channels c channel.A ≡ [] → P (only outcome.Empty sys))
     → ((x : Beat w) (queue : List (Beat w)) → sys.channels c channel.A ≡ x ∷ queue → must_wait config (link_of c) x sys.manager.trace ≡ true
@@ -302,7 +302,7 @@ delivery-a {w} config log h sys c terms P width is client empty stalled moved = 
     go (x ∷ queue) e = taken_or_not x queue e (arrival-first config log h sys c x queue width is e) (must_wait config (link_of c) x sys.manager.trace) refl
 
 -- and what the manager knows is what the protocol says then
-pub at_manager-delivered_a : {w : ℕ} (config : Config) (log : Log w) (h : AbstractState w) (sys : System w) (c : ℕ) (terms : Terms) → IsWidth w
+pub at_manager-delivered_a : {w : ℕ} (config : Config) (log : Log w) (h : AbstractState w) (sys : System w) (c : ℕ) (terms : EndConfig) → IsWidth w
     → SimulationRelation config log h.mail h.request h.state sys → terms_at config c ≡ Some terms
     → IsManagerOf config (abstract_step config (Deliver (link_of c) channel.A) sys h) (stepped config (Deliver (link_of c) channel.A) sys).after.manager
 at_manager-delivered_a {w} config log h sys c terms width is client =
@@ -318,7 +318,7 @@ at_manager-delivered_a {w} config log h sys c terms width is client =
     (λ more. at_manager-more (is_caching config) config h.mail h.request h.state c k arrives.request sys.manager is.invariant comes more (arrives.is_it.unwaited k more) known)))
 
 -- and the channels carry the messages of the tokens
-pub carried-delivered_a : {w : ℕ} (config : Config) (log : Log w) (h : AbstractState w) (sys : System w) (c : ℕ) (terms : Terms) → IsWidth w
+pub carried-delivered_a : {w : ℕ} (config : Config) (log : Log w) (h : AbstractState w) (sys : System w) (c : ℕ) (terms : EndConfig) → IsWidth w
     → SimulationRelation config log h.mail h.request h.state sys → terms_at config c ≡ Some terms
     → ChannelRelation (abstract_step config (Deliver (link_of c) channel.A) sys h).mail (abstract_step config (Deliver (link_of c) channel.A) sys h).state (stepped config (Deliver (link_of c) channel.A) sys).after
 carried-delivered_a {w} config log h sys c terms width is client =
@@ -340,7 +340,7 @@ carried-delivered_a {w} config log h sys c terms width is client =
     (carried-more config log h.mail h.request h.state sys c k m queue is comes first (ends-coming config c k m sys.manager comes ∙ not_last k (beats_of (message.A m)) more))))
 
 -- and the one-memory machine is beside the protocol, once the accesses that are answered are performed
-pub beside-delivered_a : {w : ℕ} (config : Config) (log : Log w) (h : AbstractState w) (sys : System w) (c : ℕ) (terms : Terms) (machine : Machine w) → IsWidth w
+pub beside-delivered_a : {w : ℕ} (config : Config) (log : Log w) (h : AbstractState w) (sys : System w) (c : ℕ) (terms : EndConfig) (machine : Machine w) → IsWidth w
     → SimulationRelation config log h.mail h.request h.state sys → terms_at config c ≡ Some terms
     → MemoryRelation h.mail h.state machine
     → MemoryRelation (abstract_step config (Deliver (link_of c) channel.A) sys h).mail (abstract_step config (Deliver (link_of c) channel.A) sys h).state
@@ -368,7 +368,7 @@ beside-delivered_a {w} config log h sys c terms machine width is client beside =
     subst (λ (i : Handed w). MemoryRelation h.mail h.state (performing (accesses_answered i) machine)) (sym part ∙ same) beside))
 
 -- at most one access is answered then, and it can be performed
-pub once-delivered_a : {w : ℕ} (config : Config) (log : Log w) (h : AbstractState w) (sys : System w) (c : ℕ) (terms : Terms) (machine : Machine w) → IsWidth w
+pub once-delivered_a : {w : ℕ} (config : Config) (log : Log w) (h : AbstractState w) (sys : System w) (c : ℕ) (terms : EndConfig) (machine : Machine w) → IsWidth w
     → SimulationRelation config log h.mail h.request h.state sys → terms_at config c ≡ Some terms
     → MemoryRelation h.mail h.state machine → IsOnce (accesses_answered (stepped config (Deliver (link_of c) channel.A) sys).handed) h machine
 unfolding accesses_answered

@@ -7,7 +7,7 @@ use Rattle.tl_params.specs.declared.level.Level.TheVariants as level
 use Rattle.tl_params.specs.declared.param.Grow.TheVariants as grow
 use Rattle.tl_params.specs.declared.perm.Perm.TheVariants as perm
 use Rattle.tl_params.specs.declared.profile.Profile.TheVariants as profile
-use Rattle.tl_rules.specs.statement.Agent.{bytes_carried}
+use Rattle.tl_rules.specs.statement.Admission.{bytes_carried}
 use Rattle.tl_rules.specs.statement.Conformance.{on_link, broken_order}
 use Rattle.tl_rules.specs.statement.Effect.{bytes_from, number_from, effect}
 use Rattle.tl_rules.specs.statement.History.{request_of, release_of, probe_of, grant_sink, pending, held}
@@ -15,7 +15,7 @@ use Rattle.tl_rules.specs.statement.Legality.{illegal, first_illegal, beats_from
 use Rattle.tl_client.specs.declared.operation.Op.TheVariants as op
 use Rattle.tl_client.specs.declared.reply.Reply.TheVariants as reply
 use Rattle.tl_client.specs.statement.Ask as ask
-use Rattle.tl_client.specs.statement.End.{held_at}
+use Rattle.tl_client.specs.statement.Endpoint.{held_at}
 use Rattle.tl_client.specs.statement.Offer as offer
 use Rattle.tl_manager.specs.statement.Handing.{with_handed}
 use Rattle.tl_manager.specs.statement.Holders.{clients_from}

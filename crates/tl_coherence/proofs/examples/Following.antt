@@ -23,7 +23,7 @@ use Rattle.tl_params.specs.declared.param.Grow.TheVariants as grow
 use Rattle.tl_params.specs.declared.param.Prune.TheVariants as prune
 use Rattle.tl_params.specs.declared.perm.Perm.TheVariants as perm
 use Rattle.tl_params.specs.declared.profile.Profile.TheVariants as profile
-use Rattle.tl_rules.specs.statement.Agent.{bytes_carried}
+use Rattle.tl_rules.specs.statement.Admission.{bytes_carried}
 use Rattle.tl_rules.specs.statement.Conformance.{Trace, on_link, comes_in_request, comes_in_grant, broken_order, same_perm}
 use Rattle.tl_rules.specs.statement.Effect.{bytes_from, number_from, effect}
 use Rattle.tl_rules.specs.statement.History.{held, pending, block_at, is_acquire, request_of, release_of, probe_of, grant_sink}

@@ -27,7 +27,7 @@ use Rattle.tl_rules.specs.statement.Conformance.{Trace, on_link, broken_order, b
 use Rattle.tl_rules.specs.statement.History.{pending, block_at, is_acquire, held}
 use Rattle.tl_client.specs.statement.Send.{acquisition, probe_ack, release}
 use Rattle.tl_client.proofs.HeldAfter.{same_block}
-use Rattle.tl_rules.specs.statement.Agent.{is_outside, is_spoiled}
+use Rattle.tl_rules.specs.statement.Admission.{is_outside, is_spoiled}
 use Rattle.tl_rules.specs.statement.Legality.{illegal, is_one_of}
 use Rattle.tl_rules.proofs.Later.{later-legal}
 use Rattle.tl_beat.specs.declared.beat.Link.{Link}

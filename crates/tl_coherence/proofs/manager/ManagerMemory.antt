@@ -13,7 +13,7 @@ use Rattle.tl_burst.specs.declared.message.Message.TheVariants as message
 use Rattle.tl_burst.specs.declared.message.MessageA.{MessageA}
 use Rattle.tl_params.specs.declared.config.Config.{Config}
 use Rattle.tl_params.specs.declared.level.Level.{Level}
-use Rattle.tl_rules.specs.statement.Agent.{payload_of}
+use Rattle.tl_rules.specs.statement.Admission.{payload_of}
 use Rattle.tl_rules.specs.statement.Effect.{Memory, AccessResult, SameBlock, answer_of, bytes_from, effect}
 use Rattle.tl_rules.specs.statement.History.{block_at}
 use Rattle.tl_rules.proofs.Bursts.{control_of_legal, control_aligned}

@@ -18,8 +18,8 @@ use Rattle.tl_rules.specs.statement.Conformance.{on_link}
 use Rattle.tl_client.specs.laws.After as after
 use Rattle.tl_client.specs.declared.verdict.Verdict.{Verdict}
 use Rattle.tl_client.specs.declared.verdict.Verdict.TheVariants as verdict
-use Rattle.tl_client.specs.statement.End as client
-use Rattle.tl_client.specs.statement.Kept as client_kept
+use Rattle.tl_client.specs.statement.Endpoint as client
+use Rattle.tl_client.specs.statement.EndpointInvariant as client_kept
 use Rattle.tl_client.specs.statement.Offer as offer
 use Rattle.tl_client.specs.statement.Offer.{Offered}
 use Rattle.tl_client.proofs.Outstanding.{unfinished-offered}
@@ -54,7 +54,7 @@ is_taken (Ok (verdict.Stalled, m)) = false
 is_taken (Ok (verdict.Taken, m)) = true
 is_taken (Ok (verdict.Done source finish, m)) = true
 
-pub offered-taken : {w : ℕ} (terms : client.Terms) (ch : Channel) (x : Beat w) (e : client.End w) → is_taken (offer.offered terms ch x e).answer ≡ true → offer.offered terms ch x e ≡ offer.taken x e
+pub offered-taken : {w : ℕ} (terms : client.EndConfig) (ch : Channel) (x : Beat w) (e : client.Endpoint w) → is_taken (offer.offered terms ch x e).answer ≡ true → offer.offered terms ch x e ≡ offer.taken x e
 unfolding offer.offered
 offered-taken {w} terms ch x e is = before (offer.broken_before terms ch x e) is
   where
@@ -72,7 +72,7 @@ offered-taken {w} terms ch x e is = before (offer.broken_before terms ch x e) is
     before (Some rule) h = absurd cc
 
 -- the step, where a client takes the beat
-pub record IsTakenByClient {w : ℕ} (terms : client.Terms) (c : ℕ) (ch : Channel) (x : Beat w) (queue : List (Beat w)) (sys : System w) (step : Step w) : Type 0 where
+pub record IsTakenByClient {w : ℕ} (terms : client.EndConfig) (c : ℕ) (ch : Channel) (x : Beat w) (queue : List (Beat w)) (sys : System w) (step : Step w) : Type 0 where
   pub verdict_is : Verdict
   pub message : Option (Message w)
   pub takes : offer.offered terms ch x (sys.clients c) ≡ offer.taken x (sys.clients c)
@@ -80,7 +80,7 @@ pub record IsTakenByClient {w : ℕ} (terms : client.Terms) (c : ℕ) (ch : Chan
   pub heard : after.heard (offer.offered terms ch x (sys.clients c)).answer x (sys.clients c).past ≡ x ∷ (sys.clients c).past
   pub step_is : step ≡ handing (outcome_of x verdict_is) (handed_by c message) (with_client c (offer.taken x (sys.clients c)).after (with_channel c ch queue sys))
 
-client_moves : {w : ℕ} (terms : client.Terms) (c : ℕ) (ch : Channel) (x : Beat w) (queue : List (Beat w)) (sys : System w)
+client_moves : {w : ℕ} (terms : client.EndConfig) (c : ℕ) (ch : Channel) (x : Beat w) (queue : List (Beat w)) (sys : System w)
     → is_moving (client_took c ch x queue (offer.offered terms ch x (sys.clients c)) sys).outcome ≡ true
     → IsTakenByClient terms c ch x queue sys (client_took c ch x queue (offer.offered terms ch x (sys.clients c)) sys)
 client_moves {w} terms c ch x queue sys moving = go (offer.offered terms ch x (sys.clients c)).answer refl moving
@@ -109,7 +109,7 @@ client_moves {w} terms c ch x queue sys moving = go (offer.offered terms ch x (s
     go (Ok (verdict.Taken, m)) e h = made verdict.Taken m e refl refl refl
     go (Ok (verdict.Done source finish, m)) e h = made (verdict.Done source finish) m e refl refl refl
 
-pub client-moves : {w : ℕ} (config : Config) (link : Link) (ch : Channel) (sys : System w) (terms : client.Terms) (x : Beat w) (queue : List (Beat w))
+pub client-moves : {w : ℕ} (config : Config) (link : Link) (ch : Channel) (sys : System w) (terms : client.EndConfig) (x : Beat w) (queue : List (Beat w))
     → terms_at config link.0 ≡ Some terms → sys.channels link.0 ch ≡ x ∷ queue
     → is_to_client ch ≡ true
     → is_moving (stepped config (Deliver link ch) sys).outcome ≡ true → IsTakenByClient terms link.0 ch x queue sys (stepped config (Deliver link ch) sys)
@@ -121,7 +121,7 @@ client-moves {w} config link ch sys terms x queue known first up moving =
     same : (a b : Step w) → a ≡ b → IsTakenByClient terms link.0 ch x queue sys b → IsTakenByClient terms link.0 ch x queue sys a
     same a b e h = rw e h
 
-pub client-heard : {w : ℕ} (terms : client.Terms) (c : ℕ) (ch : Channel) (x : Beat w) (queue : List (Beat w)) (sys : System w) (step : Step w) → IsWidth w → client_kept.IsKept (sys.clients c)
+pub client-heard : {w : ℕ} (terms : client.EndConfig) (c : ℕ) (ch : Channel) (x : Beat w) (queue : List (Beat w)) (sys : System w) (step : Step w) → IsWidth w → client_kept.IsEndpointInvariant (sys.clients c)
     → IsTakenByClient terms c ch x queue sys step → HasHeard x (sys.clients c) (offer.taken x (sys.clients c)).after
 client-heard {w} terms c ch x queue sys step width kept is at =
     ap (λ (p : Offered w). unfinished at p.after.past) (sym is.takes) ∙ unfinished-offered terms ch x (sys.clients c) at width kept ∙ ap (unfinished at) is.heard
@@ -163,7 +163,7 @@ manager_moves {w} config link ch x queue sys moving = go (manager_offer.offered 
         let takes = offered-passes config link ch x sys.manager handed (ap (λ (p : manager_offer.Reception w × manager_end.End w). p.0) f) in
         record { takes = takes; step_is = ap (λ p. manager_took link.0 ch x queue p sys) takes }
 
-pub manager-moves : {w : ℕ} (config : Config) (link : Link) (ch : Channel) (sys : System w) (terms : client.Terms) (x : Beat w) (queue : List (Beat w))
+pub manager-moves : {w : ℕ} (config : Config) (link : Link) (ch : Channel) (sys : System w) (terms : client.EndConfig) (x : Beat w) (queue : List (Beat w))
     → terms_at config link.0 ≡ Some terms → sys.channels link.0 ch ≡ x ∷ queue
     → is_to_client ch ≡ false
     → is_moving (stepped config (Deliver link ch) sys).outcome ≡ true → IsTakenByManager config link ch x queue sys (stepped config (Deliver link ch) sys)

@@ -14,7 +14,7 @@ use Rattle.tl_burst.specs.declared.message.Message.TheVariants as message
 use Rattle.tl_burst.specs.statement.Messages.{channel_of}
 use Rattle.tl_params.specs.declared.config.Config.{Config}
 use Rattle.tl_client.specs.declared.verdict.Verdict.{Verdict}
-use Rattle.tl_client.specs.statement.End.{Terms}
+use Rattle.tl_client.specs.statement.Endpoint.{EndConfig}
 use Rattle.tl_manager.specs.code.Kept as manager
 use Rattle.tl_manager.specs.statement.Deed.{deed}
 use Rattle.tl_manager.proofs.Events.{deed-ack}
@@ -99,7 +99,7 @@ performs-delivered {w} config log link ch h width is = go (is_moving (stepped co
         same e f = rw e at f
 
     -- a client takes it
-    down : (at : Channel) (terms : Terms) (x : Beat w) (queue : List (Beat w)) → is_to_client at ≡ true → terms_at config c ≡ Some terms
+    down : (at : Channel) (terms : EndConfig) (x : Beat w) (queue : List (Beat w)) → is_to_client at ≡ true → terms_at config c ≡ Some terms
         → sys.channels c at ≡ x ∷ queue → is_moving (stepped config (Deliver link at) sys).outcome ≡ true → Then at
     down at terms x queue theirs known beats moving =
         let t = client-moves config link at sys terms x queue known beats theirs moving in
@@ -110,7 +110,7 @@ performs-delivered {w} config log link ch h width is = go (is_moving (stepped co
         (ap (λ (s : Step w). accesses_answered s.handed) t.step_is ∙ fit-quiet config.blocks c t.verdict_is t.message fit)
 
     -- the manager takes it
-    up : (at : Channel) (terms : Terms) (x : Beat w) (queue : List (Beat w)) → is_to_client at ≡ false → terms_at config c ≡ Some terms
+    up : (at : Channel) (terms : EndConfig) (x : Beat w) (queue : List (Beat w)) → is_to_client at ≡ false → terms_at config c ≡ Some terms
         → sys.channels c at ≡ x ∷ queue → is_moving (stepped config (Deliver link at) sys).outcome ≡ true
         → IsOnce (accesses_answered (deed config link x sys.manager).handed) h m → Then at
     up at terms x queue theirs known beats moving once =
@@ -124,7 +124,7 @@ performs-delivered {w} config log link ch h width is = go (is_moving (stepped co
         (performing (accesses_answered (deed config link x sys.manager).handed) i)) (sym still)
         (once-performs (accesses_answered (deed config link x sys.manager).handed) h m once))
 
-    moves : (at : Channel) (terms : Terms) (beats : List (Beat w)) → terms_at config c ≡ Some terms → sys.channels c at ≡ beats
+    moves : (at : Channel) (terms : EndConfig) (beats : List (Beat w)) → terms_at config c ≡ Some terms → sys.channels c at ≡ beats
         → is_moving (stepped config (Deliver link at) sys).outcome ≡ true → Then at
     moves at terms [] known none moving = absurd (not_moving _ _ (stepped-empty config link at sys terms known none) moving refl)
     moves channel.A terms (x ∷ queue) known beats moving =
@@ -143,7 +143,7 @@ performs-delivered {w} config log link ch h width is = go (is_moving (stepped co
         acked (beat.C y) e = absurd cc
         acked (beat.D y) e = absurd cc
 
-    found : (o : Option Terms) → terms_at config c ≡ o → is_moving (stepped config (Deliver link ch) sys).outcome ≡ true → Then ch
+    found : (o : Option EndConfig) → terms_at config c ≡ o → is_moving (stepped config (Deliver link ch) sys).outcome ≡ true → Then ch
     found None none moving = absurd (not_moving _ _ (stepped-nobody config (Deliver link ch) sys none) moving refl)
     found (Some terms) known moving = moves ch terms (sys.channels c ch) known refl moving
 

@@ -9,7 +9,7 @@ use Rattle.tl_params.specs.declared.config.Config.{Config}
 use Rattle.tl_params.specs.declared.level.Level.{Level}
 use Rattle.tl_params.specs.declared.rule.Rule.{Rule}
 use Rattle.tl_params.specs.declared.rule.Rule.TheVariants.{L1, S1, H1, A1, A2, A3}
-use Rattle.tl_rules.specs.statement.Agent.{is_outside, is_spoiled}
+use Rattle.tl_rules.specs.statement.Admission.{is_outside, is_spoiled}
 use Rattle.tl_rules.specs.statement.Conformance.{Trace, on_link, broken_in_order}
 use Rattle.tl_rules.specs.statement.History.{ends, block_at}
 use Rattle.tl_rules.specs.statement.Legality.{illegal, is_one_of}

@@ -7,7 +7,7 @@ ghost use Rattle.tl_beat.specs.statement.Width.{IsWidth};
 ghost use Rattle.tl_beat.specs.declared.beat.Beat.{Beat};
 ghost use Rattle.tl_burst.specs.declared.message.Message.{Message};
 ghost use Rattle.tl_params.specs.declared.config.Config.{Config};
-ghost use Rattle.tl_rules.specs.statement.Agent.{payload_of};
+ghost use Rattle.tl_rules.specs.statement.Admission.{payload_of};
 ghost use Rattle.tl_rules.specs.statement.Conformance.{Trace};
 ghost use Rattle.tl_rules.specs.statement.Effect.{Memory, bytes_from};
 ghost use Rattle.tl_manager.specs.code.Blocks.{AreBlocks};

@@ -30,7 +30,7 @@ use std::alloc::{AllocError, Global};
 use tl_beat::beat::{Beat, Link};
 use tl_beat::channel::Channel;
 use tl_burst::part::Part;
-use tl_rules::agent::{is_outside, is_spoiled};
+use tl_rules::admission::{is_outside, is_spoiled};
 use tl_rules::config::{ClientConfig, Config, NewFault};
 use tl_rules::legality::beat::check_beat;
 use tl_rules::order::broken_order;

@@ -5,7 +5,7 @@ use Rattle.tl_world.proofs.world.World.new.Goals as goal
 
 pub returns : goal.returns
 returns g c =
-    reached-new g.A.Agent.knows g.A.Agent.terms g.D.Directory.perm_of c.args.config
+    reached-new g.A.Agent.represents g.A.Agent.terms g.D.Directory.perm_of c.args.config
     (record {
       parts = record { clients = c.args.clients; manager = c.in_ok-manager.manager; rings = c.in_ok-rings.rings };
       outstanding =

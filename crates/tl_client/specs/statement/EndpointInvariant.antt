@@ -12,7 +12,7 @@ use Rattle.tl_params.specs.declared.perm.Perm.{Perm}
 use Rattle.tl_params.specs.declared.perm.Perm.TheVariants as perm
 use Rattle.tl_rules.specs.statement.Conformance.{is_grant_without_data}
 use Rattle.tl_rules.specs.statement.History.{block_at, is_acquire, is_grant, capped, pending, held}
-use Rattle.tl_client.specs.statement.End.{End}
+use Rattle.tl_client.specs.statement.Endpoint.{Endpoint}
 use Rattle.tl_client.specs.statement.Requests.{open_beat}
 
 -- something is held
@@ -44,7 +44,7 @@ IsGranting (beat.D x ∷ burst) t =
     is_grant x.opcode ≡ true → (is_grant_without_data x.opcode ≡ false) × (holds (capped x.param) ≡ true) × (is_acquire_beat (open_beat x.source t) ≡ true)
 IsGranting _ t = ⊤
 
-pub record IsKept {w : ℕ} (e : End w) : Type 0 where
+pub record IsEndpointInvariant {w : ℕ} (e : Endpoint w) : Type 0 where
   -- messages are handed out whole, and a Probe has one beat
   pub a_whole : unfinished channel.A e.past ≡ []
   pub b_whole : unfinished channel.B e.past ≡ []

@@ -21,7 +21,7 @@ use Rattle.tl_rules.proofs.Handed.{after_whole, pending-sent_d}
 use Rattle.tl_rules.proofs.Sent.{begins-first, begins-later, unfinished-sent_other, request_of-other}
 use Rattle.tl_manager.specs.laws.Pending.{HasFields, IsReporting, IsAccounted}
 use Rattle.tl_manager.proofs.Handed.{after_sent, own_link, other_link}
-use Rattle.tl_manager.proofs.Links.{sent-keeps}
+use Rattle.tl_manager.proofs.LinkHistories.{sent-keeps}
 use Rattle.tl_manager.proofs.Unmoved.{reports-kept}
 
 -- ---- keys

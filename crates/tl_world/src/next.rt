@@ -9,16 +9,16 @@ ghost use Rattle.tl_coherence.specs.statement.Movable.{is_movable};
 ghost use Rattle.tl_coherence.specs.statement.System.{System, terms_at};
 
 use crate::clients::stalls_at;
-use crate::happen::is_to_client;
-use crate::occupied::lowest;
-use crate::parts::Parts;
+use crate::step::is_to_client;
+use crate::non_empty::lowest;
+use crate::network::Network;
 use tl_beat::beat::{Beat, Link};
 use tl_beat::channel::Channel;
 use tl_client::agent::Agent;
 use tl_manager::directory::Directory;
 use tl_manager::word::with_bit;
 
-impl<const W: usize, A: Agent<W>, D: Directory> Parts<W, A, D> {
+impl<const W: usize, A: Agent<W>, D: Directory> Network<W, A, D> {
     /// Whether the end that takes the beat stalls it.
     fn stalls(&self, link: Link, channel: Channel, beat: &Beat<W>) -> bool
         requires width { IsWidth W }
@@ -50,7 +50,7 @@ impl<const W: usize, A: Agent<W>, D: Directory> Parts<W, A, D> {
         ensures { (config : Config) (s : System W) → Holds A.represents A.terms D.perm_of config self.now s →
             result ≡ Movable.movable_on config channel s }
     {
-        let mut links = self.rings.occupied.links(channel);
+        let mut links = self.rings.non_empty.links(channel);
         while let Some(number) = lowest(links) {
             if self.moves(Link(number), channel) {
                 return Some((Link(number), channel));

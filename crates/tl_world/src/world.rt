@@ -12,11 +12,11 @@ ghost use Rattle.tl_coherence.specs.statement.Movable.{drained};
 ghost use Rattle.tl_coherence.specs.statement.Draining.{IsDrained};
 
 use crate::clients::{copy_at, held_at};
-use crate::contents::Contents;
+use crate::state::WorldState;
 use crate::make::make_rings;
-use crate::open::Open;
-use crate::parts::Parts;
-use crate::typed::typed;
+use crate::outstanding::Outstanding;
+use crate::network::Network;
+use crate::typed::prove_typed;
 use std::alloc::Global;
 use std::marker::Model;
 use tl_beat::beat::Link;
@@ -40,16 +40,16 @@ fn set_outcome<const W: usize>(outcomes: &mut [Outcome<W>], i: usize, outcome: O
 /// configuration and log by which the world is reached: of all that can have happened to it.
 #[derive(Drop)]
 pub struct World<const W: usize, A: Agent<W>, D: Directory> {
-    contents: Contents<W, A, D>,
+    state: WorldState<W, A, D>,
 }
 
 impl<const W: usize, A: Agent<W>, D: Directory> Model for World<W, A, D> {
     ghost use Rattle.tl_beat.specs.statement.Width.{IsWidth};
-    ghost use Rattle.tl_world.specs.declared.contents.Contents.{Contents};
+    ghost use Rattle.tl_world.specs.declared.state.WorldState.{WorldState};
 
-    ghost Value = { Contents W A D };
+    ghost Value = { WorldState W A D };
 
-    ghost view = { λ w. w.contents };
+    ghost view = { λ w. w.state };
 
     ghost invariant = { λ w. IsWidth W };
 }
@@ -70,17 +70,17 @@ impl<const W: usize, A: Agent<W>, D: Directory> World<W, A, D> {
     {
         let manager = Manager::new(alloc, &config, directory)?;
         let rings = make_rings(alloc, &config)?;
-        let parts = Parts {
+        let network = Network {
             clients,
             manager,
             rings,
         };
-        let outstanding = Open {
+        let outstanding = Outstanding {
             requests: 0,
             releases: 0,
         };
         Ok(World {
-            contents: Contents { parts, outstanding },
+            state: WorldState { network, outstanding },
         })
     }
 
@@ -91,10 +91,10 @@ impl<const W: usize, A: Agent<W>, D: Directory> World<W, A, D> {
         ensures outcome { (config : Config) (log : Log W) → IsReached A.represents A.terms D.perm_of config self.old log →
             result ≡ (stepped config event.entry (system_after config log)).outcome }
     {
-        typed(&event);
+        prove_typed(&event);
         let mut outcome = Outcome::Empty;
-        self.contents.parts.happen(event, &mut outcome);
-        self.contents.outstanding.count(&event, &outcome);
+        self.state.network.step(event, &mut outcome);
+        self.state.outstanding.count(&event, &outcome);
         outcome
     }
 
@@ -137,7 +137,7 @@ impl<const W: usize, A: Agent<W>, D: Directory> World<W, A, D> {
         ensures { (config : Config) (log : Log W) → IsReached A.represents A.terms D.perm_of config self.now log →
             result ≡ Movable.next_delivery config (system_after config log) }
     {
-        self.contents.parts.next_delivery()
+        self.state.network.next_delivery()
     }
 
     /// Delivers what is next until nothing is, and nothing is outstanding: the number of deliveries, which
@@ -148,7 +148,7 @@ impl<const W: usize, A: Agent<W>, D: Directory> World<W, A, D> {
         ensures drained { (config : Config) (log : Log W) → IsReached A.represents A.terms D.perm_of config self.old log →
             IsDrained config log result }
     {
-        let _ = &self.contents;
+        let _ = &self.state;
         let load = self.load();
         for count in 0..load {
             match self.next_delivery() {
@@ -166,7 +166,7 @@ impl<const W: usize, A: Agent<W>, D: Directory> World<W, A, D> {
         ensures { (config : Config) (log : Log W) → IsReached A.represents A.terms D.perm_of config self.now log →
             result ≡ held_by config client block (system_after config log) }
     {
-        held_at(&self.contents.parts.clients, usize::from(client), block)
+        held_at(&self.state.network.clients, usize::from(client), block)
     }
 
     /// The bytes of a client's copy of a block: None where it has none, or there is no such client.
@@ -174,7 +174,7 @@ impl<const W: usize, A: Agent<W>, D: Directory> World<W, A, D> {
         ensures { (config : Config) (log : Log W) → IsReached A.represents A.terms D.perm_of config self.now log →
             result ≡ copy_by config client block (system_after config log) }
     {
-        copy_at(&self.contents.parts.clients, usize::from(client), block)
+        copy_at(&self.state.network.clients, usize::from(client), block)
     }
 
     /// The greatest number of beats that ever stood in a channel: 0 for a link without a client.
@@ -182,7 +182,7 @@ impl<const W: usize, A: Agent<W>, D: Directory> World<W, A, D> {
         ensures { (config : Config) (log : Log W) → IsReached A.represents A.terms D.perm_of config self.now log →
             result ≡ deepest_by config log link.0 channel }
     {
-        self.contents.parts.rings.deepest(link, channel)
+        self.state.network.rings.deepest(link, channel)
     }
 
     /// How many deliveries what is outstanding can still need.
@@ -190,7 +190,7 @@ impl<const W: usize, A: Agent<W>, D: Directory> World<W, A, D> {
         ensures { (config : Config) (log : Log W) → IsReached A.represents A.terms D.perm_of config self.now log →
             result ≡ Load.load log }
     {
-        self.contents.outstanding.load::<W>()
+        self.state.outstanding.load::<W>()
     }
 }
 

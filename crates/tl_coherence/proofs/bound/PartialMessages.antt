@@ -11,7 +11,7 @@ use Rattle.tl_params.specs.declared.config.Config.{Config}
 use Rattle.tl_client.specs.statement.Endpoint.{EndConfig}
 use Rattle.tl_client.specs.statement.Offer as offer
 use Rattle.tl_manager.specs.statement.Offer as manager_offer
-use Rattle.tl_manager.specs.statement.Deed.{deed}
+use Rattle.tl_manager.specs.statement.Reaction.{reaction}
 use Rattle.tl_coherence.specs.declared.event.Event.TheVariants.{Deliver}
 use Rattle.tl_coherence.specs.statement.Draining.{is_moving}
 use Rattle.tl_coherence.specs.refinement.AbstractStep.{AbstractState}
@@ -54,7 +54,7 @@ grown-moved {w} config log h link ch terms x queue width is known beats moving =
     go false down =
         let at : IsAtManager config log link ch h x queue = at-manager config log link ch h terms x queue width is known down beats moving in
         subst (λ (y : Step w). IsGrown link.0 ch x sys y.after) (sym at.step_is)
-        (rests-manager link.0 ch x queue (deed config link x sys.manager).handed (manager_offer.taken link x (deed config link x sys.manager) sys.manager) sys down on_ch at.heard)
+        (rests-manager link.0 ch x queue (reaction config link x sys.manager).handed (manager_offer.taken link x (reaction config link x sys.manager) sys.manager) sys down on_ch at.heard)
 
 -- with the last beat of a message it has nothing of the next
 pub grown-received : {w : ℕ} (c : ℕ) (ch : Channel) (x : Beat w) (sys sys' : System w) → IsGrown c ch x sys sys' → completes x (unfinished_at sys c ch) ≡ true → IsReceived c ch sys sys'

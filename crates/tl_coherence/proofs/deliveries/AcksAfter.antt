@@ -12,8 +12,8 @@ use Rattle.tl_burst.specs.statement.Part.{completes}
 use Rattle.tl_params.specs.declared.config.Config.{Config}
 use Rattle.tl_rules.specs.statement.Conformance.{on_link}
 use Rattle.tl_client.specs.statement.Endpoint as client
-use Rattle.tl_manager.specs.statement.Deed.{deed}
-use Rattle.tl_manager.proofs.Events.{deed-ack}
+use Rattle.tl_manager.specs.statement.Reaction.{reaction}
+use Rattle.tl_manager.proofs.Events.{reaction-ack}
 use Rattle.tl_coherence.specs.declared.event.Event.TheVariants.{Deliver}
 use Rattle.tl_coherence.specs.statement.Draining.{is_moving}
 use Rattle.tl_coherence.specs.refinement.AbstractStep.{AbstractState, kind_taken}
@@ -74,8 +74,8 @@ delivered-e {w} config log link h terms x queue width matched known beats moving
     y : BeatE
     y = record { sink = (h.state.block n).tracker }
 
-    gives : (deed config link x sys.manager).handed ≡ []
-    gives = ap (λ (z : Beat w). (deed config link z sys.manager).handed) x_is ∙ ap (λ d. d.handed) (deed-ack config link y sys.manager)
+    gives : (reaction config link x sys.manager).handed ≡ []
+    gives = ap (λ (z : Beat w). (reaction config link z sys.manager).handed) x_is ∙ ap (λ d. d.handed) (reaction-ack config link y sys.manager)
 
     sent : (h.state.block n).service ≡ GrantTaken link.0
     sent = acknowledging-is (h.state.block n).service link.0

@@ -22,7 +22,7 @@ use Rattle.tl_client.proofs.Outstanding.{unfinished-asked}
 use Rattle.tl_manager.specs.statement.Handing.{Handed}
 use Rattle.tl_manager.specs.statement.End as manager_end
 use Rattle.tl_manager.specs.statement.Offer as manager_offer
-use Rattle.tl_manager.specs.statement.Deed.{deed}
+use Rattle.tl_manager.specs.statement.Reaction.{reaction}
 use Rattle.tl_manager.specs.statement.Offer.{level_of}
 use Rattle.tl_coherence.specs.declared.event.Event.{Event}
 use Rattle.tl_coherence.specs.declared.event.Event.TheVariants.{Ask, Deliver}
@@ -115,10 +115,10 @@ moved-to_manager {w} config log link ch h terms x queue width is known down beat
     at = at-manager config log link ch h terms x queue width is known down beats moving
 
     handed : Handed w
-    handed = (deed config link x sys.manager).handed
+    handed = (reaction config link x sys.manager).handed
 
     e : manager_end.End w
-    e = manager_offer.taken link x (deed config link x sys.manager) sys.manager
+    e = manager_offer.taken link x (reaction config link x sys.manager) sys.manager
 
     base : System w
     base = with_manager e (with_channel link.0 ch queue sys)

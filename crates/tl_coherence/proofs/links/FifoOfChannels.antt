@@ -28,11 +28,11 @@ use Rattle.tl_client.proofs.AfterOffered.{past-offered}
 use Rattle.tl_manager.specs.statement.Handing.{Handed, with_handed}
 use Rattle.tl_manager.specs.code.Kept as manager
 use Rattle.tl_manager.specs.code.Kept.{Each}
-use Rattle.tl_manager.specs.statement.Deed as manager_deed
+use Rattle.tl_manager.specs.statement.Reaction as manager_reaction
 use Rattle.tl_manager.specs.statement.End as manager_end
 use Rattle.tl_manager.specs.statement.Offer as manager_offer
 use Rattle.tl_manager.specs.statement.Offer.{is_from_client}
-use Rattle.tl_manager.proofs.Deeds.{deed_handable}
+use Rattle.tl_manager.proofs.Reactions.{reaction_handable}
 use Rattle.tl_manager.proofs.Handed.{beats_on_link}
 use Rattle.tl_manager.proofs.Lawful.{IsHandable}
 use Rattle.tl_coherence.specs.declared.event.Event.{Event}
@@ -273,15 +273,15 @@ moved-passing {w} config log link ch terms x queue width typed logged known beat
             (passing-same (λ d. (sys.clients d).past) (λ d. on_link d e.trace) _ _ (with_messages handed now).channels (with_messages handed now).channels
             (heard_at c x f) _ (λ d. ap (λ (i : ℕ → Endpoint w). (i d).past) (clients-with_messages handed now))
             (λ d. ap (λ (i : manager_end.End w). on_link d i.trace) (manager-with_messages handed now)) (λ d at. refl) (λ d. flow_moved link ch (outcome.Moved x) x log d refl)
-            (manages-passing config handed ((link, x) ∷ sys.manager.trace) now (λ d. (sys.clients d).past) (heard_at c x f) (deed_handable config link x sys.manager width head h.manager_kept.sound)
+            (manages-passing config handed ((link, x) ∷ sys.manager.trace) now (λ d. (sys.clients d).past) (heard_at c x f) (reaction_handable config link x sys.manager width head h.manager_kept.sound)
             (passing-same _ _ _ _ _ _ _ _ (λ d. refl) (λ d. refl) (λ d at. refl) (λ d. refl)
             (manager-hears c ch x queue (λ d. (sys.clients d).past) (λ d. on_link d sys.manager.trace) sys.channels f down on_ch beats is))))
           where
             handed : Handed w
-            handed = (manager_deed.deed config link x sys.manager).handed
+            handed = (manager_reaction.reaction config link x sys.manager).handed
 
             e : manager_end.End w
-            e = manager_offer.taken link x (manager_deed.deed config link x sys.manager) sys.manager
+            e = manager_offer.taken link x (manager_reaction.reaction config link x sys.manager) sys.manager
 
             now : System w
             now = with_manager e (with_channel c ch queue sys)

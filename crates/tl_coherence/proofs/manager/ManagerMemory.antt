@@ -22,7 +22,7 @@ use Rattle.tl_rules.proofs.Rooms.{room_in_block}
 use Rattle.tl_manager.specs.statement.Handing.{access_answer}
 use Rattle.tl_manager.specs.code.Kept.{IsKept, illegal_message_at}
 use Rattle.tl_manager.specs.statement.End as manager_end
-use Rattle.tl_manager.specs.statement.Deed.{with_block, written}
+use Rattle.tl_manager.specs.statement.Reaction.{with_block, written}
 use Rattle.tl_manager.specs.statement.Offer.{offered}
 use Rattle.tl_manager.proofs.Memories.{memory-elsewhere}
 use Rattle.tl_manager.proofs.Written.{block-written}

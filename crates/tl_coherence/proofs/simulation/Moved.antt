@@ -26,7 +26,7 @@ use Rattle.tl_client.proofs.Outstanding.{unfinished-offered}
 use Rattle.tl_manager.specs.laws.After.{is_of_clients, taken_after}
 use Rattle.tl_manager.specs.statement.Handing.{Handed}
 use Rattle.tl_manager.specs.code.Kept as manager
-use Rattle.tl_manager.specs.statement.Deed as manager_deed
+use Rattle.tl_manager.specs.statement.Reaction as manager_reaction
 use Rattle.tl_manager.specs.statement.End as manager_end
 use Rattle.tl_manager.specs.statement.Offer as manager_offer
 use Rattle.tl_manager.proofs.Afterwards as manager_after
@@ -130,14 +130,14 @@ client-heard {w} terms c ch x queue sys step width kept is at =
 
 pub offered-passes : {w : ℕ} (config : Config) (link : Link) (ch : Channel) (x : Beat w) (e : manager_end.End w) (handed : Handed w)
     → (manager_offer.offered config link ch x e).0 ≡ manager_offer.Sent handed
-    → manager_offer.offered config link ch x e ≡ (manager_offer.Sent (manager_deed.deed config link x e).handed, manager_offer.taken link x (manager_deed.deed config link x e) e)
+    → manager_offer.offered config link ch x e ≡ (manager_offer.Sent (manager_reaction.reaction config link x e).handed, manager_offer.taken link x (manager_reaction.reaction config link x e) e)
 unfolding manager_offer.offered
 offered-passes {w} config link ch x e handed is = go (manager_offer.judged config link ch x e) is
   where
     go : (j : manager_offer.Judgement) → (manager_offer.offered_as j config link x e).0 ≡ manager_offer.Sent handed
         → manager_offer.offered_as j config link x e ≡ (
-          manager_offer.Sent (manager_deed.deed config link x e).handed,
-          manager_offer.taken link x (manager_deed.deed config link x e) e,
+          manager_offer.Sent (manager_reaction.reaction config link x e).handed,
+          manager_offer.taken link x (manager_reaction.reaction config link x e) e,
         )
     go (manager_offer.Breaks rule) h = absurd cc
     go manager_offer.Waits h = absurd cc
@@ -146,9 +146,9 @@ offered-passes {w} config link ch x e handed is = go (manager_offer.judged confi
 -- the step, where the manager takes the beat
 pub record IsTakenByManager {w : ℕ} (config : Config) (link : Link) (ch : Channel) (x : Beat w) (queue : List (Beat w)) (sys : System w) (step : Step w) : Type 0 where
   pub takes : manager_offer.offered config link ch x sys.manager
-      ≡ (manager_offer.Sent (manager_deed.deed config link x sys.manager).handed, manager_offer.taken link x (manager_deed.deed config link x sys.manager) sys.manager)
-  pub step_is : step ≡ handing (outcome.Moved x) (manager_deed.deed config link x sys.manager).handed
-      (with_manager (manager_offer.taken link x (manager_deed.deed config link x sys.manager) sys.manager) (with_channel link.0 ch queue sys))
+      ≡ (manager_offer.Sent (manager_reaction.reaction config link x sys.manager).handed, manager_offer.taken link x (manager_reaction.reaction config link x sys.manager) sys.manager)
+  pub step_is : step ≡ handing (outcome.Moved x) (manager_reaction.reaction config link x sys.manager).handed
+      (with_manager (manager_offer.taken link x (manager_reaction.reaction config link x sys.manager) sys.manager) (with_channel link.0 ch queue sys))
 
 manager_moves : {w : ℕ} (config : Config) (link : Link) (ch : Channel) (x : Beat w) (queue : List (Beat w)) (sys : System w)
     → is_moving (manager_took link.0 ch x queue (manager_offer.offered config link ch x sys.manager) sys).outcome ≡ true
@@ -177,11 +177,11 @@ manager-moves {w} config link ch sys terms x queue known first down moving =
 
 pub manager-heard : {w : ℕ} (config : Config) (link : Link) (ch : Channel) (x : Beat w) (queue : List (Beat w)) (sys : System w) (step : Step w) → IsWidth w
     → manager.IsTyped x → manager.IsKept config sys.manager
-    → IsTakenByManager config link ch x queue sys step → HasTaken link.0 x sys.manager (manager_offer.taken link x (manager_deed.deed config link x sys.manager) sys.manager)
+    → IsTakenByManager config link ch x queue sys step → HasTaken link.0 x sys.manager (manager_offer.taken link x (manager_reaction.reaction config link x sys.manager) sys.manager)
 manager-heard {w} config link ch x queue sys step width typed kept is d = λ at. go at
   where
     one : (at : Channel) → is_of_clients at ≡ true → unfinished at
-        (on_link d (manager_offer.taken link x (manager_deed.deed config link x sys.manager) sys.manager).trace) ≡ unfinished at
+        (on_link d (manager_offer.taken link x (manager_reaction.reaction config link x sys.manager) sys.manager).trace) ≡ unfinished at
         (if link.0 == d then x ∷ on_link d sys.manager.trace else on_link d sys.manager.trace)
     one at up =
         ap (λ (p : manager_offer.Reception w × manager_end.End w). unfinished at (on_link d p.1.trace)) (sym is.takes)
@@ -189,7 +189,7 @@ manager-heard {w} config link ch x queue sys step width typed kept is d = λ at.
         ∙ ap (λ (p : manager_offer.Reception w × manager_end.End w). unfinished at (taken_after p.0 (link, x) d (on_link d sys.manager.trace))) is.takes
 
     go : (at : Channel) → is_to_client at ≡ false → unfinished at
-        (on_link d (manager_offer.taken link x (manager_deed.deed config link x sys.manager) sys.manager).trace) ≡ unfinished at
+        (on_link d (manager_offer.taken link x (manager_reaction.reaction config link x sys.manager) sys.manager).trace) ≡ unfinished at
         (if link.0 == d then x ∷ on_link d sys.manager.trace else on_link d sys.manager.trace)
     go channel.A f = one channel.A refl
     go channel.C f = one channel.C refl

@@ -27,10 +27,10 @@ use Rattle.tl_client.proofs.Cases.{offered-cases}
 use Rattle.tl_client.proofs.Sound.{asked-sound, offered-sound}
 use Rattle.tl_manager.specs.code.Kept as manager
 use Rattle.tl_manager.specs.code.Kept.{Each}
-use Rattle.tl_manager.specs.statement.Deed as manager_deed
+use Rattle.tl_manager.specs.statement.Reaction as manager_reaction
 use Rattle.tl_manager.specs.statement.End as manager_end
 use Rattle.tl_manager.specs.statement.Offer as manager_offer
-use Rattle.tl_manager.proofs.Deeds.{deed_handable}
+use Rattle.tl_manager.proofs.Reactions.{reaction_handable}
 use Rattle.tl_coherence.specs.declared.event.Event.{Event}
 use Rattle.tl_coherence.specs.declared.event.Event.TheVariants.{Ask, Deliver}
 use Rattle.tl_coherence.specs.statement.Headline.{IsTypedOp, IsTyped}
@@ -90,8 +90,8 @@ manager_good : {w : ℕ} (config : Config) (link : Link) (ch : Channel) (x : Bea
 manager_good config link ch x queue (manager_offer.Breaks rule) e sys width sound trace first before d at = before d at
 manager_good config link ch x queue manager_offer.Waits e sys width sound trace first before d at = before d at
 manager_good {w} config link ch x queue manager_offer.Passes e sys width sound trace first before d at =
-    all-messages (IsGood config) (manager_deed.deed config link x e).handed (with_manager (manager_offer.taken link x (manager_deed.deed config link x e) e) (with_channel link.0 ch queue sys))
-    (good-handed config (manager_deed.deed config link x e).handed width (deed_handable config link x e width sound trace))
+    all-messages (IsGood config) (manager_reaction.reaction config link x e).handed (with_manager (manager_offer.taken link x (manager_reaction.reaction config link x e) e) (with_channel link.0 ch queue sys))
+    (good-handed config (manager_reaction.reaction config link x e).handed width (reaction_handable config link x e width sound trace))
     (all-popped (IsGood config) link.0 ch x queue sys first before) d at
 
 -- ---- an event

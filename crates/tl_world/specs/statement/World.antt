@@ -11,7 +11,7 @@ use Rattle.tl_client.specs.statement.Endpoint.{EndConfig, Endpoint, held_at}
 use Rattle.tl_client.specs.statement.Endpoint as client
 use Rattle.tl_coherence.specs.declared.event.Event.{Event}
 use Rattle.tl_coherence.specs.declared.event.Outcome.{Outcome}
-use Rattle.tl_world.specs.declared.contents.Contents.{Contents}
+use Rattle.tl_world.specs.declared.state.WorldState.{WorldState}
 use Rattle.tl_world.specs.declared.ring.Ring.{Ring}
 use Rattle.tl_world.specs.code.Carrying.{place}
 use Rattle.tl_coherence.specs.statement.Delivery.{IsFifo, capacity, sources_of}
@@ -27,12 +27,12 @@ deepest config [] link ch = 0
 deepest config (x ∷ log) link ch = max (deepest config log link ch) (length ((system_after config (x ∷ log)).channels link ch))
 
 -- The log is one of a configuration within its limits, and the contents are what the whole is after it.
-pub record IsReached {w : ℕ} {A M : Type 0} (knows : A → Endpoint w → Type 0) (terms : A → EndConfig) (perm_of : M → ℕ → ℕ → Perm) (config : Config) (contents : Contents w A M) (log : Log w) : Type 0 where
+pub record IsReached {w : ℕ} {A M : Type 0} (knows : A → Endpoint w → Type 0) (terms : A → EndConfig) (perm_of : M → ℕ → ℕ → Perm) (config : Config) (state : WorldState w A M) (log : Log w) : Type 0 where
   pub given : IsGiven config log
-  pub holds : Holds knows terms perm_of config contents.parts (system_after config log)
-  pub requests_are : contents.outstanding.requests ≡ requests log
-  pub releases_are : contents.outstanding.releases ≡ releases log
-  pub depths : (k : ℕ) (ch : Channel) (d : Ring w) → k < clients_of config → (slice_index_or contents.parts.rings.all.items (place k ch) d).deepest ≡ deepest config log k ch
+  pub holds : Holds knows terms perm_of config state.network (system_after config log)
+  pub requests_are : state.outstanding.requests ≡ requests log
+  pub releases_are : state.outstanding.releases ≡ releases log
+  pub depths : (k : ℕ) (ch : Channel) (d : Ring w) → k < clients_of config → (slice_index_or state.network.rings.all.items (place k ch) d).deepest ≡ deepest config log k ch
   -- the outcomes are a run of the one-memory machine, copies are coherent, no beat was refused, and nothing is stuck
   pub sound : IsSound config log
   -- channels lose nothing and keep order
@@ -45,14 +45,14 @@ abbrev pub IsFault : Config → NewFault → Type 0
 IsFault config fault = (config_fault config ≡ Some fault) ⊎ ((config_fault config ≡ None) × (fault ≡ Memory))
 
 -- A new world is reached by nothing. There is none for the first limit that is broken, or for want of memory.
-abbrev pub IsNewWorld : {w : ℕ} {A M : Type 0} → (A → Endpoint w → Type 0) → (A → EndConfig) → (M → ℕ → ℕ → Perm) → Config → Result (Contents w A M) NewFault → Type 0
-IsNewWorld knows terms perm_of config (Ok contents) = IsReached knows terms perm_of config contents []
+abbrev pub IsNewWorld : {w : ℕ} {A M : Type 0} → (A → Endpoint w → Type 0) → (A → EndConfig) → (M → ℕ → ℕ → Perm) → Config → Result (WorldState w A M) NewFault → Type 0
+IsNewWorld knows terms perm_of config (Ok state) = IsReached knows terms perm_of config state []
 IsNewWorld knows terms perm_of config (Err fault) = IsFault config fault
 
 -- Where there is a world the events have happened, with these outcomes. Otherwise the outcomes are as they were.
 abbrev pub IsReplayed : {w : ℕ} {A M : Type 0} → (A → Endpoint w → Type 0) → (A → EndConfig) → (M → ℕ → ℕ → Perm) → Config → List (Event w) → List (Outcome w)
-    → List (Outcome w) → Result (Contents w A M) NewFault → Type 0
-IsReplayed knows terms perm_of config events old new (Ok contents) = IsReached knows terms perm_of config contents (logged events new [])
+    → List (Outcome w) → Result (WorldState w A M) NewFault → Type 0
+IsReplayed knows terms perm_of config events old new (Ok state) = IsReached knows terms perm_of config state (logged events new [])
 IsReplayed knows terms perm_of config events old new (Err fault) = IsNewWorld knows terms perm_of config (Err fault) × (new ≡ old)
 
 -- the clients are as the configuration says, and nothing has happened to them

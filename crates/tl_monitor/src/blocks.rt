@@ -228,7 +228,7 @@ impl Blocks {
         self.last = block;
     }
 
-    /// Says anew what is open and held of a block. Without memory nothing changes; that can only be
+    /// Writes what is open and held of a block. Without memory nothing changes; that can only be
     /// where nothing was open or held of the block, and now something is.
     pub fn set(&mut self, block: u32, value: Block) -> Result<(), AllocError>
         ensures changed { OnOk result ((k : ℕ) → block_in self.new k ≡ (if k == block then value else block_in self.old k)) }

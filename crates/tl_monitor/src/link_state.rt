@@ -142,7 +142,7 @@ fn block_next<const W: usize>(first: bool, last: bool, beat: &Beat<W>, block: Bl
     }
 }
 
-/// Says anew what is open and held of the block that a beat bears on, where there is one.
+/// Updates what is open and held of the block that a beat bears on, where there is one.
 fn update_block<const W: usize>(
     blocks: &mut Blocks,
     first: bool,

@@ -70,7 +70,7 @@ pub fn copy_at<const W: usize, A: Agent<W>>(
     }
 }
 
-/// Whether one client stalls a beat: so it is where there is no such client.
+/// Whether one client stalls a beat: true where there is no such client.
 pub fn stalls_at<const W: usize, A: Agent<W>>(
     clients: &Vec<A>,
     i: usize,

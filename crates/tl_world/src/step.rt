@@ -8,6 +8,7 @@ ghost use Rattle.tl_coherence.specs.statement.Step;
 ghost use Rattle.tl_coherence.specs.statement.Step.{stepped};
 ghost use Rattle.tl_coherence.specs.statement.System.{System};
 ghost use Rattle.tl_coherence.specs.declared.event.Event.TheVariants.{Ask, Deliver};
+ghost use Rattle.tl_coherence.specs.declared.event.Outcome.TheVariants as outcome;
 
 use crate::clients::{ask_at, offer_at};
 use crate::network::Network;
@@ -51,6 +52,15 @@ fn outcome_of<const W: usize>(beat: Beat<W>, verdict: Verdict) -> Outcome<W>
     }
 }
 
+/// What a refused beat would come to: it stays on its channel. No end refuses one: each hands out only
+/// messages that break no rule of the link, a channel keeps them in order, and the other end judges
+/// them by the same rules after the same messages.
+fn refused<const W: usize>() -> Outcome<W>
+    ensures { result ≡ outcome.Stalled }
+{
+    Outcome::Stalled
+}
+
 impl<const W: usize, A: Agent<W>, D: Directory> Network<W, A, D> {
     /// A client of this number is asked. What comes of it is written where it is to stand, as below.
     fn ask(&mut self, client: u8, operation: Op<W>, outcome: &mut Outcome<W>)
@@ -78,7 +88,7 @@ impl<const W: usize, A: Agent<W>, D: Directory> Network<W, A, D> {
             return;
         };
         match offer_at(&mut self.clients, usize::from(link.0), channel, beat) {
-            Err(_) => *outcome = Outcome::Stalled,
+            Err(_) => *outcome = refused(),
             Ok((verdict, message)) => {
                 if stays(verdict) {
                     *outcome = Outcome::Stalled;
@@ -104,7 +114,7 @@ impl<const W: usize, A: Agent<W>, D: Directory> Network<W, A, D> {
             return;
         };
         match self.manager.answer(link, channel, beat) {
-            Err(_) => *outcome = Outcome::Stalled,
+            Err(_) => *outcome = refused(),
             Ok(None) => *outcome = Outcome::Stalled,
             Ok(Some(outbox)) => {
                 *outcome = Outcome::Moved { beat: *beat };

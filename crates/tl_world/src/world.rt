@@ -148,6 +148,7 @@ impl<const W: usize, A: Agent<W>, D: Directory> World<W, A, D> {
         ensures drained { (config : Config) (log : Log W) → IsReached A.represents A.terms D.perm_of config self.old log →
             IsDrained config log result }
     {
+        // A field is named so that the prover has the invariant of the world here.
         let _ = &self.state;
         let load = self.load();
         for count in 0..load {

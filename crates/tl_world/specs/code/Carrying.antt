@@ -49,7 +49,7 @@ abbrev pub Deepen : {w : ℕ} → ℕ → Rings w → Rings w → Type 0
 Deepen {w} n old new = (k : ℕ) (ch : Channel) (d : Ring w) → k < n →
     (slice_index_or new.all.items (place k ch) d).deepest ≡ max (slice_index_or old.all.items (place k ch) d).deepest (length (slice_index_or new.all.items (place k ch) d).beats.items)
 
--- They held what one whole holds, and hold what another does that fits them.
+-- The rings carry the channels of this system now, and have noted how deep they ever were.
 pub record AreMoved {w : ℕ} (n : ℕ) (old new : Rings w) (s : System w) : Type 0 where
   pub carries : Carries n new s
   pub deepen : Deepen n old new

@@ -18,7 +18,11 @@ use tl_rules::profile::Profile;
 use tl_rules::rule::Rule;
 
 /// The rule of bursts or of the order of messages that a beat breaks which breaks none by itself.
-fn broken_in_order<const W: usize>(profile: Profile, beat: &Beat<W>, link_state: &LinkState) -> Option<Rule>
+fn broken_in_order<const W: usize>(
+    profile: Profile,
+    beat: &Beat<W>,
+    link_state: &LinkState,
+) -> Option<Rule>
     ensures { (t : History W) → Keeps link_state.now t → result ≡ Conformance.broken_in_order profile beat.now t }
 {
     match link_state.bursts.on(channel_of(beat)) {

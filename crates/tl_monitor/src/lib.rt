@@ -3,11 +3,11 @@
 
 mod blocks;
 mod bursts;
+mod byte_table;
 mod control;
 pub mod fault;
 mod judge;
 mod link_state;
-mod past;
 pub mod monitor;
-mod byte_table;
+mod past;
 pub mod trace;

@@ -20,6 +20,7 @@ use tl_beat::beat::Beat;
 use tl_beat::channel::Channel;
 use tl_burst::message::Message;
 use tl_rules::admission::{is_outside, is_spoiled};
+use tl_rules::key::block_at;
 use tl_rules::kind::is_probe;
 use tl_rules::order::broken_order;
 use tl_rules::rule::Rule;
@@ -31,7 +32,7 @@ impl<const W: usize> Caching<W> {
     {
         match beat {
             Beat::B(probe) => {
-                is_probe(probe.opcode) && is_releasing(&self.releases, probe.address / 64)
+                is_probe(probe.opcode) && is_releasing(&self.releases, block_at(probe.address))
             }
             _ => false,
         }

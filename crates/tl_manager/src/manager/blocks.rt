@@ -13,6 +13,7 @@ use std::alloc::{AllocError, Global};
 use tl_beat::channel::Channel;
 use tl_burst::message::{Message, MessageA};
 use tl_rules::answer::Answer;
+use tl_rules::key::block_at;
 use tl_rules::level::Level;
 use tl_rules::perform::perform;
 
@@ -84,7 +85,7 @@ impl Blocks {
             result ≡ answer_of (Message.A request.now) (effect (Message.A request.now) memory).1 }
         ensures count { length self.new.bytes.items ≡ length self.old.bytes.items }
     {
-        let block = (request.address / 64) as usize;
+        let block = block_at(request.address) as usize;
         let mut bytes = self.read(block);
         let answer = perform(&mut bytes, &Message::A(*request));
         self.write(block, &bytes);

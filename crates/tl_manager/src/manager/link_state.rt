@@ -21,7 +21,7 @@ use tl_beat::opcode::OpB;
 use tl_burst::assembler::Assembler;
 use tl_burst::message::{Message, MessageE};
 use tl_burst::part::{Broken, Part};
-use tl_rules::key::Key;
+use tl_rules::key::{Key, block_at};
 use tl_rules::kind::is_release;
 use tl_rules::level::Level;
 use tl_rules::past::{Past, Probe, Request};
@@ -117,7 +117,7 @@ impl<const W: usize> LinkState<W> {
         ensures { result ≡ comes_of block self.now.reports }
     {
         match self.reports.newest() {
-            Some(Beat::C(x)) => is_release(x.opcode) && x.address / 64 == block,
+            Some(Beat::C(x)) => is_release(x.opcode) && block_at(x.address) == block,
             _ => false,
         }
     }
@@ -195,7 +195,7 @@ impl<'a, const W: usize, D: Directory> Past<W> for LinkPast<'a, W, D> {
                 opcode: request.opcode,
                 param: request.param,
                 size: request.size,
-                block: request.address / 64,
+                block: block_at(request.address),
             }),
         }
     }

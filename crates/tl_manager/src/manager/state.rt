@@ -32,6 +32,7 @@ use tl_beat::channel::Channel;
 use tl_burst::part::Part;
 use tl_rules::admission::{is_outside, is_spoiled};
 use tl_rules::config::{ClientConfig, Config, NewFault};
+use tl_rules::key::block_at;
 use tl_rules::legality::beat::check_beat;
 use tl_rules::order::broken_order;
 use tl_rules::rule::Rule;
@@ -140,7 +141,7 @@ impl<const W: usize, D: Directory> ManagerState<W, D> {
             result ≡ Offer.must_wait config link beat.now e.trace }
     {
         match beat {
-            Beat::A(x) => is_last(part) && self.is_busy(x.address / 64),
+            Beat::A(x) => is_last(part) && self.is_busy(block_at(x.address)),
             Beat::B(_) | Beat::C(_) | Beat::D(_) | Beat::E(_) => false,
         }
     }

@@ -4,6 +4,7 @@ ghost use Rattle.std.specs.Prelude.{ℕ, ◌≡◌, ◌<◌, ◌≤◌, ◌==◌
 
 use tl_beat::beat::Link;
 use tl_burst::message::MessageA;
+use tl_rules::key::block_at;
 use tl_rules::kind::is_acquire;
 
 /// What a tracker keeps.
@@ -40,7 +41,7 @@ impl<const W: usize> Tracker<W> {
     {
         match self {
             Tracker::Free => false,
-            Tracker::Probing { request, .. } => request.address / 64 == block,
+            Tracker::Probing { request, .. } => block_at(request.address) == block,
             Tracker::Granted { block: granted, .. } => *granted == block,
         }
     }

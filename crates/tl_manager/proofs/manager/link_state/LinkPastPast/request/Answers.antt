@@ -11,7 +11,7 @@ returns-in-None g c = λ t p.
     ∙ ap (open_request c.args.source) (sym p.past)
 
 pub returns-in-Some : goal.returns-in-Some
-returns-in-Some g c = λ t p.
+returns-in-Some g c = λ t p. rw c.block_at.ensures (
     request-asked c.args.self.now.block_state.now.trackers c.args.self.now.link.0 c.args.source c.in-Some.request p.end.trace
     (looked-past g.D.Directory.perm_of c.args.self.now.link c.args.self.now.link_state.now c.args.self.now.block_state.now t p) c.in-Some.ensures
-    ∙ ap (open_request c.args.source) (sym p.past)
+    ∙ ap (open_request c.args.source) (sym p.past))

@@ -4,15 +4,16 @@ ghost use Rattle.std.specs.Prelude.{◌≡◌};
 ghost use Rattle.tl_rules.specs.statement.Admission;
 
 use tl_beat::beat::Beat;
+use tl_params::key::block_at;
 
-/// Whether the address of a beat is outside a map of so many blocks.
+/// Whether the address of a beat is outside a map of this many blocks.
 pub fn is_outside<const W: usize>(blocks: usize, beat: &Beat<W>) -> bool
     ensures { result ≡ Admission.is_outside blocks beat.now }
 {
     match beat {
-        Beat::A(beat) => blocks <= (beat.address / 64) as usize,
-        Beat::B(beat) => blocks <= (beat.address / 64) as usize,
-        Beat::C(beat) => blocks <= (beat.address / 64) as usize,
+        Beat::A(beat) => blocks <= block_at(beat.address) as usize,
+        Beat::B(beat) => blocks <= block_at(beat.address) as usize,
+        Beat::C(beat) => blocks <= block_at(beat.address) as usize,
         Beat::D(_) | Beat::E(_) => false,
     }
 }

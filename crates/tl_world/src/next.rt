@@ -9,9 +9,9 @@ ghost use Rattle.tl_coherence.specs.statement.Movable.{is_movable};
 ghost use Rattle.tl_coherence.specs.statement.System.{System, terms_at};
 
 use crate::clients::stalls_at;
-use crate::step::is_to_client;
-use crate::non_empty::lowest;
 use crate::network::Network;
+use crate::non_empty::lowest;
+use crate::step::is_to_client;
 use tl_beat::beat::{Beat, Link};
 use tl_beat::channel::Channel;
 use tl_client::agent::Agent;

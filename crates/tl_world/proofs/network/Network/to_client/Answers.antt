@@ -14,11 +14,11 @@ returns-then-stays g c = λ config s h up room.
     c.in-Ok.verdict c.in-Ok.message (search rules) (search rules) refl
 
 pub returns-in-Err : goal.returns-in-Err
-returns-in-Err g c = λ config s h up room.
+returns-in-Err g c = λ config s h up room. rw c.refused.ensures (
     steps-refused g.A.Agent.represents g.A.Agent.terms g.D.Directory.perm_of config c.args.self.now _ s c.args.link c.args.channel c.in-Some.beat.now _ c.offer_at.result h c.requires.inside
     (first-brought g.A.Agent.represents g.A.Agent.terms g.D.Directory.perm_of config c.args.self.now s c.args.link c.args.channel c.in-Some.beat.now h
     c.requires.inside c.in-Some.ensures.there) up (rw c.from.ensures at c.offer_at.ensures) refl
-    c.in-Err.field-0 (search rules) c.refused.ensures
+    c.in-Err.field-0 (search rules) refl)
 
 pub returns-else-stays : goal.returns-else-stays
 returns-else-stays g c = λ config s h up room.

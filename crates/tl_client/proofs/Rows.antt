@@ -69,7 +69,7 @@ caching blocks = record { level = level.C; profile = profile.One; sources = 1; b
 
 -- ---- beats and messages
 
--- so many bytes, of which the first is this one
+-- this many bytes, of which the first is this one
 abbrev first_of : ℕ → ℕ → List ℕ
 first_of count byte = byte ∷ replicate (count - 1) 0
 

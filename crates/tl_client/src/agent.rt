@@ -17,9 +17,9 @@ use tl_burst::message::Message;
 use tl_rules::perm::Perm;
 use tl_rules::rule::Rule;
 
-/// A client. It stores no history: a contract speaks of every end of a link that the client knows.
+/// A client. It stores no history: a contract speaks of every end of a link that the client represents.
 pub trait Agent<const W: usize>: Drop {
-    /// What the client is is what it would be after this.
+    /// The client is in the state that this end of its link leads to.
     ghost represents: { Self → Endpoint W → Type 0 };
 
     /// What it was made for.

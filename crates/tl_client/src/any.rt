@@ -29,7 +29,7 @@ pub enum AnyClient<const W: usize> {
 impl<const W: usize> AnyClient<W> {
     ghost use Rattle.tl_client.specs.code.KnowsAny.{IsNewAny};
 
-    /// A client of the level of its configuration, on so many blocks, which has sent and taken
+    /// A client of the level of its configuration, on this many blocks, which has sent and taken
     /// nothing: N2 where these are out of their limits, otherwise N4 where its sources are, or
     /// `Memory`.
     pub fn new(

@@ -61,7 +61,7 @@ pub struct Caching<const W: usize> {
 impl<const W: usize> Caching<W> {
     ghost use Rattle.tl_client.specs.code.KnowsCaching.{IsNewCaching};
 
-    /// A client on so many blocks, which has sent and taken nothing: N2 where these are out of their
+    /// A client on this many blocks, which has sent and taken nothing: N2 where these are out of their
     /// limits, otherwise N4 where its sources are, or `Memory`. No other call takes memory.
     pub fn new(
         alloc: Global,

@@ -57,7 +57,7 @@ pub fn op_block<const W: usize>(operation: &Op<W>) -> u32
     }
 }
 
-/// Why an operation isn't started on a map of so many blocks: B4 where it isn't one of the level,
+/// Why an operation isn't started on a map of this many blocks: B4 where it isn't one of the level,
 /// B5 where it is outside the map or isn't well formed.
 pub fn check<const W: usize>(level: Level, blocks: u16, operation: &Op<W>) -> Option<Busy>
     requires { IsWidth W }

@@ -55,7 +55,7 @@ impl<const W: usize> Plain<W> {
     ghost use Rattle.tl_client.specs.statement.Endpoint.{Endpoint};
     ghost use Rattle.tl_client.specs.code.KnowsPlain.{IsNewPlain, KnowsPlain, terms_of};
 
-    /// A client on so many blocks, which has sent and taken nothing: N2 where these are out of their
+    /// A client on this many blocks, which has sent and taken nothing: N2 where these are out of their
     /// limits, otherwise N4 where its sources are. It takes no memory.
     pub fn new(
         _alloc: Global,

@@ -101,7 +101,7 @@ begun-now {w} x t place = go (ends (beat.A x) t) refl
 
 -- ---- its source
 
--- with so many services that ask with a source, the beat is one more that does
+-- with this many services that ask with a source, the beat is one more that does
 pub source-now : {w : ℕ} (x : BeatA w) (t : History w) (q n : ℕ) → Place x t → one_if (comes_in_request q (unfinished channel.A t)) + n ≡ one_if (pending (RequestSource q) t)
     → one_if (x.source == q) + n ≡ one_if (pending (RequestSource q) (beat.A x ∷ t))
 source-now {w} x t q n (First none free) before =

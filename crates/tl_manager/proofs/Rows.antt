@@ -29,7 +29,7 @@ use Rattle.tl_manager.proofs.Offers.{report, report_with, access_ack, grant_ack,
 abbrev taken : {w : ℕ} → Reception w
 taken = Sent []
 
--- so many beats are taken before the one that is answered so
+-- this many beats are taken before the one that is answered so
 abbrev after_beats : {w : ℕ} → ℕ → Reception w → List (Reception w)
 after_beats n answer = replicate n taken ++ answer ∷ []
 

@@ -32,7 +32,7 @@ use tl_rules::rule::Rule;
 pub enum Taken<const W: usize> {
     /// It has to wait.
     Stalled,
-    /// It was taken, and these messages are handed out, the first first.
+    /// It was taken, and these messages are handed out, in order.
     Sent(Handed<W>),
 }
 
@@ -79,6 +79,7 @@ impl<const W: usize, D: Directory> Manager<W, D> {
         ensures after { (config : Config) (e : End W) → Knows D.perm_of self.old config e →
             Knows D.perm_of self.new config (offered config link channel beat.now e).1 }
     {
+        // A field is named so that the prover has the invariant of the manager here.
         let _ = &self.state;
         match self.answer(link, channel, beat)? {
             None => Ok(Taken::Stalled),

@@ -31,7 +31,7 @@ impl<const W: usize> Monitor<W> {
     ghost use Rattle.tl_monitor.specs.statement.Numbers.{IsMoreWhereRefused, entries_of};
     ghost use Rattle.tl_monitor.specs.statement.Knows.{Knows, IsNew, Answers, fault_of, recorded_after, closed_after, AllEmpty};
 
-    /// What is kept of so many links that have carried nothing.
+    /// What is kept of this many links that have carried nothing.
     fn empty_links(alloc: Global, count: usize) -> Result<Vec<LinkState>, AllocError>
         ensures { IfOk result (λ v. AllEmpty count v.items) }
     {

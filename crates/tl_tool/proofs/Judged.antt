@@ -95,7 +95,7 @@ beats_end m count lines before was is says k counted =
     let number : count - 1 ≡ length k.trace = omega (arith, k.counted) in
     rw (says, number, ← append_assoc before was (clean_text (length k.trace))) (rw append-nil at (k.before [] (clean_text (length k.trace)) Clean (refl, refl)))
 
--- what a monitor says of a line is what the judge says
+-- what a monitor says of a line is what the handler says
 module _ {w : ℕ} (wrap : Monitor w → MonitorLines) (into : (m : Monitor w) (lines : List (List ℕ)) (text : List ℕ) → KnowsLines (wrap m) lines text → KnowsTrace m lines text)
     (out : (m : Monitor w) (lines : List (List ℕ)) (text : List ℕ) → KnowsTrace m lines text → KnowsLines (wrap m) lines text) where
   judges : (old new : Monitor w) (line was : List ℕ) (answer : Option Fault) → Watches old new line answer → Judges KnowsLines Judged (wrap old) (wrap new) line was was answer

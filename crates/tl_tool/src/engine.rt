@@ -1,4 +1,4 @@
-//! Reads an input to its end, and writes what a judge says of its lines.
+//! Reads an input to its end, and writes what a handler says of its lines.
 
 ghost use Rattle.std.specs.Prelude.{◌≡◌, ◌⊎◌, ◌+◌, ◌++◌, [], ◌≤◌, ◌<◌, ℕ, List, IfOk, OnOk, OnErr, IfErr, length, take, vec_len};
 ghost use Rattle.std.specs.Io.KnownBytes.{Appends, Consumes, IsAtEnd, Keeps};
@@ -82,7 +82,7 @@ fn close<H: LineHandler, W: Write>(
 }
 
 /// Judges the lines of an input in turn, up to the first at fault, and writes what is said of each
-/// before more of the input is read. Apart from the judge's own, the memory that it takes doesn't grow
+/// before more of the input is read. Apart from the handler's own, the memory that it takes doesn't grow
 /// with the input.
 pub fn handle_input<H: LineHandler, R: Read, W: Write>(
     alloc: Global,

@@ -12,7 +12,7 @@ use arrayvec::ArrayVec;
 use memchr::memchr;
 use std::alloc::AllocError;
 
-/// A judge, with the number of lines that it has judged, and the beginning of a line whose end
+/// A handler, with the number of lines that it has judged, and the beginning of a line whose end
 /// hasn't come.
 #[derive(Drop)]
 pub struct Lines<H> {

@@ -1,7 +1,7 @@
 //! What a world holds.
 
-use crate::outstanding::Outstanding;
 use crate::network::Network;
+use crate::outstanding::Outstanding;
 use tl_client::agent::Agent;
 use tl_manager::directory::Directory;
 

@@ -12,10 +12,10 @@ ghost use Rattle.tl_coherence.specs.statement.Movable.{drained};
 ghost use Rattle.tl_coherence.specs.statement.Draining.{IsDrained};
 
 use crate::clients::{copy_at, held_at};
-use crate::state::WorldState;
 use crate::make::make_rings;
-use crate::outstanding::Outstanding;
 use crate::network::Network;
+use crate::outstanding::Outstanding;
+use crate::state::WorldState;
 use crate::typed::prove_typed;
 use std::alloc::Global;
 use std::marker::Model;
@@ -80,7 +80,10 @@ impl<const W: usize, A: Agent<W>, D: Directory> World<W, A, D> {
             releases: 0,
         };
         Ok(World {
-            state: WorldState { network, outstanding },
+            state: WorldState {
+                network,
+                outstanding,
+            },
         })
     }
 

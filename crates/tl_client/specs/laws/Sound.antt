@@ -33,7 +33,7 @@ abbrev pub IsSoundAnswer : {w : ℕ} → Level → Result (Verdict × Option (Me
 IsSoundAnswer l (Ok v) = IsSoundIfAny l v.1
 IsSoundAnswer l (Err rule) = ⊤
 
--- its payload has 64 bytes, all that no beat of it carries is zero, and it is of a map of so many blocks
+-- its payload has 64 bytes, all that no beat of it carries is zero, and it is of a map of this many blocks
 pub record IsProper {w : ℕ} (blocks : ℕ) (m : Message w) : Type 0 where
   pub has_block : HasBlock m
   pub is_blank : IsBlankAfter (beats_of m) m

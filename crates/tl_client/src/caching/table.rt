@@ -25,7 +25,7 @@ pub struct Table {
 }
 
 impl Table {
-    /// So many blocks, of which nothing is held.
+    /// This many blocks, of which nothing is held.
     pub fn new(alloc: Global, count: u16) -> Result<Self, AllocError>
         ensures count { IfOk result (λ t. block_count t ≡ count) }
         ensures held { IfOk result (λ t. (k : ℕ) → held_in t k ≡ perm.None) }

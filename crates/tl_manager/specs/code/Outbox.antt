@@ -6,7 +6,7 @@ use Rattle.tl_manager.specs.statement.Holders.{clients_from}
 use Rattle.tl_manager.specs.declared.manager.reply.Outbox.{Outbox}
 use Rattle.tl_manager.specs.declared.manager.reply.Outbox.TheVariants.{Nothing, One, Probes}
 
--- the first first
+-- the messages, in the order in which they are handed out
 abbrev pub messages_of : {w : ℕ} → Outbox w → Handed w
 messages_of Nothing = []
 messages_of (One m) = m ∷ []

@@ -24,7 +24,7 @@ pub struct Blocks {
 }
 
 impl Blocks {
-    /// So many blocks of zeros.
+    /// This many blocks of zeros.
     pub fn new(alloc: Global, count: u16) -> Result<Blocks, AllocError>
         ensures count { IfOk result (λ b. length b.bytes.items ≡ count) }
         ensures zero { IfOk result (λ b. AreBlocks b.bytes.items (λ address. 0)) }

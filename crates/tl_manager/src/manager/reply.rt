@@ -20,7 +20,7 @@ use tl_rules::param::{Cap, Grow};
 use tl_rules::perm::Perm;
 use tl_rules::profile::Profile;
 
-/// Messages, each with the link on which it is handed out, the first first.
+/// Messages, each with the link on which it is handed out, in order.
 pub type Handed<const W: usize> = ArrayVec<(Link, Message<W>), 16>;
 
 /// What is handed out for a beat: seldom more than one message.
@@ -69,7 +69,7 @@ fn probes<const W: usize>(block: u32, cap: Cap, clients: u16) -> Handed<W>
 }
 
 impl<const W: usize> Outbox<W> {
-    /// Its messages, the first first.
+    /// Its messages, in order.
     pub fn handed(self) -> Handed<W>
         requires { IsWidth W }
         ensures { result.items ≡ messages_of self.entry }

@@ -108,7 +108,7 @@ impl<const W: usize> Tracker<W> {
     }
 }
 
-/// The trackers, of which so many are in use, at most eight.
+/// The trackers, of which this many are in use, at most eight.
 #[derive(Clone, Copy)]
 pub struct Trackers<const W: usize> {
     pub all: [Tracker<W>; 8],
@@ -119,7 +119,7 @@ impl<const W: usize> Trackers<W> {
     ghost use Rattle.tl_manager.specs.code.Tracking;
     ghost use Rattle.tl_manager.specs.code.Trackers.{tracker_at, IsAsked, IsOfBlock};
 
-    /// So many free ones.
+    /// This many free ones.
     pub fn new(count: u8) -> Self
         ensures free { (n : ℕ) → tracker_at result n ≡ Tracker.Free }
         ensures count { result.count ≡ count }

@@ -1,4 +1,4 @@
--- What a judge's answers mean. `knows` and `tells` are those of its trait, `was` and `is` the text
+-- What a handler's answers mean. `knows` and `tells` are those of its trait, `was` and `is` the text
 -- appended before and after a call, behind a text `before` that has been written already.
 use Rattle.std.specs.Prelude.{◌≡◌, ℕ, ◌+◌, List, [], ◌∷◌, ◌++◌, length, Option, Some, None}
 use Rattle.tl_tool.specs.declared.fault.Fault.{Fault}
@@ -6,7 +6,7 @@ use Rattle.tl_tool.specs.declared.status.Status.{Status}
 use Rattle.tl_tool.specs.declared.status.Status.TheVariants.{Clean, Broken}
 use Rattle.tl_tool.specs.statement.Fault.{fault_text}
 
--- the line has its text, and the judge knows one line more
+-- the line has its text, and the handler knows one line more
 abbrev pub GoesOn : {H : Type 0} → (H → List (List ℕ) → List ℕ → Type 0) → H → H → List ℕ → List ℕ → List ℕ → Type 0
 GoesOn knows old new line was is =
     (lines : List (List ℕ)) (before : List ℕ) → knows old lines (before ++ was) → knows new (lines ++ line ∷ []) (before ++ is)
@@ -29,7 +29,7 @@ Finishes knows tells handler count was is None =
 Finishes knows tells handler count was is (Some fault) =
     (lines : List (List ℕ)) (before : List ℕ) → knows handler lines (before ++ was) → count ≡ length lines → tells lines (before ++ (is ++ fault_text (length lines + 1) fault)) Broken
 
--- whatever lines follow those that a judge knows, they have a text
+-- whatever lines follow those that a handler knows, they have a text
 abbrev pub IsTotal : {H : Type 0} → (H → List (List ℕ) → List ℕ → Type 0) → (List (List ℕ) → List ℕ → Status → Type 0) → Type 0
 IsTotal {H} knows tells =
     (handler : H) (lines : List (List ℕ)) (text : List ℕ) → knows handler lines text

@@ -1,4 +1,4 @@
--- What a judge of schedules knows.
+-- What a handler of schedules knows.
 use Rattle.std.specs.Prelude.{◌≡◌, ℕ, ◌+◌, Bool, ◌==◌, List, [], ◌∷◌, ◌++◌, length, Option, Some, None}
 use Rattle.tl_params.specs.declared.config.Config.{Config}
 use Rattle.tl_params.specs.declared.header.Version.{Version}
@@ -58,7 +58,7 @@ KnowsSchedule {n} (Four world) lines text = KnowsPlay (is_trace n) world lines t
 KnowsSchedule {n} (Eight world) lines text = KnowsPlay (is_trace n) world lines text
 KnowsSchedule {n} (Sixteen world) lines text = KnowsPlay (is_trace n) world lines text
 
--- what the first line begins: a judge that knows the header, whose text was appended, or none where it spells
+-- what the first line begins: a handler that knows the header, whose text was appended, or none where it spells
 -- no header
 abbrev pub Opens : {n : ℕ} → List ℕ → List ℕ → List ℕ → Option (RunLines n) → Type 0
 Opens line was is None = ((version : Version) (config : Config) → ¬ HeadsSchedule line version config) × (is ≡ was)

@@ -1,4 +1,4 @@
--- How far an input has been judged. `knows` and `tells` are those of the judge's trait, `was` and
+-- How far an input has been judged. `knows` and `tells` are those of the handler's trait, `was` and
 -- `is` the text appended before and after a call, behind a text `before` that has been written already.
 use Rattle.std.specs.Prelude.{◌≡◌, ◌≤◌, ◌<◌, ℕ, ◌+◌, List, [], ◌∷◌, ◌++◌, ◌-◌, ◌^◌, ◌⊎◌, length, count_by, ◌==◌}
 use Rattle.tl_tool.specs.declared.fault.Fault.{Fault}

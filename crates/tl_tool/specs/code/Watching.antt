@@ -1,4 +1,4 @@
--- What a judge of traces knows.
+-- What a handler of traces knows.
 use Rattle.std.specs.Prelude.{◌≡◌, ℕ, ◌+◌, false, List, [], ◌∷◌, ◌++◌, length, Option, Some, None}
 use Rattle.tl_beat.specs.declared.beat.Link.{Link}
 use Rattle.tl_beat.specs.declared.beat.Beat.{Beat}
@@ -43,7 +43,7 @@ KnowsLines (Four m) lines text = KnowsTrace m lines text
 KnowsLines (Eight m) lines text = KnowsTrace m lines text
 KnowsLines (Sixteen m) lines text = KnowsTrace m lines text
 
--- what the first line begins: a judge that knows the header, or none where it spells no header
+-- what the first line begins: a handler that knows the header, or none where it spells no header
 abbrev pub Begins : List ℕ → Option MonitorLines → Type 0
 Begins line None = (width : Width) (p : Profile) (levels : List Level) → ¬ SpellsHeader line width p levels
 Begins line (Some monitor_lines) = KnowsLines monitor_lines (line ∷ []) []

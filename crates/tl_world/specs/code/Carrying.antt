@@ -67,7 +67,7 @@ capacity_at w config i = capacity (64 / w) (sources_of (terms_at config (i / 5))
 abbrev pub AreClear : NonEmptyChannels → Type 0
 AreClear non_empty = (k : ℕ) (ch : Channel) → bit_at (word_of non_empty ch) k ≡ 0
 
--- so many channels are made, and hold nothing
+-- this many channels are made, and hold nothing
 pub record AreFresh {w : ℕ} (config : Config) (count : ℕ) (rings : List (Ring w)) : Type 0 where
   pub so_many : length rings ≡ count
   pub beats : (i : ℕ) (d : Ring w) → i < count → (slice_index_or rings i d).beats ≡ buffer [] (capacity_at w config i)

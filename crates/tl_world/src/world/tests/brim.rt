@@ -20,7 +20,7 @@ use tl_manager::directory::Directory;
 use tl_manager::table::TableDirectory;
 use tl_rules::perm::Perm;
 
-/// How many deliveries so many requests and Releases can still need.
+/// How many deliveries this many requests and Releases can still need.
 fn load_of<const W: usize>(requests: u8, releases: u8) -> u64
     requires { IsWidth W }
 {
@@ -156,7 +156,7 @@ fn drains_within_the_load<const W: usize, A: Agent<W>, D: Directory>(
     is_idle::<W, A, D>(rt, world);
 }
 
-/// Behind so many events that a new world runs.
+/// Behind this many events that a new world runs.
 fn drains_behind<const W: usize, A: Hires<W>, D: Covers>(
     rt: &impl Abort,
     alloc: Global,

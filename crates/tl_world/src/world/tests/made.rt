@@ -97,7 +97,7 @@ impl Covers for TableDirectory {
     }
 }
 
-/// What a world is made of: each client with so many sources.
+/// What a world is made of: each client with this many sources.
 #[derive(Clone, Copy)]
 pub struct Setup<'a> {
     pub blocks: u16,

@@ -114,7 +114,7 @@ fn steps<const W: usize, A: Agent<W>, D: Directory>(
     }
 }
 
-/// A drain makes so many deliveries, at most the load.
+/// A drain makes this many deliveries, at most the load.
 fn drains_in<const W: usize, A: Agent<W>, D: Directory>(
     rt: &impl Abort,
     world: &mut World<W, A, D>,

@@ -48,7 +48,7 @@ pub enum Row {
     Done(u8, Says, Ends),
     Stalled(u8, Channel),
     Empty(u8, Channel),
-    /// What a `drain` delivers stands in the rows behind it: so many beats of 4, 8 and 16 bytes.
+    /// What a `drain` delivers stands in the rows behind it: this many beats of 4, 8 and 16 bytes.
     Drains(u64, u64, u64),
 }
 

@@ -64,8 +64,8 @@ pub fn hands_out_sound_messages<const W: usize>()
     ensures offered { (terms : EndConfig) (ch : Channel) (x : Beat W) (e : Endpoint W) → IsSoundAnswer terms.level (offered terms ch x e).answer }
 {}
 
-/// A client keeps what `IsKept` says: whole messages, a copy exactly where something is held, and the
-/// bytes of each AcquirePerm until its Grant.
+/// A client keeps what `IsEndpointInvariant` says: whole messages, a copy exactly where something is
+/// held, and the bytes of each AcquirePerm until its Grant.
 pub fn keeps<const W: usize>()
     requires { IsWidth W }
     ensures fresh { IsEndpointInvariant (fresh {w = W}) }

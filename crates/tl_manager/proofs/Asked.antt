@@ -20,7 +20,7 @@ use Rattle.tl_rules.specs.statement.Conformance.{broken_in_order, broken_order, 
 use Rattle.tl_rules.specs.statement.History.{begins, ends, is_acquire, pending, request_of}
 use Rattle.tl_rules.proofs.Bursts.{next_rule}
 use Rattle.tl_manager.specs.laws.Pending.{one_if, HasFields, IsBegun}
-use Rattle.tl_manager.proofs.Links.{pending-opened}
+use Rattle.tl_manager.proofs.LinkHistories.{pending-opened}
 
 -- ---- the first beat and the later ones
 

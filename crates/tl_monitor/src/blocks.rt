@@ -221,7 +221,7 @@ impl Blocks {
     }
 
     /// Has `get` of this block search no more.
-    pub fn look(&mut self, block: u32)
+    pub fn cache_block(&mut self, block: u32)
         ensures { self.new ≡ self.old }
     {
         self.seen = turn(&mut self.trees, self.last, self.seen, block);

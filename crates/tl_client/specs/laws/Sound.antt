@@ -7,7 +7,7 @@ use Rattle.tl_burst.specs.statement.Messages.{History, channel_of}
 use Rattle.tl_params.specs.declared.level.Level.{Level}
 use Rattle.tl_params.specs.declared.profile.Profile.{Profile}
 use Rattle.tl_params.specs.declared.rule.Rule.{Rule}
-use Rattle.tl_rules.specs.statement.Agent.{is_outside}
+use Rattle.tl_rules.specs.statement.Admission.{is_outside}
 use Rattle.tl_rules.specs.statement.Conformance.{broken_in_order, broken_after}
 use Rattle.tl_rules.specs.statement.Legality.{illegal_message}
 use Rattle.tl_rules.specs.laws.Typed.{HasBlock}

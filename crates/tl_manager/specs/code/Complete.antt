@@ -9,7 +9,7 @@ use Rattle.tl_burst.specs.statement.Messages.{channel_of, unfinished}
 use Rattle.tl_params.specs.declared.config.Config.{Config}
 use Rattle.tl_rules.specs.statement.Conformance.{on_link}
 use Rattle.tl_rules.specs.statement.History.{ends, block_at}
-use Rattle.tl_manager.specs.code.Home.{IsPlaced}
+use Rattle.tl_manager.specs.code.BlockState.{IsPlaced}
 use Rattle.tl_manager.specs.code.Kept.{IsFilled}
 use Rattle.tl_manager.specs.code.Ready.{IsTaken}
 use Rattle.tl_manager.specs.statement.End.{End}

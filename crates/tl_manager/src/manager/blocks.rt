@@ -7,7 +7,7 @@ ghost use Rattle.tl_burst.specs.statement.Burst.{beats_of, IsBlankAfter};
 ghost use Rattle.tl_rules.specs.statement.Effect.{Memory, IsBlock, bytes_from, effect, answer_of};
 ghost use Rattle.tl_rules.specs.statement.Legality.{illegal_message};
 ghost use Rattle.tl_manager.specs.code.Blocks.{AreBlocks};
-ghost use Rattle.tl_manager.specs.statement.Deed.{with_block};
+ghost use Rattle.tl_manager.specs.statement.Reaction.{with_block};
 
 use std::alloc::{AllocError, Global};
 use tl_beat::channel::Channel;

@@ -135,7 +135,7 @@ pub fn hire_all<const W: usize, A: Hires<W>>(
     config: &Config,
 ) -> Result<Vec<A>, NewFault>
     requires { IsWidth W }
-    ensures { IfOk result (λ clients. AreReady A.knows A.terms config.now clients.items) }
+    ensures { IfOk result (λ clients. AreReady A.represents A.terms config.now clients.items) }
 {
     let mut clients = Vec::new(alloc);
     for client in config.clients.as_slice() {

@@ -213,12 +213,12 @@ pub fn plays<const W: usize, A: Hires<W>, D: Covers>(
     rt: &impl Abort,
     alloc: Global,
     setup: &Setup,
-    parts: &[Part],
+    network: &[Part],
     left: &[Left],
 ) -> World<W, A, D>
     requires { IsWidth W }
 {
-    let script = script_again::<W>(rt, alloc, parts);
+    let script = script_again::<W>(rt, alloc, network);
     let _ = plays_steps::<W, A, D>(rt, alloc, setup, &script, left);
     let _ = plays_drains::<W, A, D>(rt, alloc, setup, &script, left);
     plays_replay::<W, A, D>(rt, alloc, setup, &script, left)
